@@ -1,0 +1,4 @@
+pub mod Rows
+pub mod Stops
+pub mod Asked
+pub mod Plain

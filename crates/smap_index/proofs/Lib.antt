@@ -1,0 +1,4 @@
+pub mod Digits
+pub mod SearchLaws
+pub mod MarkLaws
+pub mod WalkLaws

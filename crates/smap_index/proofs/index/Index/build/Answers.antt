@@ -1,0 +1,12 @@
+use Rattle.smap_index.proofs.MarkLaws.{index_made}
+use Rattle.smap_index.proofs.index.Index.build.Goals as goal
+
+pub invariant_of-result : goal.invariant_of-result
+invariant_of-result c = record {
+  every = c.if-k-ne1.false;
+  plain = c.requires.plain;
+  holds = index_made c.deref.result.now c.args.parts.items c.args.k c.new-table.result c.mark_parts.new.table c.len-segments.result c.in-Ok.used_lines c.deref.ensures.value c.if-k-ne1.false c.new-table.ensures c.in-Ok.ensures.marked c.len-segments.ensures c.in-Ok.ensures.lines c.in-Ok.ensures.ordered;
+}
+
+pub returns-in-Ok-clause-built : goal.returns-in-Ok-clause-built
+returns-in-Ok-clause-built c = index_made c.deref.result.now c.args.parts.items c.args.k c.new-table.result c.mark_parts.new.table c.len-segments.result c.in-Ok.used_lines c.deref.ensures.value c.if-k-ne1.false c.new-table.ensures c.in-Ok.ensures.marked c.len-segments.ensures c.in-Ok.ensures.lines c.in-Ok.ensures.ordered

@@ -1,0 +1,51 @@
+use Rattle.std.proofs.Common.{◌≡◌, ◌+◌, ◌-◌, ◌/◌, length, sym, ap, refl, ◌∙◌, arith, None}
+use Rattle.smap_index.specs.Marks.{mappings_at, binary_digits}
+use Rattle.smap_index.proofs.Digits.{half_has_fewer_digits, digits_least}
+use Rattle.smap_index.proofs.SearchLaws.{in_front, ends_front, last_taken, front_within, read_mapping}
+use Rattle.smap_index.proofs.search.last_not_after.Goals as goal
+
+pub loop-low-init : goal.loop-low-init
+loop-low-init c = record {
+  low = omega arith;
+  high = omega (arith, front_within c.args.line c.args.column c.args.table.now, c.len-high.ensures);
+  inside = omega (arith, c.len-high.ensures);
+  best = refl;
+  onward = omega arith;
+  few = let same : c.len-high.result - 0 ≡ length c.args.table.now = omega (arith, c.len-high.ensures) in omega (arith, ap binary_digits same);
+  none_decoded = refl;
+}
+
+pub at-requires-clause-room : goal.at-requires-clause-room
+at-requires-clause-room c =
+    let most = digits_least (length c.args.table.now) 64 (omega (arith, c.len-high.ensures)) in
+    omega (arith, c.loop-low.invariant.few, c.requires.room.0)
+
+pub loop-low-preserved-then-is_not_after : goal.loop-low-preserved-then-is_not_after
+loop-low-preserved-then-is_not_after c =
+    let there = read_mapping c.args.table.now _ c.at.result c.at.ensures.read in
+    let fewer = half_has_fewer_digits (c.loop-low.high - c.loop-low.low) (c.loop-low.high - (c.loop-low.low + (c.loop-low.high - c.loop-low.low) / 2 + 1)) (omega arith) (omega arith) in
+    let counted = ap (λ m. m.comparisons) c.at.ensures.counted in
+    record {
+      low = in_front c.args.line c.args.column (mappings_at c.args.table.now) _ c.at.result.mapping c.requires.ordered there (sym c.is_not_after.ensures ∙ c.if-is_not_after.true);
+      high = c.loop-low.invariant.high;
+      inside = c.loop-low.invariant.inside;
+      best = sym (last_taken None (mappings_at c.args.table.now) _ c.at.result.mapping there);
+      onward = omega (arith, c.loop-low.invariant.onward);
+      few = omega (arith, c.loop-low.invariant.few);
+      none_decoded = ap (λ m. m.segments) c.at.ensures.counted ∙ c.loop-low.invariant.none_decoded;
+    }
+
+pub loop-low-preserved : goal.loop-low-preserved
+loop-low-preserved c =
+    let there = read_mapping c.args.table.now _ c.at.result c.at.ensures.read in
+    let fewer = half_has_fewer_digits (c.loop-low.high - c.loop-low.low) (c.loop-low.low + (c.loop-low.high - c.loop-low.low) / 2 - c.loop-low.low) (omega arith) (omega arith) in
+    let counted = ap (λ m. m.comparisons) c.at.ensures.counted in
+    record {
+      low = c.loop-low.invariant.low;
+      high = ends_front c.args.line c.args.column (mappings_at c.args.table.now) _ c.at.result.mapping there (sym c.is_not_after.ensures ∙ c.if-is_not_after.false);
+      inside = omega (arith, c.loop-low.invariant.inside);
+      best = c.loop-low.invariant.best;
+      onward = omega (arith, c.loop-low.invariant.onward);
+      few = omega (arith, c.loop-low.invariant.few);
+      none_decoded = ap (λ m. m.segments) c.at.ensures.counted ∙ c.loop-low.invariant.none_decoded;
+    }

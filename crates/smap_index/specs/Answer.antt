@@ -1,0 +1,28 @@
+-- What a look-up answers: the last mapping on the asked line whose column is not after the asked one.
+use Rattle.std.specs.Prelude.{ℕ, List, Option, Some, None, Bool, ◌&&◌, ◌==◌, nat_le, filter}
+use Rattle.std.specs.List.{last_or}
+use Rattle.smap_mappings.specs.declared.mapping.Mapping.{Mapping}
+use Rattle.smap_mappings.specs.declared.mapping.Origin.{Origin}
+use Rattle.smap_index.specs.declared.answer.Answer.{Answer}
+use Rattle.smap_index.specs.declared.answer.Answer.TheVariants.{Nothing, Unmapped, Found}
+
+-- the mapping stands on this line, and not after this column
+abbrev pub is_kept : ℕ → ℕ → Mapping → Bool
+is_kept line column mapping = mapping.line == line && nat_le mapping.column column
+
+-- a column with an origin, or without one
+abbrev pub answer_with : ℕ → Option Origin → Answer
+answer_with column None = Unmapped column
+answer_with column (Some origin) = Found column origin
+
+-- what a mapping answers
+abbrev pub answer_of : Mapping → Answer
+answer_of mapping = answer_with mapping.column mapping.origin
+
+abbrev pub answer_of_last : Option Mapping → Answer
+answer_of_last None = Nothing
+answer_of_last (Some mapping) = answer_of mapping
+
+-- of the mappings on the line whose column is not after the asked one, the last answers
+unfoldable pub answer_at_or_before : List Mapping → ℕ → ℕ → Answer
+answer_at_or_before list line column = answer_of_last (last_or None (filter (is_kept line column) list))

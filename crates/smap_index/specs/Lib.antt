@@ -1,0 +1,6 @@
+pub mod Parts
+pub mod Marks
+pub mod Answer
+pub mod Index
+pub mod Search
+pub mod Walk

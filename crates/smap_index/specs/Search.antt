@@ -1,0 +1,16 @@
+-- What the search over a list in order finds.
+use Rattle.std.specs.Prelude.{ℕ, List, Option, None, Bool, ◌&&◌, ◌||◌, ◌==◌, nat_lt, nat_le, take}
+use Rattle.std.specs.List.{last_or, prefix_len}
+use Rattle.smap_mappings.specs.declared.mapping.Mapping.{Mapping}
+
+-- the mapping stands at this position, or before it
+abbrev pub is_not_after : ℕ → ℕ → Mapping → Bool
+is_not_after line column mapping = nat_lt mapping.line line || mapping.line == line && nat_le mapping.column column
+
+-- how many mappings at the front stand at this position, or before it
+abbrev pub front_not_after : ℕ → ℕ → List Mapping → ℕ
+front_not_after line column list = prefix_len (is_not_after line column) list
+
+-- the last of them
+abbrev pub last_not_after : ℕ → ℕ → List Mapping → Option Mapping
+last_not_after line column list = last_or None (take (front_not_after line column list) list)

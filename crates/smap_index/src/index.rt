@@ -1,0 +1,115 @@
+ghost use Rattle.std.specs.Prelude.{◌≡◌, ◌≢◌, ◌+◌, ◌-◌, ◌≤◌, ◌↔◌, length, IfOk, Err};
+ghost use Rattle.std.specs.List.{All};
+ghost use Rattle.smap_mappings.specs.Meter.{HasRoom};
+ghost use Rattle.smap_index.specs.Parts.{IsPlain, joined};
+ghost use Rattle.smap_index.specs.Marks.{marks, used_lines_of, binary_digits};
+ghost use Rattle.smap_index.specs.Answer.{answer_at_or_before};
+
+use crate::answer::{Answer, answer_of};
+use crate::decode::decode_part;
+use crate::mark::mark_parts;
+use crate::part::Part;
+use crate::refusal::BuildRefusal;
+use crate::search::last_not_after;
+use crate::table::Table;
+use smap_mappings::{Mapping, Meter};
+use std::alloc::{AllocError, Global};
+use std::marker::Model;
+
+/// The parts of a map with a table of checkpoints, from which positions are looked up.
+#[derive(Drop)]
+pub struct Index {
+    parts: Vec<Part>,
+    table: Table,
+    k: u32,
+    segments: u64,
+    used_lines: u64,
+}
+
+impl Model for Index {
+    ghost use Rattle.smap_index.specs.Index.{Indexed, IsIndex};
+
+    ghost Value = { Indexed };
+
+    ghost view = { λ i. record { parts = i.parts.items; k = i.k; checkpoints = i.table; segments = i.segments; used_lines = i.used_lines } };
+
+    ghost invariant = { λ i. IsIndex (record { parts = i.parts.items; k = i.k; checkpoints = i.table; segments = i.segments; used_lines = i.used_lines }) };
+}
+
+impl Index {
+    ghost use Rattle.smap_index.specs.Index.{IsIndexOf};
+
+    /// Builds the index of these parts, with a checkpoint at every `k`th segment of each line. The caller gives at
+    /// most one part, and that at line 0 and column 0, with bases 0. After a refusal the parts are dropped.
+    pub fn build(alloc: Global, parts: Vec<Part>, k: u32) -> Result<Index, BuildRefusal>
+        requires at_most_one { length parts.items ≤ 1 }
+        requires plain { All IsPlain parts.items }
+        ensures interval { (result ≡ Err BuildRefusal.Interval) ↔ (k ≢ 1) }
+        ensures built { IfOk result (λ index. IsIndexOf index parts.items k) }
+    {
+        if k != 1 {
+            return Err(BuildRefusal::Interval);
+        }
+        let mut table = Table::new(alloc);
+        match mark_parts(alloc, &parts, &mut table) {
+            Ok(used_lines) => {
+                let segments = table.len() as u64;
+                Ok(Index {
+                    parts,
+                    table,
+                    k,
+                    segments,
+                    used_lines,
+                })
+            }
+            Err(_) => Err(BuildRefusal::Memory),
+        }
+    }
+
+    /// Looks a position up: the last mapping on the line whose column is not after the asked one answers. The call
+    /// takes no memory.
+    pub fn look_up(&self, line: u32, column: u32, meter: &mut Meter) -> Answer
+        requires room { HasRoom meter.old }
+        ensures answer { result ≡ answer_at_or_before (joined self.now.parts) line column }
+        ensures compared { meter.new.comparisons ≤ meter.old.comparisons + binary_digits (length (marks self.now.parts self.now.k)) }
+        ensures decoded { meter.new.segments ≤ meter.old.segments + (self.now.k - 1) }
+        ensures onward { (meter.old.comparisons ≤ meter.new.comparisons) × (meter.old.segments ≤ meter.new.segments) }
+    {
+        match last_not_after(&self.table, line, column, meter) {
+            Some(mapping) if mapping.line == line => answer_of(&mapping),
+            _ => Answer::Nothing,
+        }
+    }
+
+    /// How many checkpoints the table holds.
+    pub fn checkpoints(&self) -> u64
+        ensures { result ≡ length (marks self.now.parts self.now.k) }
+    {
+        self.table.len() as u64
+    }
+
+    /// How many segments the texts hold.
+    pub fn segments(&self) -> u64
+        ensures { result ≡ length (joined self.now.parts) }
+    {
+        self.segments
+    }
+
+    /// How many lines hold a segment. Each part's lines are counted by themselves.
+    pub fn used_lines(&self) -> u64
+        ensures { result ≡ used_lines_of self.now.parts }
+    {
+        self.used_lines
+    }
+
+    /// All mappings, part after part, in order.
+    pub fn decode_all(&self, alloc: Global) -> Result<Vec<Mapping>, AllocError>
+        ensures { IfOk result (λ list. list.items ≡ joined self.now.parts) }
+    {
+        let mut list = Vec::new(alloc);
+        for part in &self.parts {
+            decode_part(alloc, part, &mut list)?;
+        }
+        Ok(list)
+    }
+}

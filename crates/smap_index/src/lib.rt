@@ -1,0 +1,26 @@
+//! An index over the parts of a source map: it keeps the packed texts and a table of checkpoints, and answers
+//! look-ups from them. Lines and columns count from 0, columns in UTF-16 code units.
+//!
+//! ```text
+//! let index = Index::build(alloc, parts, 1)?;
+//! match index.look_up(line, column, &mut meter) {
+//!     Answer::Found { column, origin } => ..,
+//!     Answer::Unmapped { column } => ..,
+//!     Answer::Nothing => ..,
+//! }
+//! ```
+#![tactic(auto)]
+
+mod answer;
+mod decode;
+mod index;
+mod mark;
+mod part;
+mod refusal;
+mod search;
+mod table;
+
+pub use answer::Answer;
+pub use index::Index;
+pub use part::Part;
+pub use refusal::BuildRefusal;

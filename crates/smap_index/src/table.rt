@@ -1,0 +1,60 @@
+ghost use Rattle.std.specs.Prelude.{◌≡◌, ◌+◌, ◌<◌, [], ◌∷◌, ◌++◌, Some, length, slice_get, IfOk};
+
+use smap_mappings::{Mapping, Meter};
+use std::alloc::{AllocError, Global};
+use std::marker::Model;
+
+/// A mapping from which a look-up can begin, at its place in the joined list.
+#[derive(Clone, Copy, Debug, PartialEq, Eq)]
+pub struct Checkpoint {
+    pub mapping: Mapping,
+}
+
+/// The checkpoints of an index, in order. One is read only by a call that counts it.
+#[derive(Drop)]
+pub struct Table {
+    checkpoints: Vec<Checkpoint>,
+}
+
+impl Model for Table {
+    ghost use Rattle.std.specs.Prelude.{List};
+    ghost use Rattle.smap_index.specs.declared.table.Checkpoint.{Checkpoint};
+
+    ghost Value = { List Checkpoint };
+
+    ghost view = { λ t. t.checkpoints.items };
+}
+
+impl Table {
+    pub fn new(alloc: Global) -> Self
+        ensures { result ≡ [] }
+    {
+        Table {
+            checkpoints: Vec::new(alloc),
+        }
+    }
+
+    pub fn push(&mut self, checkpoint: Checkpoint) -> Result<(), AllocError>
+        ensures { IfOk result (λ _. self.new ≡ self.old ++ checkpoint ∷ []) }
+    {
+        self.checkpoints.push(checkpoint)?;
+        Ok(())
+    }
+
+    pub fn len(&self) -> usize
+        ensures { result ≡ length self.now }
+    {
+        self.checkpoints.len()
+    }
+
+    /// Reads checkpoint `i`, from 0, to compare it, and counts that.
+    pub fn at(&self, i: usize, meter: &mut Meter) -> Checkpoint
+        requires within { i < length self.now }
+        requires room { meter.old.comparisons < u64.MAX }
+        ensures read { slice_get self.now i ≡ Some result }
+        ensures counted { meter.new ≡ record meter.old { comparisons = meter.old.comparisons + 1 } }
+    {
+        meter.count_comparison();
+        self.checkpoints[i]
+    }
+}

@@ -1,0 +1,4 @@
+pub mod Device
+pub mod FromStd
+pub mod MemorySink
+pub mod MemorySource

@@ -1,0 +1,99 @@
+//! Devices over the readers and writers of std.
+ghost use Rattle.std.specs.Prelude.{◌≡◌, ◌<◌, ◌≤◌, None, true, false, length, IfOk, OnOk, OnErr};
+ghost use Rattle.std.specs.Io.KnownBytes.{Keeps, ReadConsumes, WriteAppends};
+ghost use Rattle.smap_io.specs.FromStd.{inner_of, has_failed};
+
+use crate::device::{ByteSink, ByteSource, DeviceFault};
+use std::io::{Read, Write};
+
+/// A device over a reader or a writer of std. It asks that one once a call and tells no bytes. Each
+/// error is a failure, an interrupted call too, and so is a write that takes nothing of some bytes.
+#[derive(Drop)]
+pub struct FromStd<T> {
+    inner: T,
+    failed: bool,
+}
+
+impl<T> FromStd<T> {
+    /// The device over `inner`.
+    pub fn new(inner: T) -> FromStd<T>
+        ensures over { inner_of result ≡ inner }
+        ensures healthy { has_failed result ≡ false }
+    {
+        FromStd {
+            inner,
+            failed: false,
+        }
+    }
+
+    fn fail(&mut self) -> DeviceFault
+        ensures same { inner_of self.new ≡ inner_of self.old }
+        ensures failure { has_failed self.new ≡ true }
+    {
+        self.failed = true;
+        DeviceFault
+    }
+}
+
+impl<R: Read> ByteSource for FromStd<R> {
+    ghost left = { λ _. None };
+
+    ghost has_failed = { has_failed };
+
+    fn read(&mut self, room: &mut [u8]) -> Result<usize, DeviceFault>
+        ensures fits { IfOk result (λ n. n ≤ length room.new) }
+        ensures no_failure { OnOk result (has_failed self.new ≡ has_failed self.old) }
+        ensures failure { OnErr result (has_failed self.new ≡ true) }
+
+        // Where the reader tells its bytes, they are what passed.
+        ensures hands_on { ReadConsumes
+            (R.remaining (inner_of self.old)) (R.remaining (inner_of self.new)) result room.new }
+    {
+        match self.inner.read(room) {
+            Ok(count) => Ok(count),
+            Err(_) => Err(self.fail()),
+        }
+    }
+
+    fn failed(&self) -> bool {
+        self.failed
+    }
+}
+
+impl<W: Write> ByteSink for FromStd<W> {
+    ghost taken = { λ _. None };
+
+    ghost has_failed = { has_failed };
+
+    fn write(&mut self, bytes: &[u8]) -> Result<usize, DeviceFault>
+        ensures fits { IfOk result (λ n. n ≤ length bytes.now) }
+        ensures some { IfOk result (λ n. 0 < length bytes.now → 0 < n) }
+        ensures no_failure { OnOk result (has_failed self.new ≡ has_failed self.old) }
+        ensures failure { OnErr result (has_failed self.new ≡ true) }
+
+        // Where the writer tells its bytes, they are what passed.
+        ensures hands_on { WriteAppends
+            (W.contents (inner_of self.old)) (W.contents (inner_of self.new)) result bytes.now }
+    {
+        match self.inner.write(bytes) {
+            Ok(count) if count > 0 || bytes.is_empty() => Ok(count),
+            _ => Err(self.fail()),
+        }
+    }
+
+    fn flush(&mut self) -> Result<(), DeviceFault>
+        ensures no_failure { OnOk result (has_failed self.new ≡ has_failed self.old) }
+        ensures failure { OnErr result (has_failed self.new ≡ true) }
+        ensures hands_on { Keeps
+            (W.contents (inner_of self.old)) (W.contents (inner_of self.new)) }
+    {
+        match self.inner.flush() {
+            Ok(()) => Ok(()),
+            Err(_) => Err(self.fail()),
+        }
+    }
+
+    fn failed(&self) -> bool {
+        self.failed
+    }
+}

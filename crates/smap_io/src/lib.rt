@@ -1,0 +1,28 @@
+//! Devices that tell their failures: where bytes come from, and where they go.
+//!
+//! A [`ByteSource`] gives bytes and a [`ByteSink`] takes them, some at each call. A call moves
+//! exactly the bytes that it counts; or it fails and moves none, and `failed` says so from then on.
+//! So a program knows after each call what has passed, and whether a device is to blame.
+//!
+//! [`FromStd`] makes a device of a reader or a writer of std. [`MemorySource`] and [`MemorySink`]
+//! stand in memory, and fail at a call that is chosen beforehand. To read a file:
+//!
+//! ```text
+//! let mut input = FromStd::new(File::open(&rt, "trace.txt")?);
+//! let count = input.read(&mut room)?;
+//! let got = &room[..count];
+//! ```
+#![tactic(auto)]
+
+mod countdown;
+mod device;
+mod from_std;
+mod memory_sink;
+mod memory_source;
+#[cfg(test)]
+mod tests;
+
+pub use device::{ByteSink, ByteSource, DeviceFault};
+pub use from_std::FromStd;
+pub use memory_sink::MemorySink;
+pub use memory_source::MemorySource;

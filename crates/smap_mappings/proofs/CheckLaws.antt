@@ -1,0 +1,174 @@
+-- A check's way through a text: the first fault is that of the segments from here on, until none is left.
+use Rattle.std.proofs.Common.{◌≡◌, ◌≢◌, ℕ, ◌+◌, ◌<◌, ◌≤◌, suc, zero, Bool, true, false, not, ◌&&◌, ◌||◌, cond, eqb, List, [], ◌∷◌, ◌++◌, length, take, drop, map, Option, Some, None, refl, sym, ap, subst, ◌∙◌, arith, add-one, ⊎_elim, length-drop, eq-eqb, ne_eqb}
+use Rattle.std.specs.Prelude.{ℤ, pos}
+use Rattle.std.specs.Int.{from_bool}
+use Rattle.std.specs.List.{slice_get, AllByRecursion, list_any}
+use Rattle.std.proofs.lemmas.Bool.{and_from, and_parts, both_ways, cases_lt, cases_order, cond-true, cond-false, or_left, or_right, or_from, cases_Bool, cases_eq}
+use Rattle.std.proofs.lemmas.List.{append-nil, append_assoc, length-map, drop_all, take_all}
+use Rattle.smap_mappings.specs.Segment.{fields_of, has_known_length}
+use Rattle.smap_mappings.specs.Pieces.{Piece, pieces_of, pieces_from}
+use Rattle.smap_mappings.specs.Mappings.{Move, move_of, moves_of, values_on}
+use Rattle.smap_mappings.specs.Accepted.{accepts, all_accepted, is_accepted, IsAccepted}
+use Rattle.smap_mappings.specs.Faults.{spelling_fault, move_fault, first_of, segment_fault, fault_or, first_fault_after, first_fault}
+use Rattle.smap_mappings.specs.Counts.{new_lines, used_lines_of, segments_of}
+use Rattle.smap_mappings.specs.State.{IsAfter, values_at}
+use Rattle.smap_mappings.specs.Step.{fault_from, IsNext, Steps}
+use Rattle.smap_mappings.specs.Checking.{ChecksUpTo}
+use Rattle.smap_mappings.specs.declared.cursor.Cursor.{Cursor}
+use Rattle.smap_mappings.specs.declared.cursor.TheConstants.Cursor.{START}
+use Rattle.smap_mappings.specs.declared.fault.Fault.{Fault}
+use Rattle.smap_mappings.specs.declared.fault.FaultKind.{FaultKind}
+use Rattle.smap_mappings.specs.declared.mapping.Mapping.{Mapping}
+use Rattle.smap_mappings.proofs.PieceLaws.{pieces_at_end}
+use Rattle.smap_mappings.proofs.SpellingFaultLaws.{spelled_known, known_spelled}
+use Rattle.smap_mappings.proofs.ValueFaultLaws.{accepts_from, accepts_known, accepts_none, accepted_widest}
+use Rattle.smap_mappings.proofs.OrderLaws.{any_last}
+
+-- ---- a text is accepted where it has no first fault, and only there
+
+fault_or_none : (first : Option FaultKind) (piece : Piece) (others : Option Fault) → ◌≡◌ {A = Option Fault} (fault_or first piece others) None → (first ≡ None) × (others ≡ None)
+fault_or_none None piece others is = (refl, is)
+fault_or_none (Some kind) piece others is = absurd (cc)
+
+first_of_none : (a b : Option FaultKind) → first_of a b ≡ None → (a ≡ None) × (b ≡ None)
+first_of_none None b is = (refl, is)
+first_of_none (Some kind) b is = absurd (cc)
+
+module _ (sources names : ℕ) where
+  accepted_no_fault : (before : List Move) (pieces : List Piece) → all_accepted sources names before (map move_of pieces) ≡ true → first_fault_after sources names before pieces ≡ None
+  accepted_no_fault before [] all = refl
+  accepted_no_fault before (piece ∷ pieces) all =
+      let parts = and_parts _ _ all in
+      let move = move_of piece in
+      (λ i. fault_or (first_of (known_spelled piece.bytes (accepts_known sources names before move parts.0) i) (accepts_none sources names before move parts.0 i)) piece (first_fault_after sources names (before ++ move ∷ []) pieces))
+      ∙ accepted_no_fault (before ++ move ∷ []) pieces parts.1
+
+  no_fault_accepted : (before : List Move) (pieces : List Piece) → first_fault_after sources names before pieces ≡ None → all_accepted sources names before (map move_of pieces) ≡ true
+  no_fault_accepted before [] none = refl
+  no_fault_accepted before (piece ∷ pieces) none =
+      let move = move_of piece in
+      let parts = fault_or_none (segment_fault sources names before piece) piece _ none in
+      let here = first_of_none (spelling_fault piece.bytes) (move_fault sources names before move) parts.0 in
+      and_from _ _ (accepts_from sources names before move (spelled_known piece.bytes here.0) here.1) (no_fault_accepted (before ++ move ∷ []) pieces parts.1)
+
+  -- where there is none at all, there is none from any segment on
+  none_later : (before : List Move) (pieces : List Piece) (j : ℕ) → first_fault_after sources names before pieces ≡ None → first_fault_after sources names (before ++ take j (map move_of pieces)) (drop j pieces) ≡ None
+  none_later before pieces zero none = ap (λ front. first_fault_after sources names front pieces) (append-nil before) ∙ none
+  none_later before [] (suc j) none = refl
+  none_later before (piece ∷ pieces) (suc j) none =
+      let parts = fault_or_none (segment_fault sources names before piece) piece _ none in
+      ap (λ front. first_fault_after sources names front (drop j pieces)) (sym (append_assoc before (move_of piece ∷ []) (take j (map move_of pieces)))) ∙ none_later (before ++ move_of piece ∷ []) pieces j parts.1
+
+widest_all : (sources names : ℕ) (before moves : List Move) → all_accepted sources names before moves ≡ true → all_accepted 2147483648 2147483648 before moves ≡ true
+widest_all sources names before [] all = refl
+widest_all sources names before (move ∷ moves) all =
+    let parts = and_parts _ _ all in and_from _ _ (accepted_widest sources names before move parts.0) (widest_all sources names (before ++ move ∷ []) moves parts.1)
+
+pub widest : (text : List ℕ) (sources names : ℕ) → IsAccepted text sources names → IsAccepted text 2147483648 2147483648
+unfolding is_accepted
+widest text sources names accepted = widest_all sources names [] (moves_of text) accepted
+
+pub no_fault_is_accepted : (text : List ℕ) (sources names : ℕ) → first_fault text sources names ≡ None → IsAccepted text sources names
+unfolding is_accepted first_fault moves_of
+no_fault_is_accepted text sources names none = no_fault_accepted sources names [] (pieces_of text) none
+
+pub accepted_has_no_fault : (text : List ℕ) (sources names : ℕ) → IsAccepted text sources names → first_fault text sources names ≡ None
+unfolding is_accepted first_fault moves_of
+accepted_has_no_fault text sources names accepted = accepted_no_fault sources names [] (pieces_of text) accepted
+
+pub no_fault_from : (text : List ℕ) (sources names j : ℕ) → IsAccepted text sources names → fault_from text sources names j ≡ None
+unfolding first_fault moves_of
+no_fault_from text sources names j accepted = none_later sources names [] (pieces_of text) j (accepted_has_no_fault text sources names accepted)
+
+-- ---- from the start to the end of a text
+
+-- no segment stands before the start
+pub after_none : (text : List ℕ) → IsAfter text 0 START
+unfolding pieces_of values_on
+after_none text = record { count = omega arith; inside = omega arith; line_within = omega arith; rest = refl; lines = tt; values = refl }
+
+-- at the end of the text all segments are behind
+pub all_behind : (text : List ℕ) (j : ℕ) (cursor : Cursor) → IsAfter text j cursor → cursor.place ≡ length text → j ≡ segments_of text
+all_behind text j cursor after at_end =
+    let none : drop j (pieces_of text) ≡ [] = sym after.rest ∙ pieces_at_end text cursor.line cursor.place (omega arith) in
+    omega (arith, length-drop j (pieces_of text), ap length none, after.count)
+
+length-moves_of : (text : List ℕ) → length (moves_of text) ≡ length (pieces_of text)
+unfolding moves_of
+length-moves_of text = length-map (pieces_of text) move_of
+
+pub checks_start : (text : List ℕ) (sources names : ℕ) → ChecksUpTo text sources names START 0 0
+unfolding first_fault
+checks_start text sources names = record { after = after_none text; passed = refl; on_line = λ lt. absurd (omega arith); lines = refl; few = omega arith; fewer = omega arith }
+
+pub none_at_end : (text : List ℕ) (sources names : ℕ) (cursor next : Cursor) (segments used_lines : ℕ) → ChecksUpTo text sources names cursor segments used_lines → IsAfter text segments next → next.place ≡ length text → first_fault text sources names ≡ None
+none_at_end text sources names cursor next segments used_lines checks after at_end =
+    let all = all_behind text segments next after at_end in
+    checks.passed ∙ ap (λ pieces. first_fault_after sources names (take segments (moves_of text)) pieces) (drop_all segments (pieces_of text) (omega arith))
+
+pub lines_at_end : (text : List ℕ) (sources names : ℕ) (cursor next : Cursor) (segments used_lines : ℕ) → ChecksUpTo text sources names cursor segments used_lines → IsAfter text segments next → next.place ≡ length text → used_lines ≡ used_lines_of text
+unfolding used_lines_of
+lines_at_end text sources names cursor next segments used_lines checks after at_end =
+    let all = all_behind text segments next after at_end in
+    checks.lines ∙ ap (new_lines []) (take_all segments (moves_of text) (omega (arith, length-moves_of text)))
+
+-- ---- one segment more
+
+new_lines-push : (earlier moves : List Move) (move : Move) → new_lines earlier (moves ++ move ∷ []) ≡ new_lines earlier moves + cond (list_any (λ e. eqb e.line move.line) (earlier ++ moves)) 0 1
+new_lines-push earlier [] move = rw append-nil (omega arith)
+new_lines-push earlier (m ∷ moves) move =
+    let more = new_lines-push (earlier ++ m ∷ []) moves move ∙ ap (λ front. new_lines (earlier ++ m ∷ []) moves + cond (list_any (λ e. eqb e.line move.line) front) 0 1) (append_assoc earlier (m ∷ []) moves) in
+    omega (arith, more)
+
+none_later_line : (line : ℕ) (moves : List Move) → AllByRecursion (λ (m : Move). m.line < line) moves → list_any (λ (m : Move). eqb m.line line) moves ≡ false
+none_later_line line [] all = refl
+none_later_line line (m ∷ moves) all = or_from _ _ (ne_eqb m.line line (λ (e : m.line ≡ line). absurd (omega (arith, all.0)))) (none_later_line line moves all.1)
+
+below_line : (line later : ℕ) (moves : List Move) → line < later → AllByRecursion (λ (m : Move). m.line ≤ line) moves → AllByRecursion (λ (m : Move). m.line < later) moves
+below_line line later [] lt all = tt
+below_line line later (m ∷ moves) lt all = (omega (arith, all.0), below_line line later moves lt all.1)
+
+none_so_far : (p : Move → Bool) (segments : ℕ) (moves : List Move) → segments ≡ 0 → list_any p (take segments moves) ≡ false
+none_so_far p segments moves is = ap (λ n. list_any p (take n moves)) is
+
+-- a segment counts for its line where it is the first, or where its line isn't that of the last one
+pub is_new : (text : List ℕ) (sources names : ℕ) (cursor next : Cursor) (segments used_lines : ℕ) → ChecksUpTo text sources names cursor segments used_lines → cursor.line ≤ next.line → (new : Bool) → new ≡ (eqb segments 0 || not (eqb next.line cursor.line))
+    → ◌≡◌ {A = ℕ} (cond (list_any (λ (m : Move). eqb m.line next.line) (take segments (moves_of text))) 0 1) (from_bool new)
+is_new text sources names cursor next segments used_lines checks down new new_is =
+    let front = take segments (moves_of text) in
+    ⊎_elim
+    (λ (none : segments ≡ 0).
+      cond-false _ _ _ (none_so_far (λ (m : Move). eqb m.line next.line) segments (moves_of text) none) ∙ ap from_bool (sym (new_is ∙ or_left _ _ (eq-eqb _ _ none))))
+    (λ (some : segments ≡ 0 → ⊥).
+      let not_first = ne_eqb segments 0 some in
+      ⊎_elim
+      (λ (same : next.line ≡ cursor.line).
+        let on_line = checks.on_line (omega arith) in
+        cond-true _ _ _ (ap (λ line. list_any (λ (m : Move). eqb m.line line) front) same ∙ on_line)
+        ∙ ap from_bool (sym (new_is ∙ or_from _ _ not_first (ap not (eq-eqb _ _ same)))))
+      (λ (other : next.line ≡ cursor.line → ⊥).
+        cond-false _ _ _ (none_later_line next.line front (below_line cursor.line next.line front (omega arith) checks.after.lines))
+        ∙ ap from_bool (sym (new_is ∙ or_right _ _ (ap not (ne_eqb _ _ other)))))
+      (cases_eq next.line cursor.line))
+    (cases_eq segments 0)
+
+pub from_bool_most : (b : Bool) → from_bool b ≤ 1
+from_bool_most true = omega arith
+from_bool_most false = omega arith
+
+pub checks_more : (text : List ℕ) (sources names : ℕ) (cursor next after : Cursor) (mapping : Mapping) (segments used_lines new : ℕ) → ChecksUpTo text sources names cursor segments used_lines → Steps text segments sources names mapping after → after.line ≡ next.line → cursor.place ≤ next.place → next.place < after.place
+    → ◌≡◌ {A = ℕ} (cond (list_any (λ (m : Move). eqb m.line next.line) (take segments (moves_of text))) 0 1) new → new ≤ 1 → ChecksUpTo text sources names after (segments + 1) (used_lines + new)
+checks_more text sources names cursor next after mapping segments used_lines new checks steps line_is onward ahead new_is one =
+    let front = take segments (moves_of text) in
+    record {
+      after = steps.next.behind;
+      passed = checks.passed ∙ steps.passes;
+      on_line = λ lt. ap (list_any (λ (m : Move). eqb m.line after.line)) steps.taken ∙ any_last front (record { line = after.line; fields = steps.fields }) after.line refl;
+      lines = (λ i. checks.lines i + sym new_is i) ∙ ap (λ line. new_lines [] front + cond (list_any (λ (m : Move). eqb m.line line) front) 0 1) (sym line_is) ∙ sym (ap (new_lines []) steps.taken ∙ new_lines-push [] front (record { line = after.line; fields = steps.fields }));
+      few = omega (arith, checks.few);
+      fewer = omega (arith, checks.fewer);
+    }
+
+-- the same state of the same text, under other names
+pub after_same : (text text' : List ℕ) (j : ℕ) (cursor cursor' : Cursor) → text' ≡ text → cursor' ≡ cursor → IsAfter text j cursor → IsAfter text' j cursor'
+after_same text text' j cursor cursor' text_is cursor_is after = subst (λ t. IsAfter t j cursor') (sym text_is) (subst (IsAfter text j) (sym cursor_is) after)

@@ -1,0 +1,87 @@
+-- A text of n bytes has at most (n + 1) / 2 segments, and as many mappings as segments.
+use Rattle.std.proofs.Common.{◌≡◌, ℕ, ◌+◌, ◌*◌, ◌<◌, ◌≤◌, suc, zero, Bool, true, false, cond, List, [], ◌∷◌, ◌++◌, length, map, filter, refl, sym, ap, ◌∙◌, arith, ⊎_elim, length-append, add-one, take, Option, Some, None}
+use Rattle.std.specs.List.{slice_split, onto_first, slice_get}
+use Rattle.std.proofs.lemmas.Bool.{cases_Bool, cond-true, cond-false}
+use Rattle.std.proofs.lemmas.List.{length-map, take_all}
+use Rattle.smap_mappings.specs.Pieces.{Piece, is_nonempty, is_comma, ends_line, placed_from, piece_on, pieces_on, pieces_of_lines, pieces_from, pieces_of}
+use Rattle.smap_mappings.specs.Mappings.{Move, move_of, moves_of, mappings_after, mappings_of}
+use Rattle.smap_mappings.specs.Counts.{segments_of}
+use Rattle.smap_mappings.specs.State.{IsAfter}
+use Rattle.smap_mappings.specs.Step.{IsNext}
+use Rattle.smap_mappings.specs.Checking.{DecodesUpTo}
+use Rattle.smap_mappings.specs.declared.cursor.Cursor.{Cursor}
+use Rattle.smap_mappings.specs.declared.cursor.TheConstants.Cursor.{START}
+use Rattle.smap_mappings.specs.declared.mapping.Mapping.{Mapping}
+use Rattle.smap_mappings.proofs.CheckLaws.{after_none}
+
+-- the bytes of all parts, with one more for each part
+spread : List (List ℕ) → ℕ
+spread [] = 0
+spread (part ∷ parts) = length part + 1 + spread parts
+
+spread-onto_first : (x : ℕ) (parts : List (List ℕ)) (n : ℕ) → spread parts ≡ suc n → spread (onto_first x parts) ≡ suc (suc n)
+unfolding spread
+spread-onto_first x [] n is = absurd (cc)
+spread-onto_first x (part ∷ parts) n is = omega (arith, is)
+
+-- the separators count for the parts, but for the last
+spread-split : (p : ℕ → Bool) (xs : List ℕ) → spread (slice_split p xs) ≡ suc (length xs)
+unfolding spread
+spread-split p [] = refl
+spread-split p (x ∷ xs) =
+    let more = spread-split p xs in
+    ⊎_elim
+    (λ yes. ap spread (cond-true _ _ _ yes) ∙ omega (arith, more))
+    (λ no_cut. ap spread (cond-false _ _ _ no_cut) ∙ spread-onto_first x (slice_split p xs) (length xs) more)
+    (cases_Bool (p x))
+
+few_nonempty : (place : ℕ) (parts : List (List ℕ)) → 2 * length (filter is_nonempty (placed_from place parts)) ≤ spread parts
+unfolding spread
+few_nonempty place [] = omega arith
+few_nonempty place ([] ∷ parts) = let more = few_nonempty (place + 0 + 1) parts in omega (arith, more)
+few_nonempty place ((b ∷ bytes) ∷ parts) = let more = few_nonempty (place + suc (length bytes) + 1) parts in omega (arith, more)
+
+few_on_line : (line place : ℕ) (bytes : List ℕ) → 2 * length (pieces_on line place bytes) ≤ suc (length bytes)
+unfolding pieces_on
+few_on_line line place bytes =
+    omega (arith, few_nonempty place (slice_split is_comma bytes), spread-split is_comma bytes, length-map (filter is_nonempty (placed_from place (slice_split is_comma bytes))) (piece_on line))
+
+few_on_lines : (line place : ℕ) (lines : List (List ℕ)) → 2 * length (pieces_of_lines line place lines) ≤ spread lines
+unfolding spread
+few_on_lines line place [] = omega arith
+few_on_lines line place (bytes ∷ lines) =
+    let rest = pieces_of_lines (line + 1) (place + length bytes + 1) lines in
+    omega (arith, few_on_line line place bytes, few_on_lines (line + 1) (place + length bytes + 1) lines, length-append (pieces_on line place bytes) rest)
+
+pub few_segments : (text : List ℕ) → 2 * segments_of text ≤ length text + 1
+unfolding pieces_of pieces_from
+few_segments text = omega (arith, few_on_lines 0 0 (slice_split ends_line text), spread-split ends_line text)
+
+-- ---- as many mappings as segments
+
+length-mappings_after : (before moves : List Move) → length (mappings_after before moves) ≡ length moves
+length-mappings_after before [] = refl
+length-mappings_after before (move ∷ moves) = ap suc (length-mappings_after (before ++ move ∷ []) moves)
+
+pub length-mappings_of : (text : List ℕ) → length (mappings_of text) ≡ segments_of text
+unfolding mappings_of moves_of
+length-mappings_of text = length-mappings_after [] (moves_of text) ∙ length-map (pieces_of text) move_of
+
+pub decodes_start : (text : List ℕ) → DecodesUpTo text START []
+decodes_start text = record { j = 0; after = after_none text; list_is = refl }
+
+take_next : {X : Type 0} (j : ℕ) (xs : List X) (x : X) → slice_get xs j ≡ Some x → take (suc j) xs ≡ take j xs ++ x ∷ []
+take_next zero [] x is = absurd (cc)
+take_next zero (y ∷ xs) x is = let e : y ≡ x = cc in ap (λ z. z ∷ []) e
+take_next (suc j) [] x is = absurd (cc)
+take_next (suc j) (y ∷ xs) x is = ap (λ zs. y ∷ zs) (take_next j xs x is)
+
+pub decodes_more : (text : List ℕ) (cursor after : Cursor) (list list' : List Mapping) (mapping : Mapping) (decodes : DecodesUpTo text cursor list) → IsNext text decodes.j mapping after → list' ≡ list ++ mapping ∷ [] → DecodesUpTo text after list'
+decodes_more text cursor after list list' mapping decodes next pushed = record {
+  j = decodes.j + 1;
+  after = next.behind;
+  list_is = pushed ∙ ap (λ l. l ++ mapping ∷ []) decodes.list_is ∙ sym (rw add-one (take_next decodes.j (mappings_of text) mapping next.mapping_is));
+}
+
+pub decodes_all : (text : List ℕ) (cursor : Cursor) (list : List Mapping) (decodes : DecodesUpTo text cursor list) → decodes.j ≡ segments_of text → list ≡ mappings_of text
+decodes_all text cursor list decodes at_end = decodes.list_is ∙ take_all decodes.j (mappings_of text) (omega (arith, length-mappings_of text))

@@ -1,0 +1,34 @@
+-- The table of digits in `src/base64.rt` holds, at each byte, the byte's place in the alphabet.
+use Rattle.std.proofs.Common.{◌≡◌, ℕ, ◌<◌, ◌≤◌, Bool, List, get_or, Some, None, Option, cond, ltb, eqb, refl, sym, ◌∙◌, ap, map, add-zero, zero-add, arith, rules, lt-ltb, le-ltb}
+use Rattle.std.specs.List.{range_with_len}
+use Rattle.std.proofs.lemmas.List.FromFn.{get_or-map-range_with_len}
+use Rattle.std.proofs.lemmas.List.Quantifiers.{position-Some}
+use Rattle.smap_mappings.specs.Base64.{alphabet, digit_of}
+use Rattle.smap_mappings.specs.declared.base64.TheConstants.{DIGITS}
+
+-- what the table says of a byte
+abbrev pub table_digit : ℕ → Option ℕ
+table_digit byte = cond (ltb (get_or DIGITS byte 0) 64) (Some (get_or DIGITS byte 0)) None
+
+same_tables : map digit_of (range_with_len 0 256) ≡ map table_digit (range_with_len 0 256)
+unfolding digit_of
+same_tables = refl
+
+pub digit_of_is_table : (byte : ℕ) → byte < 256 → digit_of byte ≡ table_digit byte
+digit_of_is_table byte below =
+    sym (get_or-map-range_with_len digit_of 0 256 byte byte None below (zero-add byte))
+    ∙ ap (λ digits. get_or digits byte None) same_tables
+    ∙ get_or-map-range_with_len table_digit 0 256 byte byte None below (zero-add byte)
+
+pub digit_found : (byte : ℕ) → byte < 256 → get_or DIGITS byte 0 < 64 → Some (get_or DIGITS byte 0) ≡ digit_of byte
+digit_found byte below found =
+    sym (digit_of_is_table byte below ∙ ap (λ b. cond b (Some (get_or DIGITS byte 0)) None) (lt-ltb (get_or DIGITS byte 0) 64 found))
+
+pub digit_missing : (byte : ℕ) → byte < 256 → 64 ≤ get_or DIGITS byte 0 → None ≡ digit_of byte
+digit_missing byte below missing =
+    sym (digit_of_is_table byte below ∙ ap (λ b. cond b (Some (get_or DIGITS byte 0)) None) (le-ltb (get_or DIGITS byte 0) 64 missing))
+
+-- a digit is below 64
+pub digit_below : (byte value : ℕ) → digit_of byte ≡ Some value → value < 64
+unfolding digit_of
+digit_below byte value is = (position-Some (λ letter. eqb letter byte) alphabet value 0 is).0

@@ -1,0 +1,14 @@
+pub mod Digits
+pub mod Numbers
+pub mod SpelledNumbers
+pub mod PieceLaws
+pub mod FieldLaws
+pub mod MoveLaws
+pub mod Ranges
+pub mod ValueFaultLaws
+pub mod StepLaws
+pub mod CheckLaws
+pub mod CountLaws
+pub mod OrderLaws
+pub mod SpellingFaultLaws
+pub mod Examples

@@ -1,0 +1,78 @@
+-- The mappings of an accepted text are in order.
+use Rattle.std.proofs.Common.{◌≡◌, ℕ, ◌+◌, ◌<◌, ◌≤◌, suc, zero, Bool, true, false, not, ◌&&◌, ◌||◌, eqb, List, [], ◌∷◌, ◌++◌, length, map, filter, refl, sym, ap, subst, ◌∙◌, arith, eq-eqb, ⊎_elim, inl, inr, ◌⊎◌}
+use Rattle.std.specs.Prelude.{ℤ, pos, negsuc, ◌+ℤ◌, int_lt}
+use Rattle.std.specs.List.{list_any, slice_split}
+use Rattle.std.proofs.lemmas.Bool.{and_parts, or_cases, or_left, or_right, not-true, both_ways, not_from_true, cases_order}
+use Rattle.std.proofs.lemmas.Int.{ints}
+use Rattle.smap_mappings.specs.Pieces.{Piece, is_nonempty, is_comma, ends_line, placed_from, piece_on, pieces_on, pieces_of_lines, pieces_from, pieces_of}
+use Rattle.smap_mappings.specs.Mappings.{Move, RunningValues, move_of, moves_of, field, natural, values_on, mapping_after, mappings_after, mappings_of}
+use Rattle.smap_mappings.specs.Accepted.{in_range, accepts, all_accepted, is_accepted, IsAccepted}
+use Rattle.smap_mappings.specs.Order.{IsAtOrBefore, IsInOrder}
+use Rattle.smap_mappings.proofs.MoveLaws.{values-push}
+use Rattle.smap_mappings.proofs.Ranges.{in_range_natural, each_in_range}
+
+-- the lines of the segments don't fall, and none is before this one
+abbrev pub LinesRise : ℕ → List Move → Type 0
+LinesRise line [] = Unit {0}
+LinesRise line (move ∷ moves) = (line ≤ move.line) × LinesRise move.line moves
+
+rises_from_before : (line later : ℕ) (moves : List Move) → line ≤ later → LinesRise later moves → LinesRise line moves
+rises_from_before line later [] before rise = tt
+rises_from_before line later (move ∷ moves) before rise = (omega (arith, rise.0), rise.1)
+
+on_one_line : (line : ℕ) (parts : List (ℕ × List ℕ)) (rest : List Piece) → LinesRise line (map move_of rest) → LinesRise line (map move_of (map (piece_on line) parts ++ rest))
+on_one_line line [] rest rise = rise
+on_one_line line (part ∷ parts) rest rise = (omega arith, on_one_line line parts rest rise)
+
+lines_rise : (line place : ℕ) (lines : List (List ℕ)) → LinesRise line (map move_of (pieces_of_lines line place lines))
+unfolding pieces_on
+lines_rise line place [] = tt
+lines_rise line place (bytes ∷ lines) =
+    on_one_line line (filter is_nonempty (placed_from place (slice_split is_comma bytes))) (pieces_of_lines (line + 1) (place + length bytes + 1) lines)
+    (rises_from_before line (line + 1) _ (omega arith) (lines_rise (line + 1) (place + length bytes + 1) lines))
+
+pub moves_rise : (text : List ℕ) → LinesRise 0 (moves_of text)
+unfolding moves_of pieces_of pieces_from
+moves_rise text = lines_rise 0 0 (slice_split ends_line text)
+
+-- the last segment so far stands on its own line
+pub any_last : (before : List Move) (move : Move) (line : ℕ) → move.line ≡ line → list_any (λ (earlier : Move). eqb earlier.line line) (before ++ move ∷ []) ≡ true
+any_last [] move line is = or_left _ _ (eq-eqb _ _ is)
+any_last (m ∷ before) move line is = or_right _ _ (any_last before move line is)
+
+columns_rise : (x y d : ℤ) (m n : ℕ) → x ≡ pos m → y ≡ pos n → y ≡ x +ℤ d → int_lt d (pos 0) ≡ false → m ≤ n
+columns_rise x y (pos k) m n x_is y_is sum onward = omega (arith, ints)
+columns_rise x y (negsuc k) m n x_is y_is sum onward = absurd (cc)
+
+module _ (sources names : ℕ) where
+  next_in_order : (before : List Move) (a b : Move) → a.line ≤ b.line → accepts sources names before a ≡ true → accepts sources names (before ++ a ∷ []) b ≡ true → IsAtOrBefore (mapping_after before a) (mapping_after (before ++ a ∷ []) b)
+  unfolding accepts mapping_after
+  next_in_order before a b rises accepts_a accepts_b =
+      ⊎_elim
+      (λ (same : a.line ≡ b.line).
+        let front = before ++ a ∷ [] in
+        let range_a = (each_in_range (values_on a.line front) (and_parts _ _ (and_parts _ _ (and_parts _ _ (and_parts _ _ accepts_a).0).0).0).1).column in
+        let range_b = (each_in_range (values_on b.line (front ++ b ∷ [])) (and_parts _ _ (and_parts _ _ (and_parts _ _ (and_parts _ _ accepts_b).0).0).0).1).column in
+        let column_a = in_range_natural (values_on a.line front).column range_a in
+        let column_b = in_range_natural (values_on b.line (front ++ b ∷ [])).column range_b in
+        let pushed = ap (λ (v : RunningValues). v.column) (values-push front b) in
+        let from_a : (values_on b.line front).column ≡ (values_on a.line front).column = ap (λ line. (values_on line front).column) (sym same) in
+        let onward : int_lt (field 0 b) (pos 0) ≡ false = ⊎_elim
+          (λ none. absurd (both_ways _ (not-true _ none) (any_last before a b.line same)))
+          (λ rising. not-true _ rising)
+          (or_cases _ _ (and_parts _ _ accepts_b).1) in
+        inr (same, columns_rise (values_on a.line front).column (values_on b.line (front ++ b ∷ [])).column (field 0 b) (natural (values_on a.line front).column) (natural (values_on b.line (front ++ b ∷ [])).column)
+          column_a.0 column_b.0 (pushed ∙ ap (λ z. z +ℤ field 0 b) from_a) onward))
+      (λ other. ⊎_elim (λ before. inl before) (λ after. absurd (omega arith)) other)
+      (cases_order a.line b.line)
+
+  in_order : (before moves : List Move) (line : ℕ) → LinesRise line moves → all_accepted sources names before moves ≡ true → IsInOrder (mappings_after before moves)
+  in_order before [] line rise all = tt
+  in_order before (a ∷ []) line rise all = tt
+  in_order before (a ∷ b ∷ moves) line rise all =
+      let parts = and_parts _ _ all in
+      (next_in_order before a b rise.1.0 parts.0 (and_parts _ _ parts.1).0, in_order (before ++ a ∷ []) (b ∷ moves) a.line rise.1 parts.1)
+
+pub mappings_in_order : (text : List ℕ) (sources names : ℕ) → IsAccepted text sources names → IsInOrder (mappings_of text)
+unfolding is_accepted mappings_of
+mappings_in_order text sources names accepted = in_order sources names [] (moves_of text) 0 (moves_rise text) accepted

@@ -1,0 +1,185 @@
+-- From a state at a segment: the segment is the next of the text, and reading it leads to its mapping and the state
+-- behind it.
+use Rattle.std.proofs.Common.{◌≡◌, ℕ, ◌+◌, ◌<◌, ◌≤◌, suc, zero, Bool, true, false, not, ◌&&◌, eqb, List, [], ◌∷◌, ◌++◌, length, get_or, take, drop, map, Option, Some, None, refl, sym, ap, subst, ◌∙◌, arith, add-one, ⊎_elim, unwrap_or}
+use Rattle.std.specs.Prelude.{ℤ, pos, IfSome, ◌+ℤ◌}
+use Rattle.std.specs.List.{AllByRecursion, slice_get, list_any}
+use Rattle.std.proofs.lemmas.Bool.{and_left, false_from_ne_true}
+use Rattle.std.proofs.lemmas.List.{drop-map, append-nil, append_assoc}
+use Rattle.smap_mappings.specs.Pieces.{Piece, ends_line, is_comma, is_inside, piece_on, piece_at, pieces_from, pieces_of}
+use Rattle.smap_mappings.specs.Mappings.{Move, RunningValues, move_of, moves_of, values_on, moved, natural, name_in, origin_in, mapping_after, mappings_after, mappings_of}
+use Rattle.smap_mappings.specs.Segment.{has_known_length}
+use Rattle.smap_mappings.specs.Reading.{known_fields, fields_in, origin_fields, name_fields, move_in, ReadsSegment}
+use Rattle.smap_mappings.specs.State.{values_at, IsAfter}
+use Rattle.smap_mappings.specs.Advance.{sums_fault, Advances}
+use Rattle.smap_mappings.specs.Faults.{spelling_fault, move_fault, first_of, segment_fault, fault_or, first_fault_after}
+use Rattle.smap_mappings.specs.Step.{fault_from, fault_at, IsNext, Steps, name_of, origin_of, mapping_in}
+use Rattle.smap_mappings.specs.declared.cursor.Cursor.{Cursor}
+use Rattle.smap_mappings.specs.declared.fault.FaultKind.{FaultKind}
+use Rattle.smap_mappings.specs.declared.mapping.Mapping.{Mapping}
+use Rattle.smap_mappings.specs.declared.mapping.Origin.{Origin}
+use Rattle.smap_mappings.specs.declared.segment.Segment.{Segment}
+use Rattle.smap_mappings.specs.declared.segment.OriginFields.{OriginFields}
+use Rattle.smap_mappings.proofs.PieceLaws.{pieces_at_segment, pieces_at_line_end, pieces_at_comma, pieces_at_end}
+use Rattle.smap_mappings.proofs.MoveLaws.{values-push, values_on_new_line, next_element}
+use Rattle.smap_mappings.proofs.ValueFaultLaws.{move_fault_is}
+use Rattle.smap_mappings.proofs.SpellingFaultLaws.{known_spelled}
+
+-- ---- the segment at a state's place
+
+abbrev end_at : List ℕ → Cursor → ℕ
+end_at text cursor = cursor.place + length (piece_at text cursor.place)
+
+-- the segment at the state's place is segment j, with this move
+pub record AtSegment (text : List ℕ) (j : ℕ) (cursor : Cursor) (move : Move) : Type 0 where
+  pub count : suc j ≤ length (pieces_of text)
+  pub piece : drop j (pieces_of text) ≡ piece_on cursor.line (cursor.place, piece_at text cursor.place) ∷ pieces_from cursor.line (end_at text cursor) (drop (end_at text cursor) text)
+  pub next : slice_get (moves_of text) j ≡ Some move
+  pub taken : take (suc j) (moves_of text) ≡ take j (moves_of text) ++ move ∷ []
+  pub left : drop (suc j) (pieces_of text) ≡ pieces_from cursor.line (end_at text cursor) (drop (end_at text cursor) text)
+
+pub at_segment : (text : List ℕ) (j : ℕ) (cursor : Cursor) → IsAfter text j cursor → cursor.place < length text → is_inside (get_or text cursor.place 0) ≡ true
+    → AtSegment text j cursor (record { line = cursor.line; fields = known_fields text cursor.place })
+unfolding moves_of
+at_segment text j cursor after within inside =
+    let piece = piece_on cursor.line (cursor.place, piece_at text cursor.place) in
+    let pieces = pieces_of text in
+    let is = sym after.rest ∙ pieces_at_segment text cursor.line cursor.place within inside in
+    let next = next_element j pieces _ piece is in
+    let next_move = next_element j (map move_of pieces) _ (move_of piece) (drop-map move_of j pieces ∙ ap (map move_of) is) in
+    record { count = next.3; piece = is; next = next_move.2; taken = next_move.0; left = next.1 }
+
+-- the first fault from segment j on is that of segment j, or else the first of those behind it
+fault_from_here : (text : List ℕ) (j sources names : ℕ) (cursor : Cursor) → AtSegment text j cursor (record { line = cursor.line; fields = known_fields text cursor.place })
+    → fault_from text sources names j ≡ fault_or (segment_fault sources names (take j (moves_of text)) (piece_on cursor.line (cursor.place, piece_at text cursor.place))) (piece_on cursor.line (cursor.place, piece_at text cursor.place)) (fault_from text sources names (suc j))
+fault_from_here text j sources names cursor seg =
+    let piece = piece_on cursor.line (cursor.place, piece_at text cursor.place) in
+    let before = take j (moves_of text) in
+    ap (first_fault_after sources names before) seg.piece
+    ∙ (λ i. fault_or (segment_fault sources names before piece) piece (first_fault_after sources names (sym seg.taken i) (sym seg.left i)))
+
+-- ---- the segment as it was read
+
+mapping_at_place : (before moves : List Move) (j : ℕ) (move : Move) → slice_get moves j ≡ Some move → slice_get (mappings_after before moves) j ≡ Some (mapping_after (before ++ take j moves) move)
+mapping_at_place before [] j move is = absurd (cc)
+mapping_at_place before (m ∷ moves) zero move is =
+    let same : m ≡ move = cc in ap (λ x. Some (mapping_after before x)) same ∙ ap (λ ms. Some (mapping_after ms move)) (sym (append-nil before))
+mapping_at_place before (m ∷ moves) (suc j) move is =
+    mapping_at_place (before ++ m ∷ []) moves j move is ∙ ap (λ ms. Some (mapping_after ms move)) (append_assoc before (m ∷ []) (take j moves))
+
+name_same : (column source line original_column : ℤ) (name : Option ℤ) (cursor : Cursor) → name_in (column ∷ source ∷ line ∷ original_column ∷ name_fields name) (values_at cursor) ≡ name_of name cursor
+name_same column source line original_column None cursor = refl
+name_same column source line original_column (Some name) cursor = refl
+
+origin_named : (column source line original_column : ℤ) (name : Option ℤ) (cursor : Cursor) → origin_in (column ∷ source ∷ line ∷ original_column ∷ name_fields name) (values_at cursor)
+    ≡ Some (record { source = cursor.source; line = cursor.original_line; column = cursor.original_column; name = name_of name cursor })
+origin_named column source line original_column None cursor = refl
+origin_named column source line original_column (Some name) cursor = refl
+
+origin_same : (column : ℤ) (origin : Option OriginFields) (cursor : Cursor) → origin_in (column ∷ origin_fields origin) (values_at cursor) ≡ origin_of origin cursor
+origin_same column None cursor = refl
+origin_same column (Some o) cursor = origin_named column o.source o.line o.column o.name cursor
+
+known_count : (column : ℤ) (origin : Option OriginFields) → has_known_length (column ∷ origin_fields origin) ≡ true
+known_count column None = refl
+known_count column (Some o) = named o.source o.line o.column o.name
+  where
+  named : (source line original_column : ℤ) (name : Option ℤ) → has_known_length (column ∷ source ∷ line ∷ original_column ∷ name_fields name) ≡ true
+  named source line original_column None = refl
+  named source line original_column (Some name) = refl
+
+all_push : {X : Type 0} (P : X → Type 0) (xs : List X) (x : X) → AllByRecursion P xs → P x → AllByRecursion P (xs ++ x ∷ [])
+all_push P [] x all here = (here, tt)
+all_push P (y ∷ xs) x all here = (all.0, all_push P xs x all.1 here)
+
+module _ (text : List ℕ) (j : ℕ) (cursor : Cursor) (segment : Segment) (end : ℕ) (after : IsAfter text j cursor) (within : cursor.place < length text) (inside : is_inside (get_or text cursor.place 0) ≡ true) (reads : ReadsSegment text cursor.place segment end) where
+  read_move : AtSegment text j cursor (move_in cursor.line segment)
+  read_move =
+      let move_is : record { line = cursor.line; fields = known_fields text cursor.place } ≡ move_in cursor.line segment = ap (λ fields. record { line = cursor.line; fields = unwrap_or fields [] }) reads.fields in
+      subst (AtSegment text j cursor) move_is (at_segment text j cursor after within inside)
+
+  -- the running values behind the segment
+  values_behind : values_on cursor.line (take j (moves_of text) ++ move_in cursor.line segment ∷ []) ≡ moved (values_at cursor) (move_in cursor.line segment)
+  values_behind = values-push (take j (moves_of text)) (move_in cursor.line segment) ∙ ap (λ values. moved values (move_in cursor.line segment)) (sym after.values)
+
+  -- its spelling has no fault, and the fault of its values is that of the sums
+  read_fault : (sources names : ℕ) → segment_fault sources names (take j (moves_of text)) (piece_on cursor.line (cursor.place, piece_at text cursor.place)) ≡ sums_fault sources names segment (moved (values_at cursor) (move_in cursor.line segment))
+  read_fault sources names =
+      let before = take j (moves_of text) in
+      let bytes = piece_at text cursor.place in
+      let known : has_known_length (known_fields text cursor.place) ≡ true = ap (λ fields. has_known_length (unwrap_or fields [])) reads.fields ∙ known_count segment.column segment.origin in
+      ap (λ first. first_of first (move_fault sources names before (record { line = cursor.line; fields = known_fields text cursor.place }))) (known_spelled bytes known)
+      ∙ ap (λ fields. move_fault sources names before (record { line = cursor.line; fields = unwrap_or fields [] })) reads.fields
+      ∙ move_fault_is sources names cursor.line before segment
+      ∙ ap (sums_fault sources names segment) values_behind
+
+  -- a segment whose values have no fault leads to its mapping and to the state behind it
+  pub steps_to : (sources names : ℕ) (next : Cursor) → Advances cursor segment end sources names next → Steps text j sources names (mapping_in segment next) next
+  unfolding mappings_of mapping_after
+  steps_to sources names next advances =
+      let before = take j (moves_of text) in
+      let move = move_in cursor.line segment in
+      let seg = read_move in
+      let same : values_on cursor.line (before ++ move ∷ []) ≡ values_at next = values_behind ∙ sym advances.values in
+      let place_is : next.place ≡ cursor.place + length (piece_at text cursor.place) = advances.place ∙ reads.ends in
+      let none = read_fault sources names ∙ ap (sums_fault sources names segment) (sym advances.values) ∙ advances.allowed in
+      record {
+        passes = rw add-one (fault_from_here text j sources names cursor (at_segment text j cursor after within inside)
+          ∙ ap (λ first. fault_or first (piece_on cursor.line (cursor.place, piece_at text cursor.place)) (fault_from text sources names (suc j))) none);
+        next = record {
+          more = omega (arith, seg.count);
+          mapping_is =
+            mapping_at_place [] (moves_of text) j move seg.next
+            ∙ ap (λ values. Some (record { line = cursor.line; column = natural values.column; origin = origin_in (fields_in segment) values })) same
+            ∙ (λ i. Some (record { line = sym advances.line i; column = next.column; origin = origin_same segment.column segment.origin next i }));
+          behind = rw add-one (record {
+            count = seg.count;
+            inside = omega (arith, reads.inside, advances.place);
+            line_within = omega (arith, advances.line, after.line_within, place_is);
+            rest = (λ i. pieces_from (advances.line i) (place_is i) (drop (place_is i) text)) ∙ sym seg.left;
+            lines = subst (AllByRecursion (λ (m : Move). m.line ≤ next.line)) (sym seg.taken)
+                (all_push (λ (m : Move). m.line ≤ next.line) before move (subst (λ line. AllByRecursion (λ (m : Move). m.line ≤ line) before) (sym advances.line) after.lines) (omega (arith, advances.line)));
+            values = sym same ∙ ap (λ line. values_on line (before ++ move ∷ [])) (sym advances.line) ∙ ap (values_on next.line) (sym seg.taken);
+          });
+        };
+        fields = fields_in segment;
+        taken = rw add-one (seg.taken ∙ ap (λ line. before ++ record { line = line; fields = fields_in segment } ∷ []) (sym advances.line));
+      }
+
+  -- and one whose values have a fault has that
+  pub faulty_values : (sources names : ℕ) (kind : FaultKind) → sums_fault sources names segment (moved (values_at cursor) (move_in cursor.line segment)) ≡ Some kind → fault_from text sources names j ≡ Some (fault_at cursor kind)
+  faulty_values sources names kind is =
+      fault_from_here text j sources names cursor (at_segment text j cursor after within inside)
+      ∙ ap (λ first. fault_or first (piece_on cursor.line (cursor.place, piece_at text cursor.place)) (fault_from text sources names (suc j))) (read_fault sources names ∙ is)
+
+-- a segment that can't be read has the fault of its spelling
+pub faulty_spelling : (text : List ℕ) (j : ℕ) (cursor : Cursor) (sources names : ℕ) (kind : FaultKind) → IsAfter text j cursor → cursor.place < length text → is_inside (get_or text cursor.place 0) ≡ true → spelling_fault (piece_at text cursor.place) ≡ Some kind → fault_from text sources names j ≡ Some (fault_at cursor kind)
+faulty_spelling text j cursor sources names kind after within inside is =
+    let piece = piece_on cursor.line (cursor.place, piece_at text cursor.place) in
+    fault_from_here text j sources names cursor (at_segment text j cursor after within inside)
+    ∙ ap (λ first. fault_or (first_of first (move_fault sources names (take j (moves_of text)) (move_of piece))) piece (fault_from text sources names (suc j))) is
+
+-- ---- over separators
+
+pub skips_line_end : (text : List ℕ) (j : ℕ) (cursor next : Cursor) → IsAfter text j cursor → cursor.place < length text → ends_line (get_or text cursor.place 0) ≡ true → next ≡ record cursor { line = cursor.line + 1; column = 0; place = cursor.place + 1 } → IsAfter text j next
+skips_line_end text j cursor next after within is next_is = subst (IsAfter text j) (sym next_is) (record {
+  count = after.count;
+  inside = omega arith;
+  line_within = omega (arith, after.line_within);
+  rest = sym (pieces_at_line_end text cursor.line cursor.place within is) ∙ after.rest;
+  lines = later (take j (moves_of text)) after.lines;
+  values = ap (λ (values : RunningValues). record values { column = pos 0 }) after.values ∙ sym (values_on_new_line cursor.line (take j (moves_of text)) after.lines);
+})
+  where
+    later : (moves : List Move) → AllByRecursion (λ (m : Move). m.line ≤ cursor.line) moves → AllByRecursion (λ (m : Move). m.line ≤ cursor.line + 1) moves
+    later [] all = tt
+    later (m ∷ moves) all = (omega (arith, all.0), later moves all.1)
+
+pub skips_comma : (text : List ℕ) (j : ℕ) (cursor next : Cursor) → IsAfter text j cursor → cursor.place < length text → is_comma (get_or text cursor.place 0) ≡ true → next ≡ record cursor { place = cursor.place + 1 } → IsAfter text j next
+skips_comma text j cursor next after within is next_is = subst (IsAfter text j) (sym next_is) (record {
+  count = after.count;
+  inside = omega arith;
+  line_within = omega (arith, after.line_within);
+  rest = sym (pieces_at_comma text cursor.line cursor.place within is) ∙ after.rest;
+  lines = after.lines;
+  values = after.values;
+})

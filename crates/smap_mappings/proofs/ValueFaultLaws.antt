@@ -1,0 +1,180 @@
+-- What is wrong with the values that a segment leaves, and when nothing is.
+use Rattle.std.proofs.Common.{◌≡◌, ℕ, ◌+◌, ◌<◌, ◌≤◌, Bool, true, false, not, ◌&&◌, ◌||◌, cond, eqb, leb, le-ltb, lt-ltb, List, [], ◌∷◌, ◌++◌, length, Option, Some, None, refl, sym, ap, subst, ◌∙◌, arith, ⊎_elim}
+use Rattle.std.specs.Prelude.{ℤ, pos, ◌+ℤ◌, int_lt}
+use Rattle.std.specs.List.{list_any}
+use Rattle.std.proofs.lemmas.Bool.{cond-true, cond-false, and_from, and_parts, and_cases, or_right, or_left, or_cases, or_parts, or_from, not-true, not-false, not_from_true, not_from_false, both_ways, cases_Bool, false_from_ne_true, and_left}
+use Rattle.std.proofs.lemmas.Int.{ints}
+use Rattle.smap_mappings.specs.Segment.{has_known_length}
+use Rattle.smap_mappings.specs.Mappings.{Move, RunningValues, field, natural, values_on, moved}
+use Rattle.smap_mappings.specs.Accepted.{in_range, all_in_range, allows, accepts}
+use Rattle.smap_mappings.specs.Faults.{is_below, is_past, any_below, any_past, values_fault, move_fault}
+use Rattle.smap_mappings.specs.Reading.{fields_in, move_in}
+use Rattle.smap_mappings.specs.Advance.{sums_fault}
+use Rattle.smap_mappings.specs.declared.fault.FaultKind.{FaultKind}
+use Rattle.smap_mappings.specs.declared.fault.FaultKind.TheVariants.{Negative, PastLimit, ColumnFalls, SourceIndex, NameIndex}
+use Rattle.smap_mappings.specs.declared.segment.Segment.{Segment}
+use Rattle.smap_mappings.proofs.MoveLaws.{values-push, column_of_none}
+use Rattle.smap_mappings.proofs.Ranges.{InRange, in_range_natural, each_in_range}
+
+none_from_test : (b : Bool) (kind : FaultKind) (o : Option FaultKind) → ◌≡◌ {A = Option FaultKind} (cond b (Some kind) o) None → (b ≡ false) × (o ≡ None)
+none_from_test true kind o is = absurd (cc)
+none_from_test false kind o is = (refl, is)
+
+-- ---- in range, or below or past it
+
+-- values of which none is below 0 and none past the limit are in range, and the other way round
+pub in_range_from : (values : RunningValues) → any_below values ≡ false → any_past values ≡ false → InRange values
+in_range_from values below past =
+    let b1 = or_parts _ _ below in
+    let b2 = or_parts _ _ b1.0 in
+    let b3 = or_parts _ _ b2.0 in
+    let b4 = or_parts _ _ b3.0 in
+    let p1 = or_parts _ _ past in
+    let p2 = or_parts _ _ p1.0 in
+    let p3 = or_parts _ _ p2.0 in
+    let p4 = or_parts _ _ p3.0 in
+    record {
+      column = and_from _ _ (not_from_false _ b4.0) (not_from_false _ p4.0);
+      source = and_from _ _ (not_from_false _ b4.1) (not_from_false _ p4.1);
+      original_line = and_from _ _ (not_from_false _ b3.1) (not_from_false _ p3.1);
+      original_column = and_from _ _ (not_from_false _ b2.1) (not_from_false _ p2.1);
+      name = and_from _ _ (not_from_false _ b1.1) (not_from_false _ p1.1);
+    }
+
+all_from_each : (values : RunningValues) → InRange values → all_in_range values ≡ true
+all_from_each values each = and_from _ _ (and_from _ _ (and_from _ _ (and_from _ _ each.column each.source) each.original_line) each.original_column) each.name
+
+not_below : (z : ℤ) → in_range z ≡ true → is_below z ≡ false
+not_below z is = not-true _ (and_parts _ _ is).0
+
+not_past : (z : ℤ) → in_range z ≡ true → is_past z ≡ false
+not_past z is = not-true _ (and_parts _ _ is).1
+
+none_below : (values : RunningValues) → InRange values → any_below values ≡ false
+none_below values each =
+    or_from _ _ (or_from _ _ (or_from _ _ (or_from _ _ (not_below values.column each.column) (not_below values.source each.source)) (not_below values.original_line each.original_line)) (not_below values.original_column each.original_column)) (not_below values.name each.name)
+
+none_past : (values : RunningValues) → InRange values → any_past values ≡ false
+none_past values each =
+    or_from _ _ (or_from _ _ (or_from _ _ (or_from _ _ (not_past values.column each.column) (not_past values.source each.source)) (not_past values.original_line each.original_line)) (not_past values.original_column each.original_column)) (not_past values.name each.name)
+
+-- ---- the parts of no fault
+
+pub record NoFault (sources names : ℕ) (falls : Bool) (fields : List ℤ) (values : RunningValues) : Type 0 where
+  pub below : any_below values ≡ false
+  pub past : any_past values ≡ false
+  pub rises : falls ≡ false
+  pub source : (leb 4 (length fields) && not (int_lt values.source (pos sources))) ≡ false
+  pub name : (leb 5 (length fields) && not (int_lt values.name (pos names))) ≡ false
+
+pub no_fault_parts : (sources names : ℕ) (falls : Bool) (fields : List ℤ) (values : RunningValues) → values_fault sources names falls fields values ≡ None → NoFault sources names falls fields values
+no_fault_parts sources names falls fields values none =
+    let below = none_from_test _ Negative _ none in
+    let past = none_from_test _ PastLimit _ below.1 in
+    let rises = none_from_test _ ColumnFalls _ past.1 in
+    let source = none_from_test _ SourceIndex _ rises.1 in
+    let name = none_from_test _ NameIndex None source.1 in
+    record { below = below.0; past = past.0; rises = rises.0; source = source.0; name = name.0 }
+
+no_fault_from : (sources names : ℕ) (falls : Bool) (fields : List ℤ) (values : RunningValues) → NoFault sources names falls fields values → values_fault sources names falls fields values ≡ None
+no_fault_from sources names falls fields values none =
+    cond-false _ _ _ none.below ∙ cond-false _ _ _ none.past ∙ cond-false _ _ _ none.rises ∙ cond-false _ _ _ none.source ∙ cond-false _ _ _ none.name
+
+-- ---- a segment is accepted where it has a known number of fields and its values have no fault
+
+-- `not (p && not q)` as `not p || q`, and back
+either : (p q : Bool) → (p && not q) ≡ false → (not p || q) ≡ true
+either true true is = refl
+either true false is = absurd (cc)
+either false q is = refl
+
+neither : (p q : Bool) → (not p || q) ≡ true → (p && not q) ≡ false
+neither true true is = refl
+neither true false is = absurd (cc)
+neither false q is = refl
+
+not_both : (p q : Bool) → (p && q) ≡ false → (not p || not q) ≡ true
+not_both true true is = absurd (cc)
+not_both true false is = refl
+not_both false q is = refl
+
+both_not : (p q : Bool) → (not p || not q) ≡ true → (p && q) ≡ false
+both_not true true is = absurd (cc)
+both_not true false is = refl
+both_not false q is = refl
+
+module _ (sources names : ℕ) (before : List Move) (move : Move) where
+  pub accepts_from : has_known_length move.fields ≡ true → move_fault sources names before move ≡ None → accepts sources names before move ≡ true
+  unfolding accepts move_fault
+  accepts_from known none =
+      let values = values_on move.line (before ++ move ∷ []) in
+      let earlier = list_any (λ (e : Move). eqb e.line move.line) before in
+      let parts = no_fault_parts sources names (earlier && is_below (field 0 move)) move.fields values none in
+      and_from _ _ (and_from _ _ (and_from _ _ (and_from _ _ known (all_from_each values (in_range_from values parts.below parts.past))) (either (leb 4 (length move.fields)) _ parts.source)) (either (leb 5 (length move.fields)) _ parts.name))
+      (not_both earlier (is_below (field 0 move)) parts.rises)
+
+  pub accepts_known : accepts sources names before move ≡ true → has_known_length move.fields ≡ true
+  unfolding accepts
+  accepts_known is = (and_parts _ _ (and_parts _ _ (and_parts _ _ (and_parts _ _ is).0).0).0).0
+
+  pub accepts_none : accepts sources names before move ≡ true → move_fault sources names before move ≡ None
+  unfolding accepts move_fault
+  accepts_none is =
+      let values = values_on move.line (before ++ move ∷ []) in
+      let earlier = list_any (λ (e : Move). eqb e.line move.line) before in
+      let a = and_parts _ _ is in
+      let b = and_parts _ _ a.0 in
+      let c = and_parts _ _ b.0 in
+      let each = each_in_range values (and_parts _ _ c.0).1 in
+      no_fault_from sources names (earlier && is_below (field 0 move)) move.fields values (record {
+        below = none_below values each;
+        past = none_past values each;
+        rises = both_not earlier (is_below (field 0 move)) a.1;
+        source = neither (leb 4 (length move.fields)) _ c.1;
+        name = neither (leb 5 (length move.fields)) _ b.1;
+      })
+
+below_most : (z : ℤ) → in_range z ≡ true → int_lt z (pos 2147483648) ≡ true
+below_most z ranged = let n = in_range_natural z ranged in ap (λ x. int_lt x (pos 2147483648)) n.0 ∙ lt-ltb _ _ (omega (arith, n.1))
+
+-- a value in range is below the greatest number of sources and names, so what is accepted for some is for those
+pub accepted_widest : (sources names : ℕ) (before : List Move) (move : Move) → accepts sources names before move ≡ true → accepts 2147483648 2147483648 before move ≡ true
+unfolding accepts
+accepted_widest sources names before move is =
+    let values = values_on move.line (before ++ move ∷ []) in
+    let a = and_parts _ _ is in
+    let b = and_parts _ _ a.0 in
+    let c = and_parts _ _ b.0 in
+    let d = and_parts _ _ c.0 in
+    let ranges = each_in_range values d.1 in
+    and_from _ _ (and_from _ _ (and_from _ _ c.0 (or_right (not (leb 4 (length move.fields))) _ (below_most values.source ranges.source))) (or_right (not (leb 5 (length move.fields))) _ (below_most values.name ranges.name))) a.1
+
+-- ---- the fault that the code looks for
+
+-- the first segment of a line starts from column 0, so its column is below 0 where its first field is
+first_rises : (line : ℕ) (before : List Move) (segment : Segment) → list_any (λ (earlier : Move). eqb earlier.line line) before ≡ false → in_range (values_on line (before ++ move_in line segment ∷ [])).column ≡ true → is_below segment.column ≡ false
+first_rises line before segment none ranged =
+    let pushed = ap (λ (v : RunningValues). v.column) (values-push before (move_in line segment)) in
+    let from_zero = column_of_none line before none in
+    let n = in_range_natural (values_on line (before ++ move_in line segment ∷ [])).column ranged in
+    let is : segment.column ≡ pos (natural (values_on line (before ++ move_in line segment ∷ [])).column) = omega (arith, ints, pushed, from_zero, n.0) in
+    ap (λ z. int_lt z (pos 0)) is ∙ le-ltb _ 0 (omega arith)
+
+-- so it isn't asked whether an earlier segment stands on the line
+pub move_fault_is : (sources names line : ℕ) (before : List Move) (segment : Segment) → move_fault sources names before (move_in line segment) ≡ sums_fault sources names segment (values_on line (before ++ move_in line segment ∷ []))
+unfolding move_fault
+move_fault_is sources names line before segment =
+    let values = values_on line (before ++ move_in line segment ∷ []) in
+    ⊎_elim
+    (λ below. cond-true _ _ _ below ∙ sym (cond-true _ _ _ below))
+    (λ not_below. ⊎_elim
+      (λ past. cond-false _ _ _ not_below ∙ cond-true _ _ _ past ∙ sym (cond-false _ _ _ not_below ∙ cond-true _ _ _ past))
+      (λ not_past. ap (λ falls. values_fault sources names falls (fields_in segment) values) (falls_same (in_range_from values not_below not_past).column))
+      (cases_Bool (any_past values)))
+    (cases_Bool (any_below values))
+  where
+  falls_same : in_range (values_on line (before ++ move_in line segment ∷ [])).column ≡ true → (list_any (λ (earlier : Move). eqb earlier.line line) before && is_below segment.column) ≡ is_below segment.column
+  falls_same ranged = ⊎_elim
+    (λ some. ap (λ b. b && is_below segment.column) some)
+    (λ none. and_left _ _ none ∙ sym (first_rises line before segment none ranged))
+    (cases_Bool (list_any (λ (earlier : Move). eqb earlier.line line) before))

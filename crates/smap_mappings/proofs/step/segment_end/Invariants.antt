@@ -1,0 +1,13 @@
+use Rattle.std.proofs.Common.{◌≡◌, ◌+◌, ◌-◌, ◌≤◌, length}
+use Rattle.smap_mappings.specs.Pieces.{piece_at}
+use Rattle.smap_mappings.proofs.step.segment_end.Given as goal
+
+-- the segment goes on up to here at least
+abbrev pub invariant-loop-end : goal.invariant-loop-end
+invariant-loop-end l = record {
+  inside : l.end ≤ length l.bytes;
+  same_end : l.place + length (piece_at l.bytes l.place) ≡ l.end + length (piece_at l.bytes l.end);
+}
+
+abbrev pub decreases-loop-end : goal.decreases-loop-end
+decreases-loop-end l = length l.bytes - l.end

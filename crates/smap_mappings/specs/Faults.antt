@@ -1,0 +1,98 @@
+-- The first faulty segment of a text, and the least kind of fault that holds of it.
+use Rattle.std.specs.Prelude.{ℕ, ◌/◌, List, [], ◌∷◌, ◌++◌, Option, Some, None, Bool, true, false, ◌&&◌, ◌||◌, not, ◌==◌, nat_le, nat_lt, if◌then◌else◌, length, ℤ, pos, int_lt}
+use Rattle.std.specs.List.{list_any}
+use Rattle.smap_mappings.specs.Vlq.{is_digit, continues, unsigned_of}
+use Rattle.smap_mappings.specs.Segment.{cuts_of, has_known_length}
+use Rattle.smap_mappings.specs.Pieces.{Piece, pieces_of}
+use Rattle.smap_mappings.specs.Mappings.{Move, RunningValues, move_of, field, values_on}
+use Rattle.smap_mappings.specs.declared.fault.Fault.{Fault}
+use Rattle.smap_mappings.specs.declared.fault.FaultKind.{FaultKind}
+use Rattle.smap_mappings.specs.declared.fault.FaultKind.TheVariants.{BadDigit, Unended, TooLong, TooLarge, NegativeZero, FieldCount, Negative, PastLimit, ColumnFalls, SourceIndex, NameIndex}
+use Rattle.smap_mappings.specs.declared.TheConstants.{LIMIT}
+
+-- ---- how a segment is spelled
+
+abbrev pub has_bad_digit : List ℕ → Bool
+has_bad_digit bytes = list_any (λ byte. not (is_digit byte)) bytes
+
+-- the last byte says that another digit follows
+abbrev pub is_unended : List ℕ → Bool
+is_unended [] = false
+is_unended (byte ∷ []) = continues byte
+is_unended (byte ∷ next ∷ bytes) = is_unended (next ∷ bytes)
+
+abbrev pub is_too_long : List ℕ → Bool
+is_too_long number = nat_lt 7 (length number)
+
+abbrev pub is_too_large : List ℕ → Bool
+is_too_large number = nat_lt LIMIT (unsigned_of number / 2)
+
+abbrev pub is_negative_zero : List ℕ → Bool
+is_negative_zero number = unsigned_of number == 1
+
+-- the least kind that holds of the segment's numbers, its bytes cut after each digit that ends one
+abbrev pub numbers_fault : List (List ℕ) → Option FaultKind
+numbers_fault numbers =
+    if list_any is_too_long numbers then Some TooLong
+    else (if list_any is_too_large numbers then Some TooLarge
+    else (if list_any is_negative_zero numbers then Some NegativeZero
+    else (if not (has_known_length numbers) then Some FieldCount
+    else None)))
+
+unfoldable pub spelling_fault : List ℕ → Option FaultKind
+spelling_fault bytes =
+    if has_bad_digit bytes then Some BadDigit
+    else (if is_unended bytes then Some Unended
+    else numbers_fault (cuts_of bytes))
+
+-- ---- what a segment does to the running values
+
+abbrev pub is_below : ℤ → Bool
+is_below value = int_lt value (pos 0)
+
+abbrev pub is_past : ℤ → Bool
+is_past value = int_lt (pos LIMIT) value
+
+abbrev pub any_below : RunningValues → Bool
+any_below values = is_below values.column || is_below values.source || is_below values.original_line || is_below values.original_column || is_below values.name
+
+abbrev pub any_past : RunningValues → Bool
+any_past values = is_past values.column || is_past values.source || is_past values.original_line || is_past values.original_column || is_past values.name
+
+-- the least kind that holds of the values that a segment with these fields leaves; its column falls where its first
+-- field is negative, and an earlier segment stands on its line
+abbrev pub values_fault : ℕ → ℕ → Bool → List ℤ → RunningValues → Option FaultKind
+values_fault sources names falls fields values =
+    if any_below values then Some Negative
+    else (if any_past values then Some PastLimit
+    else (if falls then Some ColumnFalls
+    else (if nat_le 4 (length fields) && not (int_lt values.source (pos sources)) then Some SourceIndex
+    else (if nat_le 5 (length fields) && not (int_lt values.name (pos names)) then Some NameIndex
+    else None))))
+
+unfoldable pub move_fault : ℕ → ℕ → List Move → Move → Option FaultKind
+move_fault sources names before move =
+    values_fault sources names (list_any (λ earlier. earlier.line == move.line) before && is_below (field 0 move)) move.fields (values_on move.line (before ++ move ∷ []))
+
+-- ---- the first fault
+
+abbrev pub first_of : Option FaultKind → Option FaultKind → Option FaultKind
+first_of None other = other
+first_of (Some kind) other = Some kind
+
+-- the least kind that holds of a segment that stands after these
+abbrev pub segment_fault : ℕ → ℕ → List Move → Piece → Option FaultKind
+segment_fault sources names before piece = first_of (spelling_fault piece.bytes) (move_fault sources names before (move_of piece))
+
+abbrev pub fault_or : Option FaultKind → Piece → Option Fault → Option Fault
+fault_or None piece others = others
+fault_or (Some kind) piece others = Some (record { byte = piece.place; line = piece.line; kind = kind })
+
+abbrev pub first_fault_after : ℕ → ℕ → List Move → List Piece → Option Fault
+first_fault_after sources names before [] = None
+first_fault_after sources names before (piece ∷ pieces) =
+    fault_or (segment_fault sources names before piece) piece (first_fault_after sources names (before ++ move_of piece ∷ []) pieces)
+
+-- the first segment, in the order of the text, of which some kind holds, with the least that does
+unfoldable pub first_fault : List ℕ → ℕ → ℕ → Option Fault
+first_fault text sources names = first_fault_after sources names [] (pieces_of text)

@@ -1,0 +1,17 @@
+pub mod Base64
+pub mod Vlq
+pub mod Segment
+pub mod Pieces
+pub mod Mappings
+pub mod Accepted
+pub mod Reading
+pub mod State
+pub mod Advance
+pub mod Step
+pub mod Meter
+pub mod PackedText
+pub mod Checking
+pub mod Counts
+pub mod Order
+pub mod Faults
+pub mod Spelling

@@ -1,0 +1,93 @@
+-- What the segments of a text say (ECMA-426, Mappings structure): each field is a difference from the field's
+-- value before. The generated column starts from 0 on each line, the other four run over the whole text from 0.
+use Rattle.std.specs.Prelude.{ℕ, ◌+◌, List, [], ◌∷◌, ◌++◌, Option, Some, None, ◌==◌, nat_le, if◌then◌else◌, length, map, filter, take, unwrap_or, slice_get, ℤ, pos, negsuc, ◌+ℤ◌}
+use Rattle.smap_mappings.specs.Segment.{fields_of}
+use Rattle.smap_mappings.specs.Pieces.{Piece, pieces_of}
+use Rattle.smap_mappings.specs.declared.mapping.Mapping.{Mapping}
+use Rattle.smap_mappings.specs.declared.mapping.Origin.{Origin}
+
+-- a segment's generated line and its fields, which are differences
+pub record Move : Type 0 where
+  pub line : ℕ
+  pub fields : List ℤ
+
+-- a segment whose bytes spell no numbers has no fields
+abbrev pub move_of : Piece → Move
+move_of piece = record { line = piece.line; fields = unwrap_or (fields_of piece.bytes) [] }
+
+unfoldable pub moves_of : List ℕ → List Move
+moves_of text = map move_of (pieces_of text)
+
+-- field i, from 0, and 0 where the segment has none
+abbrev pub field : ℕ → Move → ℤ
+field i move = unwrap_or (slice_get move.fields i) (pos 0)
+
+abbrev pub total : ℕ → List Move → ℤ
+total i [] = pos 0
+total i (move ∷ moves) = field i move +ℤ total i moves
+
+pub record RunningValues : Type 0 where
+  pub column : ℤ
+  pub source : ℤ
+  pub original_line : ℤ
+  pub original_column : ℤ
+  pub name : ℤ
+
+-- the running values after these segments, the generated column being that on this line
+unfoldable pub values_on : ℕ → List Move → RunningValues
+values_on line moves = record {
+  column = total 0 (filter (λ move. move.line == line) moves);
+  source = total 1 moves;
+  original_line = total 2 moves;
+  original_column = total 3 moves;
+  name = total 4 moves;
+}
+
+-- the values after a segment with this move, on its line
+abbrev pub moved : RunningValues → Move → RunningValues
+moved values move = record {
+  column = values.column +ℤ field 0 move;
+  source = values.source +ℤ field 1 move;
+  original_line = values.original_line +ℤ field 2 move;
+  original_column = values.original_column +ℤ field 3 move;
+  name = values.name +ℤ field 4 move;
+}
+
+-- the line of the last of these segments, and 0 where there is none
+abbrev pub last_line : List Move → ℕ
+last_line [] = 0
+last_line (move ∷ []) = move.line
+last_line (move ∷ next ∷ moves) = last_line (next ∷ moves)
+
+-- the running values after the first j segments of a text
+unfoldable pub values_after : List ℕ → ℕ → RunningValues
+values_after text j = let front = take j (moves_of text) in values_on (last_line front) front
+
+-- a running value as an index, a line or a column; in an accepted text none is below 0
+abbrev pub natural : ℤ → ℕ
+natural (pos n) = n
+natural (negsuc n) = 0
+
+abbrev pub name_in : List ℤ → RunningValues → Option ℕ
+name_in fields values = if length fields == 5 then Some (natural values.name) else None
+
+-- a segment of one field has no origin, one of four has no name
+abbrev pub origin_in : List ℤ → RunningValues → Option Origin
+origin_in fields values =
+    if nat_le 4 (length fields)
+    then Some (record { source = natural values.source; line = natural values.original_line; column = natural values.original_column; name = name_in fields values })
+    else None
+
+-- the mapping of a segment that stands after these
+unfoldable pub mapping_after : List Move → Move → Mapping
+mapping_after before move =
+    let values = values_on move.line (before ++ move ∷ []) in
+    record { line = move.line; column = natural values.column; origin = origin_in move.fields values }
+
+abbrev pub mappings_after : List Move → List Move → List Mapping
+mappings_after before [] = []
+mappings_after before (move ∷ moves) = mapping_after before move ∷ mappings_after (before ++ move ∷ []) moves
+
+-- the mappings of a text, a mapping for each segment, in order
+unfoldable pub mappings_of : List ℕ → List Mapping
+mappings_of text = mappings_after [] (moves_of text)

@@ -1,0 +1,15 @@
+-- What every packed text meets.
+use Rattle.std.specs.Prelude.{◌≡◌, ℕ, ◌≤◌, List, length}
+use Rattle.smap_mappings.specs.Accepted.{IsAccepted}
+use Rattle.smap_mappings.specs.Counts.{segments_of, used_lines_of}
+
+-- it is no longer than a text may be, and accepted for as many sources and names as indices can name
+pub record IsPacked (text : List ℕ) : Type 0 where
+  pub short : length text ≤ 67108864
+  pub accepted : IsAccepted text 2147483648 2147483648
+
+-- and these are its counts
+pub record IsPackedWith (text : List ℕ) (segments used_lines : ℕ) : Type 0 where
+  pub packed : IsPacked text
+  pub segments_are : segments ≡ segments_of text
+  pub used_lines_are : used_lines ≡ used_lines_of text

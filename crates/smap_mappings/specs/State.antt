@@ -1,0 +1,33 @@
+-- A state between two segments of a text: a place, and all running values there.
+use Rattle.std.specs.Prelude.{◌≡◌, ℕ, ◌+◌, ◌<◌, ◌≤◌, suc, List, [], ◌∷◌, Option, Some, None, Bool, true, false, length, take, drop, slice_get, IfSome, ℤ, pos, ◌+ℤ◌, ◌≤ℤ◌, MatchOption}
+use Rattle.std.specs.List.{AllByRecursion}
+use Rattle.smap_mappings.specs.Pieces.{pieces_of, pieces_from}
+use Rattle.smap_mappings.specs.Mappings.{Move, RunningValues, moves_of, values_on, mappings_of}
+use Rattle.smap_mappings.specs.Accepted.{accepts}
+use Rattle.smap_mappings.specs.Reading.{fields_in}
+use Rattle.smap_mappings.specs.declared.cursor.Cursor.{Cursor}
+use Rattle.smap_mappings.specs.declared.mapping.Mapping.{Mapping}
+use Rattle.smap_mappings.specs.declared.segment.Segment.{Segment}
+
+abbrev pub values_at : Cursor → RunningValues
+values_at cursor = record {
+  column = pos cursor.column;
+  source = pos cursor.source;
+  original_line = pos cursor.original_line;
+  original_column = pos cursor.original_column;
+  name = pos cursor.name;
+}
+
+-- This state is the one after j segments of this text: what is left of the text from its place on, on its line, are
+-- the segments from number j on, and its running values are those after j segments, on its line.
+pub record IsAfter (text : List ℕ) (j : ℕ) (cursor : Cursor) : Type 0 where
+  pub count : j ≤ length (pieces_of text)
+  pub inside : cursor.place ≤ length text
+  pub line_within : cursor.line ≤ cursor.place
+  pub rest : pieces_from cursor.line cursor.place (drop cursor.place text) ≡ drop j (pieces_of text)
+  pub lines : AllByRecursion (λ (move : Move). move.line ≤ cursor.line) (take j (moves_of text))
+  pub values : values_at cursor ≡ values_on cursor.line (take j (moves_of text))
+
+-- the state after some number of segments
+abbrev pub IsBetween : List ℕ → Cursor → Type 0
+IsBetween text cursor = (j : ℕ) × IsAfter text j cursor

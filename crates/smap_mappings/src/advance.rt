@@ -1,0 +1,125 @@
+ghost use Rattle.std.specs.Prelude.{◌≡◌, IfOk, IfErr, Some, pos, ◌+ℤ◌};
+ghost use Rattle.smap_mappings.specs.Faults.{any_below, any_past};
+ghost use Rattle.smap_mappings.specs.Mappings.{moved};
+ghost use Rattle.smap_mappings.specs.Reading.{move_in};
+ghost use Rattle.smap_mappings.specs.State.{values_at};
+ghost use Rattle.smap_mappings.specs.Advance.{values_in, sums_fault, Advances};
+
+use crate::LIMIT;
+use crate::cursor::Cursor;
+use crate::fault::FaultKind;
+use crate::segment::Segment;
+
+// The running values after a segment, before it is known that they are in range.
+#[derive(Clone, Copy)]
+struct Sums {
+    column: i64,
+    source: i64,
+    original_line: i64,
+    original_column: i64,
+    name: i64,
+}
+
+/// The state behind a segment that ends before the place `end`, or the first kind of fault of the running values.
+pub fn advance(
+    cursor: &Cursor,
+    segment: &Segment,
+    end: usize,
+    sources: u32,
+    names: u32,
+) -> Result<Cursor, FaultKind>
+    ensures ok { IfOk result (λ after. Advances cursor.now segment.now end sources names after) }
+    ensures err { IfErr result (λ kind. sums_fault sources names segment.now (moved (values_at cursor.now) (move_in cursor.now.line segment.now)) ≡ Some kind) }
+{
+    let sums = sums_after(cursor, segment);
+    match sums.fault(segment, sources, names) {
+        Some(kind) => Err(kind),
+        None => Ok(Cursor {
+            place: end,
+            line: cursor.line,
+            column: sums.column as u32,
+            source: sums.source as u32,
+            original_line: sums.original_line as u32,
+            original_column: sums.original_column as u32,
+            name: sums.name as u32,
+        }),
+    }
+}
+
+fn sums_after(cursor: &Cursor, segment: &Segment) -> Sums
+    ensures { values_in result ≡ moved (values_at cursor.now) (move_in cursor.now.line segment.now) }
+{
+    let column = added(cursor.column, segment.column);
+    match segment.origin {
+        None => Sums {
+            column,
+            source: added(cursor.source, 0),
+            original_line: added(cursor.original_line, 0),
+            original_column: added(cursor.original_column, 0),
+            name: added(cursor.name, 0),
+        },
+        Some(origin) => Sums {
+            column,
+            source: added(cursor.source, origin.source),
+            original_line: added(cursor.original_line, origin.line),
+            original_column: added(cursor.original_column, origin.column),
+            name: added(cursor.name, origin.name.unwrap_or(0)),
+        },
+    }
+}
+
+fn added(value: u32, difference: i32) -> i64
+    ensures { result ≡ pos value +ℤ difference }
+{
+    i64::from(value) + i64::from(difference)
+}
+
+impl Sums {
+    fn any_below(&self) -> bool
+        ensures { result ≡ any_below (values_in self.now) }
+    {
+        // Each test is cheap and seldom holds, so none is skipped.
+        (self.column < 0)
+            | (self.source < 0)
+            | (self.original_line < 0)
+            | (self.original_column < 0)
+            | (self.name < 0)
+    }
+
+    fn any_past(&self) -> bool
+        ensures { result ≡ any_past (values_in self.now) }
+    {
+        let limit = i64::from(LIMIT);
+        (self.column > limit)
+            | (self.source > limit)
+            | (self.original_line > limit)
+            | (self.original_column > limit)
+            | (self.name > limit)
+    }
+
+    // The first kind of fault of the running values that holds.
+    fn fault(&self, segment: &Segment, sources: u32, names: u32) -> Option<FaultKind>
+        ensures { result ≡ sums_fault sources names segment.now (values_in self.now) }
+    {
+        if self.any_below() {
+            return Some(FaultKind::Negative);
+        }
+        if self.any_past() {
+            return Some(FaultKind::PastLimit);
+        }
+        // The first segment of a line starts from column 0, so where its first field is negative its column is too.
+        if segment.column < 0 {
+            return Some(FaultKind::ColumnFalls);
+        }
+        let Some(origin) = segment.origin else {
+            return None;
+        };
+        if self.source >= i64::from(sources) {
+            return Some(FaultKind::SourceIndex);
+        }
+        if origin.name.is_some() && self.name >= i64::from(names) {
+            return Some(FaultKind::NameIndex);
+        }
+        None
+    }
+}

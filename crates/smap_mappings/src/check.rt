@@ -1,0 +1,53 @@
+ghost use Rattle.std.specs.Prelude.{◌≡◌, ◌≤◌, ◌==◌, ◌||◌, not, None, Some, length, IfOk, MatchResult};
+ghost use Rattle.smap_mappings.specs.Counts.{segments_of, used_lines_of};
+ghost use Rattle.smap_mappings.specs.Faults.{first_fault};
+
+use crate::cursor::Cursor;
+use crate::fault::Fault;
+use crate::step::{skip_separators, step};
+
+/// How many segments a text has, and how many of its lines hold one.
+#[derive(Clone, Copy)]
+pub struct Counts {
+    pub segments: u64,
+    pub used_lines: u64,
+}
+
+/// The counts of a text, or its first faulty segment for this many sources and names.
+pub fn check_segments(bytes: &[u8], sources: u32, names: u32) -> Result<Counts, Fault>
+    requires { length bytes.now ≤ 67108864 }
+    ensures fault { MatchResult result (λ _. first_fault bytes.now sources names ≡ None) (λ fault. first_fault bytes.now sources names ≡ Some fault) }
+    ensures segments { IfOk result (λ counts. counts.segments ≡ segments_of bytes.now) }
+    ensures used_lines { IfOk result (λ counts. counts.used_lines ≡ used_lines_of bytes.now) }
+{
+    let mut at = Cursor::START;
+    let mut segments: u64 = 0;
+    let mut used_lines: u64 = 0;
+    loop {
+        let next = skip_separators(bytes, &at);
+        if next.place == bytes.len() {
+            return Ok(Counts { segments, used_lines });
+        }
+        match step(bytes, &next, sources, names) {
+            Ok((_, after)) => {
+                used_lines += u64::from(is_new_line(segments, at.line, next.line));
+                segments += 1;
+                at = after;
+            }
+            Err(kind) => {
+                return Err(Fault {
+                    byte: next.place as u64,
+                    line: next.line,
+                    kind,
+                });
+            }
+        }
+    }
+}
+
+// Whether the next segment is the first of its line, after this many segments of which the last stands on `last`.
+fn is_new_line(segments: u64, last: u32, line: u32) -> bool
+    ensures { result ≡ (segments == 0 || not (line == last)) }
+{
+    segments == 0 || line != last
+}

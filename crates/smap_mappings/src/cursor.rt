@@ -1,0 +1,25 @@
+/// A place between two segments of a text, in bytes from 0, the generated line at that place, from 0, and the
+/// running values there: the generated column is that on this line.
+#[derive(Clone, Copy, Debug, PartialEq, Eq)]
+pub struct Cursor {
+    pub place: usize,
+    pub line: u32,
+    pub column: u32,
+    pub source: u32,
+    pub original_line: u32,
+    pub original_column: u32,
+    pub name: u32,
+}
+
+impl Cursor {
+    /// The state before the first segment.
+    pub const START: Cursor = Cursor {
+        place: 0,
+        line: 0,
+        column: 0,
+        source: 0,
+        original_line: 0,
+        original_column: 0,
+        name: 0,
+    };
+}

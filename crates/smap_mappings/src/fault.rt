@@ -1,0 +1,38 @@
+/// What is wrong with a segment, in the order in which the kinds are asked: the least that holds is told. A kind from
+/// `FieldCount` on is asked only where every number is spelled right, one from `Negative` on only where the number of
+/// fields is right.
+#[derive(Clone, Copy, Debug, PartialEq, Eq)]
+pub enum FaultKind {
+    /// F1: one of its bytes is no Base64 digit.
+    BadDigit,
+    /// F2: its last byte says that another digit follows.
+    Unended,
+    /// F3: one of its numbers has more than seven digits.
+    TooLong,
+    /// F4: one of its numbers has a magnitude past 2147483647.
+    TooLarge,
+    /// F5: one of its numbers is a negative zero.
+    NegativeZero,
+    /// F6: it has not one, four or five numbers.
+    FieldCount,
+    /// F7: a running value after it is below 0.
+    Negative,
+    /// F8: a running value after it is past 2147483647.
+    PastLimit,
+    /// F9: its generated column is before that of an earlier segment of its line.
+    ColumnFalls,
+    /// F10: its source is none of those that there are.
+    SourceIndex,
+    /// F11: its name is none of those that there are.
+    NameIndex,
+}
+
+/// The first faulty segment of a text.
+#[derive(Clone, Copy, Debug, PartialEq, Eq)]
+pub struct Fault {
+    /// Where the segment begins in the text, in bytes from 0.
+    pub byte: u64,
+    /// Its generated line, from 0.
+    pub line: u32,
+    pub kind: FaultKind,
+}

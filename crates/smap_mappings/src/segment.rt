@@ -1,0 +1,98 @@
+ghost use Rattle.std.specs.Prelude.{◌≡◌, ◌<◌, ◌≤◌, ◌↔◌, length, slice_index, IfSome, IfNone, IsTrue, false};
+ghost use Rattle.smap_mappings.specs.Pieces.{is_inside, piece_at};
+ghost use Rattle.smap_mappings.specs.Segment.{has_known_length};
+ghost use Rattle.smap_mappings.specs.Reading.{ReadsField, HasNoField, ReadsSegment, fields_at, known_fields};
+
+use crate::vlq::read_vlq;
+
+/// The differences that a segment states (ECMA-426, Mappings structure).
+#[derive(Clone, Copy)]
+pub struct Segment {
+    pub column: i32,
+    pub origin: Option<OriginFields>,
+}
+
+/// The fields of a segment behind its first.
+#[derive(Clone, Copy)]
+pub struct OriginFields {
+    pub source: i32,
+    pub line: i32,
+    pub column: i32,
+    pub name: Option<i32>,
+}
+
+/// Whether a byte is neither `;` nor `,`.
+pub fn is_inside(byte: u8) -> bool
+    ensures { result ≡ is_inside byte }
+{
+    byte != b';' && byte != b','
+}
+
+fn is_at_end(bytes: &[u8], place: usize) -> bool
+    requires { place ≤ length bytes.now }
+    ensures { IsTrue result ↔ (length (piece_at bytes.now place) ≡ 0) }
+{
+    place == bytes.len() || !is_inside(bytes[place])
+}
+
+fn read_field(bytes: &[u8], place: usize) -> Option<(i32, usize)>
+    requires { place ≤ length bytes.now }
+    ensures some { IfSome result (λ read. ReadsField bytes.now place read.0 read.1) }
+    ensures none { IfNone result (HasNoField bytes.now place) }
+{
+    read_vlq(bytes, place).ok()
+}
+
+/// The segment that begins at a place, and the place behind it; `None` where its bytes spell no fields, or not one,
+/// four or five.
+pub fn read_segment(bytes: &[u8], place: usize) -> Option<(Segment, usize)>
+    requires { place ≤ length bytes.now }
+    ensures some { IfSome result (λ read. ReadsSegment bytes.now place read.0 read.1) }
+    ensures none { IfNone result (has_known_length (known_fields bytes.now place) ≡ false) }
+{
+    let (column, place) = read_field(bytes, place)?;
+    if is_at_end(bytes, place) {
+        return Some((
+            Segment {
+                column,
+                origin: None,
+            },
+            place,
+        ));
+    }
+    let (source, place) = read_field(bytes, place)?;
+    let (line, place) = read_field(bytes, place)?;
+    let (original_column, place) = read_field(bytes, place)?;
+    if is_at_end(bytes, place) {
+        let origin = OriginFields {
+            source,
+            line,
+            column: original_column,
+            name: None,
+        };
+        return Some((
+            Segment {
+                column,
+                origin: Some(origin),
+            },
+            place,
+        ));
+    }
+    let (name, place) = read_field(bytes, place)?;
+    if !is_at_end(bytes, place) {
+        return None;
+    }
+    let origin = OriginFields {
+        source,
+        line,
+        column: original_column,
+        name: Some(name),
+    };
+    Some((
+        Segment {
+            column,
+            origin: Some(origin),
+        },
+        place,
+    ))
+}

@@ -1,0 +1,35 @@
+use std::marker::Model;
+
+use crate::cursor::Cursor;
+
+/// A place between two segments of a text, and all running values there. It is of use with its own text alone.
+#[derive(Clone, Copy)]
+pub struct State {
+    cursor: Cursor,
+}
+
+impl Model for State {
+    ghost use Rattle.smap_mappings.specs.declared.cursor.Cursor.{Cursor};
+
+    ghost Value = { Cursor };
+
+    ghost view = { λ s. s.cursor };
+
+    ghost inverse = { λ c. record { cursor = c } };
+}
+
+impl State {
+    ghost use Rattle.std.specs.Prelude.{◌≡◌};
+
+    pub(crate) fn new(cursor: Cursor) -> Self
+        ensures { result ≡ cursor }
+    {
+        State { cursor }
+    }
+
+    pub(crate) fn cursor(&self) -> Cursor
+        ensures { result ≡ self.now }
+    {
+        self.cursor
+    }
+}

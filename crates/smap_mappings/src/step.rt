@@ -1,0 +1,110 @@
+ghost use Rattle.std.specs.Prelude.{◌≡◌, ◌+◌, ◌<◌, ◌≤◌, ℕ, Some, false, true, length, slice_index, IfOk, IfErr};
+ghost use Rattle.smap_mappings.specs.Pieces.{is_inside, piece_at};
+ghost use Rattle.smap_mappings.specs.Segment.{has_known_length};
+ghost use Rattle.smap_mappings.specs.Reading.{known_fields};
+ghost use Rattle.smap_mappings.specs.Faults.{spelling_fault};
+ghost use Rattle.smap_mappings.specs.State.{IsAfter};
+ghost use Rattle.smap_mappings.specs.Step.{Steps, fault_at, fault_from, mapping_in};
+
+use crate::advance::advance;
+use crate::cursor::Cursor;
+use crate::fault::FaultKind;
+use crate::mapping::{Mapping, Origin};
+use crate::segment::{Segment, is_inside, read_segment};
+use crate::spelling::spelling_fault;
+
+/// The state at the next segment, or at the end of the text where there is none.
+pub fn skip_separators(bytes: &[u8], cursor: &Cursor) -> Cursor
+    requires inside { cursor.now.place ≤ length bytes.now }
+    requires line_within { cursor.now.line ≤ cursor.now.place }
+    requires short { length bytes.now ≤ 67108864 }
+    ensures inside { result.place ≤ length bytes.now }
+    ensures line_within { result.line ≤ result.place }
+    ensures onward { cursor.now.place ≤ result.place }
+    ensures down { cursor.now.line ≤ result.line }
+    ensures stops { result.place < length bytes.now → is_inside (slice_index bytes.now result.place) ≡ true }
+    ensures after { (j : ℕ) → IsAfter bytes.now j cursor.now → IsAfter bytes.now j result }
+{
+    let mut at = *cursor;
+    while at.place < bytes.len() {
+        at = match bytes[at.place] {
+            b';' => Cursor {
+                place: at.place + 1,
+                line: at.line + 1,
+                column: 0,
+                ..at
+            },
+            b',' => Cursor {
+                place: at.place + 1,
+                ..at
+            },
+            _ => return at,
+        };
+    }
+    at
+}
+
+/// Reads the segment at the state's place: its mapping and the state behind it, or the least kind of fault that holds
+/// of it.
+pub fn step(
+    bytes: &[u8],
+    cursor: &Cursor,
+    sources: u32,
+    names: u32,
+) -> Result<(Mapping, Cursor), FaultKind>
+    requires within { cursor.now.place < length bytes.now }
+    requires inside { is_inside (slice_index bytes.now cursor.now.place) ≡ true }
+    ensures ahead { IfOk result (λ r. (cursor.now.place < r.1.place) × (r.1.place ≤ length bytes.now) × (r.1.line ≡ cursor.now.line)) }
+    ensures ok { IfOk result (λ r. (j : ℕ) → IsAfter bytes.now j cursor.now → Steps bytes.now j sources names r.0 r.1) }
+    ensures err { IfErr result (λ kind. (j : ℕ) → IsAfter bytes.now j cursor.now
+        → fault_from bytes.now sources names j ≡ Some (fault_at cursor.now kind)) }
+{
+    let Some((segment, end)) = read_segment(bytes, cursor.place) else {
+        return Err(unread_fault(bytes, cursor.place));
+    };
+    match advance(cursor, &segment, end, sources, names) {
+        Ok(after) => Ok((mapping_in(&segment, &after), after)),
+        Err(kind) => Err(kind),
+    }
+}
+
+// Why no segment could be read at a place.
+#[cold]
+fn unread_fault(bytes: &[u8], place: usize) -> FaultKind
+    requires inside { place ≤ length bytes.now }
+    requires unread { has_known_length (known_fields bytes.now place) ≡ false }
+    ensures { spelling_fault (piece_at bytes.now place) ≡ Some result }
+{
+    let end = segment_end(bytes, place);
+    match spelling_fault(&bytes[place..end]) {
+        Some(kind) => kind,
+        None => unreachable!("a segment that is spelled right can be read"),
+    }
+}
+
+fn segment_end(bytes: &[u8], place: usize) -> usize
+    requires { place ≤ length bytes.now }
+    ensures within { result ≤ length bytes.now }
+    ensures end { result ≡ place + length (piece_at bytes.now place) }
+{
+    let mut end = place;
+    while end < bytes.len() && is_inside(bytes[end]) {
+        end += 1;
+    }
+    end
+}
+
+fn mapping_in(segment: &Segment, after: &Cursor) -> Mapping
+    ensures { result ≡ mapping_in segment.now after.now }
+{
+    Mapping {
+        line: after.line,
+        column: after.column,
+        origin: segment.origin.map(|origin| Origin {
+            source: after.source,
+            line: after.original_line,
+            column: after.original_column,
+            name: origin.name.map(|_| after.name),
+        }),
+    }
+}
