@@ -2,3 +2,4 @@ pub mod Rows
 pub mod Stops
 pub mod Asked
 pub mod Plain
+pub mod RawLaws

@@ -16,6 +16,9 @@ pub const TEXT_TOO_LONG: &str = "refused: TextTooLong\n";
 /// Standard error: the input is not UTF-8.
 pub const NOT_UTF8: &str = "refused: NotUtf8\n";
 
+/// Standard error: a word of the command line is not UTF-8.
+pub const WORDS_NOT_UTF8: &str = "error: a word of the command line is not UTF-8\n";
+
 /// Standard error: standard input failed.
 pub const INPUT_FAILED: &str = "device: read standard input\n";
 

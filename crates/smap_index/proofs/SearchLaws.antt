@@ -1,5 +1,5 @@
 -- In a list in order the mappings that stand at a position or before it are a front, and its last decides the answer.
-use Rattle.std.proofs.Common.{◌≡◌, ℕ, ◌+◌, ◌<◌, ◌≤◌, suc, zero, true, false, List, [], ◌∷◌, length, take, filter, Option, Some, None, refl, sym, ap, subst, ◌∙◌, arith, one-add, eqb, ⊎_elim, inl, inr, ◌⊎◌, if◌then◌else◌}
+use Rattle.std.proofs.Common.{◌≡◌, ℕ, ◌+◌, ◌<◌, ◌≤◌, suc, zero, true, false, List, [], ◌∷◌, length, take, filter, Option, Some, None, refl, sym, ap, ◌∙◌, arith, one-add, eqb, ⊎_elim, inl, inr, ◌⊎◌, if◌then◌else◌}
 use Rattle.std.specs.List.{slice_get, last_or}
 use Rattle.std.proofs.lemmas.Bool.{cond-true, cond-false, cases_Bool, ltb-true, lt-ltb, eqb-true, eq-eqb, ne_eqb, leb-true, le-leb, and_parts, and_from, or_cases, or_left, or_right, both_ways, or_parts}
 use Rattle.std.specs.Prelude.{option_map}
@@ -10,14 +10,8 @@ use Rattle.smap_index.specs.Answer.{is_kept, answer_of, answer_of_last, answer_a
 use Rattle.smap_index.specs.declared.answer.Answer.TheVariants.{Nothing}
 use Rattle.smap_index.specs.Marks.{mappings_at}
 use Rattle.smap_index.specs.declared.table.Checkpoint.{Checkpoint}
+use Rattle.smap_index.proofs.ListLaws.{tail_in_order}
 use Rattle.smap_index.specs.Search.{is_not_after, front_not_after, last_not_after}
-
-pub through : (a b c : Mapping) → IsAtOrBefore a b → IsAtOrBefore b c → IsAtOrBefore a c
-through a b c ab bc =
-    ⊎_elim
-    (λ (line : a.line < b.line). inl (⊎_elim (λ (after : b.line < c.line). omega arith) (λ same. omega (arith, same.0)) bc))
-    (λ same. ⊎_elim (λ (after : b.line < c.line). inl (omega (arith, same.0))) (λ equal. inr (omega (arith, same.0, equal.0), omega (arith, same.1, equal.1))) bc)
-    ab
 
 module _ (line column : ℕ) where
   -- what the test says
@@ -47,15 +41,8 @@ module _ (line column : ℕ) where
 
   head_passes : (a : Mapping) (xs : List Mapping) (i : ℕ) (m : Mapping) → IsInOrder (a ∷ xs) → slice_get xs i ≡ Some m → is_not_after line column m ≡ true → is_not_after line column a ≡ true
   head_passes a [] i m order there is = absurd (cc)
-  head_passes a (b ∷ xs) zero m order there is = passes_back a b order.0 (subst (λ (o : Option Mapping). is_not_after line column b ≡ true) there (ap (is_not_after line column) (same_mapping b m there) ∙ is))
-    where
-      same_mapping : (b m : Mapping) → Some b ≡ Some m → b ≡ m
-      same_mapping b m is = cc
+  head_passes a (b ∷ xs) zero m order there is = let e : b ≡ m = cc in passes_back a b order.0 (ap (is_not_after line column) e ∙ is)
   head_passes a (b ∷ xs) (suc i) m order there is = passes_back a b order.0 (head_passes b xs i m order.1 there is)
-
-  tail_in_order : (a : Mapping) (xs : List Mapping) → IsInOrder (a ∷ xs) → IsInOrder xs
-  tail_in_order a [] order = tt
-  tail_in_order a (b ∷ xs) order = order.1
 
   -- a mapping that is not after the position is in the front
   pub in_front : (xs : List Mapping) (i : ℕ) (m : Mapping) → IsInOrder xs → slice_get xs i ≡ Some m → is_not_after line column m ≡ true → i + 1 ≤ front_not_after line column xs
@@ -154,12 +141,6 @@ module _ (line column : ℕ) where
 
   pub none_before : (list : List Mapping) → IsInOrder list → last_not_after line column list ≡ None → answer_at_or_before list line column ≡ Nothing
   none_before list order last = last_answers list order ∙ ap (λ o. answer_of_last (on_line o)) last
-
--- the last of the front up to a place
-pub last_taken : (e : Option Mapping) (xs : List Mapping) (i : ℕ) (m : Mapping) → slice_get xs i ≡ Some m → last_or e (take (i + 1) xs) ≡ Some m
-last_taken e [] i m there = absurd (cc)
-last_taken e (a ∷ xs) zero m there = there
-last_taken e (a ∷ xs) (suc i) m there = let n : suc i + 1 ≡ suc (i + 1) = omega arith in ap (λ n. last_or e (take n (a ∷ xs))) n ∙ last_taken (Some a) xs i m there
 
 -- ---- a table's mappings
 

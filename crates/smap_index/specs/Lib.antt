@@ -2,5 +2,6 @@ pub mod Parts
 pub mod Marks
 pub mod Answer
 pub mod Index
+pub mod Fields
 pub mod Search
 pub mod Walk

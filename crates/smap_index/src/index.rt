@@ -1,6 +1,7 @@
 ghost use Rattle.std.specs.Prelude.{◌≡◌, ◌≢◌, ◌+◌, ◌-◌, ◌≤◌, ◌↔◌, length, IfOk, Err};
 ghost use Rattle.std.specs.List.{All};
 ghost use Rattle.smap_mappings.specs.Meter.{HasRoom};
+ghost use Rattle.smap_mappings.specs.Order.{IsInOrder};
 ghost use Rattle.smap_index.specs.Parts.{IsPlain, joined};
 ghost use Rattle.smap_index.specs.Marks.{marks, used_lines_of, binary_digits};
 ghost use Rattle.smap_index.specs.Answer.{answer_at_or_before};
@@ -31,9 +32,11 @@ impl Model for Index {
 
     ghost Value = { Indexed };
 
-    ghost view = { λ i. record { parts = i.parts.items; k = i.k; checkpoints = i.table; segments = i.segments; used_lines = i.used_lines } };
+    ghost use Rattle.smap_index.specs.Fields.{indexed};
 
-    ghost invariant = { λ i. IsIndex (record { parts = i.parts.items; k = i.k; checkpoints = i.table; segments = i.segments; used_lines = i.used_lines }) };
+    ghost view = { indexed };
+
+    ghost invariant = { λ fields. IsIndex (indexed fields) };
 }
 
 impl Index {
@@ -104,7 +107,8 @@ impl Index {
 
     /// All mappings, part after part, in order.
     pub fn decode_all(&self, alloc: Global) -> Result<Vec<Mapping>, AllocError>
-        ensures { IfOk result (λ list. list.items ≡ joined self.now.parts) }
+        ensures list { IfOk result (λ list. list.items ≡ joined self.now.parts) }
+        ensures ordered { IsInOrder (joined self.now.parts) }
     {
         let mut list = Vec::new(alloc);
         for part in &self.parts {

@@ -19,6 +19,8 @@ mod part;
 mod refusal;
 mod search;
 mod table;
+#[cfg(test)]
+mod tests;
 
 pub use answer::Answer;
 pub use index::Index;

@@ -138,18 +138,18 @@ is_new text sources names cursor next segments used_lines checks down new new_is
     let front = take segments (moves_of text) in
     ⊎_elim
     (λ (none : segments ≡ 0).
-      cond-false _ _ _ (none_so_far (λ (m : Move). eqb m.line next.line) segments (moves_of text) none) ∙ ap from_bool (sym (new_is ∙ or_left _ _ (eq-eqb _ _ none))))
+    cond-false _ _ _ (none_so_far (λ (m : Move). eqb m.line next.line) segments (moves_of text) none) ∙ ap from_bool (sym (new_is ∙ or_left _ _ (eq-eqb _ _ none))))
     (λ (some : segments ≡ 0 → ⊥).
-      let not_first = ne_eqb segments 0 some in
-      ⊎_elim
-      (λ (same : next.line ≡ cursor.line).
-        let on_line = checks.on_line (omega arith) in
-        cond-true _ _ _ (ap (λ line. list_any (λ (m : Move). eqb m.line line) front) same ∙ on_line)
-        ∙ ap from_bool (sym (new_is ∙ or_from _ _ not_first (ap not (eq-eqb _ _ same)))))
-      (λ (other : next.line ≡ cursor.line → ⊥).
-        cond-false _ _ _ (none_later_line next.line front (below_line cursor.line next.line front (omega arith) checks.after.lines))
-        ∙ ap from_bool (sym (new_is ∙ or_right _ _ (ap not (ne_eqb _ _ other)))))
-      (cases_eq next.line cursor.line))
+    let not_first = ne_eqb segments 0 some in
+    ⊎_elim
+    (λ (same : next.line ≡ cursor.line).
+    let on_line = checks.on_line (omega arith) in
+    cond-true _ _ _ (ap (λ line. list_any (λ (m : Move). eqb m.line line) front) same ∙ on_line)
+    ∙ ap from_bool (sym (new_is ∙ or_from _ _ not_first (ap not (eq-eqb _ _ same)))))
+    (λ (other : next.line ≡ cursor.line → ⊥).
+    cond-false _ _ _ (none_later_line next.line front (below_line cursor.line next.line front (omega arith) checks.after.lines))
+    ∙ ap from_bool (sym (new_is ∙ or_right _ _ (ap not (ne_eqb _ _ other)))))
+    (cases_eq next.line cursor.line))
     (cases_eq segments 0)
 
 pub from_bool_most : (b : Bool) → from_bool b ≤ 1

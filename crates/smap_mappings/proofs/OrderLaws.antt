@@ -50,19 +50,22 @@ module _ (sources names : ℕ) where
   next_in_order before a b rises accepts_a accepts_b =
       ⊎_elim
       (λ (same : a.line ≡ b.line).
-        let front = before ++ a ∷ [] in
-        let range_a = (each_in_range (values_on a.line front) (and_parts _ _ (and_parts _ _ (and_parts _ _ (and_parts _ _ accepts_a).0).0).0).1).column in
-        let range_b = (each_in_range (values_on b.line (front ++ b ∷ [])) (and_parts _ _ (and_parts _ _ (and_parts _ _ (and_parts _ _ accepts_b).0).0).0).1).column in
-        let column_a = in_range_natural (values_on a.line front).column range_a in
-        let column_b = in_range_natural (values_on b.line (front ++ b ∷ [])).column range_b in
-        let pushed = ap (λ (v : RunningValues). v.column) (values-push front b) in
-        let from_a : (values_on b.line front).column ≡ (values_on a.line front).column = ap (λ line. (values_on line front).column) (sym same) in
-        let onward : int_lt (field 0 b) (pos 0) ≡ false = ⊎_elim
-          (λ none. absurd (both_ways _ (not-true _ none) (any_last before a b.line same)))
-          (λ rising. not-true _ rising)
-          (or_cases _ _ (and_parts _ _ accepts_b).1) in
-        inr (same, columns_rise (values_on a.line front).column (values_on b.line (front ++ b ∷ [])).column (field 0 b) (natural (values_on a.line front).column) (natural (values_on b.line (front ++ b ∷ [])).column)
-          column_a.0 column_b.0 (pushed ∙ ap (λ z. z +ℤ field 0 b) from_a) onward))
+      let front = before ++ a ∷ [] in
+      let range_a = (each_in_range (values_on a.line front) (and_parts _ _ (and_parts _ _ (and_parts _ _ (and_parts _ _ accepts_a).0).0).0).1).column in
+      let range_b = (each_in_range (values_on b.line (front ++ b ∷ [])) (and_parts _ _ (and_parts _ _ (and_parts _ _ (and_parts _ _ accepts_b).0).0).0).1).column in
+      let column_a = in_range_natural (values_on a.line front).column range_a in
+      let column_b = in_range_natural (values_on b.line (front ++ b ∷ [])).column range_b in
+      let pushed = ap (λ (v : RunningValues). v.column) (values-push front b) in
+      let from_a : (values_on b.line front).column ≡ (values_on a.line front).column = ap (λ line. (values_on line front).column) (sym same) in
+      let onward : int_lt (field 0 b) (pos 0) ≡ false = ⊎_elim
+      (λ none. absurd (both_ways _ (not-true _ none) (any_last before a b.line same)))
+      (λ rising. not-true _ rising)
+      (or_cases _ _ (and_parts _ _ accepts_b).1) in
+      inr (
+        same,
+        columns_rise (values_on a.line front).column (values_on b.line (front ++ b ∷ [])).column (field 0 b) (natural (values_on a.line front).column) (natural (values_on b.line (front ++ b ∷ [])).column)
+            column_a.0 column_b.0 (pushed ∙ ap (λ z. z +ℤ field 0 b) from_a) onward,
+      ))
       (λ other. ⊎_elim (λ before. inl before) (λ after. absurd (omega arith)) other)
       (cases_order a.line b.line)
 

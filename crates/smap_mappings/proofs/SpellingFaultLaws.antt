@@ -38,17 +38,17 @@ clean_front b (c ∷ bytes) clean =
     let rest : IsClean (c ∷ bytes) = record { digits = (or_parts _ _ clean.digits).1; ended = clean.ended } in
     ⊎_elim
     (λ on.
-      let more : CleanFront (c ∷ bytes) = clean_front c bytes rest in
-      let front : prefix_len continues (b ∷ c ∷ bytes) ≡ suc (prefix_len continues (c ∷ bytes)) = cond-true _ _ _ on ∙ one-add (prefix_len continues (c ∷ bytes)) in
-      record {
-        inside = omega (arith, front, more.inside);
-        one = ap (λ n. is_one_number (take (suc n) (b ∷ c ∷ bytes))) front ∙ and_from _ _ on more.one;
-        rest = subst (λ n. IsClean (drop (suc n) (b ∷ c ∷ bytes))) (sym front) more.rest;
-      })
+    let more : CleanFront (c ∷ bytes) = clean_front c bytes rest in
+    let front : prefix_len continues (b ∷ c ∷ bytes) ≡ suc (prefix_len continues (c ∷ bytes)) = cond-true _ _ _ on ∙ one-add (prefix_len continues (c ∷ bytes)) in
+    record {
+      inside = omega (arith, front, more.inside);
+      one = ap (λ n. is_one_number (take (suc n) (b ∷ c ∷ bytes))) front ∙ and_from _ _ on more.one;
+      rest = subst (λ n. IsClean (drop (suc n) (b ∷ c ∷ bytes))) (sym front) more.rest;
+    })
     (λ stops.
-      let front : prefix_len continues (b ∷ c ∷ bytes) ≡ 0 = cond-false _ _ _ stops in
-      let here = front_at_one b (c ∷ bytes) _ front (ends_from_stops b (is_digit_of_clean b (c ∷ bytes) clean) stops) rest in
-      record { inside = here.0; one = here.1; rest = here.2 })
+    let front : prefix_len continues (b ∷ c ∷ bytes) ≡ 0 = cond-false _ _ _ stops in
+    let here = front_at_one b (c ∷ bytes) _ front (ends_from_stops b (is_digit_of_clean b (c ∷ bytes) clean) stops) rest in
+    record { inside = here.0; one = here.1; rest = here.2 })
     (cases_Bool (continues b))
 
 -- the numbers of clean bytes: the first, and those of the bytes behind it
@@ -81,8 +81,8 @@ clean_all_one (b ∷ c ∷ bytes) clean =
     ⊎_elim
     (λ yes. subst AllOne (sym (cond-true _ _ _ yes)) (yes, more))
     (λ no.
-      let ones : AllOne (first.cut ∷ first.cuts) = subst AllOne first.is more in
-      subst AllOne (sym (cond-false _ _ _ no ∙ ap (onto_first b) first.is)) (longer_number b first.cut (continues_from_not_ends b (is_digit_of_clean b (c ∷ bytes) clean) no) ones.0, ones.1))
+    let ones : AllOne (first.cut ∷ first.cuts) = subst AllOne first.is more in
+    subst AllOne (sym (cond-false _ _ _ no ∙ ap (onto_first b) first.is)) (longer_number b first.cut (continues_from_not_ends b (is_digit_of_clean b (c ∷ bytes) clean) no) ones.0, ones.1))
     (cases_Bool (ends b))
 
 -- the digit before a number that is one with it
@@ -104,14 +104,14 @@ all_one_clean (b ∷ c ∷ bytes) all =
     let first = first_cut c bytes in
     ⊎_elim
     (λ yes.
-      let ones : AllOne ((b ∷ []) ∷ cuts_of (c ∷ bytes)) = subst AllOne (cond-true _ _ _ yes) all in
-      let more = all_one_clean (c ∷ bytes) ones.1 in
-      record { digits = clean_from b (c ∷ bytes) (ends_is_digit b yes) more.digits; ended = more.ended })
+    let ones : AllOne ((b ∷ []) ∷ cuts_of (c ∷ bytes)) = subst AllOne (cond-true _ _ _ yes) all in
+    let more = all_one_clean (c ∷ bytes) ones.1 in
+    record { digits = clean_from b (c ∷ bytes) (ends_is_digit b yes) more.digits; ended = more.ended })
     (λ no.
-      let ones : AllOne ((b ∷ first.cut) ∷ first.cuts) = subst AllOne (cond-false _ _ _ no ∙ ap (onto_first b) first.is) all in
-      let parts = shorter_number b first.cut no ones.0 in
-      let more = all_one_clean (c ∷ bytes) (subst AllOne (sym first.is) (parts.1, ones.1)) in
-      record { digits = clean_from b (c ∷ bytes) (and_parts _ _ parts.0).0 more.digits; ended = more.ended })
+    let ones : AllOne ((b ∷ first.cut) ∷ first.cuts) = subst AllOne (cond-false _ _ _ no ∙ ap (onto_first b) first.is) all in
+    let parts = shorter_number b first.cut no ones.0 in
+    let more = all_one_clean (c ∷ bytes) (subst AllOne (sym first.is) (parts.1, ones.1)) in
+    record { digits = clean_from b (c ∷ bytes) (and_parts _ _ parts.0).0 more.digits; ended = more.ended })
     (cases_Bool (ends b))
 
 -- ---- numbers with no fault have values
@@ -182,13 +182,13 @@ pub known_spelled : (bytes : List ℕ) → has_known_length (unwrap_or (fields_o
 unfolding spelling_fault fields_of
 known_spelled bytes known = at_fields (numbers_of (cuts_of bytes)) refl
   where
-  at_fields : (o : Option (List ℤ)) → numbers_of (cuts_of bytes) ≡ o → cond (has_bad_digit bytes) (Some BadDigit) (cond (is_unended bytes) (Some Unended) (numbers_fault (cuts_of bytes))) ≡ None
-  at_fields None is = let bad : false ≡ true = ap (λ o. has_known_length (unwrap_or o [])) (sym is) ∙ known in absurd (cc)
-  at_fields (Some ns) is =
-      let parts = value_numbers (cuts_of bytes) ns is in
-      let clean = all_one_clean bytes parts.0 in
-      let count : not (has_known_length (cuts_of bytes)) ≡ false = not_from_true _ (same_length (cuts_of bytes) ns (sym parts.2) ∙ ap (λ o. has_known_length (unwrap_or o [])) (sym is) ∙ known) in
-      cond-false _ _ _ clean.digits ∙ cond-false _ _ _ clean.ended ∙ cond-false _ _ _ parts.1.short ∙ cond-false _ _ _ parts.1.small ∙ cond-false _ _ _ parts.1.not_zero ∙ cond-false _ _ _ count
+    at_fields : (o : Option (List ℤ)) → numbers_of (cuts_of bytes) ≡ o → cond (has_bad_digit bytes) (Some BadDigit) (cond (is_unended bytes) (Some Unended) (numbers_fault (cuts_of bytes))) ≡ None
+    at_fields None is = let bad : false ≡ true = ap (λ o. has_known_length (unwrap_or o [])) (sym is) ∙ known in absurd (cc)
+    at_fields (Some ns) is =
+        let parts = value_numbers (cuts_of bytes) ns is in
+        let clean = all_one_clean bytes parts.0 in
+        let count : not (has_known_length (cuts_of bytes)) ≡ false = not_from_true _ (same_length (cuts_of bytes) ns (sym parts.2) ∙ ap (λ o. has_known_length (unwrap_or o [])) (sym is) ∙ known) in
+        cond-false _ _ _ clean.digits ∙ cond-false _ _ _ clean.ended ∙ cond-false _ _ _ parts.1.short ∙ cond-false _ _ _ parts.1.small ∙ cond-false _ _ _ parts.1.not_zero ∙ cond-false _ _ _ count
 
 -- ---- what the code's loops ask
 

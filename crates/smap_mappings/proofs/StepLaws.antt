@@ -83,9 +83,9 @@ known_count : (column : ℤ) (origin : Option OriginFields) → has_known_length
 known_count column None = refl
 known_count column (Some o) = named o.source o.line o.column o.name
   where
-  named : (source line original_column : ℤ) (name : Option ℤ) → has_known_length (column ∷ source ∷ line ∷ original_column ∷ name_fields name) ≡ true
-  named source line original_column None = refl
-  named source line original_column (Some name) = refl
+    named : (source line original_column : ℤ) (name : Option ℤ) → has_known_length (column ∷ source ∷ line ∷ original_column ∷ name_fields name) ≡ true
+    named source line original_column None = refl
+    named source line original_column (Some name) = refl
 
 all_push : {X : Type 0} (P : X → Type 0) (xs : List X) (x : X) → AllByRecursion P xs → P x → AllByRecursion P (xs ++ x ∷ [])
 all_push P [] x all here = (here, tt)
@@ -124,13 +124,13 @@ module _ (text : List ℕ) (j : ℕ) (cursor : Cursor) (segment : Segment) (end 
       let none = read_fault sources names ∙ ap (sums_fault sources names segment) (sym advances.values) ∙ advances.allowed in
       record {
         passes = rw add-one (fault_from_here text j sources names cursor (at_segment text j cursor after within inside)
-          ∙ ap (λ first. fault_or first (piece_on cursor.line (cursor.place, piece_at text cursor.place)) (fault_from text sources names (suc j))) none);
+            ∙ ap (λ first. fault_or first (piece_on cursor.line (cursor.place, piece_at text cursor.place)) (fault_from text sources names (suc j))) none);
         next = record {
           more = omega (arith, seg.count);
           mapping_is =
-            mapping_at_place [] (moves_of text) j move seg.next
-            ∙ ap (λ values. Some (record { line = cursor.line; column = natural values.column; origin = origin_in (fields_in segment) values })) same
-            ∙ (λ i. Some (record { line = sym advances.line i; column = next.column; origin = origin_same segment.column segment.origin next i }));
+              mapping_at_place [] (moves_of text) j move seg.next
+              ∙ ap (λ values. Some (record { line = cursor.line; column = natural values.column; origin = origin_in (fields_in segment) values })) same
+              ∙ (λ i. Some (record { line = sym advances.line i; column = next.column; origin = origin_same segment.column segment.origin next i }));
           behind = rw add-one (record {
             count = seg.count;
             inside = omega (arith, reads.inside, advances.place);

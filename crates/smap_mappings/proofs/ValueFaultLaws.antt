@@ -168,13 +168,13 @@ move_fault_is sources names line before segment =
     ⊎_elim
     (λ below. cond-true _ _ _ below ∙ sym (cond-true _ _ _ below))
     (λ not_below. ⊎_elim
-      (λ past. cond-false _ _ _ not_below ∙ cond-true _ _ _ past ∙ sym (cond-false _ _ _ not_below ∙ cond-true _ _ _ past))
-      (λ not_past. ap (λ falls. values_fault sources names falls (fields_in segment) values) (falls_same (in_range_from values not_below not_past).column))
-      (cases_Bool (any_past values)))
+    (λ past. cond-false _ _ _ not_below ∙ cond-true _ _ _ past ∙ sym (cond-false _ _ _ not_below ∙ cond-true _ _ _ past))
+    (λ not_past. ap (λ falls. values_fault sources names falls (fields_in segment) values) (falls_same (in_range_from values not_below not_past).column))
+    (cases_Bool (any_past values)))
     (cases_Bool (any_below values))
   where
-  falls_same : in_range (values_on line (before ++ move_in line segment ∷ [])).column ≡ true → (list_any (λ (earlier : Move). eqb earlier.line line) before && is_below segment.column) ≡ is_below segment.column
-  falls_same ranged = ⊎_elim
-    (λ some. ap (λ b. b && is_below segment.column) some)
-    (λ none. and_left _ _ none ∙ sym (first_rises line before segment none ranged))
-    (cases_Bool (list_any (λ (earlier : Move). eqb earlier.line line) before))
+    falls_same : in_range (values_on line (before ++ move_in line segment ∷ [])).column ≡ true → (list_any (λ (earlier : Move). eqb earlier.line line) before && is_below segment.column) ≡ is_below segment.column
+    falls_same ranged = ⊎_elim
+        (λ some. ap (λ b. b && is_below segment.column) some)
+        (λ none. and_left _ _ none ∙ sym (first_rises line before segment none ranged))
+        (cases_Bool (list_any (λ (earlier : Move). eqb earlier.line line) before))

@@ -26,7 +26,10 @@ pub fn check_segments(bytes: &[u8], sources: u32, names: u32) -> Result<Counts, 
     loop {
         let next = skip_separators(bytes, &at);
         if next.place == bytes.len() {
-            return Ok(Counts { segments, used_lines });
+            return Ok(Counts {
+                segments,
+                used_lines,
+            });
         }
         match step(bytes, &next, sources, names) {
             Ok((_, after)) => {

@@ -24,3 +24,6 @@ pub use vlq::{VlqFault, read_vlq};
 
 /// The greatest line, column or index, and the greatest magnitude of a difference.
 pub const LIMIT: u32 = 2147483647;
+
+#[cfg(test)]
+mod tests;

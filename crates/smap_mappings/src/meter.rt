@@ -72,3 +72,6 @@ impl Meter {
         self.comparisons <= u64::MAX - ROOM && self.segments <= u64::MAX - ROOM
     }
 }
+
+#[cfg(test)]
+mod tests;

@@ -1,6 +1,5 @@
-use std::marker::Model;
-
 use crate::cursor::Cursor;
+use std::marker::Model;
 
 /// A place between two segments of a text, and all running values there. It is of use with its own text alone.
 #[derive(Clone, Copy)]

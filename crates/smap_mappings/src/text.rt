@@ -1,4 +1,4 @@
-ghost use Rattle.std.specs.Prelude.{◌≡◌, ◌+◌, ◌*◌, ◌<◌, ◌≤◌, ◌↔◌, ℕ, Some, IsOk, IfOk, IfErr, IfNone, IfSome, is_some, if◌then◌else◌, length, string_bytes};
+ghost use Rattle.std.specs.Prelude.{◌≡◌, ◌+◌, ◌*◌, ◌<◌, ◌≤◌, ◌↔◌, ℕ, Some, IsOk, IfOk, IfErr, IfNone, IfSome, None, OnOk, is_some, if◌then◌else◌, length, string_bytes};
 ghost use Rattle.smap_mappings.specs.Accepted.{IsAccepted};
 ghost use Rattle.smap_mappings.specs.Counts.{segments_of, used_lines_of};
 ghost use Rattle.smap_mappings.specs.Faults.{first_fault};
@@ -8,9 +8,6 @@ ghost use Rattle.smap_mappings.specs.PackedText.{IsPacked};
 ghost use Rattle.smap_mappings.specs.State.{IsAfter, IsBetween};
 ghost use Rattle.smap_mappings.specs.Step.{IsNext};
 
-use std::alloc::{AllocError, Global};
-use std::marker::Model;
-
 use crate::check::check_segments;
 use crate::cursor::Cursor;
 use crate::fault::Fault;
@@ -18,6 +15,8 @@ use crate::mapping::Mapping;
 use crate::meter::Meter;
 use crate::state::State;
 use crate::step::{skip_separators, step};
+use std::alloc::{AllocError, Global};
+use std::marker::Model;
 
 /// How many bytes a text has at most.
 pub const MOST_BYTES: usize = 67108864;
@@ -56,9 +55,14 @@ impl Model for PackedText {
 impl PackedText {
     /// Takes a text in which each source index is below `sources` and each name index below `names`. A refusal hands
     /// the text back as it was. The call takes no memory.
-    pub fn check(text: String, sources: u32, names: u32) -> Result<PackedText, (TextRefusal, String)>
+    pub fn check(
+        text: String,
+        sources: u32,
+        names: u32,
+    ) -> Result<PackedText, (TextRefusal, String)>
         ensures accepted { IsOk result ↔ ((length (string_bytes text) ≤ 67108864) × IsAccepted (string_bytes text) sources names) }
         ensures inside { IfOk result (λ packed. packed ≡ string_bytes text) }
+        ensures clean { OnOk result (first_fault (string_bytes text) sources names ≡ None) }
         ensures too_long { IfErr result (λ e. (e.0 ≡ TextRefusal.TextTooLong) ↔ (67108864 < length (string_bytes text))) }
         ensures faulty { IfErr result (λ e. (fault : Fault) → e.0 ≡ TextRefusal.Fault fault → first_fault (string_bytes text) sources names ≡ Some fault) }
         ensures returned { IfErr result (λ e. e.1 ≡ text) }

@@ -1,5 +1,7 @@
 use Rattle.std.proofs.Common.{◌++◌, sym, ◌∙◌, ap, arith}
-use Rattle.smap_index.proofs.WalkLaws.{few_pieces, all_taken, after_next, listed_next, placed_plain}
+use Rattle.smap_index.proofs.SegmentCounts.{few_pieces, all_taken}
+use Rattle.smap_index.proofs.WalkLaws.{after_next, listed_next}
+use Rattle.smap_index.proofs.PlainLaws.{placed_plain}
 use Rattle.smap_index.proofs.decode.decode_part.Goals as goal
 
 pub next-requires-clause-room : goal.next-requires-clause-room

@@ -3,7 +3,10 @@ use Rattle.smap_mappings.specs.Mappings.{mappings_of}
 use Rattle.smap_mappings.specs.Order.{IsInOrder}
 use Rattle.smap_index.specs.Marks.{mappings_at, first_on_lines}
 use Rattle.smap_index.specs.Walk.{is_same_line}
-use Rattle.smap_index.proofs.WalkLaws.{few_pieces, all_taken, after_next, listed_next, placed_plain, mappings_at-push, lines_next, last_next, at_most_one_line}
+use Rattle.smap_index.proofs.SegmentCounts.{few_pieces, all_taken}
+use Rattle.smap_index.proofs.WalkLaws.{after_next, listed_next, mappings_at-push}
+use Rattle.smap_index.proofs.PlainLaws.{placed_plain}
+use Rattle.smap_index.proofs.LineLaws.{lines_next, last_next, at_most_one_line}
 use Rattle.smap_index.proofs.mark.mark_part.Goals as goal
 
 pub next-requires-clause-room : goal.next-requires-clause-room

@@ -1,7 +1,8 @@
 use Rattle.std.proofs.Common.{◌≡◌, ◌+◌, ◌-◌, ◌/◌, length, sym, ap, refl, ◌∙◌, arith, None}
 use Rattle.smap_index.specs.Marks.{mappings_at, binary_digits}
 use Rattle.smap_index.proofs.Digits.{half_has_fewer_digits, digits_least}
-use Rattle.smap_index.proofs.SearchLaws.{in_front, ends_front, last_taken, front_within, read_mapping}
+use Rattle.smap_index.proofs.ListLaws.{last_taken}
+use Rattle.smap_index.proofs.SearchLaws.{in_front, ends_front, front_within, read_mapping}
 use Rattle.smap_index.proofs.search.last_not_after.Goals as goal
 
 pub loop-low-init : goal.loop-low-init

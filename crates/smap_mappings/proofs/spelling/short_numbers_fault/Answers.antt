@@ -39,7 +39,7 @@ returns-then-unsigned-from c =
     let large : 2147483647 < c.unsigned_between-unsigned.result / 2 = omega (arith, c.from.ensures, c.if-unsigned-from.true) in
     let here = lt-ltb 2147483647 (unsigned_of (slice_range segment c.loop-place.place (c.loop-place.place + front_at segment c.loop-place.place + 1)) / 2) (subst (λ u. 2147483647 < u / 2) is large) in
     sym (cond-false _ _ _ c.requires.short
-      ∙ cond-true _ _ _ (c.loop-place.invariant.large ∙ any_number segment c.loop-place.place number is_too_large ∙ or_left _ _ here))
+    ∙ cond-true _ _ _ (c.loop-place.invariant.large ∙ any_number segment c.loop-place.place number is_too_large ∙ or_left _ _ here))
 
 pub loop-place-preserved : goal.loop-place-preserved
 loop-place-preserved c =
@@ -57,9 +57,9 @@ loop-place-preserved c =
       short = ap (λ end. list_any is_too_long (cuts_of (drop end segment))) (sym end_is) ∙ short_others segment place number c.loop-place.invariant.short;
       large = c.loop-place.invariant.large ∙ any_number segment place number is_too_large ∙ ap (λ b. b || list_any is_too_large others) not_large ∙ ap (λ end. list_any is_too_large (cuts_of (drop end segment))) end_is;
       zero = c.loop-place.invariant.zero
-        ∙ ap (λ b. c.loop-place.has_negative_zero || b) (any_number segment place number is_negative_zero)
-        ∙ or_assoc c.loop-place.has_negative_zero (is_negative_zero (slice_range segment place (place + front_at segment place + 1))) (list_any is_negative_zero others)
-        ∙ (λ i. (c.loop-place.has_negative_zero || eqb (sym is i) 1) || list_any is_negative_zero (cuts_of (drop (end_is i) segment)));
+          ∙ ap (λ b. c.loop-place.has_negative_zero || b) (any_number segment place number is_negative_zero)
+          ∙ or_assoc c.loop-place.has_negative_zero (is_negative_zero (slice_range segment place (place + front_at segment place + 1))) (list_any is_negative_zero others)
+          ∙ (λ i. (c.loop-place.has_negative_zero || eqb (sym is i) 1) || list_any is_negative_zero (cuts_of (drop (end_is i) segment)));
       count = omega (arith, c.loop-place.invariant.count, count_numbers segment place number, ap (λ end. length (cuts_of (drop end segment))) end_is);
       few = omega (arith, c.number_end-end.ensures, c.loop-place.invariant.few);
     }

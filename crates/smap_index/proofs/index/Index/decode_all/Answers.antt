@@ -1,6 +1,6 @@
 use Rattle.std.proofs.Common.{◌++◌, sym, ◌∙◌, ap, arith}
 use Rattle.smap_index.specs.Parts.{placed}
-use Rattle.smap_index.proofs.WalkLaws.{joined_next}
+use Rattle.smap_index.proofs.PartLaws.{joined_next}
 use Rattle.smap_index.proofs.index.Index.decode_all.Goals as goal
 
 pub loop-part-preserved : goal.loop-part-preserved

@@ -31,3 +31,6 @@ returns-in-Err-clause-accepted c = (
 
 pub returns-in-Ok-clause-accepted : goal.returns-in-Ok-clause-accepted
 returns-in-Ok-clause-accepted c = (λ e. (short (goal.at.returns-in-Ok-clause-accepted c).After-as_bytes, accepted (goal.at.returns-in-Ok-clause-accepted c).In-Ok), λ both. refl)
+
+pub returns-in-Ok-clause-clean : goal.returns-in-Ok-clause-clean
+returns-in-Ok-clause-clean c = ap (λ text. first_fault text c.args.sources c.args.names) (sym c.as_bytes.ensures.value) ∙ c.in-Ok.ensures.fault

@@ -1,0 +1,92 @@
+-- Worked examples of the definitions: each holds by computing both sides.
+use Rattle.std.proofs.Common.{◌≡◌, ℕ, List, [], ◌∷◌, Some, None, refl, codes}
+use Rattle.smap_mappings.specs.Base64.{digit_of}
+use Rattle.smap_mappings.specs.Vlq.{number_of, unsigned_of}
+use Rattle.smap_mappings.specs.Segment.{fields_of}
+use Rattle.smap_mappings.specs.Pieces.{pieces_of, pieces_from, pieces_on}
+use Rattle.smap_mappings.specs.Mappings.{mappings_of, mapping_after, moves_of, values_on}
+use Rattle.smap_mappings.specs.declared.mapping.Mapping.{Mapping}
+use Rattle.smap_index.specs.Answer.{answer_at_or_before}
+use Rattle.smap_index.specs.Parts.{placed, joined}
+use Rattle.smap_index.specs.Marks.{marks, used_lines_of, binary_digits}
+use Rattle.smap_index.specs.declared.part.Part.{Part}
+use Rattle.smap_index.specs.declared.answer.Answer.TheVariants.{Nothing, Unmapped, Found}
+
+-- a text alone
+whole : List ℕ → List Part
+whole text = record { line = 0; column = 0; text = text; source_base = 0; name_base = 0 } ∷ []
+
+unmapped_at : ℕ → ℕ → Mapping
+unmapped_at line column = record { line = line; column = column; origin = None }
+
+mapped_at : ℕ → ℕ → ℕ → ℕ → ℕ → Mapping
+mapped_at line column source original_line original_column =
+    record { line = line; column = column; origin = Some (record { source = source; line = original_line; column = original_column; name = None }) }
+
+-- ---- parts
+
+two_lines : joined (whole (codes "AAAA,CAAC;AACA")) ≡ mapped_at 0 0 0 0 0 ∷ mapped_at 0 1 0 0 1 ∷ mapped_at 1 0 0 1 1 ∷ []
+unfolding whole mapped_at placed mappings_of mapping_after moves_of values_on pieces_of pieces_from pieces_on fields_of number_of unsigned_of digit_of
+two_lines = refl
+
+-- the column of an offset moves the first line alone, and the base each source
+at_an_offset : joined (record { line = 2; column = 3; text = codes "AAAA,CAAC;AACA"; source_base = 5; name_base = 0 } ∷ []) ≡ mapped_at 2 3 5 0 0 ∷ mapped_at 2 4 5 0 1 ∷ mapped_at 3 0 5 1 1 ∷ []
+unfolding mapped_at placed mappings_of mapping_after moves_of values_on pieces_of pieces_from pieces_on fields_of number_of unsigned_of digit_of
+at_an_offset = refl
+
+-- ---- answers
+
+last_on_the_line : answer_at_or_before (joined (whole (codes "AAAA,CAAC;AACA"))) 0 5 ≡ Found 1 (record { source = 0; line = 0; column = 1; name = None })
+unfolding answer_at_or_before whole placed mappings_of mapping_after moves_of values_on pieces_of pieces_from pieces_on fields_of number_of unsigned_of digit_of
+last_on_the_line = refl
+
+nothing_of_nothing : answer_at_or_before [] 0 5 ≡ Nothing
+unfolding answer_at_or_before
+nothing_of_nothing = refl
+
+last_of_equal_columns : answer_at_or_before (unmapped_at 0 1 ∷ mapped_at 0 1 0 7 2 ∷ []) 0 1 ≡ Found 1 (record { source = 0; line = 7; column = 2; name = None })
+unfolding answer_at_or_before unmapped_at mapped_at
+last_of_equal_columns = refl
+
+without_origin : answer_at_or_before (mapped_at 0 0 0 0 0 ∷ unmapped_at 0 4 ∷ []) 0 6 ≡ Unmapped 4
+unfolding answer_at_or_before unmapped_at mapped_at
+without_origin = refl
+
+never_the_line_before : answer_at_or_before (unmapped_at 0 1 ∷ unmapped_at 1 4 ∷ []) 1 3 ≡ Nothing
+unfolding answer_at_or_before unmapped_at
+never_the_line_before = refl
+
+-- ---- checkpoints and counts
+
+every_second : marks (whole (codes "AAAA,CAAC,C,CAAC")) 2 ≡ mapped_at 0 0 0 0 0 ∷ unmapped_at 0 2 ∷ []
+unfolding whole unmapped_at mapped_at placed mappings_of mapping_after moves_of values_on pieces_of pieces_from pieces_on fields_of number_of unsigned_of digit_of
+every_second = refl
+
+-- each line begins anew
+first_of_each_line : marks (whole (codes "A,C;;A,C,C")) 2 ≡ unmapped_at 0 0 ∷ unmapped_at 2 0 ∷ unmapped_at 2 2 ∷ []
+unfolding whole unmapped_at placed mappings_of mapping_after moves_of values_on pieces_of pieces_from pieces_on fields_of number_of unsigned_of digit_of
+first_of_each_line = refl
+
+two_used_lines : used_lines_of (whole (codes "A,C;;A,C,C")) ≡ 2
+unfolding whole placed mappings_of mapping_after moves_of values_on pieces_of pieces_from pieces_on fields_of number_of unsigned_of digit_of
+two_used_lines = refl
+
+zero_has_none : binary_digits 0 ≡ 0
+unfolding binary_digits
+zero_has_none = refl
+
+one_has_one : binary_digits 1 ≡ 1
+unfolding binary_digits
+one_has_one = refl
+
+two_has_two : binary_digits 2 ≡ 2
+unfolding binary_digits
+two_has_two = refl
+
+three_has_two : binary_digits 3 ≡ 2
+unfolding binary_digits
+three_has_two = refl
+
+four_has_three : binary_digits 4 ≡ 3
+unfolding binary_digits
+four_has_three = refl

@@ -1,0 +1,29 @@
+-- A list of mappings up to a place: it stays in order, and goes on by one.
+use Rattle.std.proofs.Common.{◌≡◌, ℕ, ◌+◌, suc, zero, List, [], ◌∷◌, ◌++◌, take, Option, Some, sym, ap, subst, ◌∙◌, arith}
+use Rattle.std.specs.List.{slice_get, last_or}
+use Rattle.std.proofs.Math.Seq.{take-nil}
+use Rattle.smap_mappings.specs.Order.{IsInOrder}
+use Rattle.smap_mappings.specs.declared.mapping.Mapping.{Mapping}
+
+pub tail_in_order : (a : Mapping) (xs : List Mapping) → IsInOrder (a ∷ xs) → IsInOrder xs
+tail_in_order a [] order = tt
+tail_in_order a (b ∷ xs) order = order.1
+
+pub take_in_order : (n : ℕ) (xs : List Mapping) → IsInOrder xs → IsInOrder (take n xs)
+take_in_order zero xs order = tt
+take_in_order (suc n) [] order = tt
+take_in_order (suc n) (a ∷ []) order = subst (λ rest. IsInOrder (a ∷ rest)) (sym (take-nil n)) tt
+take_in_order (suc zero) (a ∷ b ∷ xs) order = tt
+take_in_order (suc (suc n)) (a ∷ b ∷ xs) order = (order.0, take_in_order (suc n) (b ∷ xs) order.1)
+
+-- the mappings up to a place and the one at it
+pub take_next : (xs : List Mapping) (j : ℕ) (m : Mapping) → slice_get xs j ≡ Some m → take (j + 1) xs ≡ take j xs ++ m ∷ []
+take_next [] j m there = absurd (cc)
+take_next (x ∷ xs) zero m there = let e : x ≡ m = cc in ap (λ x. x ∷ []) e
+take_next (x ∷ xs) (suc j) m there = let n : suc j + 1 ≡ suc (j + 1) = omega arith in ap (λ n. take n (x ∷ xs)) n ∙ ap (λ front. x ∷ front) (take_next xs j m there)
+
+-- the last up to a place is the one at the place
+pub last_taken : (e : Option Mapping) (xs : List Mapping) (i : ℕ) (m : Mapping) → slice_get xs i ≡ Some m → last_or e (take (i + 1) xs) ≡ Some m
+last_taken e [] i m there = absurd (cc)
+last_taken e (a ∷ xs) zero m there = there
+last_taken e (a ∷ xs) (suc i) m there = let n : suc i + 1 ≡ suc (i + 1) = omega arith in ap (λ n. last_or e (take n (a ∷ xs))) n ∙ last_taken (Some a) xs i m there
