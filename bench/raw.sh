@@ -36,8 +36,13 @@ if [ "$answer" != none ]; then
     exit 1
 fi
 
+# The same text with a fault at its very end: it is read and checked whole, and no index is built.
+faulty=$folder/faulty
+{ cat -- "$text"; printf '!'; } >"$faulty"
+
 plain() { cat -- "$text" >/dev/null; }
 look_up() { "$program" raw 1 1 <"$text" >/dev/null; }
+refuse() { "$program" raw 1 1 <"$faulty" 2>/dev/null || true; }
 
 # The least of a few times, in microseconds.
 best_of() {
@@ -59,3 +64,4 @@ report() {
 printf 'text: %s bytes, best of %s runs\n' "$bytes" "$runs"
 report 'cat > /dev/null' "$(best_of plain)"
 report 'smap raw 1 1' "$(best_of look_up)"
+report 'refused at its end' "$(best_of refuse)"

@@ -4,11 +4,12 @@ use Rattle.smap_mappings.specs.Base64.{digit_of}
 use Rattle.smap_mappings.specs.Vlq.{number_of, unsigned_of}
 use Rattle.smap_mappings.specs.Segment.{fields_of}
 use Rattle.smap_mappings.specs.Pieces.{pieces_of, pieces_from, pieces_on}
+use Rattle.smap_mappings.specs.Counts.{used_lines_of}
 use Rattle.smap_mappings.specs.Mappings.{mappings_of, mapping_after, moves_of, values_on}
 use Rattle.smap_mappings.specs.declared.mapping.Mapping.{Mapping}
 use Rattle.smap_index.specs.Answer.{answer_at_or_before}
 use Rattle.smap_index.specs.Parts.{placed, joined}
-use Rattle.smap_index.specs.Marks.{marks, used_lines_of, binary_digits}
+use Rattle.smap_index.specs.Marks.{marks, used_lines_in, binary_digits}
 use Rattle.smap_index.specs.declared.part.Part.{Part}
 use Rattle.smap_index.specs.declared.answer.Answer.TheVariants.{Nothing, Unmapped, Found}
 
@@ -67,8 +68,8 @@ first_of_each_line : marks (whole (codes "A,C;;A,C,C")) 2 ≡ unmapped_at 0 0 �
 unfolding whole unmapped_at placed mappings_of mapping_after moves_of values_on pieces_of pieces_from pieces_on fields_of number_of unsigned_of digit_of
 first_of_each_line = refl
 
-two_used_lines : used_lines_of (whole (codes "A,C;;A,C,C")) ≡ 2
-unfolding whole placed mappings_of mapping_after moves_of values_on pieces_of pieces_from pieces_on fields_of number_of unsigned_of digit_of
+two_used_lines : used_lines_in (whole (codes "A,C;;A,C,C")) ≡ 2
+unfolding whole used_lines_of moves_of values_on pieces_of pieces_from pieces_on fields_of number_of unsigned_of digit_of
 two_used_lines = refl
 
 zero_has_none : binary_digits 0 ≡ 0

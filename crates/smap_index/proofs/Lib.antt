@@ -2,9 +2,7 @@ pub mod Digits
 pub mod ListLaws
 pub mod SearchLaws
 pub mod MarkLaws
-pub mod SegmentCounts
 pub mod PlainLaws
 pub mod WalkLaws
-pub mod LineLaws
 pub mod PartLaws
 pub mod Examples

@@ -1,20 +1,12 @@
--- A list of mappings up to a place: it stays in order, and goes on by one.
-use Rattle.std.proofs.Common.{◌≡◌, ℕ, ◌+◌, suc, zero, List, [], ◌∷◌, ◌++◌, take, Option, Some, sym, ap, subst, ◌∙◌, arith}
+-- Lists of mappings: in order behind the first too, and up to the next place longer by one.
+use Rattle.std.proofs.Common.{◌≡◌, ℕ, ◌+◌, suc, zero, List, [], ◌∷◌, ◌++◌, take, Option, Some, ap, ◌∙◌, arith}
 use Rattle.std.specs.List.{slice_get, last_or}
-use Rattle.std.proofs.Math.Seq.{take-nil}
 use Rattle.smap_mappings.specs.Order.{IsInOrder}
 use Rattle.smap_mappings.specs.declared.mapping.Mapping.{Mapping}
 
 pub tail_in_order : (a : Mapping) (xs : List Mapping) → IsInOrder (a ∷ xs) → IsInOrder xs
 tail_in_order a [] order = tt
 tail_in_order a (b ∷ xs) order = order.1
-
-pub take_in_order : (n : ℕ) (xs : List Mapping) → IsInOrder xs → IsInOrder (take n xs)
-take_in_order zero xs order = tt
-take_in_order (suc n) [] order = tt
-take_in_order (suc n) (a ∷ []) order = subst (λ rest. IsInOrder (a ∷ rest)) (sym (take-nil n)) tt
-take_in_order (suc zero) (a ∷ b ∷ xs) order = tt
-take_in_order (suc (suc n)) (a ∷ b ∷ xs) order = (order.0, take_in_order (suc n) (b ∷ xs) order.1)
 
 -- the mappings up to a place and the one at it
 pub take_next : (xs : List Mapping) (j : ℕ) (m : Mapping) → slice_get xs j ≡ Some m → take (j + 1) xs ≡ take j xs ++ m ∷ []

@@ -19,6 +19,7 @@ answer_with column (Some origin) = Found column origin
 abbrev pub answer_of : Mapping → Answer
 answer_of mapping = answer_with mapping.column mapping.origin
 
+-- nothing, where there is none
 abbrev pub answer_of_last : Option Mapping → Answer
 answer_of_last None = Nothing
 answer_of_last (Some mapping) = answer_of mapping

@@ -4,4 +4,3 @@ pub mod Answer
 pub mod Index
 pub mod Fields
 pub mod Search
-pub mod Walk

@@ -1,4 +1,4 @@
--- The parts of a map (ECMA-426, index maps): each text's mappings at its part's offset, joined part after part.
+-- The parts of a map (ECMA-426, Index source map): each text's mappings at its part's offset, joined part after part.
 use Rattle.std.specs.Prelude.{◌≡◌, ◌+◌, List, [], ◌∷◌, ◌++◌, ◌==◌, if◌then◌else◌, map, option_map}
 use Rattle.smap_mappings.specs.Mappings.{mappings_of}
 use Rattle.smap_mappings.specs.declared.mapping.Mapping.{Mapping}

@@ -10,6 +10,7 @@ pub fn decode_part(alloc: Global, part: &Part, list: &mut Vec<Mapping>) -> Resul
     requires plain { IsPlain part.now }
     ensures { IfOk result (λ _. list.new.items ≡ list.old.items ++ placed part.now) }
 {
+    list.reserve(part.text.segments() as usize)?;
     let mut meter = Meter::new(alloc);
     let mut state = part.text.start();
     while let Some((mapping, behind)) = part.text.next(&state, &mut meter) {

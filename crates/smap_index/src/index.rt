@@ -3,12 +3,12 @@ ghost use Rattle.std.specs.List.{All};
 ghost use Rattle.smap_mappings.specs.Meter.{HasRoom};
 ghost use Rattle.smap_mappings.specs.Order.{IsInOrder};
 ghost use Rattle.smap_index.specs.Parts.{IsPlain, joined};
-ghost use Rattle.smap_index.specs.Marks.{marks, used_lines_of, binary_digits};
+ghost use Rattle.smap_index.specs.Marks.{marks, used_lines_in, binary_digits};
 ghost use Rattle.smap_index.specs.Answer.{answer_at_or_before};
 
 use crate::answer::{Answer, answer_of};
 use crate::decode::decode_part;
-use crate::mark::mark_parts;
+use crate::mark::{mark_parts, used_lines_in};
 use crate::part::Part;
 use crate::refusal::BuildRefusal;
 use crate::search::last_not_after;
@@ -42,8 +42,9 @@ impl Model for Index {
 impl Index {
     ghost use Rattle.smap_index.specs.Index.{IsIndexOf};
 
-    /// Builds the index of these parts, with a checkpoint at every `k`th segment of each line. The caller gives at
-    /// most one part, and that at line 0 and column 0, with bases 0. After a refusal the parts are dropped.
+    /// Builds the index of these parts, with a checkpoint at the segments of number 0, `k`, 2`k` and so on of each
+    /// line of a part. The caller gives at most one part, and that at line 0 and column 0, with bases 0. Any `k` but 1
+    /// is refused. After a refusal the parts are dropped.
     pub fn build(alloc: Global, parts: Vec<Part>, k: u32) -> Result<Index, BuildRefusal>
         requires at_most_one { length parts.items ≤ 1 }
         requires plain { All IsPlain parts.items }
@@ -54,22 +55,23 @@ impl Index {
             return Err(BuildRefusal::Interval);
         }
         let mut table = Table::new(alloc);
-        match mark_parts(alloc, &parts, &mut table) {
-            Ok(used_lines) => {
-                let segments = table.len() as u64;
-                Ok(Index {
-                    parts,
-                    table,
-                    k,
-                    segments,
-                    used_lines,
-                })
-            }
-            Err(_) => Err(BuildRefusal::Memory),
-        }
+        let Ok(()) = mark_parts(alloc, &parts, &mut table) else {
+            return Err(BuildRefusal::Memory);
+        };
+        let segments = table.len() as u64;
+        let used_lines = used_lines_in(&parts);
+        Ok(Index {
+            parts,
+            table,
+            k,
+            segments,
+            used_lines,
+        })
     }
 
-    /// Looks a position up: the last mapping on the line whose column is not after the asked one answers. The call
+    /// Looks a generated position up, from 0 and in UTF-16 code units: the last mapping on the line whose column is
+    /// not after the asked one answers, and of equal columns the last. It compares at most as many checkpoints as
+    /// their number has binary digits, and decodes fewer than `k` segments; the meter has room for both. The call
     /// takes no memory.
     pub fn look_up(&self, line: u32, column: u32, meter: &mut Meter) -> Answer
         requires room { HasRoom meter.old }
@@ -100,7 +102,7 @@ impl Index {
 
     /// How many lines hold a segment. Each part's lines are counted by themselves.
     pub fn used_lines(&self) -> u64
-        ensures { result ≡ used_lines_of self.now.parts }
+        ensures { result ≡ used_lines_in self.now.parts }
     {
         self.used_lines
     }

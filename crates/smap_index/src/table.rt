@@ -34,6 +34,13 @@ impl Table {
         }
     }
 
+    /// Makes room for this many checkpoints more.
+    pub fn reserve(&mut self, additional: usize) -> Result<(), AllocError>
+        ensures { self.new ≡ self.old }
+    {
+        self.checkpoints.reserve(additional)
+    }
+
     pub fn push(&mut self, checkpoint: Checkpoint) -> Result<(), AllocError>
         ensures { IfOk result (λ _. self.new ≡ self.old ++ checkpoint ∷ []) }
     {

@@ -15,8 +15,9 @@ pub trait ByteSource {
     // Whether a call has failed.
     ghost has_failed: { Self → Bool };
 
-    /// Fills the front of `room` and counts the bytes. Those of `room` behind the count, and all of
-    /// them after a fault, are whatever the device left there.
+    /// Fills the front of `room` and counts the bytes. A count of 0 for a room that is not empty is the
+    /// end. A fault leaves the bytes of the device as they were. Those of `room` behind the count, and
+    /// all of them after a fault, are whatever the device left there.
     fn read(&mut self, room: &mut [u8]) -> Result<usize, DeviceFault>
         ensures fits { IfOk result (λ n. n ≤ length room.new) }
         ensures gives { IfOk result (λ n. Gives (left self.old) (left self.new) (take n room.new)) }
@@ -39,7 +40,8 @@ pub trait ByteSink {
     // Whether a call has failed.
     ghost has_failed: { Self → Bool };
 
-    /// Takes the front of `bytes`, and counts what it took.
+    /// Takes the front of `bytes` and counts what it took, which is at least one byte where there are
+    /// any. A fault leaves the device with what it held.
     fn write(&mut self, bytes: &[u8]) -> Result<usize, DeviceFault>
         ensures fits { IfOk result (λ n. n ≤ length bytes.now) }
         ensures takes { IfOk result (λ n. Takes (taken self.old) (taken self.new) (take n bytes.now)) }

@@ -7,7 +7,8 @@ use crate::device::{ByteSink, ByteSource, DeviceFault};
 use std::io::{Read, Write};
 
 /// A device over a reader or a writer of std. It asks that one once a call and tells no bytes. Each
-/// error is a failure, an interrupted call too, and so is a write that takes nothing of some bytes.
+/// error is a failure, an interrupted call too, and so is a write that takes nothing of some bytes. A
+/// write of no bytes that takes none is no failure.
 #[derive(Drop)]
 pub struct FromStd<T> {
     inner: T,

@@ -1,11 +1,10 @@
 use Rattle.std.proofs.Common.{◌++◌, sym, ◌∙◌, ap, arith}
-use Rattle.smap_index.proofs.SegmentCounts.{few_pieces, all_taken}
-use Rattle.smap_index.proofs.WalkLaws.{after_next, listed_next}
+use Rattle.smap_index.proofs.WalkLaws.{all_taken, after_next, listed_next}
 use Rattle.smap_index.proofs.PlainLaws.{placed_plain}
 use Rattle.smap_index.proofs.decode.decode_part.Goals as goal
 
 pub next-requires-clause-room : goal.next-requires-clause-room
-next-requires-clause-room c = omega (arith, c.loop-mapping.invariant.after.count, few_pieces c.args.part.now.text, c.start-state.ensures.packed.short)
+next-requires-clause-room c = omega (arith, c.loop-mapping.invariant.after.count, c.segments.ensures.bound, c.segments.ensures.count, c.start-state.ensures.packed.short)
 
 pub loop-mapping-preserved : goal.loop-mapping-preserved
 loop-mapping-preserved c =

@@ -5,8 +5,8 @@ pub invariant_of-result : goal.invariant_of-result
 invariant_of-result c = record {
   every = c.if-k-ne1.false;
   plain = c.requires.plain;
-  holds = index_made c.deref.result.now c.args.parts.items c.args.k c.new-table.result c.mark_parts.new.table c.len-segments.result c.in-Ok.used_lines c.deref.ensures.value c.if-k-ne1.false c.new-table.ensures c.in-Ok.ensures.marked c.len-segments.ensures c.in-Ok.ensures.lines c.in-Ok.ensures.ordered;
+  holds = index_made c.deref.result.now c.deref-2.result.now c.args.parts.items c.args.k c.new-table.result c.mark_parts.new.table c.len-segments.result c.used_lines_in-used_lines.result c.deref.ensures.value c.deref-2.ensures.value c.if-k-ne1.false c.new-table.ensures c.in-Ok.ensures.marked c.len-segments.ensures c.used_lines_in-used_lines.ensures c.in-Ok.ensures.ordered;
 }
 
-pub returns-in-Ok-clause-built : goal.returns-in-Ok-clause-built
-returns-in-Ok-clause-built c = index_made c.deref.result.now c.args.parts.items c.args.k c.new-table.result c.mark_parts.new.table c.len-segments.result c.in-Ok.used_lines c.deref.ensures.value c.if-k-ne1.false c.new-table.ensures c.in-Ok.ensures.marked c.len-segments.ensures c.in-Ok.ensures.lines c.in-Ok.ensures.ordered
+pub returns-clause-built : goal.returns-clause-built
+returns-clause-built c = index_made c.deref.result.now c.deref-2.result.now c.args.parts.items c.args.k c.new-table.result c.mark_parts.new.table c.len-segments.result c.used_lines_in-used_lines.result c.deref.ensures.value c.deref-2.ensures.value c.if-k-ne1.false c.new-table.ensures c.in-Ok.ensures.marked c.len-segments.ensures c.used_lines_in-used_lines.ensures c.in-Ok.ensures.ordered
