@@ -1,19 +1,17 @@
 -- A check's way through a text: the first fault is that of the segments from here on, until none is left.
-use Rattle.std.proofs.Common.{◌≡◌, ◌≢◌, ℕ, ◌+◌, ◌<◌, ◌≤◌, suc, zero, Bool, true, false, not, ◌&&◌, ◌||◌, cond, eqb, List, [], ◌∷◌, ◌++◌, length, take, drop, map, Option, Some, None, refl, sym, ap, subst, ◌∙◌, arith, add-one, ⊎_elim, length-drop, eq-eqb, ne_eqb}
-use Rattle.std.specs.Prelude.{ℤ, pos}
+use Rattle.std.proofs.Common.{◌≡◌, ℕ, ◌+◌, ◌<◌, ◌≤◌, suc, zero, Bool, true, false, not, ◌||◌, cond, eqb, List, [], ◌∷◌, ◌++◌, length, take, drop, map, Option, Some, None, refl, sym, ap, ◌∙◌, arith, ⊎_elim, length-drop, eq-eqb, ne_eqb}
 use Rattle.std.specs.Int.{from_bool}
-use Rattle.std.specs.List.{slice_get, AllByRecursion, list_any}
-use Rattle.std.proofs.lemmas.Bool.{and_from, and_parts, both_ways, cases_lt, cases_order, cond-true, cond-false, or_left, or_right, or_from, cases_Bool, cases_eq}
+use Rattle.std.specs.List.{AllByRecursion, list_any}
+use Rattle.std.proofs.lemmas.Bool.{and_from, and_parts, cond-true, cond-false, or_left, or_right, or_from, cases_eq}
 use Rattle.std.proofs.lemmas.List.{append-nil, append_assoc, length-map, drop_all, take_all}
-use Rattle.smap_mappings.specs.Segment.{fields_of, has_known_length}
-use Rattle.smap_mappings.specs.Pieces.{Piece, pieces_of, pieces_from}
+use Rattle.smap_mappings.specs.Pieces.{Piece, pieces_of}
 use Rattle.smap_mappings.specs.Mappings.{Move, move_of, moves_of, values_on}
-use Rattle.smap_mappings.specs.Accepted.{accepts, all_accepted, is_accepted, IsAccepted}
+use Rattle.smap_mappings.specs.Accepted.{all_accepted, is_accepted, IsAccepted}
 use Rattle.smap_mappings.specs.Faults.{spelling_fault, move_fault, first_of, segment_fault, fault_or, first_fault_after, first_fault}
 use Rattle.smap_mappings.specs.Counts.{new_lines, used_lines_of, segments_of}
-use Rattle.smap_mappings.specs.State.{IsAfter, values_at}
-use Rattle.smap_mappings.specs.Step.{fault_from, IsNext, Steps}
-use Rattle.smap_mappings.specs.Checking.{ChecksUpTo}
+use Rattle.smap_mappings.specs.State.{IsAfter}
+use Rattle.smap_mappings.specs.Step.{fault_from, Steps}
+use Rattle.smap_mappings.proofs.Checking.{ChecksUpTo}
 use Rattle.smap_mappings.specs.declared.cursor.Cursor.{Cursor}
 use Rattle.smap_mappings.specs.declared.cursor.TheConstants.Cursor.{START}
 use Rattle.smap_mappings.specs.declared.fault.Fault.{Fault}
@@ -168,7 +166,3 @@ checks_more text sources names cursor next after mapping segments used_lines new
       few = omega (arith, checks.few);
       fewer = omega (arith, checks.fewer);
     }
-
--- the same state of the same text, under other names
-pub after_same : (text text' : List ℕ) (j : ℕ) (cursor cursor' : Cursor) → text' ≡ text → cursor' ≡ cursor → IsAfter text j cursor → IsAfter text' j cursor'
-after_same text text' j cursor cursor' text_is cursor_is after = subst (λ t. IsAfter t j cursor') (sym text_is) (subst (IsAfter text j) (sym cursor_is) after)

@@ -1,14 +1,13 @@
 -- A text of n bytes has at most (n + 1) / 2 segments, and as many mappings as segments.
-use Rattle.std.proofs.Common.{◌≡◌, ℕ, ◌+◌, ◌*◌, ◌<◌, ◌≤◌, suc, zero, Bool, true, false, cond, List, [], ◌∷◌, ◌++◌, length, map, filter, refl, sym, ap, ◌∙◌, arith, ⊎_elim, length-append, add-one, take, Option, Some, None}
+use Rattle.std.proofs.Common.{◌≡◌, ℕ, ◌+◌, ◌*◌, ◌≤◌, suc, zero, Bool, List, [], ◌∷◌, ◌++◌, length, filter, refl, sym, ap, ◌∙◌, arith, ⊎_elim, length-append, add-one, take, Some}
 use Rattle.std.specs.List.{slice_split, onto_first, slice_get}
 use Rattle.std.proofs.lemmas.Bool.{cases_Bool, cond-true, cond-false}
 use Rattle.std.proofs.lemmas.List.{length-map, take_all}
-use Rattle.smap_mappings.specs.Pieces.{Piece, is_nonempty, is_comma, ends_line, placed_from, piece_on, pieces_on, pieces_of_lines, pieces_from, pieces_of}
+use Rattle.smap_mappings.specs.Pieces.{is_nonempty, is_comma, ends_line, placed_from, piece_on, pieces_on, pieces_of_lines, pieces_from, pieces_of}
 use Rattle.smap_mappings.specs.Mappings.{Move, move_of, moves_of, mappings_after, mappings_of}
 use Rattle.smap_mappings.specs.Counts.{segments_of}
-use Rattle.smap_mappings.specs.State.{IsAfter}
 use Rattle.smap_mappings.specs.Step.{IsNext}
-use Rattle.smap_mappings.specs.Checking.{DecodesUpTo}
+use Rattle.smap_mappings.proofs.Checking.{DecodesUpTo}
 use Rattle.smap_mappings.specs.declared.cursor.Cursor.{Cursor}
 use Rattle.smap_mappings.specs.declared.cursor.TheConstants.Cursor.{START}
 use Rattle.smap_mappings.specs.declared.mapping.Mapping.{Mapping}

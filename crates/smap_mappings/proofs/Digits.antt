@@ -1,9 +1,8 @@
 -- The table of digits in `src/base64.rt` holds, at each byte, the byte's place in the alphabet.
-use Rattle.std.proofs.Common.{◌≡◌, ℕ, ◌<◌, ◌≤◌, Bool, List, get_or, Some, None, Option, cond, ltb, eqb, refl, sym, ◌∙◌, ap, map, add-zero, zero-add, arith, rules, lt-ltb, le-ltb}
+use Rattle.std.proofs.Common.{◌≡◌, ℕ, ◌<◌, ◌≤◌, get_or, Some, None, Option, cond, ltb, refl, sym, ◌∙◌, ap, map, zero-add, lt-ltb, le-ltb}
 use Rattle.std.specs.List.{range_with_len}
 use Rattle.std.proofs.lemmas.List.FromFn.{get_or-map-range_with_len}
-use Rattle.std.proofs.lemmas.List.Quantifiers.{position-Some}
-use Rattle.smap_mappings.specs.Base64.{alphabet, digit_of}
+use Rattle.smap_mappings.specs.Base64.{digit_of}
 use Rattle.smap_mappings.specs.declared.base64.TheConstants.{DIGITS}
 
 -- what the table says of a byte
@@ -27,8 +26,3 @@ digit_found byte below found =
 pub digit_missing : (byte : ℕ) → byte < 256 → 64 ≤ get_or DIGITS byte 0 → None ≡ digit_of byte
 digit_missing byte below missing =
     sym (digit_of_is_table byte below ∙ ap (λ b. cond b (Some (get_or DIGITS byte 0)) None) (le-ltb (get_or DIGITS byte 0) 64 missing))
-
--- a digit is below 64
-pub digit_below : (byte value : ℕ) → digit_of byte ≡ Some value → value < 64
-unfolding digit_of
-digit_below byte value is = (position-Some (λ letter. eqb letter byte) alphabet value 0 is).0

@@ -4,7 +4,7 @@ use Rattle.std.specs.Prelude.{ℤ, pos, negsuc}
 use Rattle.smap_mappings.specs.Base64.{digit_of}
 use Rattle.smap_mappings.specs.Vlq.{number_of, number_at, checked_number, unsigned_of}
 use Rattle.smap_mappings.specs.Segment.{fields_of}
-use Rattle.smap_mappings.specs.Pieces.{Piece, pieces_of, pieces_from, pieces_on}
+use Rattle.smap_mappings.specs.Pieces.{pieces_of, pieces_from, pieces_on}
 use Rattle.smap_mappings.specs.Mappings.{mappings_of, mapping_after, moves_of, values_on}
 use Rattle.smap_mappings.specs.Accepted.{is_accepted, accepts}
 use Rattle.smap_mappings.specs.Faults.{first_fault, spelling_fault, move_fault}
@@ -13,7 +13,6 @@ use Rattle.smap_mappings.specs.declared.fault.FaultKind.{FaultKind}
 use Rattle.smap_mappings.specs.declared.fault.FaultKind.TheVariants as kinds
 use Rattle.smap_mappings.specs.declared.vlq.VlqFault.{VlqFault}
 use Rattle.smap_mappings.specs.declared.vlq.VlqFault.TheVariants.{BadDigit, Unended, TooLong, TooLarge, NegativeZero}
-use Rattle.smap_mappings.specs.declared.mapping.Mapping.{Mapping}
 use Rattle.smap_mappings.specs.declared.mapping.Origin.{Origin}
 
 -- ---- numbers and their shortest spellings

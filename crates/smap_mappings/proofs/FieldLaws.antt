@@ -1,22 +1,19 @@
 -- A number at the front of a segment is its first field, and the other fields are those of the bytes behind it.
-use Rattle.std.proofs.Common.{◌≡◌, ℕ, ◌+◌, ◌-◌, ◌<◌, ◌≤◌, suc, zero, Bool, true, false, not, ◌||◌, cond, eqb, List, [], ◌∷◌, ◌++◌, length, get_or, take, drop, Option, Some, None, refl, sym, ap, subst, ◌∙◌, arith, length-append, length-drop, length-take-le, take-append-drop, append_assoc, ⊎_elim, ◌⊎◌, inl, inr, unwrap_or}
+use Rattle.std.proofs.Common.{◌≡◌, ℕ, ◌+◌, ◌-◌, ◌<◌, ◌≤◌, suc, true, false, ◌||◌, eqb, List, [], ◌∷◌, ◌++◌, length, take, drop, Option, Some, None, refl, sym, ap, subst, ◌∙◌, arith, length-append, length-drop, length-take-le, take-append-drop, append_assoc, ⊎_elim, ◌⊎◌, inl, inr, unwrap_or}
 use Rattle.std.specs.Prelude.{ℤ, slice_range, IfSome, IfNone, ◌↔◌, Result, Ok, Err}
 use Rattle.std.specs.Result.{result_ok}
 use Rattle.smap_mappings.specs.declared.vlq.VlqFault.{VlqFault}
 use Rattle.std.specs.List.{onto_first, take_while, prefix_len}
 use Rattle.std.proofs.lemmas.Bool.Decides.{nat_tests}
-use Rattle.std.proofs.lemmas.Bool.{cond-true, cond-false, cases_Bool, both_ways, and_parts, or_from, not_from_false, ne_eqb, eqb-true, false_from_ne_true, ltb-true, leb-true}
+use Rattle.std.proofs.lemmas.Bool.{cond-true, cond-false, cases_Bool, both_ways, and_parts, or_from, not_from_false, eqb-true, false_from_ne_true}
 use Rattle.std.proofs.lemmas.Option.{cond_some}
-use Rattle.std.proofs.lemmas.List.Folds.{length-prefix_len}
 use Rattle.std.proofs.lemmas.List.{drop-drop, take_at, nil_from_length}
 use Rattle.std.proofs.lemmas.List.Sums.{take_while-cons}
 use Rattle.smap_mappings.specs.Base64.{digit_of}
-use Rattle.smap_mappings.specs.Vlq.{digit_value, is_digit, continues, ends, is_one_number, number_of, Spells}
+use Rattle.smap_mappings.specs.Vlq.{is_digit, continues, ends, is_one_number, number_of, Spells}
 use Rattle.smap_mappings.specs.Segment.{has_known_length, cuts_of, with_front, numbers_of, fields_of}
-use Rattle.smap_mappings.specs.Pieces.{ends_line, is_comma, is_inside, piece_at}
+use Rattle.smap_mappings.specs.Pieces.{is_inside, piece_at}
 use Rattle.smap_mappings.specs.Reading.{fields_at, known_fields, HasNoField, ReadsField, ReadsSegment}
-use Rattle.smap_mappings.specs.declared.segment.Segment.{Segment}
-use Rattle.smap_mappings.specs.declared.segment.OriginFields.{OriginFields}
 use Rattle.smap_mappings.proofs.SpelledNumbers.{ends_stops, digit_from_is_digit, one_number_nonempty}
 
 -- ---- a digit is no separator

@@ -7,6 +7,7 @@ pub mod MoveLaws
 pub mod Ranges
 pub mod ValueFaultLaws
 pub mod StepLaws
+pub mod Checking
 pub mod CheckLaws
 pub mod CountLaws
 pub mod OrderLaws

@@ -1,14 +1,38 @@
 -- One more segment: the running values after it are those before it, each with the field's difference.
-use Rattle.std.proofs.Common.{◌≡◌, ℕ, ◌+◌, ◌-◌, ◌<◌, ◌≤◌, suc, zero, Bool, true, false, not, cond, eqb, List, [], ◌∷◌, ◌++◌, length, take, drop, map, filter, Option, Some, None, refl, sym, ap, subst, ◌∙◌, arith, append_assoc, eqb-true, eq-eqb, ne_eqb, ⊎_elim}
-use Rattle.std.specs.Prelude.{ℤ, pos, ◌+ℤ◌}
+use Rattle.std.proofs.Common.{◌≡◌, ℕ, ◌+◌, ◌<◌, ◌≤◌, suc, zero, Bool, true, false, eqb, List, [], ◌∷◌, ◌++◌, length, take, drop, filter, Option, Some, None, refl, sym, ap, ◌∙◌, arith, eq-eqb, ne_eqb, ⊎_elim}
+use Rattle.std.specs.Prelude.{ℤ, pos, ◌+ℤ◌, unwrap_or}
 use Rattle.std.specs.List.{AllByRecursion, slice_get, list_any}
 use Rattle.std.proofs.lemmas.Bool.{cond-true, cond-false, cases_Bool, or_parts}
 use Rattle.std.proofs.lemmas.Int.{ints}
-use Rattle.smap_mappings.specs.Mappings.{Move, RunningValues, field, total, values_on, moved, mapping_after, mappings_after, mappings_of, moves_of}
+use Rattle.smap_mappings.specs.Reading.{move_in}
+use Rattle.smap_mappings.specs.declared.segment.Segment.{Segment}
+use Rattle.smap_mappings.specs.declared.segment.OriginFields.{OriginFields}
+use Rattle.smap_mappings.specs.Mappings.{Move, RunningValues, field, total, values_on, moved}
 
 total-push : (i : ℕ) (moves : List Move) (move : Move) → total i (moves ++ move ∷ []) ≡ total i moves +ℤ field i move
 total-push i [] move = omega (arith, ints)
 total-push i (m ∷ moves) move = let more = total-push i moves move in omega (arith, ints)
+
+-- a segment with an origin adds each of its fields, and 0 to the name where it has none
+pub moved_with_origin : (values : RunningValues) (line : ℕ) (segment : Segment) (origin : OriginFields) → segment.origin ≡ Some origin
+    → moved values (move_in line segment) ≡ record {
+      column = values.column +ℤ segment.column;
+      source = values.source +ℤ origin.source;
+      original_line = values.original_line +ℤ origin.line;
+      original_column = values.original_column +ℤ origin.column;
+      name = values.name +ℤ unwrap_or origin.name (pos 0);
+    }
+moved_with_origin values line segment origin is = ap (λ o. moved values (move_in line (record { column = segment.column; origin = o }))) is ∙ by_name origin.name
+  where
+    by_name : (name : Option ℤ) → moved values (move_in line (record { column = segment.column; origin = Some (record { source = origin.source; line = origin.line; column = origin.column; name = name }) })) ≡ record {
+      column = values.column +ℤ segment.column;
+      source = values.source +ℤ origin.source;
+      original_line = values.original_line +ℤ origin.line;
+      original_column = values.original_column +ℤ origin.column;
+      name = values.name +ℤ unwrap_or name (pos 0);
+    }
+    by_name None = refl
+    by_name (Some name) = refl
 
 filter-push : (p : Move → Bool) (moves : List Move) (move : Move) → p move ≡ true → filter p (moves ++ move ∷ []) ≡ filter p moves ++ move ∷ []
 filter-push p [] move is = cond-true _ _ _ is

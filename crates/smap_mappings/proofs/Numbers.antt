@@ -1,18 +1,16 @@
 -- What reading a number gives, by cases on the first byte that is no digit that continues.
-use Rattle.std.proofs.Common.{◌≡◌, ℕ, ◌+◌, ◌-◌, ◌*◌, ◌/◌, ◌%◌, ◌^◌, ◌<◌, ◌≤◌, suc, Bool, true, false, not, ◌&&◌, cond, eqb, ltb, leb, List, [], ◌∷◌, ◌++◌, length, get_or, take, drop, Option, Some, None, Result, Ok, Err, refl, sym, ap, subst, ◌∙◌, arith, rules, inl, inr, ⊎_elim, length-drop, length-take, length-take-le, zero, zero-add, lit≤, get_or-drop, get_or-take, append_assoc, add-zero, ltb-true, lt-ltb, le-ltb, eq-eqb, ne_eqb, le-leb, is_some, unwrap_or}
+use Rattle.std.proofs.Common.{◌≡◌, ℕ, ◌+◌, ◌-◌, ◌*◌, ◌/◌, ◌%◌, ◌^◌, ◌<◌, ◌≤◌, suc, Bool, true, false, not, cond, eqb, ltb, List, [], ◌∷◌, ◌++◌, length, get_or, take, drop, Some, None, Result, Ok, Err, refl, sym, ap, subst, ◌∙◌, arith, length-drop, length-take-le, zero, zero-add, lit≤, get_or-drop, lt-ltb, le-ltb, eq-eqb, ne_eqb, le-leb}
 use Rattle.std.proofs.lemmas.Bool.Decides.{nat_tests}
-use Rattle.std.proofs.lemmas.Bool.{cond-true, cond-false, cases_Bool, and_from, and_parts, lt-leb}
-use Rattle.std.proofs.lemmas.List.{take_more, drop_more}
+use Rattle.std.proofs.lemmas.Bool.{cond-true, cond-false, lt-leb}
+use Rattle.std.proofs.lemmas.List.{take_more}
 use Rattle.std.specs.Prelude.{ℤ, pos, neg_ℤ, ◌-ℤ◌}
 use Rattle.std.proofs.Common.{to_z, of_z, w32}
 use Rattle.std.proofs.lemmas.Int.{ints, to_z_pos}
 use Rattle.std.proofs.Math.Nat.{mul-le-mul_right}
-use Rattle.std.specs.List.{prefix_len}
-use Rattle.std.proofs.lemmas.List.Sums.{prefix_len-drop_yes, prefix_len-drop_no, prefix_len-drop_all, prefix_len-le-length}
-use Rattle.smap_mappings.proofs.Digits.{digit_below}
+use Rattle.std.proofs.lemmas.List.Sums.{prefix_len-drop_yes, prefix_len-drop_no, prefix_len-drop_all}
 use Rattle.smap_mappings.specs.Base64.{digit_of}
 use Rattle.smap_mappings.specs.Spelling.{front_at}
-use Rattle.smap_mappings.specs.Vlq.{digit_value, is_digit, continues, ends, weighted, unsigned_of, signed, is_one_number, number_of, Spells, checked_number, with_end, number_at, long_fault}
+use Rattle.smap_mappings.specs.Vlq.{digit_value, is_digit, continues, weighted, unsigned_of, signed, checked_number, with_end, number_at, long_fault}
 use Rattle.smap_mappings.specs.declared.vlq.VlqFault.{VlqFault}
 use Rattle.smap_mappings.specs.declared.vlq.VlqFault.TheVariants.{BadDigit, Unended, TooLong, TooLarge, NegativeZero}
 
@@ -43,9 +41,6 @@ signed_odd u small odd =
 
 pub continues_from : (byte value : ℕ) → digit_of byte ≡ Some value → 32 ≤ value → continues byte ≡ true
 continues_from byte value is at_least = rw is (le-leb 32 value at_least)
-
-pub ends_from : (byte value : ℕ) → digit_of byte ≡ Some value → value < 32 → ends byte ≡ true
-ends_from byte value is below = rw is (lt-ltb value 32 below)
 
 pub stops_from : (byte value : ℕ) → digit_of byte ≡ Some value → value < 32 → continues byte ≡ false
 stops_from byte value is below = rw is (lt-leb 32 value below)

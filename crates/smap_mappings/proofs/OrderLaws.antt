@@ -1,12 +1,12 @@
 -- The mappings of an accepted text are in order.
-use Rattle.std.proofs.Common.{◌≡◌, ℕ, ◌+◌, ◌<◌, ◌≤◌, suc, zero, Bool, true, false, not, ◌&&◌, ◌||◌, eqb, List, [], ◌∷◌, ◌++◌, length, map, filter, refl, sym, ap, subst, ◌∙◌, arith, eq-eqb, ⊎_elim, inl, inr, ◌⊎◌}
+use Rattle.std.proofs.Common.{◌≡◌, ℕ, ◌+◌, ◌≤◌, true, false, eqb, List, [], ◌∷◌, ◌++◌, length, map, filter, sym, ap, ◌∙◌, arith, eq-eqb, ⊎_elim, inl, inr}
 use Rattle.std.specs.Prelude.{ℤ, pos, negsuc, ◌+ℤ◌, int_lt}
 use Rattle.std.specs.List.{list_any, slice_split}
-use Rattle.std.proofs.lemmas.Bool.{and_parts, or_cases, or_left, or_right, not-true, both_ways, not_from_true, cases_order}
+use Rattle.std.proofs.lemmas.Bool.{and_parts, or_cases, or_left, or_right, not-true, both_ways, cases_order}
 use Rattle.std.proofs.lemmas.Int.{ints}
 use Rattle.smap_mappings.specs.Pieces.{Piece, is_nonempty, is_comma, ends_line, placed_from, piece_on, pieces_on, pieces_of_lines, pieces_from, pieces_of}
 use Rattle.smap_mappings.specs.Mappings.{Move, RunningValues, move_of, moves_of, field, natural, values_on, mapping_after, mappings_after, mappings_of}
-use Rattle.smap_mappings.specs.Accepted.{in_range, accepts, all_accepted, is_accepted, IsAccepted}
+use Rattle.smap_mappings.specs.Accepted.{accepts, all_accepted, is_accepted, IsAccepted}
 use Rattle.smap_mappings.specs.Order.{IsAtOrBefore, IsInOrder}
 use Rattle.smap_mappings.proofs.MoveLaws.{values-push}
 use Rattle.smap_mappings.proofs.Ranges.{in_range_natural, each_in_range}

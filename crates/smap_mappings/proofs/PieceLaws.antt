@@ -1,12 +1,12 @@
 -- The segments of the rest of a text go by four equations: nothing is left; a `;` goes to the next line; a `,` is
 -- passed over; a maximal run of other bytes is the next segment.
-use Rattle.std.proofs.Common.{◌≡◌, ℕ, ◌+◌, ◌-◌, ◌<◌, ◌≤◌, suc, zero, Bool, true, false, not, ◌||◌, cond, eqb, List, [], ◌∷◌, ◌++◌, length, get_or, take, drop, map, filter, refl, sym, ap, subst, ◌∙◌, arith, length-append, length-drop, one-add, take-append-drop, append_assoc, eqb-true, drop-cons, add-one, ⊎_elim, inl, inr}
+use Rattle.std.proofs.Common.{◌≡◌, ℕ, ◌+◌, ◌-◌, ◌<◌, ◌≤◌, suc, Bool, true, false, ◌||◌, List, [], ◌∷◌, ◌++◌, length, get_or, take, drop, map, filter, refl, sym, ap, subst, ◌∙◌, arith, length-append, one-add, take-append-drop, eqb-true, ⊎_elim}
 use Rattle.std.specs.List.{slice_split, onto_first, take_while, prefix_len, AllByRecursion}
-use Rattle.std.proofs.lemmas.Bool.{cond-true, cond-false, both_ways, or_cases, eqb-false, cases_Bool, or_parts, not-true, not-false, ne_eqb, or_left, or_right}
+use Rattle.std.proofs.lemmas.Bool.{cond-true, cond-false, both_ways, or_cases, cases_Bool, or_parts, not-true, not-false}
 use Rattle.std.proofs.lemmas.List.{append-nil, drop_more, drop_all, drop-drop}
 use Rattle.std.proofs.lemmas.List.Folds.{length-prefix_len}
 use Rattle.std.proofs.lemmas.List.Sums.{take_while-cons}
-use Rattle.smap_mappings.specs.Pieces.{Piece, ends_line, is_comma, is_inside, is_nonempty, placed_from, piece_on, pieces_on, pieces_of_lines, pieces_from, piece_at}
+use Rattle.smap_mappings.specs.Pieces.{ends_line, is_comma, is_inside, is_nonempty, placed_from, piece_on, pieces_on, pieces_of_lines, pieces_from, piece_at}
 
 -- ---- splits
 
@@ -156,17 +156,6 @@ module _ (text : List ℕ) (line place : ℕ) (within : place < length text) whe
 
 pub pieces_at_end : (text : List ℕ) (line place : ℕ) → length text ≤ place → pieces_from line place (drop place text) ≡ []
 pieces_at_end text line place past = ap (pieces_from line place) (drop_all place text past) ∙ pieces_at_nothing line place
-
--- a place at which no segment goes on
-pub piece_at_stop : (text : List ℕ) (place : ℕ) → place < length text → is_inside (get_or text place 0) ≡ false → piece_at text place ≡ []
-piece_at_stop text place within stops = ap (take_while is_inside) (drop_more text place 0 within) ∙ take_while-cons is_inside (get_or text place 0) (drop (place + 1) text) ∙ cond-false _ _ _ stops
-
-pub piece_at_end : (text : List ℕ) (place : ℕ) → length text ≤ place → piece_at text place ≡ []
-piece_at_end text place past = ap (take_while is_inside) (drop_all place text past)
-
--- one byte on, a segment is a byte shorter
-pub length-piece_more : (text : List ℕ) (place : ℕ) → place < length text → is_inside (get_or text place 0) ≡ true → length (piece_at text place) ≡ suc (length (piece_at text (place + 1)))
-length-piece_more text place within inside = ap length (piece_begins text 0 place within inside)
 
 -- the bytes up to a segment's end
 pub piece_is_slice : (text : List ℕ) (place end : ℕ) → end ≡ place + length (piece_at text place) → take (end - place) (drop place text) ≡ piece_at text place

@@ -1,10 +1,10 @@
 -- Running values that are in range, as numbers of the code.
-use Rattle.std.proofs.Common.{◌≡◌, ℕ, ◌<◌, ◌≤◌, Bool, true, false, not, ◌&&◌, refl, sym, ap, ◌∙◌, arith, to_z, of_z, w64, w32, Fits, subst, ltb-false}
+use Rattle.std.proofs.Common.{◌≡◌, ◌<◌, ◌≤◌, true, refl, sym, ap, ◌∙◌, arith, to_z, of_z, w64, w32, Fits, subst, ltb-false}
 use Rattle.std.proofs.Math.Dec.{T}
 use Rattle.std.specs.Int.Signed.{non_neg}
-use Rattle.std.specs.Prelude.{ℤ, pos, negsuc, int_lt, unsigned_abs}
+use Rattle.std.specs.Prelude.{ℤ, pos, negsuc, unsigned_abs}
 use Rattle.std.proofs.lemmas.Bool.{and_parts, not-true}
-use Rattle.std.proofs.lemmas.Int.{ints, to_z_pos}
+use Rattle.std.proofs.lemmas.Int.{to_z_pos}
 use Rattle.smap_mappings.specs.Accepted.{in_range, all_in_range}
 use Rattle.smap_mappings.specs.Mappings.{RunningValues, natural}
 

@@ -1,14 +1,13 @@
 -- What is read at a place is what the bytes there spell, and the other way round.
-use Rattle.std.proofs.Common.{◌≡◌, ℕ, ◌+◌, ◌-◌, ◌/◌, ◌<◌, ◌≤◌, suc, zero, Bool, true, false, not, ◌&&◌, cond, eqb, ltb, leb, List, [], ◌∷◌, length, get_or, take, drop, Option, Some, None, Result, Ok, Err, refl, sym, ap, subst, ◌∙◌, arith, length-drop, length-take-le, get_or-drop, get_or-take, ltb-true, ltb-false, lt-ltb, le-leb, leb-true, leb-false, is_some, eq-eqb}
+use Rattle.std.proofs.Common.{◌≡◌, ℕ, ◌+◌, ◌-◌, ◌/◌, ◌<◌, ◌≤◌, suc, zero, Bool, true, false, not, cond, eqb, ltb, leb, List, [], ◌∷◌, length, get_or, take, drop, Option, Some, None, Result, Ok, Err, refl, sym, ap, ◌∙◌, arith, length-drop, length-take-le, get_or-drop, get_or-take, ltb-true, ltb-false, lt-ltb, le-leb, leb-true, leb-false, is_some, eq-eqb}
 use Rattle.std.specs.Prelude.{ℤ, slice_range}
-use Rattle.std.specs.List.{prefix_len}
-use Rattle.std.proofs.lemmas.Bool.{eqb-false, eqb-true, cond-true, and_from, and_parts, and_right, and_left, not-true, not-false, cases_Bool, false_from_ne_true, both_ways, not_from_false}
+use Rattle.std.proofs.lemmas.Bool.{eqb-false, cond-true, and_from, and_parts, and_right, not-true, not-false, false_from_ne_true, both_ways, not_from_false}
 use Rattle.std.proofs.lemmas.Option.{cond_some}
 use Rattle.std.proofs.lemmas.List.Sums.{prefix_len_is, prefix_len_passes, prefix_len_stops, prefix_len-le-length}
 use Rattle.smap_mappings.specs.Base64.{digit_of}
 use Rattle.smap_mappings.specs.Vlq.{digit_value, is_digit, continues, ends, weighted, unsigned_of, signed, is_one_number, number_of, Spells, checked_number, with_end, number_at}
 use Rattle.smap_mappings.specs.declared.vlq.VlqFault.{VlqFault}
-use Rattle.smap_mappings.specs.declared.vlq.VlqFault.TheVariants.{BadDigit, Unended, TooLong, TooLarge, NegativeZero}
+use Rattle.smap_mappings.specs.declared.vlq.VlqFault.TheVariants.{BadDigit, Unended, TooLong}
 use Rattle.smap_mappings.specs.Spelling.{front_at}
 use Rattle.smap_mappings.proofs.Numbers.{at_number, checked_signed}
 

@@ -1,9 +1,9 @@
 -- A segment's bytes without a bad digit, whose last digit ends a number, are numbers one after another.
-use Rattle.std.proofs.Common.{◌≡◌, ℕ, ◌+◌, ◌-◌, ◌/◌, ◌<◌, ◌≤◌, suc, zero, Bool, true, false, not, ◌&&◌, ◌||◌, cond, eqb, ltb, leb, List, [], ◌∷◌, ◌++◌, length, get_or, take, drop, Option, Some, None, Result, Ok, Err, refl, sym, ap, subst, ◌∙◌, arith, one-add, add-one, take-append-drop, length-drop, length-take-le, ⊎_elim, inl, inr, ◌⊎◌, unwrap_or}
+use Rattle.std.proofs.Common.{◌≡◌, ℕ, ◌+◌, ◌-◌, ◌/◌, ◌<◌, ◌≤◌, suc, zero, Bool, true, false, not, ◌||◌, cond, eqb, List, [], ◌∷◌, length, get_or, take, drop, Option, Some, None, refl, sym, ap, subst, ◌∙◌, arith, one-add, take-append-drop, length-drop, length-take-le, ⊎_elim, unwrap_or}
 use Rattle.std.specs.Prelude.{ℤ, slice_range}
 use Rattle.std.proofs.lemmas.List.{drop_more, drop-drop}
 use Rattle.std.specs.List.{onto_first, prefix_len, list_any, AllByRecursion}
-use Rattle.std.proofs.lemmas.Bool.{cond-true, cond-false, cases_Bool, both_ways, and_from, and_parts, or_parts, or_from, not-true, not-false, not_from_true, not_from_false, false_from_ne_true, eqb-false, ltb-false, leb-true, le-leb, le-ltb, lt-ltb, or_left}
+use Rattle.std.proofs.lemmas.Bool.{cond-true, cond-false, cases_Bool, both_ways, and_from, and_parts, or_parts, or_from, not-true, not-false, not_from_true, not_from_false, ltb-false, leb-true, le-leb, le-ltb, lt-ltb, or_left}
 use Rattle.std.proofs.lemmas.Option.{cond_some}
 use Rattle.smap_mappings.specs.Vlq.{is_digit, continues, ends, unsigned_of, signed, is_one_number, number_of}
 use Rattle.smap_mappings.specs.Segment.{cuts_of, with_front, numbers_of, fields_of, has_known_length}
@@ -12,7 +12,7 @@ use Rattle.smap_mappings.specs.Faults.{has_bad_digit, is_unended, is_too_long, i
 use Rattle.smap_mappings.specs.declared.fault.FaultKind.{FaultKind}
 use Rattle.smap_mappings.specs.declared.fault.FaultKind.TheVariants.{BadDigit, Unended, TooLong, TooLarge, NegativeZero, FieldCount}
 use Rattle.smap_mappings.proofs.SpelledNumbers.{ends_stops, ends_is_digit, ends_from_stops}
-use Rattle.smap_mappings.proofs.FieldLaws.{cuts-one_number, FirstCut, first_cut}
+use Rattle.smap_mappings.proofs.FieldLaws.{cuts-one_number, first_cut}
 
 -- ---- the first number of clean bytes
 

@@ -1,25 +1,22 @@
 -- From a state at a segment: the segment is the next of the text, and reading it leads to its mapping and the state
 -- behind it.
-use Rattle.std.proofs.Common.{◌≡◌, ℕ, ◌+◌, ◌<◌, ◌≤◌, suc, zero, Bool, true, false, not, ◌&&◌, eqb, List, [], ◌∷◌, ◌++◌, length, get_or, take, drop, map, Option, Some, None, refl, sym, ap, subst, ◌∙◌, arith, add-one, ⊎_elim, unwrap_or}
-use Rattle.std.specs.Prelude.{ℤ, pos, IfSome, ◌+ℤ◌}
-use Rattle.std.specs.List.{AllByRecursion, slice_get, list_any}
-use Rattle.std.proofs.lemmas.Bool.{and_left, false_from_ne_true}
+use Rattle.std.proofs.Common.{◌≡◌, ℕ, ◌+◌, ◌<◌, ◌≤◌, suc, zero, true, List, [], ◌∷◌, ◌++◌, length, get_or, take, drop, map, Option, Some, None, refl, sym, ap, subst, ◌∙◌, arith, add-one, unwrap_or}
+use Rattle.std.specs.Prelude.{ℤ, pos}
+use Rattle.std.specs.List.{AllByRecursion, slice_get}
 use Rattle.std.proofs.lemmas.List.{drop-map, append-nil, append_assoc}
-use Rattle.smap_mappings.specs.Pieces.{Piece, ends_line, is_comma, is_inside, piece_on, piece_at, pieces_from, pieces_of}
-use Rattle.smap_mappings.specs.Mappings.{Move, RunningValues, move_of, moves_of, values_on, moved, natural, name_in, origin_in, mapping_after, mappings_after, mappings_of}
+use Rattle.smap_mappings.specs.Pieces.{ends_line, is_comma, is_inside, piece_on, piece_at, pieces_from, pieces_of}
+use Rattle.smap_mappings.specs.Mappings.{Move, RunningValues, move_of, moves_of, values_on, moved, natural, origin_in, mapping_after, mappings_after, mappings_of}
 use Rattle.smap_mappings.specs.Segment.{has_known_length}
 use Rattle.smap_mappings.specs.Reading.{known_fields, fields_in, origin_fields, name_fields, move_in, ReadsSegment}
 use Rattle.smap_mappings.specs.State.{values_at, IsAfter}
 use Rattle.smap_mappings.specs.Advance.{sums_fault, Advances}
 use Rattle.smap_mappings.specs.Faults.{spelling_fault, move_fault, first_of, segment_fault, fault_or, first_fault_after}
-use Rattle.smap_mappings.specs.Step.{fault_from, fault_at, IsNext, Steps, name_of, origin_of, mapping_in}
+use Rattle.smap_mappings.specs.Step.{fault_from, fault_at, Steps, name_of, origin_of, mapping_in}
 use Rattle.smap_mappings.specs.declared.cursor.Cursor.{Cursor}
 use Rattle.smap_mappings.specs.declared.fault.FaultKind.{FaultKind}
-use Rattle.smap_mappings.specs.declared.mapping.Mapping.{Mapping}
-use Rattle.smap_mappings.specs.declared.mapping.Origin.{Origin}
 use Rattle.smap_mappings.specs.declared.segment.Segment.{Segment}
 use Rattle.smap_mappings.specs.declared.segment.OriginFields.{OriginFields}
-use Rattle.smap_mappings.proofs.PieceLaws.{pieces_at_segment, pieces_at_line_end, pieces_at_comma, pieces_at_end}
+use Rattle.smap_mappings.proofs.PieceLaws.{pieces_at_segment, pieces_at_line_end, pieces_at_comma}
 use Rattle.smap_mappings.proofs.MoveLaws.{values-push, values_on_new_line, next_element}
 use Rattle.smap_mappings.proofs.ValueFaultLaws.{move_fault_is}
 use Rattle.smap_mappings.proofs.SpellingFaultLaws.{known_spelled}
@@ -65,10 +62,6 @@ mapping_at_place before (m ∷ moves) zero move is =
     let same : m ≡ move = cc in ap (λ x. Some (mapping_after before x)) same ∙ ap (λ ms. Some (mapping_after ms move)) (sym (append-nil before))
 mapping_at_place before (m ∷ moves) (suc j) move is =
     mapping_at_place (before ++ m ∷ []) moves j move is ∙ ap (λ ms. Some (mapping_after ms move)) (append_assoc before (m ∷ []) (take j moves))
-
-name_same : (column source line original_column : ℤ) (name : Option ℤ) (cursor : Cursor) → name_in (column ∷ source ∷ line ∷ original_column ∷ name_fields name) (values_at cursor) ≡ name_of name cursor
-name_same column source line original_column None cursor = refl
-name_same column source line original_column (Some name) cursor = refl
 
 origin_named : (column source line original_column : ℤ) (name : Option ℤ) (cursor : Cursor) → origin_in (column ∷ source ∷ line ∷ original_column ∷ name_fields name) (values_at cursor)
     ≡ Some (record { source = cursor.source; line = cursor.original_line; column = cursor.original_column; name = name_of name cursor })

@@ -1,12 +1,12 @@
 -- What is wrong with the values that a segment leaves, and when nothing is.
-use Rattle.std.proofs.Common.{◌≡◌, ℕ, ◌+◌, ◌<◌, ◌≤◌, Bool, true, false, not, ◌&&◌, ◌||◌, cond, eqb, leb, le-ltb, lt-ltb, List, [], ◌∷◌, ◌++◌, length, Option, Some, None, refl, sym, ap, subst, ◌∙◌, arith, ⊎_elim}
-use Rattle.std.specs.Prelude.{ℤ, pos, ◌+ℤ◌, int_lt}
+use Rattle.std.proofs.Common.{◌≡◌, ℕ, Bool, true, false, not, ◌&&◌, ◌||◌, cond, eqb, le-ltb, lt-ltb, List, [], ◌∷◌, ◌++◌, Option, Some, None, refl, sym, ap, ◌∙◌, arith, ⊎_elim}
+use Rattle.std.specs.Prelude.{ℤ, pos, int_lt}
 use Rattle.std.specs.List.{list_any}
-use Rattle.std.proofs.lemmas.Bool.{cond-true, cond-false, and_from, and_parts, and_cases, or_right, or_left, or_cases, or_parts, or_from, not-true, not-false, not_from_true, not_from_false, both_ways, cases_Bool, false_from_ne_true, and_left}
+use Rattle.std.proofs.lemmas.Bool.{cond-true, cond-false, and_from, and_parts, or_right, or_parts, or_from, not-true, not_from_false, cases_Bool, and_left}
 use Rattle.std.proofs.lemmas.Int.{ints}
-use Rattle.smap_mappings.specs.Segment.{has_known_length}
-use Rattle.smap_mappings.specs.Mappings.{Move, RunningValues, field, natural, values_on, moved}
-use Rattle.smap_mappings.specs.Accepted.{in_range, all_in_range, allows, accepts}
+use Rattle.smap_mappings.specs.Segment.{has_known_length, has_origin, has_name}
+use Rattle.smap_mappings.specs.Mappings.{Move, RunningValues, field, natural, values_on}
+use Rattle.smap_mappings.specs.Accepted.{in_range, all_in_range, accepts}
 use Rattle.smap_mappings.specs.Faults.{is_below, is_past, any_below, any_past, values_fault, move_fault}
 use Rattle.smap_mappings.specs.Reading.{fields_in, move_in}
 use Rattle.smap_mappings.specs.Advance.{sums_fault}
@@ -64,8 +64,8 @@ pub record NoFault (sources names : ℕ) (falls : Bool) (fields : List ℤ) (val
   pub below : any_below values ≡ false
   pub past : any_past values ≡ false
   pub rises : falls ≡ false
-  pub source : (leb 4 (length fields) && not (int_lt values.source (pos sources))) ≡ false
-  pub name : (leb 5 (length fields) && not (int_lt values.name (pos names))) ≡ false
+  pub source : (has_origin fields && not (int_lt values.source (pos sources))) ≡ false
+  pub name : (has_name fields && not (int_lt values.name (pos names))) ≡ false
 
 pub no_fault_parts : (sources names : ℕ) (falls : Bool) (fields : List ℤ) (values : RunningValues) → values_fault sources names falls fields values ≡ None → NoFault sources names falls fields values
 no_fault_parts sources names falls fields values none =
@@ -110,7 +110,7 @@ module _ (sources names : ℕ) (before : List Move) (move : Move) where
       let values = values_on move.line (before ++ move ∷ []) in
       let earlier = list_any (λ (e : Move). eqb e.line move.line) before in
       let parts = no_fault_parts sources names (earlier && is_below (field 0 move)) move.fields values none in
-      and_from _ _ (and_from _ _ (and_from _ _ (and_from _ _ known (all_from_each values (in_range_from values parts.below parts.past))) (either (leb 4 (length move.fields)) _ parts.source)) (either (leb 5 (length move.fields)) _ parts.name))
+      and_from _ _ (and_from _ _ (and_from _ _ (and_from _ _ known (all_from_each values (in_range_from values parts.below parts.past))) (either (has_origin move.fields) _ parts.source)) (either (has_name move.fields) _ parts.name))
       (not_both earlier (is_below (field 0 move)) parts.rises)
 
   pub accepts_known : accepts sources names before move ≡ true → has_known_length move.fields ≡ true
@@ -130,8 +130,8 @@ module _ (sources names : ℕ) (before : List Move) (move : Move) where
         below = none_below values each;
         past = none_past values each;
         rises = both_not earlier (is_below (field 0 move)) a.1;
-        source = neither (leb 4 (length move.fields)) _ c.1;
-        name = neither (leb 5 (length move.fields)) _ b.1;
+        source = neither (has_origin move.fields) _ c.1;
+        name = neither (has_name move.fields) _ b.1;
       })
 
 below_most : (z : ℤ) → in_range z ≡ true → int_lt z (pos 2147483648) ≡ true
@@ -147,7 +147,7 @@ accepted_widest sources names before move is =
     let c = and_parts _ _ b.0 in
     let d = and_parts _ _ c.0 in
     let ranges = each_in_range values d.1 in
-    and_from _ _ (and_from _ _ (and_from _ _ c.0 (or_right (not (leb 4 (length move.fields))) _ (below_most values.source ranges.source))) (or_right (not (leb 5 (length move.fields))) _ (below_most values.name ranges.name))) a.1
+    and_from _ _ (and_from _ _ (and_from _ _ c.0 (or_right (not (has_origin move.fields)) _ (below_most values.source ranges.source))) (or_right (not (has_name move.fields)) _ (below_most values.name ranges.name))) a.1
 
 -- ---- the fault that the code looks for
 

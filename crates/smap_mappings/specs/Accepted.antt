@@ -1,11 +1,13 @@
--- Which texts are accepted, for a number of sources and a number of names.
-use Rattle.std.specs.Prelude.{ℕ, List, [], ◌∷◌, ◌++◌, Bool, true, IsTrue, ◌&&◌, ◌||◌, not, ◌==◌, nat_le, length, ℤ, pos, int_lt}
+-- Which texts are accepted, for a number of sources and a number of names (ECMA-426, Mappings structure). Three
+-- rules are this project's own: the column may not fall on a line, no running value may pass 2147483647, and one
+-- faulty segment refuses the whole text.
+use Rattle.std.specs.Prelude.{ℕ, List, [], ◌∷◌, ◌++◌, Bool, true, IsTrue, ◌&&◌, ◌||◌, not, ◌==◌, ℤ, pos, int_lt}
 use Rattle.std.specs.List.{list_any}
-use Rattle.smap_mappings.specs.Segment.{has_known_length}
+use Rattle.smap_mappings.specs.Segment.{has_known_length, has_origin, has_name}
 use Rattle.smap_mappings.specs.Mappings.{Move, RunningValues, moves_of, field, values_on}
 use Rattle.smap_mappings.specs.declared.TheConstants.{LIMIT}
 
--- from 0 to 2147483647
+-- from 0 to the limit, 2147483647
 abbrev pub in_range : ℤ → Bool
 in_range z = not (int_lt z (pos 0)) && not (int_lt (pos LIMIT) z)
 
@@ -19,8 +21,8 @@ abbrev pub allows : ℕ → ℕ → Bool → Move → RunningValues → Bool
 allows sources names has_earlier move values =
     has_known_length move.fields
     && all_in_range values
-    && (not (nat_le 4 (length move.fields)) || int_lt values.source (pos sources))
-    && (not (nat_le 5 (length move.fields)) || int_lt values.name (pos names))
+    && (not (has_origin move.fields) || int_lt values.source (pos sources))
+    && (not (has_name move.fields) || int_lt values.name (pos names))
     && (not has_earlier || not (int_lt (field 0 move) (pos 0)))
 
 -- whether a segment may stand after these: it has one, four or five fields, and each running value after it is in range

@@ -1,14 +1,17 @@
--- The first faulty segment of a text, and the least kind of fault that holds of it.
-use Rattle.std.specs.Prelude.{ℕ, ◌/◌, List, [], ◌∷◌, ◌++◌, Option, Some, None, Bool, true, false, ◌&&◌, ◌||◌, not, ◌==◌, nat_le, nat_lt, if◌then◌else◌, length, ℤ, pos, int_lt}
+-- The first faulty segment of a text, and the least kind of fault that holds of it (ECMA-426, Mappings structure).
+-- This project's own are: the column that may not fall, the limit 2147483647, the order of the kinds, and that one
+-- faulty segment refuses the whole text. The rules for numbers stand in `Vlq`.
+use Rattle.std.specs.Prelude.{ℕ, ◌/◌, List, [], ◌∷◌, ◌++◌, Option, Some, None, Bool, false, ◌&&◌, ◌||◌, not, ◌==◌, nat_lt, if◌then◌else◌, length, ℤ, pos, int_lt}
 use Rattle.std.specs.List.{list_any}
 use Rattle.smap_mappings.specs.Vlq.{is_digit, continues, unsigned_of}
-use Rattle.smap_mappings.specs.Segment.{cuts_of, has_known_length}
+use Rattle.smap_mappings.specs.Segment.{cuts_of, has_known_length, has_origin, has_name}
 use Rattle.smap_mappings.specs.Pieces.{Piece, pieces_of}
 use Rattle.smap_mappings.specs.Mappings.{Move, RunningValues, move_of, field, values_on}
 use Rattle.smap_mappings.specs.declared.fault.Fault.{Fault}
 use Rattle.smap_mappings.specs.declared.fault.FaultKind.{FaultKind}
 use Rattle.smap_mappings.specs.declared.fault.FaultKind.TheVariants.{BadDigit, Unended, TooLong, TooLarge, NegativeZero, FieldCount, Negative, PastLimit, ColumnFalls, SourceIndex, NameIndex}
 use Rattle.smap_mappings.specs.declared.TheConstants.{LIMIT}
+use Rattle.smap_mappings.specs.declared.vlq.TheConstants.{MOST_DIGITS}
 
 -- ---- how a segment is spelled
 
@@ -22,7 +25,7 @@ is_unended (byte ∷ []) = continues byte
 is_unended (byte ∷ next ∷ bytes) = is_unended (next ∷ bytes)
 
 abbrev pub is_too_long : List ℕ → Bool
-is_too_long number = nat_lt 7 (length number)
+is_too_long number = nat_lt MOST_DIGITS (length number)
 
 abbrev pub is_too_large : List ℕ → Bool
 is_too_large number = nat_lt LIMIT (unsigned_of number / 2)
@@ -66,8 +69,8 @@ values_fault sources names falls fields values =
     if any_below values then Some Negative
     else (if any_past values then Some PastLimit
     else (if falls then Some ColumnFalls
-    else (if nat_le 4 (length fields) && not (int_lt values.source (pos sources)) then Some SourceIndex
-    else (if nat_le 5 (length fields) && not (int_lt values.name (pos names)) then Some NameIndex
+    else (if has_origin fields && not (int_lt values.source (pos sources)) then Some SourceIndex
+    else (if has_name fields && not (int_lt values.name (pos names)) then Some NameIndex
     else None))))
 
 unfoldable pub move_fault : ℕ → ℕ → List Move → Move → Option FaultKind

@@ -10,7 +10,6 @@ pub mod Advance
 pub mod Step
 pub mod Meter
 pub mod PackedText
-pub mod Checking
 pub mod Counts
 pub mod Order
 pub mod Faults

@@ -1,7 +1,7 @@
 -- What the segments of a text say (ECMA-426, Mappings structure): each field is a difference from the field's
 -- value before. The generated column starts from 0 on each line, the other four run over the whole text from 0.
-use Rattle.std.specs.Prelude.{ℕ, ◌+◌, List, [], ◌∷◌, ◌++◌, Option, Some, None, ◌==◌, nat_le, if◌then◌else◌, length, map, filter, take, unwrap_or, slice_get, ℤ, pos, negsuc, ◌+ℤ◌}
-use Rattle.smap_mappings.specs.Segment.{fields_of}
+use Rattle.std.specs.Prelude.{ℕ, List, [], ◌∷◌, ◌++◌, Option, Some, None, ◌==◌, ◌||◌, if◌then◌else◌, map, filter, unwrap_or, slice_get, ℤ, pos, negsuc, ◌+ℤ◌}
+use Rattle.smap_mappings.specs.Segment.{fields_of, has_origin, has_name}
 use Rattle.smap_mappings.specs.Pieces.{Piece, pieces_of}
 use Rattle.smap_mappings.specs.declared.mapping.Mapping.{Mapping}
 use Rattle.smap_mappings.specs.declared.mapping.Origin.{Origin}
@@ -18,9 +18,9 @@ move_of piece = record { line = piece.line; fields = unwrap_or (fields_of piece.
 unfoldable pub moves_of : List ℕ → List Move
 moves_of text = map move_of (pieces_of text)
 
--- field i, from 0, and 0 where the segment has none
+-- field i, from 0, and 0 where the segment has none; fields behind the first count only where they give an origin
 abbrev pub field : ℕ → Move → ℤ
-field i move = unwrap_or (slice_get move.fields i) (pos 0)
+field i move = if i == 0 || has_origin move.fields then unwrap_or (slice_get move.fields i) (pos 0) else pos 0
 
 abbrev pub total : ℕ → List Move → ℤ
 total i [] = pos 0
@@ -53,28 +53,18 @@ moved values move = record {
   name = values.name +ℤ field 4 move;
 }
 
--- the line of the last of these segments, and 0 where there is none
-abbrev pub last_line : List Move → ℕ
-last_line [] = 0
-last_line (move ∷ []) = move.line
-last_line (move ∷ next ∷ moves) = last_line (next ∷ moves)
-
--- the running values after the first j segments of a text
-unfoldable pub values_after : List ℕ → ℕ → RunningValues
-values_after text j = let front = take j (moves_of text) in values_on (last_line front) front
-
 -- a running value as an index, a line or a column; in an accepted text none is below 0
 abbrev pub natural : ℤ → ℕ
 natural (pos n) = n
 natural (negsuc n) = 0
 
 abbrev pub name_in : List ℤ → RunningValues → Option ℕ
-name_in fields values = if length fields == 5 then Some (natural values.name) else None
+name_in fields values = if has_name fields then Some (natural values.name) else None
 
 -- a segment of one field has no origin, one of four has no name
 abbrev pub origin_in : List ℤ → RunningValues → Option Origin
 origin_in fields values =
-    if nat_le 4 (length fields)
+    if has_origin fields
     then Some (record { source = natural values.source; line = natural values.original_line; column = natural values.original_column; name = name_in fields values })
     else None
 
@@ -88,6 +78,7 @@ abbrev pub mappings_after : List Move → List Move → List Mapping
 mappings_after before [] = []
 mappings_after before (move ∷ moves) = mapping_after before move ∷ mappings_after (before ++ move ∷ []) moves
 
--- the mappings of a text, a mapping for each segment, in order
+-- The mappings of a text, a mapping for each segment, in order. They say something of accepted texts only: elsewhere
+-- a sum below 0 would be 0, and a segment that spells no numbers would be a mapping without an origin.
 unfoldable pub mappings_of : List ℕ → List Mapping
 mappings_of text = mappings_after [] (moves_of text)

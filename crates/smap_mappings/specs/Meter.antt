@@ -1,10 +1,18 @@
 -- What a meter has counted.
-use Rattle.std.specs.Prelude.{ℕ, ◌≤◌}
+use Rattle.std.specs.Prelude.{ℕ, ◌-◌, ◌^◌, ◌≤◌}
 
 pub record Counts : Type 0 where
   pub comparisons : ℕ
   pub segments : ℕ
 
--- both counts leave room for a call that counts at most 8192 of each: they are at most 8192 below the greatest number
+-- the greatest number that a count can be
+abbrev pub greatest : ℕ
+greatest = 2 ^ 64 - 1
+
+-- how much one call counts of each at most
+abbrev pub most_of_a_call : ℕ
+most_of_a_call = 8192
+
+-- both counts leave room for a call: they are at least 8192 below the greatest number
 abbrev pub HasRoom : Counts → Type 0
-HasRoom counts = (counts.comparisons ≤ 18446744073709543423) × (counts.segments ≤ 18446744073709543423)
+HasRoom counts = (counts.comparisons ≤ greatest - most_of_a_call) × (counts.segments ≤ greatest - most_of_a_call)

@@ -1,5 +1,5 @@
 -- The order of mappings: by generated line, then by generated column. Equal positions may stand side by side.
-use Rattle.std.specs.Prelude.{◌≡◌, ℕ, ◌<◌, ◌≤◌, ◌⊎◌, List, [], ◌∷◌}
+use Rattle.std.specs.Prelude.{◌≡◌, ◌<◌, ◌≤◌, ◌⊎◌, List, [], ◌∷◌}
 use Rattle.smap_mappings.specs.declared.mapping.Mapping.{Mapping}
 
 -- the first stands at the position of the second, or before it

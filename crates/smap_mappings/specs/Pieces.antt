@@ -1,5 +1,6 @@
 -- The segments of a mappings text, as pieces of its bytes (ECMA-426, Mappings structure): the text is split at
--- `;` into generated lines, each line at `,`, and the nonempty pieces are the segments. Empty pieces are skipped.
+-- `;` into generated lines, each line at `,`, and the nonempty pieces are the segments. A line may be empty. That
+-- an empty piece beside a `,` is skipped is this project's own, lenient rule.
 use Rattle.std.specs.Prelude.{ℕ, ◌+◌, List, [], ◌∷◌, ◌++◌, Bool, true, false, ◌||◌, not, ◌==◌, length, map, filter, drop}
 use Rattle.std.specs.List.{slice_split, take_while}
 

@@ -25,3 +25,11 @@ fields_of bytes = numbers_of (cuts_of bytes)
 -- one, four or five
 abbrev pub has_known_length : {X : Type 0} → List X → Bool
 has_known_length xs = length xs == 1 || length xs == 4 || length xs == 5
+
+-- fields of this number give an origin
+abbrev pub has_origin : List ℤ → Bool
+has_origin fields = length fields == 4 || length fields == 5
+
+-- and of this a name too
+abbrev pub has_name : List ℤ → Bool
+has_name fields = length fields == 5

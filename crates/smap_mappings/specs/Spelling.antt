@@ -1,5 +1,5 @@
 -- The numbers of a segment without a bad digit, one after another.
-use Rattle.std.specs.Prelude.{◌≡◌, ℕ, List, Bool, false, drop}
+use Rattle.std.specs.Prelude.{◌≡◌, ℕ, List, false, drop}
 use Rattle.std.specs.List.{prefix_len}
 use Rattle.smap_mappings.specs.Vlq.{continues}
 use Rattle.smap_mappings.specs.Faults.{has_bad_digit, is_unended}

@@ -1,13 +1,9 @@
 -- A state between two segments of a text: a place, and all running values there.
-use Rattle.std.specs.Prelude.{◌≡◌, ℕ, ◌+◌, ◌<◌, ◌≤◌, suc, List, [], ◌∷◌, Option, Some, None, Bool, true, false, length, take, drop, slice_get, IfSome, ℤ, pos, ◌+ℤ◌, ◌≤ℤ◌, MatchOption}
+use Rattle.std.specs.Prelude.{◌≡◌, ℕ, ◌≤◌, List, length, take, drop, pos}
 use Rattle.std.specs.List.{AllByRecursion}
 use Rattle.smap_mappings.specs.Pieces.{pieces_of, pieces_from}
-use Rattle.smap_mappings.specs.Mappings.{Move, RunningValues, moves_of, values_on, mappings_of}
-use Rattle.smap_mappings.specs.Accepted.{accepts}
-use Rattle.smap_mappings.specs.Reading.{fields_in}
+use Rattle.smap_mappings.specs.Mappings.{Move, RunningValues, moves_of, values_on}
 use Rattle.smap_mappings.specs.declared.cursor.Cursor.{Cursor}
-use Rattle.smap_mappings.specs.declared.mapping.Mapping.{Mapping}
-use Rattle.smap_mappings.specs.declared.segment.Segment.{Segment}
 
 abbrev pub values_at : Cursor → RunningValues
 values_at cursor = record {

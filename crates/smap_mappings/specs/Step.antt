@@ -1,7 +1,7 @@
 -- One segment more: what a step from a state gives.
 use Rattle.std.specs.Prelude.{◌≡◌, ℕ, ℤ, ◌+◌, ◌<◌, List, [], ◌∷◌, ◌++◌, Option, Some, None, length, take, drop, slice_get}
 use Rattle.smap_mappings.specs.Pieces.{pieces_of}
-use Rattle.smap_mappings.specs.Mappings.{Move, moves_of, mappings_of}
+use Rattle.smap_mappings.specs.Mappings.{moves_of, mappings_of}
 use Rattle.smap_mappings.specs.Faults.{first_fault_after}
 use Rattle.smap_mappings.specs.State.{IsAfter}
 use Rattle.smap_mappings.specs.declared.cursor.Cursor.{Cursor}

@@ -1,11 +1,12 @@
 -- Base64 VLQ numbers (ECMA-426, Base64 VLQ), in this project's profile: at most seven digits, a magnitude of
 -- at most 2147483647, no negative zero, and longer spellings than needed within the seven digits.
-use Rattle.std.specs.Prelude.{◌≡◌, ℕ, ◌+◌, ◌-◌, ◌*◌, ◌/◌, ◌%◌, ◌^◌, List, [], ◌∷◌, length, take, drop, Option, Some, None, Result, Ok, Err, Bool, false, ◌&&◌, not, ◌==◌, nat_le, nat_lt, if◌then◌else◌, unwrap_or, is_some, ℤ, pos, neg_ℤ, slice_index}
+use Rattle.std.specs.Prelude.{◌≡◌, ℕ, ◌+◌, ◌*◌, ◌/◌, ◌%◌, ◌^◌, List, [], ◌∷◌, length, take, drop, Option, Some, None, Result, Ok, Err, Bool, false, ◌&&◌, not, ◌==◌, nat_le, nat_lt, if◌then◌else◌, unwrap_or, is_some, ℤ, pos, neg_ℤ, slice_index}
 use Rattle.std.specs.List.{prefix_len}
 use Rattle.smap_mappings.specs.Base64.{digit_of}
 use Rattle.smap_mappings.specs.declared.vlq.VlqFault.{VlqFault}
 use Rattle.smap_mappings.specs.declared.vlq.VlqFault.TheVariants.{BadDigit, Unended, TooLong, TooLarge, NegativeZero}
 use Rattle.smap_mappings.specs.declared.TheConstants.{LIMIT}
+use Rattle.smap_mappings.specs.declared.vlq.TheConstants.{MOST_DIGITS}
 
 -- the value of a digit, and 0 for a byte that is none
 abbrev pub digit_value : ℕ → ℕ
@@ -43,7 +44,7 @@ is_one_number (byte ∷ next ∷ bytes) = continues byte && is_one_number (next 
 unfoldable pub number_of : List ℕ → Option ℤ
 number_of bytes =
     let u = unsigned_of bytes in
-    if is_one_number bytes && nat_le (length bytes) 7 && nat_le (u / 2) LIMIT && not (u == 1) then Some (signed u) else None
+    if is_one_number bytes && nat_le (length bytes) MOST_DIGITS && nat_le (u / 2) LIMIT && not (u == 1) then Some (signed u) else None
 
 -- these bytes spell this number
 abbrev pub Spells : List ℕ → ℤ → Type 0
@@ -68,7 +69,7 @@ number_at bytes place =
     let front = prefix_len continues rest in
     if front == length rest then Err Unended
     else (if not (is_digit (slice_index rest front)) then Err BadDigit
-    else (if nat_lt 7 (front + 1) then Err TooLong
+    else (if nat_lt MOST_DIGITS (front + 1) then Err TooLong
     else with_end (place + front + 1) (checked_number (unsigned_of (take (front + 1) rest)))))
 
 -- the fault of a number that goes on past its seventh digit, from the eighth digit's place on

@@ -4,7 +4,7 @@ ghost use Rattle.smap_mappings.specs.Base64.{digit_of};
 // No byte's value: digits are 0 to 63.
 const NO_DIGIT: u8 = 64;
 
-// Of each byte, its value as a digit. A table, so that no branch depends on the value.
+// Of each byte, its value as a digit. A table, so that a digit costs one look-up.
 const DIGITS: [u8; 256] = [
     64, 64, 64, 64, 64, 64, 64, 64, 64, 64, 64, 64, 64, 64, 64, 64, 64, 64, 64, 64, 64, 64, 64, 64,
     64, 64, 64, 64, 64, 64, 64, 64, 64, 64, 64, 64, 64, 64, 64, 64, 64, 64, 64, 62, 64, 64, 64, 63,

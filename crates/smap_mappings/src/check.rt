@@ -1,6 +1,7 @@
 ghost use Rattle.std.specs.Prelude.{◌≡◌, ◌≤◌, ◌==◌, ◌||◌, not, None, Some, length, IfOk, MatchResult};
 ghost use Rattle.smap_mappings.specs.Counts.{segments_of, used_lines_of};
 ghost use Rattle.smap_mappings.specs.Faults.{first_fault};
+ghost use Rattle.smap_mappings.specs.PackedText.{most_bytes};
 
 use crate::cursor::Cursor;
 use crate::fault::Fault;
@@ -15,7 +16,7 @@ pub struct Counts {
 
 /// The counts of a text, or its first faulty segment for this many sources and names.
 pub fn check_segments(bytes: &[u8], sources: u32, names: u32) -> Result<Counts, Fault>
-    requires { length bytes.now ≤ 67108864 }
+    requires { length bytes.now ≤ most_bytes }
     ensures fault { MatchResult result (λ _. first_fault bytes.now sources names ≡ None) (λ fault. first_fault bytes.now sources names ≡ Some fault) }
     ensures segments { IfOk result (λ counts. counts.segments ≡ segments_of bytes.now) }
     ensures used_lines { IfOk result (λ counts. counts.used_lines ≡ used_lines_of bytes.now) }

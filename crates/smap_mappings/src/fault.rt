@@ -19,11 +19,11 @@ pub enum FaultKind {
     Negative,
     /// F8: a running value after it is past 2147483647.
     PastLimit,
-    /// F9: its generated column is before that of an earlier segment of its line.
+    /// F9: its first field is negative, and an earlier segment stands on its line.
     ColumnFalls,
-    /// F10: its source is none of those that there are.
+    /// F10: it has an origin, and its source index is not below the number of sources.
     SourceIndex,
-    /// F11: its name is none of those that there are.
+    /// F11: it has a name, and its name index is not below the number of names.
     NameIndex,
 }
 
@@ -34,5 +34,6 @@ pub struct Fault {
     pub byte: u64,
     /// Its generated line, from 0.
     pub line: u32,
+    /// The least kind that holds of the segment.
     pub kind: FaultKind,
 }

@@ -65,7 +65,7 @@ impl Meter {
         self.segments += 1;
     }
 
-    /// Whether both counts leave room for a look-up.
+    /// Whether both counts leave room for a look-up, which is 8192 in each.
     pub fn has_room(&self) -> bool
         ensures { IsTrue result ↔ HasRoom self.now }
     {

@@ -8,6 +8,7 @@ ghost use Rattle.smap_mappings.specs.Spelling.{IsClean, front_at};
 use crate::LIMIT;
 use crate::base64::digit;
 use crate::fault::FaultKind;
+use crate::vlq::MOST_DIGITS;
 
 /// The least kind of fault that holds of how a segment is spelled, and of how many numbers it has. It is asked only
 /// where the segment could not be read, so each question is a pass of its own.
@@ -69,7 +70,7 @@ fn has_long_number(segment: &[u8]) -> bool
     let mut place = 0;
     while place < segment.len() {
         let end = number_end(segment, place);
-        if end - place > 7 {
+        if end - place > MOST_DIGITS {
             return true;
         }
         place = end;
@@ -81,7 +82,7 @@ fn has_long_number(segment: &[u8]) -> bool
 fn unsigned_between(segment: &[u8], place: usize, end: usize) -> u64
     requires ordered { place ≤ end }
     requires inside { end ≤ length segment.now }
-    requires short { end ≤ place + 7 }
+    requires short { end ≤ place + MOST_DIGITS }
     ensures { result ≡ unsigned_of (slice_range segment.now place end) }
 {
     let mut unsigned: u64 = 0;

@@ -1,7 +1,8 @@
 use crate::cursor::Cursor;
 use std::marker::Model;
 
-/// A place between two segments of a text, and all running values there. It is of use with its own text alone.
+/// A place between two segments of a text, and all running values there. It holds the byte place, the generated
+/// line and the generated column, each from 0. It is of use with its own text alone.
 #[derive(Clone, Copy)]
 pub struct State {
     cursor: Cursor,

@@ -1,4 +1,5 @@
 ghost use Rattle.std.specs.Prelude.{◌≡◌, ◌+◌, ◌<◌, ◌≤◌, ℕ, Some, false, true, length, slice_index, IfOk, IfErr};
+ghost use Rattle.smap_mappings.specs.PackedText.{most_bytes};
 ghost use Rattle.smap_mappings.specs.Pieces.{is_inside, piece_at};
 ghost use Rattle.smap_mappings.specs.Segment.{has_known_length};
 ghost use Rattle.smap_mappings.specs.Reading.{known_fields};
@@ -17,7 +18,7 @@ use crate::spelling::spelling_fault;
 pub fn skip_separators(bytes: &[u8], cursor: &Cursor) -> Cursor
     requires inside { cursor.now.place ≤ length bytes.now }
     requires line_within { cursor.now.line ≤ cursor.now.place }
-    requires short { length bytes.now ≤ 67108864 }
+    requires short { length bytes.now ≤ most_bytes }
     ensures inside { result.place ≤ length bytes.now }
     ensures line_within { result.line ≤ result.place }
     ensures onward { cursor.now.place ≤ result.place }

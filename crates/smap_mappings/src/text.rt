@@ -4,7 +4,7 @@ ghost use Rattle.smap_mappings.specs.Counts.{segments_of, used_lines_of};
 ghost use Rattle.smap_mappings.specs.Faults.{first_fault};
 ghost use Rattle.smap_mappings.specs.Mappings.{mappings_of};
 ghost use Rattle.smap_mappings.specs.Order.{IsInOrder};
-ghost use Rattle.smap_mappings.specs.PackedText.{IsPacked};
+ghost use Rattle.smap_mappings.specs.PackedText.{IsPacked, most_bytes};
 ghost use Rattle.smap_mappings.specs.State.{IsAfter, IsBetween};
 ghost use Rattle.smap_mappings.specs.Step.{IsNext};
 
@@ -33,7 +33,8 @@ pub enum TextRefusal {
     Fault(Fault),
 }
 
-/// A `mappings` text that was checked, and stays packed. Contracts see it as the bytes of its text.
+/// A `mappings` text (ECMA-426, Mappings structure) that was checked, and stays packed. Contracts see it as the
+/// bytes of its text.
 #[derive(Drop)]
 pub struct PackedText {
     text: String,
@@ -53,17 +54,19 @@ impl Model for PackedText {
 }
 
 impl PackedText {
-    /// Takes a text in which each source index is below `sources` and each name index below `names`. A refusal hands
-    /// the text back as it was. The call takes no memory.
+    /// Takes a text in which each source index is below `sources` and each name index below `names`: these are how
+    /// many sources and names the map lists. A text that is too long is refused as `TextTooLong`, whatever faults it
+    /// has. Otherwise the refusal is the first fault. A refusal hands the text back as it was. The call takes no
+    /// memory.
     pub fn check(
         text: String,
         sources: u32,
         names: u32,
     ) -> Result<PackedText, (TextRefusal, String)>
-        ensures accepted { IsOk result ↔ ((length (string_bytes text) ≤ 67108864) × IsAccepted (string_bytes text) sources names) }
+        ensures accepted { IsOk result ↔ ((length (string_bytes text) ≤ most_bytes) × IsAccepted (string_bytes text) sources names) }
         ensures inside { IfOk result (λ packed. packed ≡ string_bytes text) }
         ensures clean { OnOk result (first_fault (string_bytes text) sources names ≡ None) }
-        ensures too_long { IfErr result (λ e. (e.0 ≡ TextRefusal.TextTooLong) ↔ (67108864 < length (string_bytes text))) }
+        ensures too_long { IfErr result (λ e. (e.0 ≡ TextRefusal.TextTooLong) ↔ (most_bytes < length (string_bytes text))) }
         ensures faulty { IfErr result (λ e. (fault : Fault) → e.0 ≡ TextRefusal.Fault fault → first_fault (string_bytes text) sources names ≡ Some fault) }
         ensures returned { IfErr result (λ e. e.1 ≡ text) }
     {
@@ -97,7 +100,7 @@ impl PackedText {
 
     /// The state before the first segment.
     pub fn start(&self) -> State
-        ensures none { IsAfter self.now 0 result }
+        ensures before_all { IsAfter self.now 0 result }
         ensures packed { IsPacked self.now }
         ensures ordered { IsInOrder (mappings_of self.now) }
     {
@@ -106,7 +109,8 @@ impl PackedText {
     }
 
     /// The mapping of the next segment and the state behind it, or `None` at the end of the text. The caller gives a
-    /// state of this text. The call takes no memory.
+    /// state of this text, and a meter whose count of segments leaves room for one more. A segment that is given adds
+    /// one to that count, and the end adds nothing. The call takes no memory.
     pub fn next(&self, state: &State, meter: &mut Meter) -> Option<(Mapping, State)>
         requires state { IsBetween self.now state.now }
         requires room { meter.old.segments < u64.MAX }

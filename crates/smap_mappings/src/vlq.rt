@@ -7,7 +7,7 @@ use crate::base64::digit;
 /// Why no number begins at a place (ECMA-426, Base64 VLQ, in this project's profile).
 #[derive(Clone, Copy, Debug, PartialEq, Eq)]
 pub enum VlqFault {
-    /// A byte that is no Base64 digit stands where the number would go on.
+    /// A byte that is no Base64 digit stands where the number would begin or go on.
     BadDigit,
     /// The bytes end before a digit below 32, which ends a number.
     Unended,
@@ -19,10 +19,12 @@ pub enum VlqFault {
     NegativeZero,
 }
 
-const MOST_DIGITS: usize = 7;
+/// How many digits a number has at most.
+pub const MOST_DIGITS: usize = 7;
 
 /// The number that begins at a place, counted in bytes from 0, and the place after it (ECMA-426, Base64 VLQ).
-/// A fault is the first that holds of: no byte ends the number, a bad digit, too many digits, too large, negative zero.
+/// A fault is the first that holds of: every byte up to the end says that another digit follows, a bad digit,
+/// too many digits, too large, negative zero.
 pub fn read_vlq(bytes: &[u8], place: usize) -> Result<(i32, usize), VlqFault>
     requires { place ≤ length bytes.now }
     ensures spelled { (n : ℤ) (end : ℕ) →

@@ -1,4 +1,4 @@
-use Rattle.std.proofs.Common.{◌≡◌, None, ap, sym, subst, refl, ◌∙◌}
+use Rattle.std.proofs.Common.{◌≡◌, None, ap, sym, refl, ◌∙◌}
 use Rattle.smap_mappings.specs.Advance.{values_in, sums_fault}
 use Rattle.smap_mappings.specs.Faults.{is_below}
 use Rattle.smap_mappings.specs.Mappings.{RunningValues}

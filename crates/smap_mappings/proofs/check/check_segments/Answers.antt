@@ -1,4 +1,4 @@
-use Rattle.std.proofs.Common.{◌≡◌, cond, refl, sym, ◌∙◌, ap, arith}
+use Rattle.std.proofs.Common.{sym, ◌∙◌}
 use Rattle.smap_mappings.proofs.CheckLaws.{checks_start, none_at_end, lines_at_end, all_behind, is_new, checks_more, from_bool_most}
 use Rattle.smap_mappings.proofs.check.check_segments.Goals as goal
 

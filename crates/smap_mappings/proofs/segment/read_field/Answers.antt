@@ -1,6 +1,3 @@
-use Rattle.std.proofs.Common.{sym, subst}
-use Rattle.std.specs.Prelude.{IfSome, IfNone}
-use Rattle.smap_mappings.specs.Reading.{ReadsField, HasNoField}
 use Rattle.smap_mappings.proofs.FieldLaws.{field_read, field_not_read}
 use Rattle.smap_mappings.proofs.segment.read_field.Goals as goal
 

@@ -1,4 +1,4 @@
-use Rattle.std.proofs.Common.{sym, refl, rules, FitsSigned, w32}
+use Rattle.std.proofs.Common.{refl, rules, FitsSigned, w32}
 use Rattle.std.proofs.lemmas.Bool.{false≢true}
 use Rattle.std.proofs.lemmas.Int.{to_z-of_z}
 use Rattle.smap_mappings.proofs.FieldLaws.{one_field, four_fields, five_fields, not_two, not_five, not_six}

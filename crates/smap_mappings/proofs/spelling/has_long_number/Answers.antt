@@ -1,17 +1,16 @@
-use Rattle.std.proofs.Common.{◌≡◌, ◌<◌, sym, ◌∙◌, ap, arith, lt-ltb, le-ltb, subst, drop, length}
+use Rattle.std.proofs.Common.{sym, ◌∙◌, ap, arith, subst, drop}
 use Rattle.std.specs.List.{list_any}
-use Rattle.std.proofs.lemmas.Bool.{or_left}
 use Rattle.smap_mappings.specs.Segment.{cuts_of}
 use Rattle.smap_mappings.specs.Faults.{is_too_long}
 use Rattle.smap_mappings.specs.Spelling.{IsClean}
-use Rattle.smap_mappings.proofs.SpellingFaultLaws.{NumberAt, number_at_place, long_first, long_next}
+use Rattle.smap_mappings.proofs.SpellingFaultLaws.{number_at_place, long_first, long_next}
 use Rattle.smap_mappings.proofs.spelling.has_long_number.Goals as goal
 
 pub number_end-end-requires : goal.number_end-end-requires
 number_end-end-requires c = (number_at_place c.args.segment.now c.loop-place.place c.loop-place-test.true c.loop-place.invariant.clean).inside
 
-pub returns-then-end-place-gt7 : goal.returns-then-end-place-gt7
-returns-then-end-place-gt7 c =
+pub returns-then-end-place-gt-MOST_DIGITS : goal.returns-then-end-place-gt-MOST_DIGITS
+returns-then-end-place-gt-MOST_DIGITS c =
     let number = number_at_place c.args.segment.now c.loop-place.place c.loop-place-test.true c.loop-place.invariant.clean in
     sym (c.loop-place.invariant.long ∙ long_first c.args.segment.now c.loop-place.place number (omega (arith, c.number_end-end.ensures)))
 

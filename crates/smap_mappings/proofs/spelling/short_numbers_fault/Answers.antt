@@ -6,7 +6,7 @@ use Rattle.smap_mappings.specs.Vlq.{unsigned_of}
 use Rattle.smap_mappings.specs.Segment.{cuts_of}
 use Rattle.smap_mappings.specs.Faults.{is_too_long, is_too_large, is_negative_zero}
 use Rattle.smap_mappings.specs.Spelling.{IsClean, front_at}
-use Rattle.smap_mappings.proofs.SpellingFaultLaws.{NumberAt, number_at_place, short_number, short_others, any_number, count_numbers}
+use Rattle.smap_mappings.proofs.SpellingFaultLaws.{number_at_place, short_number, short_others, any_number, count_numbers}
 use Rattle.smap_mappings.proofs.spelling.short_numbers_fault.Goals as goal
 use Rattle.smap_mappings.proofs.spelling.short_numbers_fault.Goals.{After-unsigned_between-unsigned}
 

@@ -1,4 +1,3 @@
-use Rattle.smap_mappings.specs.Step.{Steps}
 use Rattle.smap_mappings.proofs.StepLaws.{steps_to, faulty_values, faulty_spelling}
 use Rattle.smap_mappings.proofs.step.step.Goals as goal
 

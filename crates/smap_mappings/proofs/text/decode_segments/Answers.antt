@@ -1,6 +1,5 @@
-use Rattle.std.proofs.Common.{List, [], subst, sym, ap, is_ok}
-use Rattle.std.proofs.ResultArms.{chosen}
-use Rattle.smap_mappings.specs.Checking.{DecodesUpTo}
+use Rattle.std.proofs.Common.{subst, sym}
+use Rattle.smap_mappings.proofs.Checking.{DecodesUpTo}
 use Rattle.smap_mappings.proofs.CountLaws.{decodes_start, decodes_more, decodes_all}
 use Rattle.smap_mappings.proofs.text.decode_segments.Goals as goal
 

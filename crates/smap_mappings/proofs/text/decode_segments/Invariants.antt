@@ -1,5 +1,5 @@
 use Rattle.std.proofs.Common.{◌-◌, length}
-use Rattle.smap_mappings.specs.Checking.{DecodesUpTo}
+use Rattle.smap_mappings.proofs.Checking.{DecodesUpTo}
 use Rattle.smap_mappings.proofs.text.decode_segments.Given as goal
 
 abbrev pub invariant-loop-mapping : goal.invariant-loop-mapping

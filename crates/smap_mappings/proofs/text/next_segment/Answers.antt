@@ -1,4 +1,4 @@
-use Rattle.std.proofs.Common.{◌≡◌, None, Some, sym, ◌∙◌}
+use Rattle.std.proofs.Common.{sym, ◌∙◌}
 use Rattle.smap_mappings.proofs.CheckLaws.{all_behind, no_fault_from}
 use Rattle.smap_mappings.proofs.text.next_segment.Goals as goal
 

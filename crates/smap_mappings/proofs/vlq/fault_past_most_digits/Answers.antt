@@ -1,5 +1,4 @@
-use Rattle.std.proofs.Common.{◌≡◌, ◌+◌, sym, ◌∙◌, ap, arith, rules, None}
-use Rattle.smap_mappings.specs.Spelling.{front_at}
+use Rattle.std.proofs.Common.{sym, arith}
 use Rattle.smap_mappings.proofs.Numbers.{front_stops, front_stops_at_none, front_at_the_end, long_bad_digit, long_too_long, long_unended}
 use Rattle.smap_mappings.proofs.vlq.fault_past_most_digits.Goals as goal
 

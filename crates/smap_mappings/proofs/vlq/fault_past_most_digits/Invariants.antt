@@ -1,4 +1,4 @@
-use Rattle.std.proofs.Common.{◌≡◌, ◌+◌, ◌-◌}
+use Rattle.std.proofs.Common.{◌≡◌, ◌+◌}
 use Rattle.smap_mappings.specs.Spelling.{front_at}
 use Rattle.smap_mappings.proofs.vlq.fault_past_most_digits.Given as goal
 

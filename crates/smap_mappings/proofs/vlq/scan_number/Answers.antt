@@ -1,10 +1,9 @@
-use Rattle.std.proofs.Common.{◌≡◌, ◌+◌, ◌-◌, ◌<◌, ◌≤◌, ◌^◌, ◌%◌, ◌*◌, sym, refl, ◌∙◌, ap, subst, arith, rules, Err, Ok, get_or, take, drop, FitsSigned, w32, to_z, of_z, add-one}
+use Rattle.std.proofs.Common.{◌≡◌, ◌+◌, ◌-◌, ◌<◌, ◌≤◌, ◌*◌, sym, ◌∙◌, ap, subst, arith, rules, Err, take, drop, FitsSigned, w32, add-one}
 use Rattle.std.proofs.lemmas.Int.{to_z-of_z}
 use Rattle.std.proofs.Math.Nat.{pow-suc}
 use Rattle.std.proofs.lemmas.Result.{err_from_is_err_and}
 use Rattle.smap_mappings.specs.Vlq.{checked_number, with_end, weighted, number_at}
-use Rattle.smap_mappings.specs.Spelling.{front_at}
-use Rattle.smap_mappings.proofs.Numbers.{front_more, front_stops, front_stops_at_none, front_at_the_end, at_bad_digit, at_number, at_unended, at_long, scale_below, digit_step, digit_product, weighted_more, at_last_digit}
+use Rattle.smap_mappings.proofs.Numbers.{front_more, front_stops, front_stops_at_none, front_at_the_end, at_bad_digit, at_unended, at_long, scale_below, digit_step, digit_product, weighted_more, at_last_digit}
 use Rattle.smap_mappings.proofs.vlq.scan_number.Goals as goal
 use Rattle.smap_mappings.proofs.vlq.scan_number.Goals.{After-from, Then-value-lt32}
 

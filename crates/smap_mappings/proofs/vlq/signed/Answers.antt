@@ -1,4 +1,4 @@
-use Rattle.std.proofs.Common.{sym, ◌∙◌, ap, arith, rules, Ok}
+use Rattle.std.proofs.Common.{sym, ◌∙◌, ap, arith, Ok}
 use Rattle.smap_mappings.proofs.Numbers.{checked_too_large, checked_negative_zero, checked_signed, signed_even, signed_odd}
 use Rattle.smap_mappings.proofs.vlq.signed.Goals as goal
 

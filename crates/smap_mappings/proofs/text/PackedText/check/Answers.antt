@@ -1,4 +1,4 @@
-use Rattle.std.proofs.Common.{◌≡◌, ◌≤◌, length, ap, sym, subst, ◌∙◌, arith, None, Some, refl}
+use Rattle.std.proofs.Common.{◌≤◌, length, ap, sym, subst, ◌∙◌, arith, refl}
 use Rattle.std.specs.Prelude.{string_bytes}
 use Rattle.smap_mappings.specs.Accepted.{IsAccepted}
 use Rattle.smap_mappings.specs.Counts.{segments_of, used_lines_of}
