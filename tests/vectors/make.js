@@ -1,7 +1,7 @@
 #!/usr/bin/env node
-// Writes rows.txt, the vectors for `smap raw`. README.md beside this file says what they are.
+// Writes the vectors for `smap raw`. README.md beside this file says what they are.
 //
-//   node make.js               writes rows.txt and prints its counts
+//   node make.js               writes src/run/vectors/ of smap_cli and prints the counts
 //   node make.js check FILE    says whether the mappings text in FILE is accepted
 //
 // Nothing here is made from smap's own code or output.
@@ -266,11 +266,11 @@ const rows = [];
 const seen = new Set();
 
 function write(line, column, expected, text) {
-  insist(!/[\t\n\r]/.test(text), 'a text that no row can hold');
-  const row = `${line}\t${column}\t${expected}\t${text}`;
+  insist(!/[|\n\r]/.test(text), 'a text that no row can hold');
+  const row = `${line}|${column}|${text}|${expected}`;
   if (seen.has(row)) return false;
   seen.add(row);
-  rows.push({ expected, row });
+  rows.push({ expected, row, text });
   return true;
 }
 
@@ -548,7 +548,45 @@ makeAnswers();
 const answers = rows.length;
 makeRefusals();
 
-fs.writeFileSync(path.join(__dirname, 'rows.txt'), rows.map(({ row }) => `${row}\n`).join(''));
+// One constant a file: a row a line, as it stands.
+function writeRows(file, name, what, some) {
+  const list = some.map(({ row }) => row);
+  insist(list.every((row) => !row.includes('"#')), 'a row that ends the constant');
+  const text = [
+    `//! ${what}, a row a line: LINE, COLUMN, the text, and what is printed, with | between two.`,
+    '//! Written by `tests/vectors/make.js`.',
+    '',
+    `pub const ${name}: &str = r#"\n${list.join('\n')}\n"#;`,
+    '',
+  ].join('\n');
+  const folder = path.join(__dirname, '..', '..', 'crates', 'smap_cli', 'src', 'run', 'vectors');
+  fs.mkdirSync(folder, { recursive: true });
+  fs.writeFileSync(path.join(folder, file), text);
+}
+
+// The mappings of each text that has an answer, all numbers from 0.
+function writeMappings() {
+  const list = [...new Set(rows.slice(0, answers).map(({ text }) => text))].map((text) => {
+    const lines = linesOf(text);
+    const words = lines.flatMap((line, number) => line.map((segment) => [number, ...segment].join(',')));
+    return `${text}|${words.join(' ')}`;
+  });
+  const text = [
+    '//! Texts with their mappings: the text, |, and the mappings with a blank between two. A mapping is its line,',
+    '//! column, source, original line, original column and name, as far as it has them, from 0.',
+    '//! Written by `tests/vectors/make.js`.',
+    '',
+    `pub const MAPPINGS: &str = r#"\n${list.join('\n')}\n"#;`,
+    '',
+  ].join('\n');
+  const folder = path.join(__dirname, '..', '..', 'crates', 'smap_mappings', 'src', 'vectors');
+  fs.mkdirSync(folder, { recursive: true });
+  fs.writeFileSync(path.join(folder, 'mappings.rt'), text);
+}
+
+writeRows('answers.rt', 'ANSWERS', 'Answers', rows.slice(0, answers));
+writeRows('refusals.rt', 'REFUSALS', 'Refusals', rows.slice(answers));
+writeMappings();
 
 const tally = {};
 for (const { expected } of rows) {

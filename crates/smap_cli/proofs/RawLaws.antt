@@ -1,6 +1,6 @@
 -- What `raw` tells of a text, by the tests that it passes, and of the one part that holds a whole text.
-use Rattle.std.proofs.Common.{◌≡◌, ℕ, ◌+◌, ◌-◌, ◌<◌, ◌≤◌, Bool, true, false, not, cond, eqb, ltb, List, [], ◌∷◌, ◌++◌, length, get_or, take, map, Option, Some, None, refl, sym, ap, ◌∙◌, arith, le-ltb, lt-ltb, ltb-true, zero-add, subst, length-append, ⊎_elim}
-use Rattle.std.specs.Prelude.{slice_index, IfSome}
+use Rattle.std.proofs.Common.{◌≡◌, ℕ, ◌+◌, ◌-◌, ◌<◌, ◌≤◌, Bool, true, false, not, cond, eqb, List, [], ◌∷◌, ◌++◌, length, get_or, map, Option, Some, None, refl, sym, ap, ◌∙◌, arith, le-ltb, lt-ltb, zero-add, subst, length-append, ⊎_elim}
+use Rattle.std.specs.Prelude.{IfSome}
 use Rattle.std.specs.Io.KnownBytes.{IsAtEnd}
 use Rattle.smap_io.specs.Device.{Gives}
 use Rattle.std.specs.Option.{option_map}
@@ -81,9 +81,9 @@ raw_of_read before None bytes line column gives short whole_read = subst (λ b. 
 raw_of_read before (Some rest) bytes line column gives short whole_read =
     subst (λ b. IfSome b (λ all. raw_result all line column ≡ raw_result bytes line column)) (sym gives)
     (⊎_elim
-      (λ (less : length bytes < 67108866). ap (λ r. raw_result (bytes ++ r) line column) (whole_read less) ∙ ap (λ b. raw_result b line column) (append-nil bytes))
-      (λ (long : 67108866 ≤ length bytes). raw_too_long (bytes ++ rest) line column (omega (arith, length-append bytes rest)) ∙ sym (raw_too_long bytes line column long))
-      (cases_lt (length bytes) 67108866))
+    (λ (less : length bytes < 67108866). ap (λ r. raw_result (bytes ++ r) line column) (whole_read less) ∙ ap (λ b. raw_result b line column) (append-nil bytes))
+    (λ (long : 67108866 ≤ length bytes). raw_too_long (bytes ++ rest) line column (omega (arith, length-append bytes rest)) ∙ sym (raw_too_long bytes line column long))
+    (cases_lt (length bytes) 67108866))
 
 pub if_some_same : (before : Option (List ℕ)) (line column : ℕ) (x y : Told) → IfSome before (λ all. raw_result all line column ≡ x) → x ≡ y → IfSome before (λ all. raw_result all line column ≡ y)
 if_some_same None line column x y is same = tt

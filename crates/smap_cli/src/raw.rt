@@ -24,12 +24,7 @@ pub enum Told {
 }
 
 /// Looks up a generated line and column, both from 0, in the mappings text that the bytes are.
-pub fn answer_raw(
-    alloc: Global,
-    bytes: Vec<u8>,
-    line: u32,
-    column: u32,
-) -> Result<Told, AllocError>
+pub fn answer_raw(alloc: Global, bytes: Vec<u8>, line: u32, column: u32) -> Result<Told, AllocError>
     ensures { IfOk result (λ told. told_in told ≡ raw_result bytes.items line column) }
 {
     answer_text(alloc, without_last_line_end(bytes), line, column)
@@ -45,12 +40,7 @@ fn without_last_line_end(mut bytes: Vec<u8>) -> Vec<u8>
     bytes
 }
 
-fn answer_text(
-    alloc: Global,
-    bytes: Vec<u8>,
-    line: u32,
-    column: u32,
-) -> Result<Told, AllocError>
+fn answer_text(alloc: Global, bytes: Vec<u8>, line: u32, column: u32) -> Result<Told, AllocError>
     ensures { IfOk result (λ told. told_in told ≡ told_of_text bytes.items line column) }
 {
     if bytes.len() > MOST_BYTES {
@@ -62,12 +52,7 @@ fn answer_text(
     }
 }
 
-fn answer_mappings(
-    alloc: Global,
-    text: String,
-    line: u32,
-    column: u32,
-) -> Result<Told, AllocError>
+fn answer_mappings(alloc: Global, text: String, line: u32, column: u32) -> Result<Told, AllocError>
     requires { length (string_bytes text) ≤ 67108864 }
     ensures { IfOk result (λ told. told_in told ≡ told_of_fault (first_fault (string_bytes text) 2147483648 2147483648)
         (answer_at_or_before (mappings_of (string_bytes text)) line column)) }
@@ -81,16 +66,13 @@ fn answer_mappings(
             let kind = kind_text(fault.kind);
             Ok(Told::Refused(text::refused(alloc, kind, fault.line, fault.byte)?))
         }
-        Err((TextRefusal::TextTooLong, _)) => unreachable!("the text is no longer than a text may be"),
+        Err((TextRefusal::TextTooLong, _)) => unreachable!(
+            "the text is no longer than a text may be"
+        ),
     }
 }
 
-fn look_up(
-    alloc: Global,
-    text: PackedText,
-    line: u32,
-    column: u32,
-) -> Result<Answer, AllocError>
+fn look_up(alloc: Global, text: PackedText, line: u32, column: u32) -> Result<Answer, AllocError>
     ensures { IfOk result (λ answer. answer ≡ answer_at_or_before (mappings_of text) line column) }
 {
     let mut parts = Vec::new(alloc);
@@ -118,7 +100,13 @@ fn answer_line(alloc: Global, answer: &Answer) -> Result<String, AllocError>
         Answer::Nothing => String::from_str(alloc, text::NONE),
         Answer::Unmapped { .. } => String::from_str(alloc, text::UNMAPPED),
         Answer::Found { origin, .. } => {
-            text::found(alloc, origin.source, origin.line, origin.column, origin.name)
+            text::found(
+                alloc,
+                origin.source,
+                origin.line,
+                origin.column,
+                origin.name,
+            )
         }
     }
 }

@@ -41,10 +41,22 @@ pub fn run<R: ByteSource, W: ByteSink, E: ByteSink>(
     requires output_works { W.has_failed output.old ≡ false }
     requires errors_work { E.has_failed errors.old ≡ false }
     ensures { Runs command.now result
-        (record { input = R.left input.old; output = W.taken output.old; errors = E.taken errors.old;
-            input_failed = R.has_failed input.old; output_failed = W.has_failed output.old; errors_failed = E.has_failed errors.old })
-        (record { input = R.left input.new; output = W.taken output.new; errors = E.taken errors.new;
-            input_failed = R.has_failed input.new; output_failed = W.has_failed output.new; errors_failed = E.has_failed errors.new }) }
+        (record {
+          input = R.left input.old;
+          output = W.taken output.old;
+          errors = E.taken errors.old;
+          input_failed = R.has_failed input.old;
+          output_failed = W.has_failed output.old;
+          errors_failed = E.has_failed errors.old;
+        })
+        (record {
+          input = R.left input.new;
+          output = W.taken output.new;
+          errors = E.taken errors.new;
+          input_failed = R.has_failed input.new;
+          output_failed = W.has_failed output.new;
+          errors_failed = E.has_failed errors.new;
+        }) }
 {
     match command {
         Command::Raw { line, column } => run_raw(alloc, *line, *column, input, output, errors),
@@ -63,10 +75,22 @@ fn run_raw<R: ByteSource, W: ByteSink, E: ByteSink>(
     requires output_works { W.has_failed output.old ≡ false }
     requires errors_work { E.has_failed errors.old ≡ false }
     ensures { RunsRaw line column result
-        (record { input = R.left input.old; output = W.taken output.old; errors = E.taken errors.old;
-            input_failed = R.has_failed input.old; output_failed = W.has_failed output.old; errors_failed = E.has_failed errors.old })
-        (record { input = R.left input.new; output = W.taken output.new; errors = E.taken errors.new;
-            input_failed = R.has_failed input.new; output_failed = W.has_failed output.new; errors_failed = E.has_failed errors.new }) }
+        (record {
+          input = R.left input.old;
+          output = W.taken output.old;
+          errors = E.taken errors.old;
+          input_failed = R.has_failed input.old;
+          output_failed = W.has_failed output.old;
+          errors_failed = E.has_failed errors.old;
+        })
+        (record {
+          input = R.left input.new;
+          output = W.taken output.new;
+          errors = E.taken errors.new;
+          input_failed = R.has_failed input.new;
+          output_failed = W.has_failed output.new;
+          errors_failed = E.has_failed errors.new;
+        }) }
 {
     // Two bytes more than a text may have: one of them may be the LF that is dropped.
     let bytes = match read_limited(alloc, input, MOST_BYTES + 2) {
@@ -98,3 +122,8 @@ fn run_raw<R: ByteSource, W: ByteSink, E: ByteSink>(
         }
     }
 }
+
+#[cfg(test)]
+mod tests;
+#[cfg(test)]
+mod vectors;

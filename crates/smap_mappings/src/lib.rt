@@ -27,3 +27,5 @@ pub const LIMIT: u32 = 2147483647;
 
 #[cfg(test)]
 mod tests;
+#[cfg(test)]
+mod vectors;

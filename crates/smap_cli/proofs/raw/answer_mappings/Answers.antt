@@ -1,4 +1,4 @@
-use Rattle.std.proofs.Common.{◌≡◌, ap, sym, ◌∙◌}
+use Rattle.std.proofs.Common.{ap, sym, ◌∙◌}
 use Rattle.std.specs.Prelude.{string_bytes}
 use Rattle.smap_mappings.specs.Mappings.{mappings_of}
 use Rattle.smap_index.specs.Answer.{answer_at_or_before}

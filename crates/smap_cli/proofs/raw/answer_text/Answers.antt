@@ -1,4 +1,4 @@
-use Rattle.std.proofs.Common.{◌≡◌, ◌≤◌, List, ℕ, length, ap, sym, subst, ◌∙◌, arith, Vec, Global}
+use Rattle.std.proofs.Common.{◌≡◌, ◌≤◌, ℕ, length, ap, sym, subst, ◌∙◌, arith, Vec, Global}
 use Rattle.std.specs.Prelude.{string_bytes, IfOk}
 use Rattle.std.specs.Str.{IsUtf8}
 use Rattle.std.proofs.lemmas.Str.{IsUtf8-string_bytes}
@@ -7,7 +7,7 @@ use Rattle.smap_mappings.specs.Faults.{first_fault}
 use Rattle.smap_mappings.specs.Mappings.{mappings_of}
 use Rattle.smap_index.specs.Answer.{answer_at_or_before}
 use Rattle.smap_cli.specs.Told.{told_in}
-use Rattle.smap_cli.specs.Raw.{refused, told_of_fault, told_of_text}
+use Rattle.smap_cli.specs.Raw.{refused, told_of_fault}
 use Rattle.smap_cli.proofs.RawLaws.{told_of_utf8, told_not_utf8}
 use Rattle.smap_cli.proofs.raw.answer_text.Goals as goal
 

@@ -1,5 +1,4 @@
-use Rattle.std.proofs.Common.{◌≡◌, ap, sym, ◌∙◌, [], ◌∷◌, ◌++◌, is_ok, arith}
-use Rattle.smap_mappings.specs.Mappings.{mappings_of}
+use Rattle.std.proofs.Common.{ap, ◌∙◌, [], ◌∷◌, ◌++◌}
 use Rattle.smap_index.specs.Answer.{answer_at_or_before}
 use Rattle.smap_index.specs.Parts.{joined}
 use Rattle.smap_cli.proofs.RawLaws.{joined_whole}

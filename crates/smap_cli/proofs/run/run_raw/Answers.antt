@@ -1,4 +1,4 @@
-use Rattle.std.proofs.Common.{◌≡◌, ◌<◌, ◌≤◌, List, ℕ, length, refl, ap, sym, subst, ◌∙◌, arith, inl, inr}
+use Rattle.std.proofs.Common.{◌≡◌, refl, ap, sym, subst, ◌∙◌, arith, inl, inr}
 use Rattle.std.specs.Prelude.{string_bytes, IfSome}
 use Rattle.smap_cli.specs.Raw.{Told, answered, refused, raw_result}
 use Rattle.smap_cli.specs.Told.{told_in}
@@ -19,34 +19,43 @@ pub returns-in-Ok-print : goal.returns-in-Ok-print
 returns-in-Ok-print g c =
     let o = goal.at.returns-in-Ok-print g c in
     let is = sym (ap told_in c.in-Ok-Answered.field-0-is) ∙ c.in-Ok-Answered.ensures in
-    inl (refl, record {
-      text = string_bytes c.in-Ok-Answered.answer;
-      is_answer = read_decides g o.After-answer_raw (answered (string_bytes c.in-Ok-Answered.answer)) is;
-      printed = subst (Printed (g.W.ByteSink.taken c.args.output.now) (g.W.ByteSink.taken c.print.new.output)) c.deref.ensures c.in-Ok-print.ensures.printed;
-      untold = refl;
-      read = c.in-Ok.ensures.no_failure ∙ c.requires.input_works;
-    })
+    inl (
+      refl,
+      record {
+        text = string_bytes c.in-Ok-Answered.answer;
+        is_answer = read_decides g o.After-answer_raw (answered (string_bytes c.in-Ok-Answered.answer)) is;
+        printed = subst (Printed (g.W.ByteSink.taken c.args.output.now) (g.W.ByteSink.taken c.print.new.output)) c.deref.ensures c.in-Ok-print.ensures.printed;
+        untold = refl;
+        read = c.in-Ok.ensures.no_failure ∙ c.requires.input_works;
+      },
+    )
 
 pub returns-in-Ok-Answered : goal.returns-in-Ok-Answered
 returns-in-Ok-Answered g c =
     let o = goal.at.returns-in-Ok-Answered g c in
     let is = sym (ap told_in c.in-Ok-Answered.field-0-is) ∙ c.in-Ok-Answered.ensures in
-    inr (inr (refl, inr (inl (record {
-      text = string_bytes c.in-Ok-Answered.answer;
-      is_answer = read_decides g o.After-answer_raw (answered (string_bytes c.in-Ok-Answered.answer)) is;
-      failed = c.in-Err-print.ensures.failure;
-      told = c.report-in-Err-print.ensures;
-      front = subst (PrintedFront (g.W.ByteSink.taken c.args.output.now) (g.W.ByteSink.taken c.print.new.output)) c.deref.ensures c.in-Err-print.ensures.front;
-    }))))
+    inr (inr (
+      refl,
+      inr (inl (record {
+        text = string_bytes c.in-Ok-Answered.answer;
+        is_answer = read_decides g o.After-answer_raw (answered (string_bytes c.in-Ok-Answered.answer)) is;
+        failed = c.in-Err-print.ensures.failure;
+        told = c.report-in-Err-print.ensures;
+        front = subst (PrintedFront (g.W.ByteSink.taken c.args.output.now) (g.W.ByteSink.taken c.print.new.output)) c.deref.ensures c.in-Err-print.ensures.front;
+      })),
+    ))
 
 pub returns-in-Ok-Refused : goal.returns-in-Ok-Refused
 returns-in-Ok-Refused g c =
     let o = goal.at.returns-in-Ok-Refused g c in
     let is = sym (ap told_in c.in-Ok-Refused.field-0-is) ∙ c.in-Ok-Refused.ensures in
-    inr (inl (refl, record {
-      text = string_bytes c.in-Ok-Refused.refusal;
-      is_refusal = read_decides g o.After-answer_raw (refused (string_bytes c.in-Ok-Refused.refusal)) is;
-      told = subst (PrintedUnlessFailed (g.E.ByteSink.taken c.args.errors.now) (g.E.ByteSink.taken c.report-in-Ok-Refused.new.errors) (g.E.ByteSink.has_failed c.report-in-Ok-Refused.new.errors)) c.deref-in-Ok-Refused.ensures c.report-in-Ok-Refused.ensures;
-      unprinted = refl;
-      read = c.in-Ok.ensures.no_failure ∙ c.requires.input_works;
-    }))
+    inr (inl (
+      refl,
+      record {
+        text = string_bytes c.in-Ok-Refused.refusal;
+        is_refusal = read_decides g o.After-answer_raw (refused (string_bytes c.in-Ok-Refused.refusal)) is;
+        told = subst (PrintedUnlessFailed (g.E.ByteSink.taken c.args.errors.now) (g.E.ByteSink.taken c.report-in-Ok-Refused.new.errors) (g.E.ByteSink.has_failed c.report-in-Ok-Refused.new.errors)) c.deref-in-Ok-Refused.ensures c.report-in-Ok-Refused.ensures;
+        unprinted = refl;
+        read = c.in-Ok.ensures.no_failure ∙ c.requires.input_works;
+      },
+    ))
