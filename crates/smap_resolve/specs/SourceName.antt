@@ -1,0 +1,19 @@
+-- The name of a source (ECMA-426, Source map format): a URL, or the text that the map gives, where that is no URL.
+use Rattle.std.specs.Prelude.{ℕ, List, string_bytes}
+use Rattle.smap_resolve.specs.declared.SourceName.{SourceName}
+use Rattle.smap_resolve.specs.declared.SourceName.TheVariants.{Resolved, Kept}
+
+-- a name as contracts compare it: by the bytes of its text, and by whether it is a URL
+pub data Name : Type 0 where
+  resolved : List ℕ → Name
+  kept : List ℕ → Name
+
+-- what a `SourceName` is
+abbrev pub name_of : SourceName → Name
+name_of (Resolved url) = resolved (string_bytes url)
+name_of (Kept text) = kept (string_bytes text)
+
+-- the text of a name
+abbrev pub name_text : Name → List ℕ
+name_text (resolved url) = url
+name_text (kept text) = text
