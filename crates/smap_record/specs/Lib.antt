@@ -1,0 +1,4 @@
+pub mod Json
+pub mod FileText
+pub mod Section
+pub mod Record

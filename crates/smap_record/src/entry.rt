@@ -1,0 +1,12 @@
+use smap_resolve::SourceName;
+
+/// A source of a map (ECMA-426, Source map format).
+#[derive(Debug, PartialEq, Eq, Drop)]
+pub struct SourceEntry {
+    /// What it is called, where the map says so.
+    pub name: Option<SourceName>,
+    /// Its text, where the map holds it.
+    pub content: Option<String>,
+    /// Whether the map says that a debugger should pass over it.
+    pub ignored: bool,
+}
