@@ -1,6 +1,6 @@
 -- Worked examples of the definitions: each holds by computing both sides.
-use Rattle.std.proofs.Common.{◌≡◌, ℕ, List, [], ◌∷◌, ◌++◌, Option, Some, None, Ok, Err, Bool, true, false, refl, codes}
-use Rattle.std.specs.Prelude.{Result, option_map, map}
+use Rattle.std.proofs.Common.{◌≡◌, ℕ, List, [], ◌∷◌, ◌++◌, Option, Some, None, Ok, Err, true, false, refl, codes}
+use Rattle.std.specs.Prelude.{Result, ⊤}
 use Rattle.std.specs.Str.{is_utf8, chars}
 use Rattle.serde_json.proofs.OnLiterals.{serde_json_on_literals}
 use Rattle.smap_mappings.specs.Base64.{digit_of}
@@ -10,12 +10,16 @@ use Rattle.smap_mappings.specs.Pieces.{pieces_of, pieces_from, pieces_on}
 use Rattle.smap_mappings.specs.Mappings.{mappings_of, mapping_after, moves_of, values_on}
 use Rattle.smap_mappings.specs.Faults.{first_fault, spelling_fault, move_fault}
 use Rattle.smap_mappings.specs.declared.fault.FaultKind.TheVariants as kinds
+use Rattle.smap_index.specs.Answer.{answer_at_or_before}
+use Rattle.smap_index.specs.Parts.{placed}
+use Rattle.smap_index.specs.declared.answer.Answer.{Answer}
+use Rattle.smap_index.specs.declared.answer.Answer.TheVariants.{Nothing, Found}
 use Rattle.smap_index.specs.declared.part.Part.{Part}
 use Rattle.smap_index.specs.declared.refusal.BuildRefusal.TheVariants.{Interval}
 use Rattle.smap_resolve.specs.SourceName.{kept}
 use Rattle.smap_record.specs.FileText.{value_of_file, byte_order_mark}
 use Rattle.smap_record.specs.Section.{Source}
-use Rattle.smap_record.specs.Record.{MapRecord, record_of}
+use Rattle.smap_record.specs.Record.{MapRecord, record_of, answer_of_map}
 use Rattle.smap_record.specs.declared.refusal.MapRefusal.{MapRefusal}
 use Rattle.smap_record.specs.declared.refusal.MapRefusal.TheVariants as refusals
 
@@ -27,7 +31,135 @@ whole text = record { line = 0; column = 0; text = text; source_base = 0; name_b
 called : List ℕ → Source
 called text = record { name = Some (kept text); content = None; ignored = false }
 
+-- what an example unfolds to compute the record of a file
+unfoldable record_on_literals : ⊤
+unfolding record_of value_of_file is_utf8 chars serde_json_on_literals whole called first_fault spelling_fault move_fault values_on pieces_of pieces_from pieces_on fields_of number_of unsigned_of digit_of
+record_on_literals = tt
+
+-- the refusal of a file, where it is refused
+abbrev refusal_in : Result MapRecord MapRefusal → Option MapRefusal
+refusal_in (Ok stated) = None
+refusal_in (Err refusal) = Some refusal
+
+abbrev refusals_of : List (List ℕ) → List (Option MapRefusal)
+refusals_of [] = []
+refusals_of (bytes ∷ files) = refusal_in (record_of bytes 1) ∷ refusals_of files
+
+-- the sources of a record
+abbrev sources_of : Result MapRecord MapRefusal → List Source
+sources_of (Ok stated) = stated.sources
+sources_of (Err refusal) = []
+
+-- ---- the record
+
 one_source : record_of (codes "{\"version\":3,\"sources\":[\"a.ts\"],\"mappings\":\"AAAA,CAAC\"}") 1
     ≡ Ok (record { parts = whole (codes "AAAA,CAAC"); sources = called (codes "a.ts") ∷ []; names = []; file = None })
-unfolding record_of value_of_file is_utf8 chars serde_json_on_literals whole called first_fault spelling_fault move_fault values_on pieces_of pieces_from pieces_on fields_of number_of unsigned_of digit_of
+unfolding record_on_literals
 one_source = refl
+
+behind_a_mark : record_of (byte_order_mark ++ codes "{\"version\":3,\"sources\":[\"a.ts\"],\"mappings\":\"AAAA,CAAC\"}") 1
+    ≡ Ok (record { parts = whole (codes "AAAA,CAAC"); sources = called (codes "a.ts") ∷ []; names = []; file = None })
+unfolding record_on_literals
+behind_a_mark = refl
+
+behind_a_guard_line : record_of (codes ")]}' and more" ++ 10 ∷ codes "{\"version\":3,\"sources\":[\"a.ts\"],\"mappings\":\"AAAA,CAAC\"}") 1
+    ≡ Ok (record { parts = whole (codes "AAAA,CAAC"); sources = called (codes "a.ts") ∷ []; names = []; file = None })
+unfolding record_on_literals
+behind_a_guard_line = refl
+
+behind_both : record_of (byte_order_mark ++ codes ")]}'" ++ 10 ∷ codes "{\"version\":3,\"sources\":[\"a.ts\"],\"mappings\":\"AAAA,CAAC\"}") 1
+    ≡ Ok (record { parts = whole (codes "AAAA,CAAC"); sources = called (codes "a.ts") ∷ []; names = []; file = None })
+unfolding record_on_literals
+behind_both = refl
+
+-- a source at null has no name, and a content beyond the sources is passed over
+all_fields : record_of (codes "{\"version\":3,\"file\":\"o.js\",\"sourceRoot\":\"src\",\"sources\":[\"a.ts\",null],\"names\":[\"f\"],\"sourcesContent\":[null,\"x\",\"y\"],\"ignoreList\":[1,1],\"mappings\":\"AAAAA\"}") 1
+    ≡ Ok (record { parts = whole (codes "AAAAA"); sources = called (codes "a.ts") ∷ record { name = None; content = Some (codes "x"); ignored = true } ∷ []; names = codes "f" ∷ []; file = Some (codes "o.js") })
+unfolding record_on_literals
+all_fields = refl
+
+last_of_equal_keys : record_of (codes "{\"version\":2,\"sources\":7,\"version\":3,\"sources\":[\"a.ts\"],\"mappings\":\"AAAA,CAAC\"}") 1
+    ≡ Ok (record { parts = whole (codes "AAAA,CAAC"); sources = called (codes "a.ts") ∷ []; names = []; file = None })
+unfolding record_on_literals
+last_of_equal_keys = refl
+
+nulls_are_absent : record_of (codes "{\"version\":3,\"sections\":null,\"file\":null,\"sourceRoot\":null,\"names\":null,\"sourcesContent\":null,\"ignoreList\":null,\"x_google_ignoreList\":null,\"sources\":[\"a.ts\"],\"mappings\":\"AAAA,CAAC\"}") 1
+    ≡ Ok (record { parts = whole (codes "AAAA,CAAC"); sources = called (codes "a.ts") ∷ []; names = []; file = None })
+unfolding record_on_literals
+nulls_are_absent = refl
+
+-- ---- ignored sources
+
+ignored_by_the_older_key : sources_of (record_of (codes "{\"version\":3,\"sources\":[\"a.js\"],\"x_google_ignoreList\":[0],\"mappings\":\"AAAA\"}") 1) ≡ record { name = Some (kept (codes "a.js")); content = None; ignored = true } ∷ []
+unfolding record_on_literals
+ignored_by_the_older_key = refl
+
+ignored_where_the_newer_key_is_null : sources_of (record_of (codes "{\"version\":3,\"sources\":[\"a.js\"],\"ignoreList\":null,\"x_google_ignoreList\":[0],\"mappings\":\"AAAA\"}") 1) ≡ record { name = Some (kept (codes "a.js")); content = None; ignored = true } ∷ []
+unfolding record_on_literals
+ignored_where_the_newer_key_is_null = refl
+
+not_ignored_where_the_newer_list_is_empty : sources_of (record_of (codes "{\"version\":3,\"sources\":[\"a.js\"],\"ignoreList\":[],\"x_google_ignoreList\":[0],\"mappings\":\"AAAA\"}") 1) ≡ called (codes "a.js") ∷ []
+unfolding record_on_literals
+not_ignored_where_the_newer_list_is_empty = refl
+
+-- ---- refusals
+
+-- nothing; a text that ends too soon; a guard line that no LF ends, twice; a byte that is no UTF-8
+not_json : refusals_of ([] ∷ codes "{\"version\":3," ∷ codes ")]}'" ∷ codes ")]}'{}" ∷ (codes "{\"file\":\"" ++ 0xFF ∷ codes "\"}") ∷ [])
+    ≡ Some refusals.NotJson ∷ Some refusals.NotJson ∷ Some refusals.NotJson ∷ Some refusals.NotJson ∷ Some refusals.NotJson ∷ []
+unfolding record_on_literals
+not_json = refl
+
+not_an_object : refusals_of (codes "[]" ∷ codes "3" ∷ codes "null" ∷ [])
+    ≡ Some refusals.NotObject ∷ Some refusals.NotObject ∷ Some refusals.NotObject ∷ []
+unfolding record_on_literals
+not_an_object = refl
+
+other_versions : refusals_of (codes "{}" ∷ codes "{\"version\":2}" ∷ codes "{\"version\":\"3\"}" ∷ codes "{\"version\":3.5}" ∷ codes "{\"version\":null}" ∷ [])
+    ≡ Some refusals.Version ∷ Some refusals.Version ∷ Some refusals.Version ∷ Some refusals.Version ∷ Some refusals.Version ∷ []
+unfolding record_on_literals
+other_versions = refl
+
+sections_are_refused : refusals_of (codes "{\"version\":3,\"sections\":[],\"file\":7}" ∷ codes "{\"version\":3,\"sections\":7}" ∷ [])
+    ≡ Some refusals.Sections ∷ Some refusals.Sections ∷ []
+unfolding record_on_literals
+sections_are_refused = refl
+
+-- also where `mappings` is missing, which is asked later
+bad_sources : refusals_of (codes "{\"version\":3}" ∷ codes "{\"version\":3,\"sources\":null}" ∷ codes "{\"version\":3,\"sources\":[7],\"names\":7}" ∷ codes "{\"version\":3,\"sources\":\"a.js\"}" ∷ [])
+    ≡ Some refusals.Sources ∷ Some refusals.Sources ∷ Some refusals.Sources ∷ Some refusals.Sources ∷ []
+unfolding record_on_literals
+bad_sources = refl
+
+bad_fields : refusals_of (codes "{\"version\":3,\"sources\":[\"a.js\"],\"names\":[null],\"sourcesContent\":7}" ∷ codes "{\"version\":3,\"sources\":[\"a.js\"],\"sourcesContent\":[7],\"ignoreList\":7}" ∷ codes "{\"version\":3,\"sources\":[\"a.js\"],\"ignoreList\":[1],\"mappings\":\"\"}" ∷ codes "{\"version\":3,\"sources\":[\"a.js\"],\"ignoreList\":[-1],\"sourceRoot\":7}" ∷ codes "{\"version\":3,\"sources\":[\"a.js\"],\"sourceRoot\":7}" ∷ codes "{\"version\":3,\"file\":7}" ∷ codes "{\"version\":3,\"sources\":[\"a.js\"],\"mappings\":7}" ∷ codes "{\"version\":3,\"sources\":[]}" ∷ [])
+    ≡ Some refusals.Names ∷ Some refusals.SourcesContent ∷ Some refusals.IgnoreList ∷ Some refusals.IgnoreList ∷ Some refusals.FileOrRoot ∷ Some refusals.FileOrRoot ∷ Some refusals.Mappings ∷ Some refusals.Mappings ∷ []
+unfolding record_on_literals
+bad_fields = refl
+
+faulty_mappings : refusals_of (codes "{\"version\":3,\"sources\":[\"a.js\"],\"mappings\":\"ACAA\"}" ∷ codes "{\"version\":3,\"sources\":[\"a.js\"],\"mappings\":\"AAAAA\"}" ∷ codes "{\"version\":3,\"sources\":[\"a.js\"],\"mappings\":\"CAAA,DAAA\"}" ∷ [])
+    ≡ Some (refusals.Text 0 (record { byte = 0; line = 0; kind = kinds.SourceIndex })) ∷ Some (refusals.Text 0 (record { byte = 0; line = 0; kind = kinds.NameIndex })) ∷ Some (refusals.Text 0 (record { byte = 5; line = 0; kind = kinds.ColumnFalls })) ∷ []
+unfolding record_on_literals
+faulty_mappings = refl
+
+other_interval : record_of (codes "{\"version\":3,\"sources\":[\"a.ts\"],\"mappings\":\"AAAA,CAAC\"}") 2 ≡ Err (refusals.Build Interval)
+unfolding record_on_literals
+other_interval = refl
+
+other_interval_comes_last : record_of (codes "{\"version\":3,\"sources\":[],\"mappings\":7}") 2 ≡ Err refusals.Mappings
+unfolding record_on_literals
+other_interval_comes_last = refl
+
+-- ---- look-ups
+
+-- what a file's map answers
+abbrev answer_in : Result MapRecord MapRefusal → ℕ → ℕ → Option Answer
+answer_in (Ok stated) line column = Some (answer_of_map stated line column)
+answer_in (Err refusal) line column = None
+
+last_on_the_line : answer_in (record_of (codes "{\"version\":3,\"sources\":[\"a.ts\"],\"mappings\":\"AAAA,CAAC\"}") 1) 0 5 ≡ Some (Found 1 (record { source = 0; line = 0; column = 1; name = None }))
+unfolding record_on_literals answer_of_map answer_at_or_before placed mappings_of mapping_after moves_of
+last_on_the_line = refl
+
+nothing_on_the_next_line : answer_in (record_of (codes "{\"version\":3,\"sources\":[\"a.ts\"],\"mappings\":\"AAAA,CAAC\"}") 1) 1 0 ≡ Some Nothing
+unfolding record_on_literals answer_of_map answer_at_or_before placed mappings_of mapping_after moves_of
+nothing_on_the_next_line = refl
