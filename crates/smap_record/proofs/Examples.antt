@@ -17,7 +17,7 @@ use Rattle.smap_index.specs.declared.answer.Answer.TheVariants.{Nothing, Found}
 use Rattle.smap_index.specs.declared.part.Part.{Part}
 use Rattle.smap_index.specs.declared.refusal.BuildRefusal.TheVariants.{Interval}
 use Rattle.smap_resolve.specs.SourceName.{kept}
-use Rattle.smap_record.specs.FileText.{value_of_file, byte_order_mark}
+use Rattle.smap_record.specs.FileText.{byte_order_mark}
 use Rattle.smap_record.specs.Section.{Source}
 use Rattle.smap_record.specs.Record.{MapRecord, record_of, answer_of_map}
 use Rattle.smap_record.specs.declared.refusal.MapRefusal.{MapRefusal}
@@ -33,7 +33,7 @@ called text = record { name = Some (kept text); content = None; ignored = false 
 
 -- what an example unfolds to compute the record of a file
 unfoldable record_on_literals : ⊤
-unfolding record_of value_of_file is_utf8 chars serde_json_on_literals whole called first_fault spelling_fault move_fault values_on pieces_of pieces_from pieces_on fields_of number_of unsigned_of digit_of
+unfolding record_of is_utf8 chars serde_json_on_literals whole called first_fault spelling_fault move_fault values_on pieces_of pieces_from pieces_on fields_of number_of unsigned_of digit_of
 record_on_literals = tt
 
 -- the refusal of a file, where it is refused
@@ -157,9 +157,9 @@ answer_in (Ok stated) line column = Some (answer_of_map stated line column)
 answer_in (Err refusal) line column = None
 
 last_on_the_line : answer_in (record_of (codes "{\"version\":3,\"sources\":[\"a.ts\"],\"mappings\":\"AAAA,CAAC\"}") 1) 0 5 ≡ Some (Found 1 (record { source = 0; line = 0; column = 1; name = None }))
-unfolding record_on_literals answer_of_map answer_at_or_before placed mappings_of mapping_after moves_of
+unfolding record_on_literals answer_at_or_before placed mappings_of mapping_after moves_of
 last_on_the_line = refl
 
 nothing_on_the_next_line : answer_in (record_of (codes "{\"version\":3,\"sources\":[\"a.ts\"],\"mappings\":\"AAAA,CAAC\"}") 1) 1 0 ≡ Some Nothing
-unfolding record_on_literals answer_of_map answer_at_or_before placed mappings_of mapping_after moves_of
+unfolding record_on_literals answer_at_or_before placed mappings_of mapping_after moves_of
 nothing_on_the_next_line = refl

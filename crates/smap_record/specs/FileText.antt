@@ -30,5 +30,5 @@ abbrev pub read_utf8 : List ℕ → Option Data
 read_utf8 text = if is_utf8 text then read text else None
 
 -- the value of a file
-unfoldable pub value_of_file : List ℕ → Option Data
+abbrev pub value_of_file : List ℕ → Option Data
 value_of_file bytes = read_utf8 (json_text bytes)

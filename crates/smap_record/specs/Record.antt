@@ -1,6 +1,6 @@
 -- What the bytes of a map file give (ECMA-426, Source map format): the first refusal, or the record of the map. Index
 -- maps are refused so far, and no source is resolved: each name is the text that the map gives.
-use Rattle.std.specs.Prelude.{ℕ, List, [], ◌∷◌, ◌++◌, Option, Some, None, Bool, false, not, ◌==◌, is_some, is_none, nat_lt, if◌then◌else◌, length, map, flat_map, option_map, option_and_then, unwrap_or, string_bytes, codes, Result, Ok, Err}
+use Rattle.std.specs.Prelude.{ℕ, List, [], ◌∷◌, ◌++◌, Option, Some, None, Bool, false, not, ◌==◌, is_some, is_none, nat_lt, if◌then◌else◌, length, map, flat_map, option_map, option_and_then, unwrap_or, string_bytes, Result, Ok, Err}
 use Rattle.std.specs.Option.{option_map_or}
 use Rattle.serde_json.specs.Data.{Data}
 use Rattle.serde_json.specs.Find.{as_object, as_str}
@@ -12,7 +12,8 @@ use Rattle.smap_index.specs.declared.refusal.BuildRefusal.{BuildRefusal}
 use Rattle.smap_index.specs.declared.refusal.BuildRefusal.TheVariants.{Interval}
 use Rattle.smap_resolve.specs.SourceName.{name_of}
 use Rattle.smap_record.specs.FileText.{value_of_file}
-use Rattle.smap_record.specs.Json.{field, or_absent, whole_number}
+use Rattle.smap_record.specs.Json.{or_absent, whole_number}
+use Rattle.smap_record.specs.Fields.{OuterFields, outer_of, Fields, fields_of}
 use Rattle.smap_record.specs.Section.{Section, Source, refused_if, section_refusals, section_sources, section_names, part_of}
 use Rattle.smap_record.specs.declared.TheConstants.{MOST_FILE_BYTES}
 use Rattle.smap_record.specs.declared.entry.SourceEntry.{SourceEntry}
@@ -39,21 +40,24 @@ abbrev pub is_three : Option Data → Bool
 is_three value = option_map_or (λ number. number == 3) (option_and_then whole_number value) false
 
 -- the generated file's name, which may be absent
-abbrev pub file_in : Data → Option (Option (List ℕ))
-file_in outer = or_absent None (λ file. option_map Some (as_str file)) (field (codes "file") outer)
-
--- its sections: a regular map is the only one, and begins at the start
-abbrev pub sections_of : Data → List Section
-sections_of outer = record { number = 0; line = 0; column = 0; value = outer; source_base = 0; name_base = 0 } ∷ []
+abbrev pub file_in : Option Data → Option (Option (List ℕ))
+file_in file = or_absent None (λ text. option_map Some (as_str text)) file
 
 -- the refusals of the outer object, each where it holds, in the order in which they are asked
-abbrev pub outer_refusals : Data → List (Option MapRefusal)
+abbrev pub outer_refusals : OuterFields → List (Option MapRefusal)
 outer_refusals outer =
-    refused_if NotObject (is_none (as_object outer))
-    ∷ refused_if Version (not (is_three (field (codes "version") outer)))
-    ∷ refused_if Sections (is_some (field (codes "sections") outer))
-    ∷ refused_if FileOrRoot (is_none (file_in outer))
+    refused_if Version (not (is_three outer.version))
+    ∷ refused_if Sections (is_some outer.sections)
+    ∷ refused_if FileOrRoot (is_none (file_in outer.file))
     ∷ []
+
+-- the one section of a regular map, with these fields: it begins at the start
+abbrev pub whole : Fields → Section
+whole fields = record { number = 0; line = 0; column = 0; fields = fields; source_base = 0; name_base = 0 }
+
+-- the sections of a map
+abbrev pub sections_of : Data → List Section
+sections_of value = whole (fields_of value) ∷ []
 
 -- ---- the whole file
 
@@ -61,12 +65,13 @@ outer_refusals outer =
 abbrev pub build_fault : List Part → ℕ → Option BuildRefusal
 build_fault parts k = if k == 1 then None else Some Interval
 
--- the refusals of a map, each where it holds, in the order in which they are asked
+-- the refusals of a JSON value, each where it holds, in the order in which they are asked
 abbrev pub map_refusals : Data → ℕ → List (Option MapRefusal)
-map_refusals outer k =
-    outer_refusals outer
-    ++ flat_map section_refusals (sections_of outer)
-    ++ option_map Build (build_fault (map part_of (sections_of outer)) k) ∷ []
+map_refusals value k =
+    refused_if NotObject (is_none (as_object value))
+    ∷ outer_refusals (outer_of value)
+    ++ flat_map section_refusals (sections_of value)
+    ++ option_map Build (build_fault (map part_of (sections_of value)) k) ∷ []
 
 -- the first that holds
 abbrev pub first_refusal : List (Option MapRefusal) → Option MapRefusal
@@ -76,11 +81,11 @@ first_refusal (None ∷ others) = first_refusal others
 
 -- what a map states: its sections' entries, joined in order
 abbrev pub record_in : Data → MapRecord
-record_in outer = record {
-  parts = map part_of (sections_of outer);
-  sources = flat_map section_sources (sections_of outer);
-  names = flat_map section_names (sections_of outer);
-  file = unwrap_or (file_in outer) None;
+record_in value = record {
+  parts = map part_of (sections_of value);
+  sources = flat_map section_sources (sections_of value);
+  names = flat_map section_names (sections_of value);
+  file = unwrap_or (file_in (outer_of value).file) None;
 }
 
 abbrev pub record_unless : Option MapRefusal → MapRecord → Result MapRecord MapRefusal
@@ -89,7 +94,7 @@ record_unless None stated = Ok stated
 
 abbrev pub record_of_value : Option Data → ℕ → Result MapRecord MapRefusal
 record_of_value None k = Err NotJson
-record_of_value (Some outer) k = record_unless (first_refusal (map_refusals outer k)) (record_in outer)
+record_of_value (Some value) k = record_unless (first_refusal (map_refusals value k)) (record_in value)
 
 -- the record of a file's bytes at an interval k, or the first refusal
 unfoldable pub record_of : List ℕ → ℕ → Result MapRecord MapRefusal
@@ -98,5 +103,5 @@ record_of bytes k = if nat_lt MOST_FILE_BYTES (length bytes) then Err TooLarge e
 -- ---- look-ups
 
 -- what a map answers at a generated position
-unfoldable pub answer_of_map : MapRecord → ℕ → ℕ → Answer
+abbrev pub answer_of_map : MapRecord → ℕ → ℕ → Answer
 answer_of_map stated line column = answer_at_or_before (joined stated.parts) line column

@@ -1,15 +1,16 @@
 -- What the map of one section states (ECMA-426, Source map format), and why it is refused. A regular map is the one
 -- section of itself.
-use Rattle.std.specs.Prelude.{ℕ, ◌+◌, List, [], ◌∷◌, Option, Some, None, Bool, ◌||◌, ◌==◌, is_none, nat_lt, if◌then◌else◌, length, map, option_map, option_and_then, slice_get, unwrap_or, codes}
+use Rattle.std.specs.Prelude.{ℕ, ◌+◌, List, [], ◌∷◌, Option, Some, None, Bool, true, ◌==◌, is_none, nat_lt, if◌then◌else◌, length, map, option_map, option_and_then, slice_get, unwrap_or}
 use Rattle.std.specs.List.{list_any, enumerate_from}
-use Rattle.std.specs.Option.{option_or, option_flatten}
+use Rattle.std.specs.Option.{option_flatten}
 use Rattle.serde_json.specs.Data.{Data}
 use Rattle.serde_json.specs.Find.{as_str}
 use Rattle.smap_mappings.specs.Faults.{first_fault}
 use Rattle.smap_mappings.specs.PackedText.{most_bytes}
 use Rattle.smap_index.specs.declared.part.Part.{Part}
 use Rattle.smap_resolve.specs.SourceName.{Name, kept}
-use Rattle.smap_record.specs.Json.{field, or_absent, number_below, text_or_null, list_of}
+use Rattle.smap_record.specs.Json.{or_absent, number_below, text_or_null, list_of}
+use Rattle.smap_record.specs.Fields.{Fields}
 use Rattle.smap_record.specs.declared.TheConstants.{MOST_ENTRIES}
 use Rattle.smap_record.specs.declared.refusal.MapRefusal.{MapRefusal}
 use Rattle.smap_record.specs.declared.refusal.MapRefusal.TheVariants.{Sources, Names, SourcesContent, IgnoreList, FileOrRoot, Mappings, Text}
@@ -17,57 +18,57 @@ use Rattle.smap_record.specs.declared.refusal.MapRefusal.TheVariants.{Sources, N
 -- ---- what a map states, where it states it right
 
 -- its sources, each a text or none
-abbrev pub sources_in : Data → Option (List (Option (List ℕ)))
-sources_in value = option_and_then (list_of text_or_null) (field (codes "sources") value)
+abbrev pub sources_in : Option Data → Option (List (Option (List ℕ)))
+sources_in sources = option_and_then (list_of text_or_null) sources
 
 -- its names; absent means none
-abbrev pub names_in : Data → Option (List (List ℕ))
-names_in value = or_absent [] (list_of as_str) (field (codes "names") value)
+abbrev pub names_in : Option Data → Option (List (List ℕ))
+names_in names = or_absent [] (list_of as_str) names
 
 -- the texts of its sources, each there or not; absent means none
-abbrev pub contents_in : Data → Option (List (Option (List ℕ)))
-contents_in value = or_absent [] (list_of text_or_null) (field (codes "sourcesContent") value)
-
--- the list of ignored sources: the older key is read where the newer one is absent
-abbrev pub ignore_field : Data → Option Data
-ignore_field value = option_or (field (codes "ignoreList") value) (field (codes "x_google_ignoreList") value)
+abbrev pub contents_in : Option Data → Option (List (Option (List ℕ)))
+contents_in contents = or_absent [] (list_of text_or_null) contents
 
 -- the indices of its ignored sources, where it has this many sources; absent means none
-abbrev pub ignored_in : ℕ → Data → Option (List ℕ)
-ignored_in sources value = or_absent [] (list_of (number_below sources)) (ignore_field value)
+abbrev pub ignored_in : ℕ → Option Data → Option (List ℕ)
+ignored_in sources ignored = or_absent [] (list_of (number_below sources)) ignored
 
 -- what is put before its sources, which may be absent
-abbrev pub root_in : Data → Option (Option (List ℕ))
-root_in value = or_absent None (λ root. option_map Some (as_str root)) (field (codes "sourceRoot") value)
+abbrev pub root_in : Option Data → Option (Option (List ℕ))
+root_in root = or_absent None (λ text. option_map Some (as_str text)) root
 
 -- its mappings text, where it is no longer than one may be
-abbrev pub mappings_in : Data → Option (List ℕ)
-mappings_in value =
+abbrev pub mappings_in : Option Data → Option (List ℕ)
+mappings_in mappings =
     option_and_then (λ text. if nat_lt most_bytes (length text) then None else Some text)
-    (option_and_then as_str (field (codes "mappings") value))
+    (option_and_then as_str mappings)
 
 -- ---- a section
 
--- where a section begins, its map, its number, and how many sources and names the sections before it have
+-- where a section begins, the fields of its map, its number, and how many sources and names the sections before it have
 pub record Section : Type 0 where
   pub number : ℕ
   pub line : ℕ
   pub column : ℕ
-  pub value : Data
+  pub fields : Fields
   pub source_base : ℕ
   pub name_base : ℕ
 
--- how many sources it has
-abbrev pub source_count : Section → ℕ
-source_count section = length (unwrap_or (sources_in section.value) [])
+-- the texts of its sources, which are none where they are not stated right; likewise of the others
+abbrev pub source_texts : Section → List (Option (List ℕ))
+source_texts section = unwrap_or (sources_in section.fields.sources) []
 
--- how many names it has
-abbrev pub name_count : Section → ℕ
-name_count section = length (unwrap_or (names_in section.value) [])
+abbrev pub section_names : Section → List (List ℕ)
+section_names section = unwrap_or (names_in section.fields.names) []
 
--- its mappings text
+abbrev pub contents_of : Section → List (Option (List ℕ))
+contents_of section = unwrap_or (contents_in section.fields.contents) []
+
+abbrev pub ignored_of : Section → List ℕ
+ignored_of section = unwrap_or (ignored_in (length (source_texts section)) section.fields.ignored) []
+
 abbrev pub text_of : Section → List ℕ
-text_of section = unwrap_or (mappings_in section.value) []
+text_of section = unwrap_or (mappings_in section.fields.mappings) []
 
 -- ---- why it is refused
 
@@ -75,16 +76,21 @@ text_of section = unwrap_or (mappings_in section.value) []
 abbrev pub refused_if : MapRefusal → Bool → Option MapRefusal
 refused_if refusal holds = if holds then Some refusal else None
 
+-- there is no such list, or one with which there are more entries than a map may list, where this many stand before it
+abbrev pub is_no_list : {A : Type 0} → ℕ → Option (List A) → Bool
+is_no_list before None = true
+is_no_list before (Some entries) = nat_lt MOST_ENTRIES (before + length entries)
+
 -- the refusals of a section, each where it holds, in the order in which they are asked
 abbrev pub section_refusals : Section → List (Option MapRefusal)
 section_refusals section =
-    refused_if Sources (is_none (sources_in section.value) || nat_lt MOST_ENTRIES (section.source_base + source_count section))
-    ∷ refused_if Names (is_none (names_in section.value) || nat_lt MOST_ENTRIES (section.name_base + name_count section))
-    ∷ refused_if SourcesContent (is_none (contents_in section.value))
-    ∷ refused_if IgnoreList (is_none (ignored_in (source_count section) section.value))
-    ∷ refused_if FileOrRoot (is_none (root_in section.value))
-    ∷ refused_if Mappings (is_none (mappings_in section.value))
-    ∷ option_map (Text section.number) (first_fault (text_of section) (source_count section) (name_count section))
+    refused_if Sources (is_no_list section.source_base (sources_in section.fields.sources))
+    ∷ refused_if Names (is_no_list section.name_base (names_in section.fields.names))
+    ∷ refused_if SourcesContent (is_none (contents_in section.fields.contents))
+    ∷ refused_if IgnoreList (is_none (ignored_in (length (source_texts section)) section.fields.ignored))
+    ∷ refused_if FileOrRoot (is_none (root_in section.fields.root))
+    ∷ refused_if Mappings (is_none (mappings_in section.fields.mappings))
+    ∷ option_map (Text section.number) (first_fault (text_of section) (length (source_texts section)) (length (section_names section)))
     ∷ []
 
 -- ---- what it gives
@@ -103,16 +109,13 @@ source_at contents ignored i text = record {
   ignored = list_any (λ index. index == i) ignored;
 }
 
+-- the sources with these texts
+abbrev pub sources_with : List (Option (List ℕ)) → List ℕ → List (Option (List ℕ)) → List Source
+sources_with contents ignored texts = map (λ at. source_at contents ignored at.0 at.1) (enumerate_from 0 texts)
+
 -- the sources of a section
 abbrev pub section_sources : Section → List Source
-section_sources section =
-    let contents = unwrap_or (contents_in section.value) [] in
-    let ignored = unwrap_or (ignored_in (source_count section) section.value) [] in
-    map (λ at. source_at contents ignored at.0 at.1) (enumerate_from 0 (unwrap_or (sources_in section.value) []))
-
--- the names of a section
-abbrev pub section_names : Section → List (List ℕ)
-section_names section = unwrap_or (names_in section.value) []
+section_sources section = sources_with (contents_of section) (ignored_of section) (source_texts section)
 
 -- the part of the index that a section is
 abbrev pub part_of : Section → Part

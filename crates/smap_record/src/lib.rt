@@ -2,14 +2,23 @@
 //! definitions of it stand in `specs/`; `record_of` there says what the bytes of a file give.
 #![tactic(auto)]
 
+mod entries;
 mod entry;
+mod fields;
+mod file_text;
+mod json;
+mod map_file;
+mod marks;
 mod refusal;
+mod section;
 
 pub use entry::SourceEntry;
+pub use map_file::MapFile;
 pub use refusal::MapRefusal;
-pub use smap_index::BuildRefusal;
-pub use smap_mappings::{Fault, FaultKind};
+pub use smap_index::{Answer, BuildRefusal};
+pub use smap_mappings::{Fault, FaultKind, Mapping, Meter, Origin};
 pub use smap_resolve::SourceName;
+pub use url::Url;
 
 /// How many bytes a map file has at most.
 pub const MOST_FILE_BYTES: usize = 67108864;

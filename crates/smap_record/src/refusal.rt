@@ -1,5 +1,9 @@
+ghost use Rattle.std.specs.Prelude.{◌≡◌};
+ghost use Rattle.smap_record.specs.declared.refusal.MapRefusal.TheVariants.{Memory};
+
 use smap_index::BuildRefusal;
 use smap_mappings::Fault;
+use std::alloc::AllocError;
 use thiserror::Error;
 
 /// Why a map file is refused, in the order in which the causes are asked. Section numbers count from 0.
@@ -47,4 +51,12 @@ pub enum MapRefusal {
     /// M17: there is not enough memory.
     #[error("out of memory")]
     Memory,
+}
+
+impl From<AllocError> for MapRefusal {
+    ghost from_gives = { λ _ refusal. refusal ≡ Memory };
+
+    fn from(_error: AllocError) -> MapRefusal {
+        MapRefusal::Memory
+    }
 }

@@ -1,0 +1,41 @@
+-- The fields of a map's object that are read (ECMA-426, Source map format). Other keys are passed over.
+use Rattle.std.specs.Prelude.{Option, codes}
+use Rattle.std.specs.Option.{option_or}
+use Rattle.serde_json.specs.Data.{Data}
+use Rattle.smap_record.specs.Json.{field}
+
+-- what stands, where it is not null, at the keys that only the outer object has
+pub record OuterFields : Type 0 where
+  pub version : Option Data
+  pub sections : Option Data
+  pub file : Option Data
+
+abbrev pub outer_of : Data → OuterFields
+outer_of value = record {
+  version = field (codes "version") value;
+  sections = field (codes "sections") value;
+  file = field (codes "file") value;
+}
+
+-- what stands, where it is not null, at the keys of one section's map
+pub record Fields : Type 0 where
+  pub sources : Option Data
+  pub names : Option Data
+  pub contents : Option Data
+  pub ignored : Option Data
+  pub root : Option Data
+  pub mappings : Option Data
+
+-- the list of ignored sources: the older key is read where the newer one is absent
+abbrev pub ignored_field : Data → Option Data
+ignored_field value = option_or (field (codes "ignoreList") value) (field (codes "x_google_ignoreList") value)
+
+abbrev pub fields_of : Data → Fields
+fields_of value = record {
+  sources = field (codes "sources") value;
+  names = field (codes "names") value;
+  contents = field (codes "sourcesContent") value;
+  ignored = ignored_field value;
+  root = field (codes "sourceRoot") value;
+  mappings = field (codes "mappings") value;
+}

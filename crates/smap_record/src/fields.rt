@@ -1,0 +1,87 @@
+//! The fields of a map's object that are read.
+ghost use Rattle.std.specs.Prelude.{◌≡◌, ℕ, List, false, bytes_eq, option_map};
+ghost use Rattle.serde_json.specs.Data.{object};
+ghost use Rattle.serde_json.specs.Find.{get_member};
+ghost use Rattle.serde_json.specs.View.{members_view, view};
+ghost use Rattle.smap_record.specs.Fields.{fields_of, outer_of};
+ghost use Rattle.smap_record.specs.Json.{field, not_null};
+ghost use Rattle.smap_record.specs.Seen.{fields_seen, outer_seen};
+
+use serde_json::{Map, Value};
+
+/// What stands, where it is not null, at the keys that only the outer object has.
+#[derive(Drop)]
+pub struct OuterFields {
+    pub version: Option<Value>,
+    pub sections: Option<Value>,
+    pub file: Option<Value>,
+}
+
+/// What stands, where it is not null, at the keys of one section's map.
+#[derive(Drop)]
+pub struct Fields {
+    pub sources: Option<Value>,
+    pub names: Option<Value>,
+    pub contents: Option<Value>,
+    pub ignored: Option<Value>,
+    pub root: Option<Value>,
+    pub mappings: Option<Value>,
+}
+
+impl OuterFields {
+    /// Moves the fields out of an object, which keeps those of a section's map.
+    pub fn take(members: &mut Map<String, Value>) -> OuterFields
+        ensures taken { outer_seen result ≡ outer_of (object (members_view members.old.entries)) }
+        ensures others { fields_of (object (members_view members.new.entries)) ≡ fields_of (object (members_view members.old.entries)) }
+    {
+        OuterFields {
+            version: take(members, "version"),
+            sections: take(members, "sections"),
+            file: take(members, "file"),
+        }
+    }
+}
+
+impl Fields {
+    /// Moves the fields out of an object.
+    pub fn of(mut members: Map<String, Value>) -> Fields
+        ensures { fields_seen result ≡ fields_of (object (members_view members.entries)) }
+    {
+        let sources = take(&mut members, "sources");
+        let names = take(&mut members, "names");
+        let contents = take(&mut members, "sourcesContent");
+        let ignored = take(&mut members, "ignoreList");
+        let older_ignored = take(&mut members, "x_google_ignoreList");
+        let root = take(&mut members, "sourceRoot");
+        let mappings = take(&mut members, "mappings");
+        Fields {
+            sources,
+            names,
+            contents,
+            ignored: ignored.or(older_ignored),
+            root,
+            mappings,
+        }
+    }
+}
+
+/// Moves out what stands at a key, where it is not null. The other keys keep theirs.
+fn take(members: &mut Map<String, Value>, key: &str) -> Option<Value>
+    ensures taken { option_map view result ≡ field key.now (object (members_view members.old.entries)) }
+    ensures others { (other : List ℕ) → bytes_eq other key.now ≡ false
+        → get_member other (members_view members.new.entries) ≡ get_member other (members_view members.old.entries) }
+{
+    match members.remove(key) {
+        Some(value) => not_null(value),
+        None => None,
+    }
+}
+
+fn not_null(value: Value) -> Option<Value>
+    ensures { option_map view result ≡ not_null (view value) }
+{
+    match value {
+        Value::Null => None,
+        other => Some(other),
+    }
+}
