@@ -1,19 +1,21 @@
 -- What the words of the command line ask for.
 use Rattle.std.specs.Prelude.{◌≡◌, ◌≢◌, ◌≤◌, ◌+◌, ℕ, false, true, pos, codes, Option, Some, List, []}
-use Rattle.std.specs.Prelude.{◌∷◌, String, map, ⊤}
+use Rattle.std.specs.Prelude.{◌∷◌, ◌⊎◌, String, map, ⊤}
 use Rattle.std.specs.Str.Parse.{IsNumeral, digits_value, without_leading_plus}
 use Rattle.std.specs.String.{string_bytes}
 use Rattle.clap.specs.Faults.{fault_of}
 use Rattle.clap.specs.Kinds.{IsAmong}
 use Rattle.clap.specs.Simple.{on_top}
-use Rattle.clap.specs.Words.{Accepts, App, Row, Rule, Text, new_app, new_rule, one_of, subcommand_of}
-use Rattle.clap.specs.Words.{with_rule, with_subcommand, without_minus}
+use Rattle.clap.specs.Words.{Accepts, App, Row, Rule, Text, app_of, first_of, new_app, new_rule}
+use Rattle.clap.specs.Words.{one_of, subcommand_of, with_rule, with_subcommand, without_minus}
+use Rattle.clap.specs.declared.builder.command.Command.{Command as ClapCommand}
+use Rattle.clap.specs.declared.builder.command.Command.TheViews.{out-Command}
 use Rattle.clap.specs.declared.builder.value_parser.ValueParser.{ValueParser}
 use Rattle.clap.specs.declared.builder.value_parser.ValueParser.TheVariants as parser
 use Rattle.clap.specs.declared.error.kind.ErrorKind.{ErrorKind}
 use Rattle.clap.specs.declared.error.kind.ErrorKind.TheVariants.{DisplayHelp, OutOfMemory}
 use Rattle.smap_cli.specs.declared.command.Command.{Command}
-use Rattle.smap_cli.specs.declared.command.Command.TheVariants.{Raw}
+use Rattle.smap_cli.specs.declared.command.Command.TheVariants.{Raw, Check, Lookup}
 use Rattle.smap_cli.specs.declared.command.Usage.{Usage}
 use Rattle.smap_cli.specs.declared.command.Usage.TheVariants.{Help, Words, Memory}
 
@@ -23,12 +25,14 @@ greatest = 2147483647
 
 abbrev pub IsInRange : Command → Type 0
 IsInRange (Raw line column) = (line ≤ greatest) × (column ≤ greatest)
+IsInRange (Check path) = ⊤
+IsInRange (Lookup path line column) = (line ≤ greatest) × (column ≤ greatest)
 
 -- the words as text
 abbrev pub texts : {A : Type 0} → List (String A) → List Text
 texts = map (λ word. string_bytes word)
 
--- ---- a plain call of `raw`
+-- ---- plain calls
 
 -- the text is the number in decimal digits, and a line or column, counted from 1, may be it
 abbrev pub IsPlaceText : Text → ℕ → Type 0
@@ -40,6 +44,34 @@ abbrev pub IsRawCall : List Text → ℕ → ℕ → Type 0
 IsRawCall words line column = (program first second : Text)
     × (words ≡ program ∷ codes "raw" ∷ first ∷ second ∷ [])
     × IsPlaceText first (line + 1) × IsPlaceText second (column + 1)
+
+-- the text cannot be taken for a flag: it begins with no hyphen, or is a hyphen alone
+abbrev pub IsPathText : Text → Type 0
+IsPathText [] = ⊤
+IsPathText (first ∷ rest) = (first ≢ 45) ⊎ (rest ≡ [])
+
+-- the words are the program's name, `check` and a path
+abbrev pub IsCheckCall : List Text → Text → Type 0
+IsCheckCall words path = (program : Text) × (words ≡ program ∷ codes "check" ∷ path ∷ [])
+    × IsPathText path
+
+-- the words are the program's name, `lookup`, a path, and a line and a column in digits, counted
+-- from 1
+abbrev pub IsLookupCall : List Text → Text → ℕ → ℕ → Type 0
+IsLookupCall words path line column = (program first second : Text)
+    × (words ≡ program ∷ codes "lookup" ∷ path ∷ first ∷ second ∷ [])
+    × IsPathText path × IsPlaceText first (line + 1) × IsPlaceText second (column + 1)
+
+-- the command is `check` with this path
+abbrev pub IsCheck : Text → Command → Type 0
+IsCheck text (Check path) = string_bytes path ≡ text
+IsCheck text _ = ⊥
+
+-- the command is `lookup` with this path, line and column
+abbrev pub IsLookup : Text → ℕ → ℕ → Command → Type 0
+IsLookup text line column (Lookup path l c) =
+    (string_bytes path ≡ text) × (l ≡ line) × (c ≡ column)
+IsLookup text line column _ = ⊥
 
 -- ---- the command line, as clap reads it
 
@@ -54,10 +86,26 @@ place name = record (new_rule name) { required = true; parser = Some number }
 abbrev pub raw : App
 raw = with_rule (with_rule (new_app (codes "raw")) (place (codes "LINE"))) (place (codes "COLUMN"))
 
+-- the required argument that is the path of a file, of any text
+abbrev pub path_rule : Rule
+path_rule = record (new_rule (codes "PATH")) { required = true }
+
+abbrev pub check : App
+check = with_rule (new_app (codes "check")) path_rule
+
+abbrev pub lookup : App
+lookup = with_rule (with_rule (with_rule (new_app (codes "lookup")) path_rule)
+    (place (codes "LINE"))) (place (codes "COLUMN"))
+
+-- clap's command is the one described, and no argument of it holds in subcommands too
+abbrev pub IsLocalCommand : App → ClapCommand → Type 0
+IsLocalCommand app command = (app_of command ≡ app) × ((out-Command command).has_globals ≡ false)
+
 -- `smap`, which wants a subcommand
 abbrev pub smap : App
-smap = with_subcommand (on_top (λ shape. record shape { subcommand_required = true })
-    (new_app (codes "smap"))) raw.top
+smap = with_subcommand (with_subcommand (with_subcommand
+    (on_top (λ shape. record shape { subcommand_required = true }) (new_app (codes "smap")))
+    raw.top) check.top) lookup.top
 
 -- ---- what any words ask for
 
@@ -71,15 +119,44 @@ abbrev pub GivesNumber : List Row → Text → ℕ → Type 0
 GivesNumber rows name n = (text : Text) × (one_of name rows ≡ Some text)
     × (digits_value 10 (without_leading_plus text) ≡ n)
 
+-- the rows of a subcommand have a text for the argument
+abbrev pub HasText : List Row → Text → Type 0
+HasText rows name = (text : Text) × (first_of name rows ≡ Some text)
+
+-- what clap reads for the argument is this text
+abbrev pub GivesText : List Row → Text → Text → Type 0
+GivesText rows name text = first_of name rows ≡ Some text
+
 -- the subcommand is `raw`, with its two arguments
 abbrev pub HasRaw : Option (Text × List Row) → Type 0
 HasRaw subcommand = (rows : List Row) × (subcommand ≡ Some (codes "raw", rows))
     × HasNumber rows (codes "LINE") × HasNumber rows (codes "COLUMN")
 
+-- the subcommand is `check`, with its argument
+abbrev pub HasCheck : Option (Text × List Row) → Type 0
+HasCheck subcommand = (rows : List Row) × (subcommand ≡ Some (codes "check", rows))
+    × HasText rows (codes "PATH")
+
+-- the subcommand is `lookup`, with its three arguments
+abbrev pub HasLookup : Option (Text × List Row) → Type 0
+HasLookup subcommand = (rows : List Row) × (subcommand ≡ Some (codes "lookup", rows))
+    × HasText rows (codes "PATH") × HasNumber rows (codes "LINE") × HasNumber rows (codes "COLUMN")
+
+-- the subcommand is one of the three, with its arguments
+abbrev pub HasCommand : Option (Text × List Row) → Type 0
+HasCommand subcommand = HasRaw subcommand ⊎ (HasCheck subcommand ⊎ HasLookup subcommand)
+
 -- the subcommand asks for the command, with lines and columns counted from 1
 abbrev pub SubcommandAsksFor : Option (Text × List Row) → Command → Type 0
 SubcommandAsksFor subcommand (Raw line column) = (rows : List Row)
     × (subcommand ≡ Some (codes "raw", rows))
+    × GivesNumber rows (codes "LINE") (line + 1) × GivesNumber rows (codes "COLUMN") (column + 1)
+SubcommandAsksFor subcommand (Check path) = (rows : List Row)
+    × (subcommand ≡ Some (codes "check", rows))
+    × GivesText rows (codes "PATH") (string_bytes path)
+SubcommandAsksFor subcommand (Lookup path line column) = (rows : List Row)
+    × (subcommand ≡ Some (codes "lookup", rows))
+    × GivesText rows (codes "PATH") (string_bytes path)
     × GivesNumber rows (codes "LINE") (line + 1) × GivesNumber rows (codes "COLUMN") (column + 1)
 
 -- clap finds no fault in the words, and the subcommand that they name asks for the command

@@ -3,4 +3,8 @@ pub mod Output
 pub mod Text
 pub mod Raw
 pub mod Told
+pub mod Refusal
+pub mod Map
+pub mod Check
+pub mod Lookup
 pub mod Run

@@ -1,33 +1,17 @@
 -- What `raw` answers to the bytes of its input: a line, and the status with which the program ends.
-use Rattle.std.specs.Prelude.{ℕ, ◌-◌, List, Option, Some, None, ◌==◌, nat_lt, not, if◌then◌else◌, length, take, slice_index, codes}
+use Rattle.std.specs.Prelude.{ℕ, ◌-◌, List, Option, Some, None, ◌==◌, nat_lt, not, if◌then◌else◌, length, take, slice_index}
 use Rattle.std.specs.Str.{is_utf8}
 use Rattle.smap_mappings.specs.Faults.{first_fault}
 use Rattle.smap_mappings.specs.Mappings.{mappings_of}
 use Rattle.smap_mappings.specs.declared.fault.Fault.{Fault}
-use Rattle.smap_mappings.specs.declared.fault.FaultKind.{FaultKind}
-use Rattle.smap_mappings.specs.declared.fault.FaultKind.TheVariants.{BadDigit, Unended, TooLong, TooLarge, NegativeZero, FieldCount, Negative, PastLimit, ColumnFalls, SourceIndex, NameIndex}
 use Rattle.smap_index.specs.Answer.{answer_at_or_before}
 use Rattle.smap_index.specs.declared.answer.Answer.{Answer}
 use Rattle.smap_index.specs.declared.answer.Answer.TheVariants.{Nothing, Unmapped, Found}
-use Rattle.smap_cli.specs.Text.{none_line, unmapped_line, found_line, refused_line, text_too_long_line, not_utf8_line}
+use Rattle.smap_cli.specs.Text.{none_line, unmapped_line, found_line, refused_line, kind_text, text_too_long_line, not_utf8_line}
 
 -- one LF at the very end is dropped
 abbrev pub without_last_line_end : List ℕ → List ℕ
 without_last_line_end bytes = if slice_index bytes (length bytes - 1) == 10 then take (length bytes - 1) bytes else bytes
-
--- how a kind of fault is called
-abbrev pub kind_text : FaultKind → List ℕ
-kind_text BadDigit = codes "F1 BadDigit"
-kind_text Unended = codes "F2 Unended"
-kind_text TooLong = codes "F3 TooLong"
-kind_text TooLarge = codes "F4 TooLarge"
-kind_text NegativeZero = codes "F5 NegativeZero"
-kind_text FieldCount = codes "F6 FieldCount"
-kind_text Negative = codes "F7 Negative"
-kind_text PastLimit = codes "F8 PastLimit"
-kind_text ColumnFalls = codes "F9 ColumnFalls"
-kind_text SourceIndex = codes "F10 SourceIndex"
-kind_text NameIndex = codes "F11 NameIndex"
 
 abbrev pub answer_line : Answer → List ℕ
 answer_line Nothing = none_line

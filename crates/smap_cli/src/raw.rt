@@ -3,25 +3,17 @@ ghost use Rattle.std.specs.Prelude.{◌≡◌, ◌≤◌, IfOk, length, string_b
 ghost use Rattle.smap_mappings.specs.Faults.{first_fault};
 ghost use Rattle.smap_mappings.specs.Mappings.{mappings_of};
 ghost use Rattle.smap_index.specs.Answer.{answer_at_or_before};
-ghost use Rattle.smap_cli.specs.Raw.{answer_line, kind_text, raw_result, told_of_fault, told_of_text, without_last_line_end};
+ghost use Rattle.smap_cli.specs.Raw.{answer_line, raw_result, told_of_fault, told_of_text, without_last_line_end};
 ghost use Rattle.smap_cli.specs.Told.{told_in};
 
 use crate::text;
+use crate::told::Told;
 use smap_index::{Answer, BuildRefusal, Index, Part};
-use smap_mappings::{FaultKind, MOST_BYTES, Meter, PackedText, TextRefusal};
+use smap_mappings::{MOST_BYTES, Meter, PackedText, TextRefusal};
 use std::alloc::{AllocError, Global};
 
 // As many as indices can name.
 const ANY_NUMBER: u32 = 2147483648;
-
-/// What the input is answered: a line, with its LF.
-#[derive(Debug, Drop)]
-pub enum Told {
-    /// The answer, for standard output.
-    Answered(String),
-    /// Why there is none, for standard error.
-    Refused(String),
-}
 
 /// Looks up a generated line and column, both from 0, in the mappings text that the bytes are.
 pub fn answer_raw(alloc: Global, bytes: Vec<u8>, line: u32, column: u32) -> Result<Told, AllocError>
@@ -63,7 +55,7 @@ fn answer_mappings(alloc: Global, text: String, line: u32, column: u32) -> Resul
             Ok(Told::Answered(answer_line(alloc, &answer)?))
         }
         Err((TextRefusal::Fault(fault), _)) => {
-            let kind = kind_text(fault.kind);
+            let kind = text::kind_text(fault.kind);
             Ok(Told::Refused(text::refused(alloc, kind, fault.line, fault.byte)?))
         }
         Err((TextRefusal::TextTooLong, _)) => unreachable!(
@@ -108,23 +100,5 @@ fn answer_line(alloc: Global, answer: &Answer) -> Result<String, AllocError>
                 origin.name,
             )
         }
-    }
-}
-
-fn kind_text(kind: FaultKind) -> &'static str
-    ensures { result.now ≡ kind_text kind }
-{
-    match kind {
-        FaultKind::BadDigit => "F1 BadDigit",
-        FaultKind::Unended => "F2 Unended",
-        FaultKind::TooLong => "F3 TooLong",
-        FaultKind::TooLarge => "F4 TooLarge",
-        FaultKind::NegativeZero => "F5 NegativeZero",
-        FaultKind::FieldCount => "F6 FieldCount",
-        FaultKind::Negative => "F7 Negative",
-        FaultKind::PastLimit => "F8 PastLimit",
-        FaultKind::ColumnFalls => "F9 ColumnFalls",
-        FaultKind::SourceIndex => "F10 SourceIndex",
-        FaultKind::NameIndex => "F11 NameIndex",
     }
 }

@@ -1,15 +1,19 @@
 //! Running a command over its streams.
-ghost use Rattle.std.specs.Prelude.{◌≡◌, false};
-ghost use Rattle.smap_cli.specs.Run.{Runs, RunsRaw};
+ghost use Rattle.std.specs.Prelude.{◌≡◌, false, map};
+ghost use Rattle.smap_cli.specs.Run.{Ends, Runs, RunsRaw, path_of, paths_of};
+ghost use Rattle.smap_cli.specs.Told.{IsAnswered, IsRefused};
 
+use crate::check::answer_check;
 use crate::command::Command;
 use crate::input::{ReadFailure, read_limited};
+use crate::lookup::answer_lookup;
 use crate::output::{print, report};
-use crate::raw::{Told, answer_raw};
+use crate::raw::answer_raw;
 use crate::text;
+use crate::told::Told;
 use smap_io::{ByteSink, ByteSource};
 use smap_mappings::MOST_BYTES;
-use std::alloc::Global;
+use std::alloc::{AllocError, Global};
 
 /// The exit status of a run that did what it was asked.
 pub const DONE: u8 = 0;
@@ -32,34 +36,45 @@ pub struct Loaded {
 pub fn run<R: ByteSource, W: ByteSink, E: ByteSink>(
     alloc: Global,
     command: &Command,
-    _files: &[Loaded],
+    files: &[Loaded],
     input: &mut R,
     output: &mut W,
     errors: &mut E,
 ) -> u8
+    requires loaded { map path_of files.now ≡ paths_of command.now }
     requires input_works { R.has_failed input.old ≡ false }
     requires output_works { W.has_failed output.old ≡ false }
     requires errors_work { E.has_failed errors.old ≡ false }
-    ensures { Runs command.now result
+    ensures { Runs command.now files.now result
         (record {
-          input = R.left input.old;
-          output = W.taken output.old;
-          errors = E.taken errors.old;
-          input_failed = R.has_failed input.old;
-          output_failed = W.has_failed output.old;
-          errors_failed = E.has_failed errors.old;
+          input = record { left = R.left input.old; failed = R.has_failed input.old };
+          sinks = record {
+            output = W.taken output.old;
+            errors = E.taken errors.old;
+            output_failed = W.has_failed output.old;
+            errors_failed = E.has_failed errors.old;
+          };
         })
         (record {
-          input = R.left input.new;
-          output = W.taken output.new;
-          errors = E.taken errors.new;
-          input_failed = R.has_failed input.new;
-          output_failed = W.has_failed output.new;
-          errors_failed = E.has_failed errors.new;
+          input = record { left = R.left input.new; failed = R.has_failed input.new };
+          sinks = record {
+            output = W.taken output.new;
+            errors = E.taken errors.new;
+            output_failed = W.has_failed output.new;
+            errors_failed = E.has_failed errors.new;
+          };
         }) }
 {
     match command {
         Command::Raw { line, column } => run_raw(alloc, *line, *column, input, output, errors),
+        Command::Check { .. } => tell(answer_check(alloc, &files[0]), output, errors),
+        Command::Lookup { line, column, .. } => {
+            tell(
+                answer_lookup(alloc, &files[0], *line, *column),
+                output,
+                errors,
+            )
+        }
     }
 }
 
@@ -72,39 +87,58 @@ fn run_raw<R: ByteSource, W: ByteSink, E: ByteSink>(
     errors: &mut E,
 ) -> u8
     requires input_works { R.has_failed input.old ≡ false }
-    requires output_works { W.has_failed output.old ≡ false }
-    requires errors_work { E.has_failed errors.old ≡ false }
     ensures { RunsRaw line column result
         (record {
-          input = R.left input.old;
+          input = record { left = R.left input.old; failed = R.has_failed input.old };
+          sinks = record {
+            output = W.taken output.old;
+            errors = E.taken errors.old;
+            output_failed = W.has_failed output.old;
+            errors_failed = E.has_failed errors.old;
+          };
+        })
+        (record {
+          input = record { left = R.left input.new; failed = R.has_failed input.new };
+          sinks = record {
+            output = W.taken output.new;
+            errors = E.taken errors.new;
+            output_failed = W.has_failed output.new;
+            errors_failed = E.has_failed errors.new;
+          };
+        }) }
+{
+    // Two bytes more than a text may have: one of them may be the LF that is dropped.
+    match read_limited(alloc, input, MOST_BYTES + 2) {
+        Ok(bytes) => tell(answer_raw(alloc, bytes, line, column), output, errors),
+        Err(ReadFailure::Device) => {
+            report(errors, text::INPUT_FAILED);
+            FAILED
+        }
+        Err(ReadFailure::Memory) => tell(Err(AllocError), output, errors),
+    }
+}
+
+// Prints the answer or tells why there is none, and gives the exit status.
+fn tell<W: ByteSink, E: ByteSink>(
+    told: Result<Told, AllocError>,
+    output: &mut W,
+    errors: &mut E,
+) -> u8
+    ensures { Ends (IsAnswered told) (IsRefused told) result
+        (record {
           output = W.taken output.old;
           errors = E.taken errors.old;
-          input_failed = R.has_failed input.old;
           output_failed = W.has_failed output.old;
           errors_failed = E.has_failed errors.old;
         })
         (record {
-          input = R.left input.new;
           output = W.taken output.new;
           errors = E.taken errors.new;
-          input_failed = R.has_failed input.new;
           output_failed = W.has_failed output.new;
           errors_failed = E.has_failed errors.new;
         }) }
 {
-    // Two bytes more than a text may have: one of them may be the LF that is dropped.
-    let bytes = match read_limited(alloc, input, MOST_BYTES + 2) {
-        Ok(bytes) => bytes,
-        Err(ReadFailure::Device) => {
-            report(errors, text::INPUT_FAILED);
-            return FAILED;
-        }
-        Err(ReadFailure::Memory) => {
-            report(errors, text::NO_MEMORY);
-            return FAILED;
-        }
-    };
-    match answer_raw(alloc, bytes, line, column) {
+    match told {
         Ok(Told::Answered(answer)) => match print(output, &answer) {
             Ok(()) => DONE,
             Err(_) => {
@@ -123,6 +157,8 @@ fn run_raw<R: ByteSource, W: ByteSink, E: ByteSink>(
     }
 }
 
+#[cfg(test)]
+mod maps;
 #[cfg(test)]
 mod tests;
 #[cfg(test)]

@@ -21,6 +21,7 @@ struct Sums {
 }
 
 /// The state behind a segment that ends before the place `end`, or the first kind of fault of the running values.
+#[inline(always)]
 pub fn advance(
     cursor: &Cursor,
     segment: &Segment,
@@ -46,6 +47,7 @@ pub fn advance(
     }
 }
 
+#[inline(always)]
 fn sums_after(cursor: &Cursor, segment: &Segment) -> Sums
     ensures { values_in result ≡ moved (values_at cursor.now) (move_in cursor.now.line segment.now) }
 {
@@ -68,6 +70,7 @@ fn sums_after(cursor: &Cursor, segment: &Segment) -> Sums
     }
 }
 
+#[inline(always)]
 fn added(value: u32, difference: i32) -> i64
     ensures { result ≡ pos value +ℤ difference }
 {
@@ -75,6 +78,7 @@ fn added(value: u32, difference: i32) -> i64
 }
 
 impl Sums {
+    #[inline(always)]
     fn any_below(&self) -> bool
         ensures { result ≡ any_below (values_in self.now) }
     {
@@ -86,6 +90,7 @@ impl Sums {
             | (self.name < 0)
     }
 
+    #[inline(always)]
     fn any_past(&self) -> bool
         ensures { result ≡ any_past (values_in self.now) }
     {
@@ -98,6 +103,7 @@ impl Sums {
     }
 
     // The first kind of fault of the running values that holds.
+    #[inline(always)]
     fn fault(&self, segment: &Segment, sources: u32, names: u32) -> Option<FaultKind>
         ensures { result ≡ sums_fault sources names segment.now (values_in self.now) }
     {

@@ -22,12 +22,14 @@ pub struct OriginFields {
 }
 
 /// Whether a byte is neither `;` nor `,`.
+#[inline(always)]
 pub fn is_inside(byte: u8) -> bool
     ensures { result ≡ is_inside byte }
 {
     byte != b';' && byte != b','
 }
 
+#[inline(always)]
 fn is_at_end(bytes: &[u8], place: usize) -> bool
     requires { place ≤ length bytes.now }
     ensures { IsTrue result ↔ (length (piece_at bytes.now place) ≡ 0) }
@@ -35,6 +37,7 @@ fn is_at_end(bytes: &[u8], place: usize) -> bool
     place == bytes.len() || !is_inside(bytes[place])
 }
 
+#[inline(always)]
 fn read_field(bytes: &[u8], place: usize) -> Option<(i32, usize)>
     requires { place ≤ length bytes.now }
     ensures some { IfSome result (λ read. ReadsField bytes.now place read.0 read.1) }
@@ -45,6 +48,7 @@ fn read_field(bytes: &[u8], place: usize) -> Option<(i32, usize)>
 
 /// The segment that begins at a place, and the place behind it; `None` where its bytes spell no fields, or not one,
 /// four or five.
+#[inline(always)]
 pub fn read_segment(bytes: &[u8], place: usize) -> Option<(Segment, usize)>
     requires { place ≤ length bytes.now }
     ensures some { IfSome result (λ read. ReadsSegment bytes.now place read.0 read.1) }

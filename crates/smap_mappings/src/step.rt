@@ -15,6 +15,7 @@ use crate::segment::{Segment, is_inside, read_segment};
 use crate::spelling::spelling_fault;
 
 /// The state at the next segment, or at the end of the text where there is none.
+#[inline(always)]
 pub fn skip_separators(bytes: &[u8], cursor: &Cursor) -> Cursor
     requires inside { cursor.now.place ≤ length bytes.now }
     requires line_within { cursor.now.line ≤ cursor.now.place }
@@ -47,6 +48,7 @@ pub fn skip_separators(bytes: &[u8], cursor: &Cursor) -> Cursor
 
 /// Reads the segment at the state's place: its mapping and the state behind it, or the least kind of fault that holds
 /// of it.
+#[inline(always)]
 pub fn step(
     bytes: &[u8],
     cursor: &Cursor,
@@ -95,6 +97,7 @@ fn segment_end(bytes: &[u8], place: usize) -> usize
     end
 }
 
+#[inline(always)]
 fn mapping_in(segment: &Segment, after: &Cursor) -> Mapping
     ensures { result ≡ mapping_in segment.now after.now }
 {

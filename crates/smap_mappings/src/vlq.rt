@@ -25,6 +25,7 @@ pub const MOST_DIGITS: usize = 7;
 /// The number that begins at a place, counted in bytes from 0, and the place after it (ECMA-426, Base64 VLQ).
 /// A fault is the first that holds of: every byte up to the end says that another digit follows, a bad digit,
 /// too many digits, too large, negative zero.
+#[inline(always)]
 pub fn read_vlq(bytes: &[u8], place: usize) -> Result<(i32, usize), VlqFault>
     requires { place ≤ length bytes.now }
     ensures spelled { (n : ℤ) (end : ℕ) →
@@ -34,6 +35,7 @@ pub fn read_vlq(bytes: &[u8], place: usize) -> Result<(i32, usize), VlqFault>
     scan_number(bytes, place)
 }
 
+#[inline(always)]
 fn scan_number(bytes: &[u8], place: usize) -> Result<(i32, usize), VlqFault>
     requires { place ≤ length bytes.now }
     ensures { result ≡ number_at bytes.now place }
@@ -57,6 +59,7 @@ fn scan_number(bytes: &[u8], place: usize) -> Result<(i32, usize), VlqFault>
 }
 
 // The number of an unsigned value, whose lowest bit is the sign.
+#[inline(always)]
 fn signed(unsigned: u64) -> Result<i32, VlqFault>
     ensures { result ≡ checked_number unsigned }
 {
@@ -75,6 +78,7 @@ fn signed(unsigned: u64) -> Result<i32, VlqFault>
 }
 
 // Why a number is refused whose digits go on past the seventh, from the eighth digit's place on.
+#[cold]
 fn fault_past_most_digits(bytes: &[u8], place: usize) -> VlqFault
     requires { place ≤ length bytes.now }
     ensures { result ≡ long_fault bytes.now place }

@@ -78,6 +78,12 @@ all_fields : record_of (codes "{\"version\":3,\"file\":\"o.js\",\"sourceRoot\":\
 unfolding record_on_literals
 all_fields = refl
 
+-- a list of contents that is shorter than the sources
+fewer_contents : sources_of (record_of (codes "{\"version\":3,\"sources\":[\"a.ts\",\"b.ts\"],\"sourcesContent\":[\"x\"],\"mappings\":\"\"}") 1)
+    ≡ record { name = Some (kept (codes "a.ts")); content = Some (codes "x"); ignored = false } ∷ called (codes "b.ts") ∷ []
+unfolding record_on_literals
+fewer_contents = refl
+
 last_of_equal_keys : record_of (codes "{\"version\":2,\"sources\":7,\"version\":3,\"sources\":[\"a.ts\"],\"mappings\":\"AAAA,CAAC\"}") 1
     ≡ Ok (record { parts = whole (codes "AAAA,CAAC"); sources = called (codes "a.ts") ∷ []; names = []; file = None })
 unfolding record_on_literals
@@ -115,8 +121,8 @@ not_an_object : refusals_of (codes "[]" ∷ codes "3" ∷ codes "null" ∷ [])
 unfolding record_on_literals
 not_an_object = refl
 
-other_versions : refusals_of (codes "{}" ∷ codes "{\"version\":2}" ∷ codes "{\"version\":\"3\"}" ∷ codes "{\"version\":3.5}" ∷ codes "{\"version\":null}" ∷ [])
-    ≡ Some refusals.Version ∷ Some refusals.Version ∷ Some refusals.Version ∷ Some refusals.Version ∷ Some refusals.Version ∷ []
+other_versions : refusals_of (codes "{}" ∷ codes "{\"version\":2}" ∷ codes "{\"version\":\"3\"}" ∷ codes "{\"version\":3.0}" ∷ codes "{\"version\":3e0}" ∷ codes "{\"version\":null}" ∷ [])
+    ≡ Some refusals.Version ∷ Some refusals.Version ∷ Some refusals.Version ∷ Some refusals.Version ∷ Some refusals.Version ∷ Some refusals.Version ∷ []
 unfolding record_on_literals
 other_versions = refl
 
@@ -131,8 +137,8 @@ bad_sources : refusals_of (codes "{\"version\":3}" ∷ codes "{\"version\":3,\"s
 unfolding record_on_literals
 bad_sources = refl
 
-bad_fields : refusals_of (codes "{\"version\":3,\"sources\":[\"a.js\"],\"names\":[null],\"sourcesContent\":7}" ∷ codes "{\"version\":3,\"sources\":[\"a.js\"],\"sourcesContent\":[7],\"ignoreList\":7}" ∷ codes "{\"version\":3,\"sources\":[\"a.js\"],\"ignoreList\":[1],\"mappings\":\"\"}" ∷ codes "{\"version\":3,\"sources\":[\"a.js\"],\"ignoreList\":[-1],\"sourceRoot\":7}" ∷ codes "{\"version\":3,\"sources\":[\"a.js\"],\"sourceRoot\":7}" ∷ codes "{\"version\":3,\"file\":7}" ∷ codes "{\"version\":3,\"sources\":[\"a.js\"],\"mappings\":7}" ∷ codes "{\"version\":3,\"sources\":[]}" ∷ [])
-    ≡ Some refusals.Names ∷ Some refusals.SourcesContent ∷ Some refusals.IgnoreList ∷ Some refusals.IgnoreList ∷ Some refusals.FileOrRoot ∷ Some refusals.FileOrRoot ∷ Some refusals.Mappings ∷ Some refusals.Mappings ∷ []
+bad_fields : refusals_of (codes "{\"version\":3,\"sources\":[\"a.js\"],\"names\":[null],\"sourcesContent\":7}" ∷ codes "{\"version\":3,\"sources\":[\"a.js\"],\"sourcesContent\":[7],\"ignoreList\":7}" ∷ codes "{\"version\":3,\"sources\":[\"a.js\"],\"ignoreList\":[1],\"mappings\":\"\"}" ∷ codes "{\"version\":3,\"sources\":[\"a.js\"],\"ignoreList\":[-1],\"sourceRoot\":7}" ∷ codes "{\"version\":3,\"sources\":[\"a.js\"],\"sourceRoot\":7}" ∷ codes "{\"version\":3,\"file\":7}" ∷ codes "{\"version\":3,\"sources\":[\"a.js\"],\"ignoreList\":[0.0]}" ∷ codes "{\"version\":3,\"sources\":[\"a.js\"],\"mappings\":7}" ∷ codes "{\"version\":3,\"sources\":[],\"mappings\":null}" ∷ codes "{\"version\":3,\"sources\":[]}" ∷ [])
+    ≡ Some refusals.Names ∷ Some refusals.SourcesContent ∷ Some refusals.IgnoreList ∷ Some refusals.IgnoreList ∷ Some refusals.FileOrRoot ∷ Some refusals.FileOrRoot ∷ Some refusals.IgnoreList ∷ Some refusals.Mappings ∷ Some refusals.Mappings ∷ Some refusals.Mappings ∷ []
 unfolding record_on_literals
 bad_fields = refl
 

@@ -4,7 +4,7 @@ use Rattle.std.specs.Option.{option_or}
 use Rattle.serde_json.specs.Data.{Data}
 use Rattle.smap_record.specs.Json.{field}
 
--- what stands, where it is not null, at the keys that only the outer object has
+-- what stands, where it is not null, at the keys that are read of the outer object alone
 pub record OuterFields : Type 0 where
   pub version : Option Data
   pub sections : Option Data
@@ -17,7 +17,7 @@ outer_of value = record {
   file = field (codes "file") value;
 }
 
--- what stands, where it is not null, at the keys of one section's map
+-- what stands, where it is not null, at the keys that are read of each section's map
 pub record Fields : Type 0 where
   pub sources : Option Data
   pub names : Option Data

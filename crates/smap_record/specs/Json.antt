@@ -1,4 +1,4 @@
--- What a value of a JSON text states. A key that stands at null counts as absent.
+-- What a value of a JSON text states. A key that stands at null counts as absent, which is this project's own rule.
 use Rattle.std.specs.Prelude.{ℕ, List, [], ◌∷◌, Option, Some, None, option_map, option_and_then, nat_lt, if◌then◌else◌}
 use Rattle.std.specs.Option.{option_map_or}
 use Rattle.serde_json.specs.Data.{Data, null, Items, no_items, item}
@@ -17,11 +17,11 @@ field key value = option_and_then not_null (get key value)
 abbrev pub or_absent : {A : Type 0} → A → (Data → Option A) → Option Data → Option A
 or_absent absent read value = option_map_or read value (Some absent)
 
--- a whole number, in 64 bits
+-- a number that is written without sign, point and exponent, and fits 64 bits
 abbrev pub whole_number : Data → Option ℕ
 whole_number value = option_and_then as_u64 (as_number value)
 
--- a whole number below this one
+-- such a number below this one
 abbrev pub number_below : ℕ → Data → Option ℕ
 number_below limit value = option_and_then (λ number. if nat_lt number limit then Some number else None) (whole_number value)
 

@@ -1,5 +1,7 @@
--- What the bytes of a map file give (ECMA-426, Source map format): the first refusal, or the record of the map. Index
--- maps are refused so far, and no source is resolved: each name is the text that the map gives.
+-- What the bytes of a map file give (ECMA-426, Source map format): the first refusal, or the record of the map. This
+-- project's own are: that each fault refuses the whole file, the order of the refusals, the limits, and that a key at
+-- null counts as absent. Index maps are refused so far, and no source is resolved: each name is the text that the map
+-- gives.
 use Rattle.std.specs.Prelude.{ℕ, List, [], ◌∷◌, ◌++◌, Option, Some, None, Bool, false, not, ◌==◌, is_some, is_none, nat_lt, if◌then◌else◌, length, map, flat_map, option_map, option_and_then, unwrap_or, string_bytes, Result, Ok, Err}
 use Rattle.std.specs.Option.{option_map_or}
 use Rattle.serde_json.specs.Data.{Data}

@@ -33,7 +33,7 @@ contents_in contents = or_absent [] (list_of text_or_null) contents
 abbrev pub ignored_in : ℕ → Option Data → Option (List ℕ)
 ignored_in sources ignored = or_absent [] (list_of (number_below sources)) ignored
 
--- what is put before its sources, which may be absent
+-- its `sourceRoot`, which may be absent; so far it is checked and not used
 abbrev pub root_in : Option Data → Option (Option (List ℕ))
 root_in root = or_absent None (λ text. option_map Some (as_str text)) root
 

@@ -13,7 +13,7 @@ use smap_resolve::SourceName;
 use std::alloc::{AllocError, Global};
 use std::vec::IntoIter;
 
-/// The sources with these texts, each with its content by place and its mark. Beyond the contents there are none.
+/// The sources with these texts, each with its content by place and its mark. A source beyond the contents has none.
 pub fn entries(
     alloc: Global,
     texts: Vec<Option<String>>,

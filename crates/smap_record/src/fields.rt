@@ -9,7 +9,7 @@ ghost use Rattle.smap_record.specs.Seen.{fields_seen, outer_seen};
 
 use serde_json::{Map, Value};
 
-/// What stands, where it is not null, at the keys that only the outer object has.
+/// What stands, where it is not null, at the keys that are read of the outer object alone.
 #[derive(Drop)]
 pub struct OuterFields {
     pub version: Option<Value>,
@@ -17,7 +17,7 @@ pub struct OuterFields {
     pub file: Option<Value>,
 }
 
-/// What stands, where it is not null, at the keys of one section's map.
+/// What stands, where it is not null, at the keys that are read of each section's map.
 #[derive(Drop)]
 pub struct Fields {
     pub sources: Option<Value>,

@@ -25,3 +25,6 @@ pub const MOST_FILE_BYTES: usize = 67108864;
 
 /// How many sources a map lists at most, and how many names.
 pub const MOST_ENTRIES: usize = 33554432;
+
+#[cfg(test)]
+mod tests;

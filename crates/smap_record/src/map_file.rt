@@ -1,4 +1,4 @@
-ghost use Rattle.std.specs.Prelude.{◌≡◌, ◌≢◌, ◌⊎◌, [], ◌∷◌, string_bytes, Some, ◌+◌, ◌-◌, ◌≤◌, None, Ok, Err, length, slice_get, option_map, IfOk, IfErr};
+ghost use Rattle.std.specs.Prelude.{◌≡◌, ◌≢◌, ◌<◌, ◌⊎◌, [], ◌∷◌, string_bytes, Some, ◌+◌, ◌-◌, ◌≤◌, None, Ok, Err, length, slice_get, option_map, IfOk, IfErr};
 ghost use Rattle.smap_mappings.specs.Meter.{HasRoom};
 ghost use Rattle.smap_mappings.specs.Order.{IsInOrder};
 ghost use Rattle.smap_index.specs.Parts.{joined};
@@ -8,6 +8,7 @@ ghost use Rattle.smap_record.specs.MapFile.{whole_part};
 ghost use Rattle.smap_record.specs.Record.{answer_of_map, file_in, first_refusal, is_three, outer_refusals, record_of, source_of};
 ghost use Rattle.smap_record.specs.Seen.{outer_seen};
 ghost use Rattle.smap_record.specs.declared.refusal.MapRefusal.TheVariants as refusals;
+ghost use Rattle.smap_record.specs.declared.TheConstants.{MOST_FILE_BYTES};
 
 use crate::MOST_FILE_BYTES;
 use crate::entry::SourceEntry;
@@ -44,18 +45,22 @@ impl Model for MapFile {
 }
 
 impl MapFile {
-    /// Reads the bytes of a map file. Its index has a checkpoint at the segments of number 0, `k`, 2`k` and so on of
-    /// each line of a section. No base is taken so far. After a refusal nothing is kept.
+    /// Reads the bytes of a map file (ECMA-426, Source map format). Its index has a checkpoint at the segments of
+    /// number 0, `k`, 2`k` and so on of each line of a section; any `k` but 1 is refused so far, after all else. Each
+    /// source keeps the text that the map gives: no base is taken yet, and `sourceRoot` is not used. After a refusal
+    /// nothing is kept.
     pub fn read(
         alloc: Global,
         bytes: &[u8],
-        _base: Option<&Url>,
+        base: Option<&Url>,
         k: u32,
     ) -> Result<MapFile, MapRefusal>
-        requires no_base { _base ≡ None }
+        requires no_base { base ≡ None }
+        ensures too_large { MOST_FILE_BYTES < length bytes.now → result ≡ Err refusals.TooLarge }
         ensures stated { IfOk result (λ map. (record_of bytes.now k ≡ Ok map.stated) × (map.k ≡ k)) }
         ensures refused { IfErr result (λ refusal. (refusal ≡ refusals.Memory) ⊎ (record_of bytes.now k ≡ Err refusal)) }
     {
+        let _no_base = base;
         if bytes.len() > MOST_FILE_BYTES {
             return Err(MapRefusal::TooLarge);
         }

@@ -6,22 +6,27 @@ use smap_mappings::Fault;
 use std::alloc::AllocError;
 use thiserror::Error;
 
-/// Why a map file is refused, in the order in which the causes are asked. Section numbers count from 0.
+/// Why a map file is refused (ECMA-426, Source map format; that every fault refuses the whole file, the order and the
+/// limits are this project's own). The first cause that holds is told: they are asked in this order, save that `file`
+/// is asked before `sources`, and that want of memory may stand in place of what would come later. A key at null
+/// counts as absent. Section numbers count from 0. The numbers from M1 on are the refusals' own; M6, M7 and M16 are
+/// not in use yet.
 #[derive(Clone, Copy, Debug, PartialEq, Eq, Error)]
 pub enum MapRefusal {
     /// M1: it has more than 67,108,864 bytes.
     #[error("the file is too large")]
     TooLarge,
-    /// M2: what stands behind a byte order mark and a guard line is no JSON text.
+    /// M2: what stands behind a byte order mark and a guard line is no JSON text, or one that `serde_json` doesn't
+    /// read: nested more than 127 deep, or with a number past those that a float can hold.
     #[error("the file is no JSON")]
     NotJson,
     /// M3: its JSON value is no object.
     #[error("the JSON value is no object")]
     NotObject,
-    /// M4: `version` is not the whole number 3.
+    /// M4: `version` is not the number 3, written without point and exponent.
     #[error("`version` is not 3")]
     Version,
-    /// M5: it has `sections`.
+    /// M5: it has `sections`, other than null.
     #[error("`sections` is refused")]
     Sections,
     /// M8: `sources` is no list of texts and nulls, or there are more than 33,554,432.
@@ -33,7 +38,8 @@ pub enum MapRefusal {
     /// M10: `sourcesContent` is no list of texts and nulls.
     #[error("`sourcesContent` is no list of texts and nulls")]
     SourcesContent,
-    /// M11: `ignoreList` is no list of indices of sources.
+    /// M11: the list of ignored sources, which is `ignoreList`, or `x_google_ignoreList` where that is absent, is no
+    /// list of indices of sources.
     #[error("`ignoreList` is no list of indices of sources")]
     IgnoreList,
     /// M12: `file` or `sourceRoot` is no text.
@@ -45,7 +51,7 @@ pub enum MapRefusal {
     /// M14: the mappings of this section have this first fault.
     #[error("the mappings of section {0} are faulty")]
     Text(u64, Fault),
-    /// M15: the index is not built.
+    /// M15: the index is not built, for another cause than memory.
     #[error("the index is not built")]
     Build(BuildRefusal),
     /// M17: there is not enough memory.

@@ -1,4 +1,4 @@
--- The name of a source (ECMA-426, Source map format): a URL, or the text that the map gives, where that is no URL.
+-- The name of a source (ECMA-426, Source map format): a URL, or a text that is kept as it is.
 use Rattle.std.specs.Prelude.{ℕ, List, string_bytes}
 use Rattle.smap_resolve.specs.declared.SourceName.{SourceName}
 use Rattle.smap_resolve.specs.declared.SourceName.TheVariants.{Resolved, Kept}

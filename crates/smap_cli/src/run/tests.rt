@@ -9,12 +9,12 @@ use std::test::Fail;
 
 // The bytes that a call moves at most, and the call that fails, from 1, or 0 for none.
 #[derive(Clone, Copy)]
-struct Device {
-    piece: usize,
-    fails_at: u64,
+pub struct Device {
+    pub piece: usize,
+    pub fails_at: u64,
 }
 
-const SOUND: Device = Device {
+pub const SOUND: Device = Device {
     piece: 8_192,
     fails_at: 0,
 };
@@ -34,10 +34,10 @@ const ALL_SOUND: Devices = Devices {
 
 // What a run leaves.
 #[derive(Debug, PartialEq, Eq, Drop)]
-struct Outcome {
-    status: u8,
-    output: Vec<u8>,
-    errors: Vec<u8>,
+pub struct Outcome {
+    pub status: u8,
+    pub output: Vec<u8>,
+    pub errors: Vec<u8>,
 }
 
 // The line and the column count from 1.

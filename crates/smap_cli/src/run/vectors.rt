@@ -1,9 +1,14 @@
 //! The rows of `tests/vectors`, each put to `run`.
 mod answers;
+mod example_map;
+mod lookups;
 mod refusals;
 
+use super::maps::assert_place;
 use super::tests::{assert_answer, assert_refused};
 use answers::ANSWERS;
+use example_map::EXAMPLE_MAP;
+use lookups::LOOKUPS;
 use refusals::REFUSALS;
 use std::test::Fail;
 
@@ -51,5 +56,17 @@ fn each_row_is_refused(rt: HostRuntime) -> Result<(), Fail> {
         )?;
     }
     assert_eq!(rt; REFUSALS.trim().lines().count(), 108);
+    Ok(())
+}
+
+#[test]
+fn each_place_of_the_example_is_found(rt: HostRuntime) -> Result<(), Fail> {
+    for row in LOOKUPS.trim().lines() {
+        let (line, rest) = row.split_once('|').ok_or("a row has a line")?;
+        let (column, printed) = rest.split_once('|').ok_or("a row has a column")?;
+        let (line, column) = (line.parse()?, column.parse()?);
+        assert_place(&rt, rt.alloc(), EXAMPLE_MAP, line, column, printed)?;
+    }
+    assert_eq!(rt; LOOKUPS.trim().lines().count(), 63);
     Ok(())
 }

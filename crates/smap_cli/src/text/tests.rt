@@ -1,4 +1,4 @@
-use super::{found, refused};
+use super::{file_failed, found, refused};
 use std::test::Fail;
 
 #[test]
@@ -30,5 +30,12 @@ fn a_fault_prints_its_line_from_one(rt: HostRuntime) -> Result<(), Fail> {
         text.as_str(),
         "refused: F9 ColumnFalls line 3 byte 67108863\n"
     );
+    Ok(())
+}
+
+#[test]
+fn a_failed_file_is_named_on_one_line(rt: HostRuntime) -> Result<(), Fail> {
+    let text = file_failed(rt.alloc(), "maps/a\nb.map")?;
+    assert_eq!(rt; text.as_str(), "device: read maps/a?b.map\n");
     Ok(())
 }

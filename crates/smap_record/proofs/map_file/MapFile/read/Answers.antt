@@ -30,7 +30,7 @@ pub returns-in_default : goal.returns-in_default
 returns-in_default c =
     let bytes = c.args.bytes.now in
     let short : length bytes ≤ MOST_FILE_BYTES = omega (arith, c.if-bytes-gt-MOST_FILE_BYTES.false) in
-    record { stated = tt; refused = inr (not_object bytes c.args.k short (view c.in_ok-file_value.field-0) c.in_ok-file_value.ensures.value (ap is_none (sym c.in_default.ensures))) }
+    record { too_large = λ long. absurd (omega (arith, short, long)); stated = tt; refused = inr (not_object bytes c.args.k short (view c.in_ok-file_value.field-0) c.in_ok-file_value.ensures.value (ap is_none (sym c.in_default.ensures))) }
 
 pub returns-in_err-file-clause-refused : goal.returns-in_err-file-clause-refused
 returns-in_err-file-clause-refused c =

@@ -1,0 +1,105 @@
+#!/usr/bin/env bash
+# Times `smap check` and `smap lookup` on a map of about 28 MB beside other readers of the same file:
+# node's JSON.parse, node's module.SourceMap, and @jridgewell/trace-mapping.
+#
+# The map is a real one, MAP, whose mappings text stands in it many times over (repeat-map.js). Each
+# reader starts anew, reads the file, and looks one position near its end up once. The three that
+# answer have to give the same answer.
+#
+# MAP is of Debian's package node-babel7-debug, and the modules are of node-ampproject-remapping.
+# PROGRAM times that program in place of the one of this repository.
+set -euo pipefail
+
+root=$(cd -- "$(dirname -- "$(readlink -f -- "${BASH_SOURCE[0]}")")/.." && pwd)
+real=${MAP:-/usr/share/nodejs/@babel/parser/lib/index.js.map}
+most=${BYTES:-28000000}
+runs=${RUNS:-5}
+export NODE_PATH=${NODE_PATH:-/usr/share/nodejs}
+
+if [ ! -r "$real" ]; then
+    printf 'there is no map %s\n' "$real" >&2
+    exit 1
+fi
+
+if [ -n "${PROGRAM:-}" ]; then
+    program=$PROGRAM
+else
+    # Builds the program where that is needed.
+    "$root/smap" --help >/dev/null
+    program=$root/crates/smap_cli/out/smap_cli
+fi
+
+folder=$(mktemp -d)
+trap 'rm -rf -- "$folder"' EXIT
+map=$folder/map
+
+{
+    read -r counts
+    read -r line column
+    read -r place
+} < <(node "$root/bench/repeat-map.js" "$real" "$most" "$map")
+bytes=$(stat -c %s -- "$map")
+
+insist() {
+    if [ "$2" != "$3" ]; then
+        printf '%s said "%s" in place of "%s"\n' "$1" "$2" "$3" >&2
+        exit 1
+    fi
+}
+
+insist 'smap check' "$("$program" check "$map")" "$counts"
+insist 'smap lookup' "$("$program" lookup "$map" "$line" "$column")" "$place"
+
+plain() { cat -- "$map" >/dev/null; }
+check() { "$program" check "$map" >/dev/null; }
+look_up() { "$program" lookup "$map" "$line" "$column" >/dev/null; }
+by_json() { by_node json -; }
+by_source_map() { by_node node "$place"; }
+by_trace_mapping() { by_node trace "$place"; }
+
+# Leaves the time that the reader took within its process in `within`.
+by_node() {
+    local said
+    said=$(node "$root/bench/read-map.js" "$1" "$map" "$line" "$column")
+    insist "$1" "${said#* }" "$2"
+    within=${said%% *}
+}
+
+# The least times of a few runs, in microseconds: of the whole process in `least`, and within it in
+# `least_within`, where the reader tells it.
+best_of() {
+    local begin took i
+    least='' least_within=''
+    for ((i = 0; i < runs; i++)); do
+        within=''
+        begin=${EPOCHREALTIME/[.,]/}
+        "$1"
+        took=$((${EPOCHREALTIME/[.,]/} - begin))
+        if [ -z "$least" ] || ((took < least)); then least=$took; fi
+        if [ -n "$within" ] && { [ -z "$least_within" ] || ((within < least_within)); }; then
+            least_within=$within
+        fi
+    done
+}
+
+# The last two columns are the times over that of a look-up by smap.
+report() {
+    best_of "$2"
+    if [ "$2" = look_up ]; then smap=$least; fi
+    LC_ALL=C awk -v what="$1" -v micros="$least" -v within="$least_within" -v smap="$smap" 'BEGIN {
+        printf "%-28s %9.4f s", what, micros / 1e6
+        if (within == "") { printf "\n"; exit }
+        printf " %9.4f s %13.2f %12.2f\n", within / 1e6, micros / smap, within / smap
+    }'
+}
+
+printf 'map: %s bytes, best of %s runs\n' "$bytes" "$runs"
+printf '%s\nline %s column %s: %s\n\n' "$counts" "$line" "$column" "$place"
+printf '%-28s %11s %11s %13s %12s\n' '' process within process/smap within/smap
+smap=0
+report 'cat > /dev/null' plain
+report 'smap lookup' look_up
+report 'smap check' check
+report 'JSON.parse' by_json
+report 'module.SourceMap' by_source_map
+report 'trace-mapping' by_trace_mapping

@@ -1,0 +1,50 @@
+// What `smap lookup` is to print, as other people's decoder and docs/FORMAT.md say: nothing here is
+// smap's.
+'use strict';
+
+const codec = require('@jridgewell/sourcemap-codec');
+
+// The mappings line by line. The decoder takes an empty piece for a number, so those go first.
+function linesOf(text) {
+  const full = (line) => line.split(',').filter((piece) => piece !== '').join(',');
+  return codec.decode(text.split(';').map(full).join(';'));
+}
+
+// The last mapping on the line whose column is not after the asked one. Both count from 1.
+function answerOf(lines, line, column) {
+  let answer = null;
+  for (const segment of lines[line - 1] || []) {
+    if (segment[0] > column - 1) break;
+    answer = segment;
+  }
+  return answer;
+}
+
+// A text as it is printed: each control character as a question mark.
+function shownText(text) {
+  return text.replace(/[\x00-\x1f\x7f]/g, '?');
+}
+
+function isIgnored(map, source) {
+  return (map.ignoreList ?? map.x_google_ignoreList ?? []).includes(source);
+}
+
+// The one line for a mapping of this map, or for none.
+function printedLine(map, segment) {
+  if (segment === null) return 'none';
+  if (segment.length === 1) return 'unmapped';
+  const [, source, line, column, name] = segment;
+  const text = map.sources[source];
+  const place = `${text === null ? `[${source}]` : shownText(text)}:${line + 1}:${column + 1}`;
+  const named = segment.length === 5 ? ` name ${shownText(map.names[name])}` : '';
+  return `${place}${named}${isIgnored(map, source) ? ' ignored' : ''}`;
+}
+
+// This many items of a list at most, spread evenly over it, with the first and the last.
+function spread(list, most) {
+  if (list.length <= most) return list;
+  if (most === 1) return [list[0]];
+  return Array.from({ length: most }, (_, i) => list[Math.round((i * (list.length - 1)) / (most - 1))]);
+}
+
+module.exports = { linesOf, answerOf, printedLine, spread };
