@@ -54,8 +54,7 @@ fn origin_line(alloc: Global, map: &MapFile, origin: &Origin) -> Result<String, 
     )
 }
 
-// A mapping's indices are below the counts of sources and of names, since its text was checked. No clause of the map
-// says so: a source that is not there would print by its index, and a name that is not there would be left out.
+// The map's contract says that an origin's indices name a source and a name that there are, so `None` never comes.
 fn source_text(alloc: Global, entry: Option<&SourceEntry>, index: u32) -> Result<String, AllocError>
     ensures { IfOk result (λ text. string_bytes text
         ≡ source_text (option_map (λ entry. source_of entry.now) entry.entry) index) }

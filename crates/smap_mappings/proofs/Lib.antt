@@ -11,5 +11,6 @@ pub mod Checking
 pub mod CheckLaws
 pub mod CountLaws
 pub mod OrderLaws
+pub mod WithinLaws
 pub mod SpellingFaultLaws
 pub mod Examples

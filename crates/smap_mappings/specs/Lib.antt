@@ -14,3 +14,4 @@ pub mod Counts
 pub mod Order
 pub mod Faults
 pub mod Spelling
+pub mod Within

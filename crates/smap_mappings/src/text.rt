@@ -1,4 +1,5 @@
 ghost use Rattle.std.specs.Prelude.{◌≡◌, ◌+◌, ◌*◌, ◌<◌, ◌≤◌, ◌↔◌, ℕ, Some, IsOk, IfOk, IfErr, IfNone, IfSome, None, OnOk, is_some, if◌then◌else◌, length, string_bytes};
+ghost use Rattle.std.specs.List.{All};
 ghost use Rattle.smap_mappings.specs.Accepted.{IsAccepted};
 ghost use Rattle.smap_mappings.specs.Counts.{segments_of, used_lines_of};
 ghost use Rattle.smap_mappings.specs.Faults.{first_fault};
@@ -7,6 +8,7 @@ ghost use Rattle.smap_mappings.specs.Order.{IsInOrder};
 ghost use Rattle.smap_mappings.specs.PackedText.{IsPacked, most_bytes};
 ghost use Rattle.smap_mappings.specs.State.{IsAfter, IsBetween};
 ghost use Rattle.smap_mappings.specs.Step.{IsNext};
+ghost use Rattle.smap_mappings.specs.Within.{IsWithin};
 
 use crate::check::check_segments;
 use crate::cursor::Cursor;
@@ -66,6 +68,7 @@ impl PackedText {
         ensures accepted { IsOk result ↔ ((length (string_bytes text) ≤ most_bytes) × IsAccepted (string_bytes text) sources names) }
         ensures inside { IfOk result (λ packed. packed ≡ string_bytes text) }
         ensures clean { OnOk result (first_fault (string_bytes text) sources names ≡ None) }
+        ensures within { OnOk result (All (IsWithin sources names) (mappings_of (string_bytes text))) }
         ensures too_long { IfErr result (λ e. (e.0 ≡ TextRefusal.TextTooLong) ↔ (most_bytes < length (string_bytes text))) }
         ensures faulty { IfErr result (λ e. (fault : Fault) → e.0 ≡ TextRefusal.Fault fault → first_fault (string_bytes text) sources names ≡ Some fault) }
         ensures returned { IfErr result (λ e. e.1 ≡ text) }

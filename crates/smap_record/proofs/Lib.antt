@@ -6,3 +6,4 @@ pub mod MarkLaws
 pub mod EntryLaws
 pub mod RefusalLaws
 pub mod RecordLaws
+pub mod WithinLaws

@@ -1,5 +1,10 @@
 -- What callers see of a map file.
 use Rattle.std.specs.Prelude.{◌≡◌, ℕ, List, length, map, option_map, string_bytes}
+use Rattle.std.specs.List.{All}
+use Rattle.smap_mappings.specs.Within.{IsOriginWithin, IsWithin}
+use Rattle.smap_index.specs.Parts.{joined}
+use Rattle.smap_index.specs.declared.answer.Answer.{Answer}
+use Rattle.smap_index.specs.declared.answer.Answer.TheVariants.{Nothing, Unmapped, Found}
 use Rattle.smap_index.specs.declared.part.Part.{Part}
 use Rattle.smap_record.specs.Record.{MapRecord, source_of}
 use Rattle.smap_record.specs.declared.map_file.MapFile.TheInside.{Inside}
@@ -21,9 +26,16 @@ map_seen inside = record {
   k = inside.index.k;
 }
 
--- its sections are the parts of its index
-abbrev pub IsCounted : Inside → Type 0
-IsCounted inside = inside.sections ≡ length inside.index.parts
+-- its sections are the parts of its index, and its mappings keep to the limit and to its sources and names
+pub record IsCounted (inside : Inside) : Type 0 where
+  pub sections : inside.sections ≡ length inside.index.parts
+  pub within : All (IsWithin (length inside.sources.items) (length inside.names.items)) (joined inside.index.parts)
+
+-- the origin that an answer gives, where it gives one, names one of these many sources and names
+unfoldable pub IsAnswerWithin : ℕ → ℕ → Answer → Type 0
+IsAnswerWithin sources names Nothing = Unit {0}
+IsAnswerWithin sources names (Unmapped column) = Unit {0}
+IsAnswerWithin sources names (Found column origin) = IsOriginWithin sources names origin
 
 -- the part that a text is by itself: it begins at the start
 abbrev pub whole_part : List ℕ → Part

@@ -1,10 +1,12 @@
 ghost use Rattle.std.specs.Prelude.{◌≡◌, ◌≢◌, ◌<◌, ◌⊎◌, [], ◌∷◌, string_bytes, Some, ◌+◌, ◌-◌, ◌≤◌, None, Ok, Err, length, slice_get, option_map, IfOk, IfErr};
+ghost use Rattle.std.specs.List.{All};
 ghost use Rattle.smap_mappings.specs.Meter.{HasRoom};
 ghost use Rattle.smap_mappings.specs.Order.{IsInOrder};
+ghost use Rattle.smap_mappings.specs.Within.{IsWithin};
 ghost use Rattle.smap_index.specs.Parts.{joined};
 ghost use Rattle.smap_index.specs.Marks.{marks, used_lines_in, binary_digits};
 ghost use Rattle.serde_json.specs.View.{view};
-ghost use Rattle.smap_record.specs.MapFile.{whole_part};
+ghost use Rattle.smap_record.specs.MapFile.{IsAnswerWithin, whole_part};
 ghost use Rattle.smap_record.specs.Record.{answer_of_map, file_in, first_refusal, is_three, outer_refusals, record_of, source_of};
 ghost use Rattle.smap_record.specs.Seen.{outer_seen};
 ghost use Rattle.smap_record.specs.declared.refusal.MapRefusal.TheVariants as refusals;
@@ -155,6 +157,7 @@ impl MapFile {
     pub fn look_up(&self, line: u32, column: u32, meter: &mut Meter) -> Answer
         requires room { HasRoom meter.old }
         ensures answer { result ≡ answer_of_map self.now.stated line column }
+        ensures within { IsAnswerWithin (length self.now.stated.sources) (length self.now.stated.names) result }
         ensures compared { meter.new.comparisons ≤ meter.old.comparisons + binary_digits (length (marks self.now.stated.parts self.now.k)) }
         ensures decoded { meter.new.segments ≤ meter.old.segments + (self.now.k - 1) }
         ensures onward { (meter.old.comparisons ≤ meter.new.comparisons) × (meter.old.segments ≤ meter.new.segments) }
@@ -166,6 +169,7 @@ impl MapFile {
     pub fn decode_all(&self, alloc: Global) -> Result<Vec<Mapping>, AllocError>
         ensures list { IfOk result (λ list. list.items ≡ joined self.now.stated.parts) }
         ensures ordered { IsInOrder (joined self.now.stated.parts) }
+        ensures within { All (IsWithin (length self.now.stated.sources) (length self.now.stated.names)) (joined self.now.stated.parts) }
     {
         self.index.decode_all(alloc)
     }

@@ -1,7 +1,10 @@
 //! The map of one section: its sources, its names and its mappings.
 ghost use Rattle.std.specs.Prelude.{◌≡◌, ◌≤◌, ◌⊎◌, [], ◌∷◌, List, ℕ, Some, None, true, false, is_none, length, map, option_map, string_bytes, unwrap_or, IfOk, IfErr};
+ghost use Rattle.std.specs.List.{All};
 ghost use Rattle.serde_json.specs.View.{view};
 ghost use Rattle.smap_mappings.specs.Faults.{first_fault};
+ghost use Rattle.smap_mappings.specs.Mappings.{mappings_of};
+ghost use Rattle.smap_mappings.specs.Within.{IsWithin};
 ghost use Rattle.smap_record.specs.Marks.{AreMarks};
 ghost use Rattle.smap_record.specs.Record.{first_refusal, source_of, whole};
 ghost use Rattle.smap_record.specs.Section.{contents_in, ignored_in, is_no_list, mappings_in, names_in, refused_if, root_in, section_names, section_refusals, section_sources, sources_in, text_of};
@@ -34,6 +37,7 @@ pub fn read_section(alloc: Global, fields: Fields) -> Result<SectionMap, MapRefu
     ensures sources { IfOk result (λ map_read. map source_of map_read.sources.items ≡ section_sources (whole (fields_seen fields))) }
     ensures names { IfOk result (λ map_read. map string_bytes map_read.names.items ≡ section_names (whole (fields_seen fields))) }
     ensures text { IfOk result (λ map_read. map_read.text ≡ text_of (whole (fields_seen fields))) }
+    ensures within { IfOk result (λ map_read. All (IsWithin (length map_read.sources.items) (length map_read.names.items)) (mappings_of map_read.text)) }
     ensures refused { IfErr result (λ refusal. (refusal ≡ refusals.Memory) ⊎ (first_refusal (section_refusals (whole (fields_seen fields))) ≡ Some refusal)) }
 {
     let sources = read_sources(alloc, fields.sources)?;
@@ -121,6 +125,7 @@ fn check_root(field: Option<Value>) -> Result<(), MapRefusal>
 fn read_mappings(field: Option<Value>, sources: u32, names: u32) -> Result<PackedText, MapRefusal>
     ensures read { IfOk result (λ text. mappings_in (option_map view field) ≡ Some text) }
     ensures clean { IfOk result (λ text. first_fault text sources names ≡ None) }
+    ensures within { IfOk result (λ text. All (IsWithin sources names) (mappings_of text)) }
     ensures refused { IfErr result (λ refusal. first_refusal (refused_if refusals.Mappings (is_none (mappings_in (option_map view field)))
         ∷ option_map (refusals.Text 0) (first_fault (unwrap_or (mappings_in (option_map view field)) []) sources names) ∷ []) ≡ Some refusal) }
 {

@@ -40,6 +40,7 @@ fn a_map_behind_a_guard_line_is_read(rt: HostRuntime) -> Result<(), Fail> {
             origin: origin(0, 0, 1, None)
         }
     );
+    let mut meter = Meter::new(rt.alloc());
     assert_eq!(rt; map.look_up(1, 0, &mut meter), Answer::Nothing);
     Ok(())
 }

@@ -4,13 +4,15 @@ use Rattle.std.specs.Prelude.{is_none, unwrap_or}
 use Rattle.std.proofs.lemmas.List.{length-map}
 use Rattle.std.proofs.lemmas.Result.{err_from_is_err_and}
 use Rattle.smap_mappings.specs.Faults.{first_fault}
+use Rattle.smap_mappings.specs.Mappings.{mappings_of}
 use Rattle.smap_record.specs.Marks.{AreMarks}
-use Rattle.smap_record.specs.Record.{first_refusal, whole}
+use Rattle.smap_record.specs.Record.{first_refusal, source_of, whole}
 use Rattle.smap_record.specs.Section.{ignored_in, section_refusals, refused_if, mappings_in}
 use Rattle.smap_record.specs.Seen.{fields_seen, texts_seen}
 use Rattle.smap_record.specs.declared.TheConstants.{MOST_ENTRIES}
 use Rattle.smap_record.specs.declared.refusal.MapRefusal.TheVariants as refusals
 use Rattle.smap_record.proofs.RefusalLaws.{handed_on, ignored_refused, root_refused, reaches_mappings, all_accepted, sources_there}
+use Rattle.smap_record.proofs.WithinLaws.{length-sources_with, with_counts}
 use Rattle.smap_record.proofs.section.read_section.Goals as goal
 
 pub returns-in_err-marks-clause-refused : goal.returns-in_err-marks-clause-refused
@@ -90,3 +92,16 @@ returns-clause-sources c =
     subst (λ n. AreMarks n c.deref.result.now indices) (omega (arith, count, length-map c.in_ok-sources.sources.items (option_map string_bytes)))
     (subst (λ marks. AreMarks c.len.result marks indices) (sym c.deref.ensures.value) c.in_ok-marks.ensures.read.2) in
     c.in_ok-sources-2.ensures indices marked ∙ sources_there f texts contents names c.in_ok-sources.ensures.read few c.in_ok-names.ensures.read few_names c.in_ok-contents.ensures.read indices ignored
+
+pub returns-clause-within : goal.returns-clause-within
+returns-clause-within c =
+    let texts = texts_seen c.in_ok-sources.sources.items in
+    let contents = texts_seen c.in_ok-contents.contents.items in
+    let count : length texts ≡ c.len.result = omega (arith, length-map c.in_ok-sources.sources.items (option_map string_bytes)) in
+    let indices = c.in_ok-marks.ensures.read.0 in
+    let marked : AreMarks (length c.in_ok-sources.sources.items) c.deref.result.now indices =
+    subst (λ n. AreMarks n c.deref.result.now indices) (omega (arith, count, length-map c.in_ok-sources.sources.items (option_map string_bytes)))
+    (subst (λ marks. AreMarks c.len.result marks indices) (sym c.deref.ensures.value) c.in_ok-marks.ensures.read.2) in
+    let listed : length (map source_of c.in_ok-sources-2.sources.items) ≡ length texts = ap length (c.in_ok-sources-2.ensures indices marked) ∙ length-sources_with contents indices texts in
+    with_counts c.len-2.result c.len-3.result (length c.in_ok-sources-2.sources.items) (length c.in_ok-names.names.items) (mappings_of c.in_ok-text.text)
+    (omega (arith, count, listed, length-map c.in_ok-sources-2.sources.items source_of)) (omega arith) c.in_ok-text.ensures.within

@@ -4,6 +4,7 @@ use Rattle.smap_mappings.specs.Accepted.{IsAccepted}
 use Rattle.smap_mappings.specs.Counts.{segments_of, used_lines_of}
 use Rattle.smap_mappings.specs.Faults.{first_fault}
 use Rattle.smap_mappings.proofs.CheckLaws.{widest, no_fault_is_accepted, accepted_has_no_fault}
+use Rattle.smap_mappings.proofs.WithinLaws.{mappings_within}
 use Rattle.smap_mappings.proofs.text.PackedText.check.Goals as goal
 use Rattle.smap_mappings.proofs.text.PackedText.check.Goals.{In-Ok, After-as_bytes}
 
@@ -34,3 +35,8 @@ returns-in-Ok-clause-accepted c = (λ e. (short (goal.at.returns-in-Ok-clause-ac
 
 pub returns-in-Ok-clause-clean : goal.returns-in-Ok-clause-clean
 returns-in-Ok-clause-clean c = ap (λ text. first_fault text c.args.sources c.args.names) (sym c.as_bytes.ensures.value) ∙ c.in-Ok.ensures.fault
+
+pub returns-in-Ok-clause-within : goal.returns-in-Ok-clause-within
+returns-in-Ok-clause-within c =
+    let bytes = (goal.at.returns-in-Ok-clause-within c).After-as_bytes in
+    mappings_within (string_bytes c.args.text) c.args.sources c.args.names (omega (arith, short bytes)) (accepted (goal.at.returns-in-Ok-clause-within c).In-Ok)

@@ -13,6 +13,7 @@ use Rattle.smap_record.specs.declared.refusal.MapRefusal.{MapRefusal}
 use Rattle.smap_record.specs.declared.refusal.MapRefusal.TheVariants as refusals
 use Rattle.smap_index.specs.declared.refusal.BuildRefusal.TheVariants.{Interval}
 use Rattle.smap_record.proofs.RecordLaws.{too_large, not_json, not_object, object_there, refused_for, outer_refused, section_refused, index_refused, accepted}
+use Rattle.smap_record.proofs.WithinLaws.{whole_within}
 use Rattle.smap_record.proofs.map_file.MapFile.read.Goals as goal
 
 pub returns-then-bytes-gt-MOST_FILE_BYTES-clause-refused :
@@ -81,3 +82,9 @@ returns-clause-stated c =
       file = option_map string_bytes c.in_ok-file.file;
     }) in
     (read ∙ ap with_parts (sym c.in_ok-index.ensures.built.0), c.in_ok-index.ensures.built.1)
+
+pub invariant_of-result : goal.invariant_of-result
+invariant_of-result c = record {
+  sections = sym (ap length c.in_ok-index.ensures.built.0);
+  within = whole_within (length c.in_ok-section.section.sources.items) (length c.in_ok-section.section.names.items) c.in_ok-section.section.text c.in_ok-index.index.parts c.in_ok-index.ensures.built.0 c.in_ok-section.ensures.within;
+}
