@@ -18,6 +18,7 @@ ends_as A B R S status before after answer refusal ends = elim ends [
       line = printed.1.line;
       is_answer = answer printed.1.line printed.1.is_answer;
       printed = printed.1.printed;
+      works = printed.1.works;
       untold = printed.1.untold;
     },
   )

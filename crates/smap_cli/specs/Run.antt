@@ -33,11 +33,12 @@ Tells before after text = PrintedUnlessFailed before.errors after.errors after.e
 
 -- ---- how a run ends, where these lines are answers, and these say why there is none
 
--- an answer was printed
+-- an answer was printed, and the output has not failed, also not at its flush
 pub record Answers (IsAnswer : List ℕ → Type 0) (before after : Sinks) : Type 0 where
   pub line : List ℕ
   pub is_answer : IsAnswer line
   pub printed : Printed before.output after.output line
+  pub works : after.output_failed ≡ false
   pub untold : after.errors ≡ before.errors
 
 -- it is told why there is no answer

@@ -19,7 +19,7 @@ line_of (piece ∷ pieces) = piece ++ line_of pieces
 
 -- ---- texts that are not the program's own
 
--- a byte as it prints: a control character as `?`
+-- a byte as it prints: an ASCII control character as `?`
 abbrev pub shown_byte : ℕ → ℕ
 shown_byte byte = if is_ascii_control byte then 63 else byte
 

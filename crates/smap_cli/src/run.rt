@@ -87,6 +87,7 @@ fn run_raw<R: ByteSource, W: ByteSink, E: ByteSink>(
     errors: &mut E,
 ) -> u8
     requires input_works { R.has_failed input.old ≡ false }
+    requires output_works { W.has_failed output.old ≡ false }
     ensures { RunsRaw line column result
         (record {
           input = record { left = R.left input.old; failed = R.has_failed input.old };
@@ -124,6 +125,7 @@ fn tell<W: ByteSink, E: ByteSink>(
     output: &mut W,
     errors: &mut E,
 ) -> u8
+    requires { W.has_failed output.old ≡ false }
     ensures { Ends (IsAnswered told) (IsRefused told) result
         (record {
           output = W.taken output.old;

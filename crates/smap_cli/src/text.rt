@@ -148,7 +148,7 @@ pub fn file_failed(alloc: Global, path: &str) -> Result<String, AllocError>
     format!(in alloc; "device: read {path}\n")
 }
 
-/// A text of the user's, for one line: a `?` stands for each control character.
+/// A text of the user's, for one line: a `?` stands for each ASCII control character.
 pub fn shown(alloc: Global, text: &str) -> Result<String, AllocError>
     ensures { IfOk result (λ clean. string_bytes clean ≡ shown text.now) }
 {

@@ -33,6 +33,21 @@ fn an_empty_file_is_loaded(rt: HostRuntime) -> Result<(), Fail> {
     Ok(())
 }
 
+// A file without an end is read to one byte more than a map file may have, which shows that it is too large.
+#[test]
+fn a_file_without_end_is_cut(rt: HostRuntime) -> Result<(), Fail> {
+    let command = check(rt.alloc(), "/dev/zero")?;
+    match load_files(&rt, &command) {
+        Ok(files) => {
+            assert_eq!(&rt; files.len(), 1);
+            assert_eq!(&rt; files[0].bytes.len(), 67108865);
+            assert!(&rt; files[0].bytes.iter().all(|&byte| byte == 0));
+        }
+        Err(_) => assert!(&rt; false, "/dev/zero can be read"),
+    }
+    Ok(())
+}
+
 // A file that is not there, and a folder, which opens and can't be read.
 #[test]
 fn an_unreadable_file_is_named(rt: HostRuntime) -> Result<(), Fail> {
