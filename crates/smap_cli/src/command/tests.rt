@@ -37,10 +37,7 @@ fn reads_raw(rt: HostRuntime) -> Result<(), Fail> {
 fn reads_check(rt: HostRuntime) -> Result<(), Fail> {
     let rows: [(&[&str], &str); 5] = [
         (&["smap", "check", "app.js.map"], "app.js.map"),
-        (
-            &["./smap", "check", "maps/größe 1.map"],
-            "maps/größe 1.map",
-        ),
+        (&["./smap", "check", "maps/größe 1.map"], "maps/größe 1.map"),
         (&["smap", "check", ""], ""),
         (&["smap", "check", "-"], "-"),
         (&["smap", "check", "--", "--help"], "--help"),
