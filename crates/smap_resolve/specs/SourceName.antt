@@ -1,5 +1,6 @@
 -- The name of a source (ECMA-426, Source map format): a URL, or a text that is kept as it is.
-use Rattle.std.specs.Prelude.{ℕ, List, string_bytes}
+use Rattle.std.specs.Prelude.{ℕ, List, Option, string_bytes}
+use Rattle.url.specs.Parts.{Parts}
 use Rattle.smap_resolve.specs.declared.SourceName.{SourceName}
 use Rattle.smap_resolve.specs.declared.SourceName.TheVariants.{Resolved, Kept}
 
@@ -17,3 +18,8 @@ name_of (Kept text) = kept (string_bytes text)
 abbrev pub name_text : Name → List ℕ
 name_text (resolved url) = url
 name_text (kept text) = text
+
+-- the name of a source with this text, in a map with this `sourceRoot` that stands at this URL; so far neither is used,
+-- and the text is kept
+unfoldable pub source_name : (root : Option (List ℕ)) (text : List ℕ) (base : Option Parts) → Name
+source_name root text base = kept text
