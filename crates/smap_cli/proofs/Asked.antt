@@ -16,10 +16,10 @@ use Rattle.clap.specs.declared.builder.value_parser.ValueParser.{ValueParser}
 use Rattle.clap.specs.declared.builder.value_parser.ValueParser.TheVariants as parser
 use Rattle.clap.specs.declared.builder.value_parser.Reading.{Reading}
 use Rattle.clap.specs.declared.error.Error.{Error}
-use Rattle.clap.specs.declared.error.kind.ErrorKind.TheVariants.{DisplayHelp, OutOfMemory}
-use Rattle.smap_cli.specs.declared.command.Usage.{Usage}
-use Rattle.smap_cli.specs.declared.command.Usage.TheVariants.{Help, Words, Memory}
-use Rattle.smap_cli.specs.Command.{HasCommand, HasNumber, HasText, IsUsageOf, IsRefusalOf, check, lookup, number, raw, smap}
+use Rattle.clap.specs.declared.error.kind.ErrorKind.TheVariants.{DisplayHelp, DisplayVersion, OutOfMemory}
+use Rattle.smap_cli.specs.declared.words.Usage.{Usage}
+use Rattle.smap_cli.specs.declared.words.Usage.TheVariants.{Help, Words, Memory}
+use Rattle.smap_cli.specs.Words.{HasCommand, HasNumber, HasText, IsUsageOf, IsRefusalOf, check, lookup, number, raw, smap}
 use Rattle.smap_cli.proofs.Rows.{AreReadRows, Keeps, first_none, given_value, help_keeps, no_default_keeps, second_none, settle_keeps, value_keeps, walk_keeps}
 use Rattle.smap_cli.proofs.Stops.{IsNoHelp, walk_names}
 
@@ -146,23 +146,23 @@ stopped_command : (stop : Option (Text × List Text)) → IsNoHelp stop → is_s
     → HasCommand (entered (built smap) stop)
 stopped_command None named some none = cc
 stopped_command (Some p) named some none =
-    go (bytes_eq (codes "raw") p.0) (bytes_eq (codes "check") p.0) (bytes_eq (codes "lookup") p.0) (bytes_eq (codes "help") p.0) refl some none
+    go (bytes_eq (codes "lookup") p.0) (bytes_eq (codes "check") p.0) (bytes_eq (codes "raw") p.0) (bytes_eq (codes "help") p.0) refl some none
   where
     shapes : Bool → Bool → Bool → Bool → Option Shape
-    shapes b1 b2 b3 b4 = cond (b1 || false) (Some raw_shape)
-        (cond (b2 || false) (Some check_shape) (cond (b3 || false) (Some lookup_shape) (cond (b4 || false) (Some (built_leaf help_shape)) None)))
+    shapes b1 b2 b3 b4 = cond (b1 || false) (Some lookup_shape)
+        (cond (b2 || false) (Some check_shape) (cond (b3 || false) (Some raw_shape) (cond (b4 || false) (Some (built_leaf help_shape)) None)))
 
     go : (b1 b2 b3 b4 : Bool) → bytes_eq (codes "help") p.0 ≡ b4
         → is_some (option_map (λ s. rows_at s p.1) (shapes b1 b2 b3 b4)) ≡ true
         → option_map_or (λ s. level_fault s [] nothing_held p.1 false []) (shapes b1 b2 b3 b4) [] ≡ []
         → HasCommand (option_map (λ s. rows_at s p.1) (shapes b1 b2 b3 b4))
     go true b2 b3 b4 is some none =
-        let given = raw_given p.1 none in
-        inl (rows_after raw_shape.rules [] p.1, refl, given.0, given.1)
-    go false true b3 b4 is some none = inr (inl (rows_after check_shape.rules [] p.1, refl, check_given p.1 none))
-    go false false true b4 is some none =
         let given = lookup_given p.1 none in
         inr (inr (rows_after lookup_shape.rules [] p.1, refl, given.0, given.1, given.2))
+    go false true b3 b4 is some none = inr (inl (rows_after check_shape.rules [] p.1, refl, check_given p.1 none))
+    go false false true b4 is some none =
+        let given = raw_given p.1 none in
+        inl (rows_after raw_shape.rules [] p.1, refl, given.0, given.1)
     go false false false true is some none =
         let same = (bytes_eq-Decides (codes "help") p.0).0 is in
         let help : bytes_eq p.0 (codes "help") ≡ true = (bytes_eq-Decides p.0 (codes "help")).1 (sym same) in
@@ -208,8 +208,11 @@ failed_smap a words e usage is_smap fails is = refusal_of usage (subst (λ b. is
   where
     refusal_of : (usage : Usage) → HasKind (fault_of smap words) e → IsUsageOf (kind_of e) usage → IsRefusalOf words usage
     refusal_of (Help text) kind is = elim kind [
-      | inl memory ↦ let bad : OutOfMemory ≡ DisplayHelp = sym memory ∙ is in cc
-      | inr among ↦ subst (λ k. IsAmong k (fault_of smap words)) is among
+      | inl memory ↦ elim is [
+        | inl help ↦ let bad : OutOfMemory ≡ DisplayHelp = sym memory ∙ help in cc
+        | inr version ↦ let bad : OutOfMemory ≡ DisplayVersion = sym memory ∙ version in cc
+      ]
+      | inr among ↦ (kind_of e, among, is)
     ]
     refusal_of (Words text) kind is = elim kind [
       | inl memory ↦ absurd (is.1 memory)
@@ -219,6 +222,6 @@ failed_smap a words e usage is_smap fails is = refusal_of usage (subst (λ b. is
 
 -- where clap finds no fault in the words, only memory can run out
 pub never_refused : (words : List Text) (usage : Usage) → fault_of smap words ≡ [] → IsRefusalOf words usage → usage ≡ Memory
-never_refused words (Help text) none refused = absurd (subst (IsAmong DisplayHelp) none refused)
+never_refused words (Help text) none refused = absurd (subst (IsAmong refused.0) none refused.1)
 never_refused words (Words text) none refused = absurd (subst (IsAmong refused.0) none refused.1)
 never_refused words Memory none refused = refl

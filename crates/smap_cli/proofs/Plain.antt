@@ -2,8 +2,8 @@
 use Rattle.std.proofs.Common.{◌≡◌, ◌∙◌, ◌==◌, ◌+◌, ℕ, Bool, true, false, refl, sym, ap, arith, inl, inr, List, [], ◌∷◌, Option, Some, None, true≢false, codes}
 use Rattle.std.specs.Str.Parse.{digits_value, without_leading_plus}
 use Rattle.clap.specs.Values.{Accepts}
-use Rattle.smap_cli.specs.declared.command.Command.{Command}
-use Rattle.smap_cli.specs.declared.command.Command.TheVariants.{Raw, Check, Lookup}
+use Rattle.smap_answers.specs.declared.command.Command.{Command}
+use Rattle.smap_answers.specs.declared.command.Command.TheVariants.{Raw, Check, Lookup}
 use Rattle.std.proofs.lemmas.Bool.{ne_eqb}
 use Rattle.std.proofs.lemmas.Str.Parse.{digit_from_value}
 use Rattle.std.proofs.lemmas.Int.{ints}
@@ -17,7 +17,7 @@ use Rattle.clap.proofs.OnLiterals.{clap_on_literals}
 use Rattle.clap.proofs.ValueTestLemmas.{Accepts-accepts}
 use Rattle.clap.specs.declared.parser.matches.ValueSource.TheVariants.{CommandLine}
 use Rattle.clap.specs.declared.builder.value_parser.Reading.TheVariants as reading
-use Rattle.smap_cli.specs.Command.{GivesNumber, GivesText, IsCheck, IsCheckCall, IsLookup, IsLookupCall, IsPathText, IsPlaceText, IsRawCall, SubcommandAsksFor, number, smap}
+use Rattle.smap_cli.specs.Words.{GivesNumber, GivesText, IsCheck, IsCheckCall, IsLookup, IsLookupCall, IsPathText, IsPlaceText, IsRawCall, SubcommandAsksFor, number, smap}
 
 -- ---- words that are no flag
 

@@ -1,10 +1,2 @@
-pub mod Command
-pub mod Output
-pub mod Text
-pub mod Raw
-pub mod Told
-pub mod Refusal
-pub mod Map
-pub mod Check
-pub mod Lookup
-pub mod Run
+pub mod Words
+pub mod Usage

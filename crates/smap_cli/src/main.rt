@@ -1,98 +1,61 @@
-//! `smap` answers questions about source maps from the command line: `smap raw 1 6` looks up line 1,
-//! column 6 in the bare mappings text on its standard input, `smap lookup app.map 1 6` in a map file, and
-//! `smap check app.map` counts what a map file holds.
+//! `smap` answers questions about source maps from the command line: `smap lookup app.js.map 1 6` looks up line 1,
+//! column 6 of the generated file in its map file, `smap check app.js.map` counts what a map file holds, and
+//! `smap raw 1 6` looks a position up in the bare mappings text on its standard input.
 #![tactic(auto)]
 
-mod check;
-mod command;
-mod input;
-mod load;
-mod lookup;
-mod output;
-mod raw;
-mod refusal;
-mod run;
-mod text;
-mod told;
+mod words;
 
-use command::{Command, Usage};
-use load::{NotLoaded, load_files};
-use output::{print, report};
-use run::{DONE, FAILED, USAGE, run};
-use smap_io::{ByteSink, FromStd};
+ghost use Rattle.std.specs.Prelude.{◌≡◌, map, IfOk};
+ghost use Rattle.smap_answers.specs.Files.{path_of, paths_of};
+
+use smap_answers::{Command, Loaded, Outcome, load_files, run, tell};
+use smap_io::FromStd;
 use std::io;
 use std::process::ExitCode;
+use words::parse;
 
 fn main(rt: HostRuntime) -> ExitCode {
-    ExitCode::from(status_of(&rt))
-}
-
-fn status_of(rt: &HostRuntime) -> u8 {
+    let mut input = FromStd::new(rt.stdin());
     let mut output = FromStd::new(rt.stdout());
     let mut errors = FromStd::new(rt.stderr());
+    let status = match command_with_files(&rt) {
+        Ok((command, files)) => run(
+            rt.alloc(),
+            &command,
+            &files,
+            &mut input,
+            &mut output,
+            &mut errors,
+        ),
+        Err(outcome) => tell(&outcome, &mut output, &mut errors),
+    };
+    ExitCode::from(status)
+}
+
+// What the command line asks for, and the files that it names; or what is told where there is no such command, or a
+// file can't be read.
+fn command_with_files(rt: &HostRuntime) -> Result<(Command, Vec<Loaded>), Outcome>
+    ensures { IfOk result (λ asked. map path_of asked.1.items ≡ paths_of asked.0) }
+{
+    let command = command_of(rt)?;
+    let files = load_files(rt, &command)?;
+    Ok((command, files))
+}
+
+// The command that the command line asks for.
+fn command_of(rt: &HostRuntime) -> Result<Command, Outcome> {
     let words = match words_of(rt) {
         Ok(words) => words,
-        Err(error) if error.kind() == io::ErrorKind::OutOfMemory => {
-            report(&mut errors, text::NO_MEMORY);
-            return FAILED;
-        }
-        Err(_) => {
-            report(&mut errors, text::WORDS_NOT_UTF8);
-            return USAGE;
-        }
+        Err(error) if error.kind() == io::ErrorKind::OutOfMemory => return Err(Outcome::Memory),
+        Err(_) => return Err(Outcome::WordsNotUtf8),
     };
-    match command::parse(rt.alloc(), words) {
-        Ok(command) => status_of_command(rt, &command),
-        Err(usage) => tell_usage(&usage, &mut output, &mut errors),
+    match parse(rt.alloc(), words) {
+        Ok(command) => Ok(command),
+        Err(usage) => Err(usage.outcome()),
     }
 }
 
+// The words of the command line, of which the first is the program's name.
 fn words_of(rt: &HostRuntime) -> io::Result<Vec<String>> {
     Ok(std::env::args(rt)?.collect(rt.alloc())?)
-}
-
-fn status_of_command(rt: &HostRuntime, command: &Command) -> u8 {
-    let mut output = FromStd::new(rt.stdout());
-    let mut errors = FromStd::new(rt.stderr());
-    match load_files(rt, command) {
-        Ok(files) => {
-            let mut input = FromStd::new(rt.stdin());
-            run(
-                rt.alloc(),
-                command,
-                &files,
-                &mut input,
-                &mut output,
-                &mut errors,
-            )
-        }
-        Err(NotLoaded::Unreadable(text)) => {
-            report(&mut errors, &text);
-            FAILED
-        }
-        Err(NotLoaded::Memory) => {
-            report(&mut errors, text::NO_MEMORY);
-            FAILED
-        }
-    }
-}
-
-fn tell_usage(usage: &Usage, output: &mut impl ByteSink, errors: &mut impl ByteSink) -> u8 {
-    match usage {
-        Usage::Help(text) => match print(output, text) {
-            Ok(()) => DONE,
-            Err(_) => {
-                report(errors, text::OUTPUT_FAILED);
-                FAILED
-            }
-        },
-        Usage::Words(text) => {
-            report(errors, text);
-            USAGE
-        }
-        Usage::Memory => {
-            report(errors, text::NO_MEMORY);
-            FAILED
-        }
-    }
 }

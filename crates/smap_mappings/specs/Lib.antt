@@ -15,3 +15,4 @@ pub mod Order
 pub mod Faults
 pub mod Spelling
 pub mod Within
+pub mod Limits

@@ -1,0 +1,3 @@
+mod RawLaws
+mod RunLaws
+mod ShownLaws

@@ -1,0 +1,10 @@
+pub mod Lines
+pub mod Outcome
+pub mod Streams
+pub mod Raw
+pub mod Refusal
+pub mod Map
+pub mod Check
+pub mod Lookup
+pub mod Files
+pub mod Run

@@ -1,0 +1,132 @@
+-- The lines that the program prints, and the texts that they are made of.
+use Rattle.std.specs.Prelude.{ℕ, ◌+◌, codes, Bool, if◌then◌else◌, Option, None, Some, List, [], ◌∷◌, ◌++◌, map}
+use Rattle.std.specs.Char.{is_ascii_control}
+use Rattle.std.specs.Fmt.{decimal}
+use Rattle.smap_mappings.specs.declared.fault.Fault.{Fault}
+use Rattle.smap_mappings.specs.declared.fault.FaultKind.{FaultKind}
+use Rattle.smap_mappings.specs.declared.fault.FaultKind.TheVariants.{BadDigit, Unended, TooLong, TooLarge, NegativeZero, FieldCount, Negative, PastLimit, ColumnFalls, SourceIndex, NameIndex}
+use Rattle.smap_answers.specs.declared.lines.MapCounts.{MapCounts}
+
+-- the pieces one after the other
+abbrev pub text_from : List (List ℕ) → List ℕ
+text_from [] = []
+text_from (piece ∷ []) = piece
+text_from (piece ∷ next ∷ pieces) = piece ++ text_from (next ∷ pieces)
+
+-- the pieces one after the other, and an LF
+abbrev pub line_from : List (List ℕ) → List ℕ
+line_from [] = 10 ∷ []
+line_from (piece ∷ pieces) = piece ++ line_from pieces
+
+-- ---- texts that are not the program's own
+
+-- a byte as it prints: an ASCII control character as `?`
+abbrev pub shown_byte : ℕ → ℕ
+shown_byte byte = if is_ascii_control byte then 63 else byte
+
+-- a text as it prints
+unfoldable pub shown : List ℕ → List ℕ
+shown text = map shown_byte text
+
+-- ---- standard output
+
+abbrev pub none_line : List ℕ
+none_line = line_from (codes "none" ∷ [])
+
+abbrev pub unmapped_line : List ℕ
+unmapped_line = line_from (codes "unmapped" ∷ [])
+
+abbrev pub name_pieces : (name : Option ℕ) → List (List ℕ)
+name_pieces None = []
+name_pieces (Some name) = codes " name " ∷ decimal name ∷ []
+
+-- a place in a source; its line and column count from 0, and print from 1
+abbrev pub found_line : (source line column : ℕ) (name : Option ℕ) → List ℕ
+found_line source line column name = line_from (
+    codes "source " ∷ decimal source
+    ∷ codes " line " ∷ decimal (line + 1)
+    ∷ codes " column " ∷ decimal (column + 1)
+    ∷ name_pieces name)
+
+-- what prints of a name
+abbrev pub name_text : Option (List ℕ) → List ℕ
+name_text None = []
+name_text (Some name) = codes " name " ++ shown name
+
+-- what prints of whether a source is ignored
+abbrev pub ignored_text : Bool → List ℕ
+ignored_text ignored = if ignored then codes " ignored" else []
+
+-- a place in a source that prints like this; its line and column count from 0, and print from 1
+abbrev pub place_line : (source : List ℕ) (line column : ℕ) (name : Option (List ℕ)) (ignored : Bool) → List ℕ
+place_line source line column name ignored = line_from (
+    source ∷ codes ":" ∷ decimal (line + 1) ∷ codes ":" ∷ decimal (column + 1)
+    ∷ name_text name ∷ ignored_text ignored ∷ [])
+
+-- how many sections, sources and names a map has
+abbrev pub lists_text : MapCounts → List ℕ
+lists_text counts = text_from (
+    codes " sections " ∷ decimal counts.sections
+    ∷ codes " sources " ∷ decimal counts.sources
+    ∷ codes " names " ∷ decimal counts.names ∷ [])
+
+-- how many mappings it has, lines that hold one, and checkpoints
+abbrev pub mappings_text : MapCounts → List ℕ
+mappings_text counts = text_from (
+    codes " segments " ∷ decimal counts.segments
+    ∷ codes " lines " ∷ decimal counts.lines
+    ∷ codes " checkpoints " ∷ decimal counts.checkpoints ∷ [])
+
+-- how much a map holds
+abbrev pub counts_line : MapCounts → List ℕ
+counts_line counts = line_from (codes "ok" ∷ lists_text counts ∷ mappings_text counts ∷ [])
+
+-- ---- standard error
+
+-- how a kind of fault is called
+abbrev pub kind_text : FaultKind → List ℕ
+kind_text BadDigit = codes "F1 BadDigit"
+kind_text Unended = codes "F2 Unended"
+kind_text TooLong = codes "F3 TooLong"
+kind_text TooLarge = codes "F4 TooLarge"
+kind_text NegativeZero = codes "F5 NegativeZero"
+kind_text FieldCount = codes "F6 FieldCount"
+kind_text Negative = codes "F7 Negative"
+kind_text PastLimit = codes "F8 PastLimit"
+kind_text ColumnFalls = codes "F9 ColumnFalls"
+kind_text SourceIndex = codes "F10 SourceIndex"
+kind_text NameIndex = codes "F11 NameIndex"
+
+-- a fault of a mappings text; its line counts from 0, and prints from 1, its byte from 0
+abbrev pub fault_text : Fault → List ℕ
+fault_text fault = text_from (
+    kind_text fault.kind ∷ codes " line " ∷ decimal (fault.line + 1) ∷ codes " byte " ∷ decimal fault.byte ∷ [])
+
+-- a mappings text that is refused for its first fault
+abbrev pub refused_line : Fault → List ℕ
+refused_line fault = line_from (codes "refused: " ∷ fault_text fault ∷ [])
+
+abbrev pub text_too_long_line : List ℕ
+text_too_long_line = line_from (codes "refused: TextTooLong" ∷ [])
+
+abbrev pub not_utf8_line : List ℕ
+not_utf8_line = line_from (codes "refused: NotUtf8" ∷ [])
+
+-- a map file that is refused, with the words for the refusal
+abbrev pub map_refused_line : (path refusal : List ℕ) → List ℕ
+map_refused_line path refusal = line_from (codes "refused: " ∷ shown path ∷ codes ": " ∷ refusal ∷ [])
+
+abbrev pub file_failed_line : (path : List ℕ) → List ℕ
+file_failed_line path = line_from (codes "device: read " ∷ shown path ∷ [])
+
+abbrev pub input_failed_line : List ℕ
+input_failed_line = line_from (codes "device: read standard input" ∷ [])
+
+abbrev pub output_failed_line : List ℕ
+output_failed_line = line_from (codes "device: write" ∷ [])
+
+abbrev pub memory_line : List ℕ
+memory_line = line_from (codes "memory" ∷ [])
+
+abbrev pub words_not_utf8_line : List ℕ
+words_not_utf8_line = line_from (codes "error: a word of the command line is not UTF-8" ∷ [])

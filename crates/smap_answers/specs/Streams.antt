@@ -1,0 +1,79 @@
+-- What the program's streams show, and what telling does to them.
+use Rattle.std.specs.Prelude.{◌≡◌, ◌≢◌, ℕ, ◌⊎◌, Bool, true, false, List, Option}
+use Rattle.smap_io.specs.Device.{Takes, TakesFront}
+use Rattle.smap_answers.specs.Outcome.{Telling}
+use Rattle.smap_answers.specs.Lines.{output_failed_line}
+
+-- ---- what a stream shows
+
+-- of an input: the bytes that it has left, where the device tells them, and whether it has failed
+pub record SourceSeen : Type 0 where
+  pub left : Option (List ℕ)
+  pub failed : Bool
+
+-- of an output: the bytes that it has taken, where the device tells them, whether it was flushed behind the last of
+-- them, and whether it has failed
+pub record SinkSeen : Type 0 where
+  pub taken : Option (List ℕ)
+  pub flushed : Bool
+  pub failed : Bool
+
+-- standard output and standard error
+pub record Sinks : Type 0 where
+  pub output : SinkSeen
+  pub errors : SinkSeen
+
+-- all three
+pub record Streams : Type 0 where
+  pub input : SourceSeen
+  pub sinks : Sinks
+
+-- a device as a stream, by what its trait tells of it
+abbrev pub source_seen : {D : Type 0} → (D → Option (List ℕ)) → (D → Bool) → D → SourceSeen
+source_seen left failed device = record { left = left device; failed = failed device }
+
+abbrev pub sink_seen : {D : Type 0} → (D → Option (List ℕ)) → (D → Bool) → (D → Bool) → D → SinkSeen
+sink_seen taken flushed failed device = record { taken = taken device; flushed = flushed device; failed = failed device }
+
+abbrev pub sinks_seen : SinkSeen → SinkSeen → Sinks
+sinks_seen output errors = record { output = output; errors = errors }
+
+abbrev pub streams_seen : SourceSeen → SinkSeen → SinkSeen → Streams
+streams_seen input output errors = record { input = input; sinks = sinks_seen output errors }
+
+-- ---- how telling ends
+
+-- the stream took all of the text, was flushed behind it, and has not failed
+pub record IsPrintedTo (before after : SinkSeen) (text : List ℕ) : Type 0 where
+  pub whole : Takes before.taken after.taken text
+  pub flushed : after.flushed ≡ true
+  pub works : after.failed ≡ false
+
+-- the stream took the text and was flushed behind it or, where it has failed, took a front of the text
+pub record IsToldTo (before after : SinkSeen) (text : List ℕ) : Type 0 where
+  pub whole : after.failed ≡ false → Takes before.taken after.taken text
+  pub flushed : after.failed ≡ false → after.flushed ≡ true
+  pub front : TakesFront before.taken after.taken text
+
+-- the answer is on standard output, and nothing was done to standard error
+pub record Answers (text : List ℕ) (before after : Sinks) : Type 0 where
+  pub printed : IsPrintedTo before.output after.output text
+  pub untold : after.errors ≡ before.errors
+
+-- standard output failed, and holds a front of the answer; standard error says so
+pub record FailsToAnswer (text : List ℕ) (before after : Sinks) : Type 0 where
+  pub failed : after.output.failed ≡ true
+  pub front : TakesFront before.output.taken after.output.taken text
+  pub told : IsToldTo before.errors after.errors output_failed_line
+
+-- the text is on standard error, and nothing was done to standard output
+pub record Reports (text : List ℕ) (before after : Sinks) : Type 0 where
+  pub told : IsToldTo before.errors after.errors text
+  pub unprinted : after.output ≡ before.output
+
+-- a telling ends with this status: an answer with 0, or with 3 where standard output failed; another with its own
+abbrev pub Ends : Telling → ℕ → Sinks → Sinks → Type 0
+Ends telling status before after =
+    ((telling.status ≡ 0)
+        × (((status ≡ 0) × Answers telling.text before after) ⊎ ((status ≡ 3) × FailsToAnswer telling.text before after)))
+    ⊎ ((telling.status ≢ 0) × (status ≡ telling.status) × Reports telling.text before after)

@@ -1,0 +1,45 @@
+//! Counting what a map file holds.
+ghost use Rattle.std.specs.Prelude.{◌≡◌, string_bytes, None, IfOk};
+ghost use Rattle.smap_answers.specs.Check.{check_line, counts_of};
+ghost use Rattle.smap_answers.specs.Map.{map_result, record_of};
+ghost use Rattle.smap_answers.specs.Outcome.{telling_of};
+ghost use Rattle.smap_answers.specs.Run.{interval};
+
+use crate::command::INTERVAL;
+use crate::lines::{self, MapCounts};
+use crate::outcome::Outcome;
+use crate::refusal::refuse;
+use smap_record::MapFile;
+use std::alloc::{AllocError, Global};
+
+/// Reads the map that the bytes of the file at this path are, and counts what it holds.
+pub fn answer_check(alloc: Global, path: &str, bytes: &[u8]) -> Result<Outcome, AllocError>
+    ensures { IfOk result (λ outcome. telling_of outcome
+        ≡ map_result (check_line interval) path.now (record_of bytes.now None interval)) }
+{
+    match MapFile::read(alloc, bytes, None, INTERVAL) {
+        Ok(map) => Ok(Outcome::Answer(check_line(alloc, &map)?)),
+        Err(refusal) => refuse(alloc, path, refusal),
+    }
+}
+
+// The line of the counts of a map.
+fn check_line(alloc: Global, map: &MapFile) -> Result<String, AllocError>
+    ensures { IfOk result (λ text. string_bytes text ≡ check_line map.now.k map.now.stated) }
+{
+    lines::counts_line(alloc, counts_of(map))
+}
+
+// How much a map holds.
+fn counts_of(map: &MapFile) -> MapCounts
+    ensures { result ≡ counts_of map.now.stated map.now.k }
+{
+    MapCounts {
+        sections: map.sections(),
+        sources: map.sources(),
+        names: map.names(),
+        segments: map.segments(),
+        lines: map.used_lines(),
+        checkpoints: map.checkpoints(),
+    }
+}

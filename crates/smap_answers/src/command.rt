@@ -1,0 +1,19 @@
+//! What the program is asked to do.
+
+/// A command. Lines and columns count from 0 here, columns in UTF-16 code units.
+#[derive(Drop)]
+pub enum Command {
+    /// Looks up a generated line and column in the bare mappings text on standard input.
+    Raw { line: u32, column: u32 },
+    /// Checks the source map in the file at this path.
+    Check { path: String },
+    /// Looks up a generated line and column in the source map in the file at this path.
+    Lookup {
+        path: String,
+        line: u32,
+        column: u32,
+    },
+}
+
+/// The interval of the checkpoints of a map that a command reads.
+pub const INTERVAL: u32 = 1;

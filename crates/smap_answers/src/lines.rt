@@ -1,0 +1,218 @@
+//! The lines that the program prints, each with its LF, and the texts that they are made of.
+ghost use Rattle.std.specs.Prelude.{◌≡◌, ◌+◌, option_map, string_bytes, IfOk};
+ghost use Rattle.smap_answers.specs.Lines.{counts_line, fault_text, file_failed_line, found_line};
+ghost use Rattle.smap_answers.specs.Lines.{ignored_text, kind_text, lists_text, map_refused_line};
+ghost use Rattle.smap_answers.specs.Lines.{mappings_text, name_text, place_line, refused_line, shown};
+ghost use Rattle.smap_answers.specs.Lines.{shown_byte};
+
+use smap_mappings::{Fault, FaultKind};
+use std::alloc::{AllocError, Global};
+
+/// Standard output: no mapping stands at the position or before it on its line.
+pub const NONE: &str = "none\n";
+
+/// Standard output: the position is of generated code without an original.
+pub const UNMAPPED: &str = "unmapped\n";
+
+/// Standard error: the input is longer than a mappings text may be.
+pub const TEXT_TOO_LONG: &str = "refused: TextTooLong\n";
+
+/// Standard error: the input is not UTF-8.
+pub const NOT_UTF8: &str = "refused: NotUtf8\n";
+
+/// Standard error: a word of the command line is not UTF-8.
+pub const WORDS_NOT_UTF8: &str = "error: a word of the command line is not UTF-8\n";
+
+/// Standard error: standard input failed.
+pub const INPUT_FAILED: &str = "device: read standard input\n";
+
+/// Standard error: standard output failed.
+pub const OUTPUT_FAILED: &str = "device: write\n";
+
+/// Standard error: memory ran out.
+pub const NO_MEMORY: &str = "memory\n";
+
+/// Standard output: where a place stands in its source. The line and the column count from 0 here,
+/// and from 1 in the text.
+pub fn found_line(
+    alloc: Global,
+    source: u32,
+    line: u32,
+    column: u32,
+    name: Option<u32>,
+) -> Result<String, AllocError>
+    ensures { IfOk result (λ text. string_bytes text ≡ found_line source line column name) }
+{
+    let (line, column) = place_from_one(line, column);
+    match name {
+        Some(name) => {
+            format!(in alloc; "source {source} line {line} column {column} name {name}\n")
+        }
+        None => format!(in alloc; "source {source} line {line} column {column}\n"),
+    }
+}
+
+/// Standard output: where a place stands in a source that prints as `source`. The line and the column
+/// count from 0 here, and from 1 in the text.
+pub fn place_line(
+    alloc: Global,
+    source: &str,
+    line: u32,
+    column: u32,
+    name: Option<&str>,
+    ignored: bool,
+) -> Result<String, AllocError>
+    ensures { IfOk result (λ text. string_bytes text
+        ≡ place_line source.now line column (option_map (λ name. name.now) name.entry) ignored) }
+{
+    let (line, column) = place_from_one(line, column);
+    let name = name_text(alloc, name)?;
+    let ignored = ignored_text(ignored);
+    format!(in alloc; "{source}:{line}:{column}{name}{ignored}\n")
+}
+
+// What prints of a name.
+fn name_text(alloc: Global, name: Option<&str>) -> Result<String, AllocError>
+    ensures { IfOk result (λ text. string_bytes text ≡ name_text (option_map (λ name. name.now) name.entry)) }
+{
+    match name {
+        Some(name) => {
+            let name = shown(alloc, name)?;
+            format!(in alloc; " name {name}")
+        }
+        None => Ok(String::new(alloc)),
+    }
+}
+
+// What prints of whether a source is ignored.
+fn ignored_text(ignored: bool) -> &'static str
+    ensures { result.now ≡ ignored_text ignored }
+{
+    if ignored { " ignored" } else { "" }
+}
+
+/// How much a map holds.
+#[derive(Clone, Copy)]
+pub struct MapCounts {
+    pub sections: u64,
+    pub sources: u64,
+    pub names: u64,
+    pub segments: u64,
+    pub lines: u64,
+    pub checkpoints: u64,
+}
+
+/// Standard output: how much a map holds.
+pub fn counts_line(alloc: Global, counts: MapCounts) -> Result<String, AllocError>
+    ensures { IfOk result (λ text. string_bytes text ≡ counts_line counts) }
+{
+    let lists = lists_text(alloc, counts)?;
+    let mappings = mappings_text(alloc, counts)?;
+    format!(in alloc; "ok{lists}{mappings}\n")
+}
+
+// How many sections, sources and names a map has.
+fn lists_text(alloc: Global, counts: MapCounts) -> Result<String, AllocError>
+    ensures { IfOk result (λ text. string_bytes text ≡ lists_text counts) }
+{
+    let MapCounts {
+        sections,
+        sources,
+        names,
+        ..
+    } = counts;
+    format!(in alloc; " sections {sections} sources {sources} names {names}")
+}
+
+// How many mappings it has, lines that hold one, and checkpoints.
+fn mappings_text(alloc: Global, counts: MapCounts) -> Result<String, AllocError>
+    ensures { IfOk result (λ text. string_bytes text ≡ mappings_text counts) }
+{
+    let MapCounts {
+        segments,
+        lines,
+        checkpoints,
+        ..
+    } = counts;
+    format!(in alloc; " segments {segments} lines {lines} checkpoints {checkpoints}")
+}
+
+/// Standard error: why the map of a file is refused, in the words for the refusal.
+pub fn map_refused_line(alloc: Global, path: &str, refusal: &str) -> Result<String, AllocError>
+    ensures { IfOk result (λ text. string_bytes text ≡ map_refused_line path.now refusal.now) }
+{
+    let path = shown(alloc, path)?;
+    format!(in alloc; "refused: {path}: {refusal}\n")
+}
+
+/// Standard error: a file can't be read.
+pub fn file_failed_line(alloc: Global, path: &str) -> Result<String, AllocError>
+    ensures { IfOk result (λ text. string_bytes text ≡ file_failed_line path.now) }
+{
+    let path = shown(alloc, path)?;
+    format!(in alloc; "device: read {path}\n")
+}
+
+/// A text of the user's, for one line: a `?` stands for each ASCII control character.
+pub fn shown(alloc: Global, text: &str) -> Result<String, AllocError>
+    ensures { IfOk result (λ clean. string_bytes clean ≡ shown text.now) }
+{
+    text.chars().map(shown_char).collect(alloc)
+}
+
+// A character as it prints.
+fn shown_char(char: char) -> char
+    ensures { result ≡ shown_byte char }
+{
+    if char.is_ascii_control() { '?' } else { char }
+}
+
+/// Standard error: a mappings text that is refused, with the text of its first fault.
+pub fn refused_line(alloc: Global, fault: Fault) -> Result<String, AllocError>
+    ensures { IfOk result (λ text. string_bytes text ≡ refused_line fault) }
+{
+    let fault = fault_text(alloc, fault)?;
+    format!(in alloc; "refused: {fault}\n")
+}
+
+/// A fault of a mappings text: its kind, its generated line, from 1, and the byte at which its segment begins, from 0.
+pub fn fault_text(alloc: Global, fault: Fault) -> Result<String, AllocError>
+    ensures { IfOk result (λ text. string_bytes text ≡ fault_text fault) }
+{
+    let (kind, line, byte) = (kind_text(fault.kind), from_one(fault.line), fault.byte);
+    format!(in alloc; "{kind} line {line} byte {byte}")
+}
+
+// A kind of fault: its number and name.
+fn kind_text(kind: FaultKind) -> &'static str
+    ensures { result.now ≡ kind_text kind }
+{
+    match kind {
+        FaultKind::BadDigit => "F1 BadDigit",
+        FaultKind::Unended => "F2 Unended",
+        FaultKind::TooLong => "F3 TooLong",
+        FaultKind::TooLarge => "F4 TooLarge",
+        FaultKind::NegativeZero => "F5 NegativeZero",
+        FaultKind::FieldCount => "F6 FieldCount",
+        FaultKind::Negative => "F7 Negative",
+        FaultKind::PastLimit => "F8 PastLimit",
+        FaultKind::ColumnFalls => "F9 ColumnFalls",
+        FaultKind::SourceIndex => "F10 SourceIndex",
+        FaultKind::NameIndex => "F11 NameIndex",
+    }
+}
+
+// A line and a column that count from 0, counted from 1.
+fn place_from_one(line: u32, column: u32) -> (u64, u64)
+    ensures line { result.0 ≡ line + 1 }
+    ensures column { result.1 ≡ column + 1 }
+{
+    (from_one(line), from_one(column))
+}
+
+// A number that counts from 0, counted from 1.
+fn from_one(number: u32) -> u64
+    ensures { result ≡ number + 1 }
+{
+    u64::from(number) + 1
+}

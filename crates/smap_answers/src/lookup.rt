@@ -1,0 +1,97 @@
+//! Looking a position up in a map file.
+ghost use Rattle.std.specs.Prelude.{◌≡◌, option_and_then, option_map, slice_get, string_bytes, None, IfOk};
+ghost use Rattle.smap_record.specs.Record.{source_of};
+ghost use Rattle.smap_answers.specs.Lookup.{is_ignored, lookup_line, origin_line, source_text};
+ghost use Rattle.smap_answers.specs.Map.{map_result, record_of};
+ghost use Rattle.smap_answers.specs.Outcome.{telling_of};
+ghost use Rattle.smap_answers.specs.Run.{interval};
+
+use crate::command::INTERVAL;
+use crate::lines;
+use crate::outcome::Outcome;
+use crate::refusal::refuse;
+use smap_record::{Answer, MapFile, Meter, Origin, SourceEntry};
+use std::alloc::{AllocError, Global};
+
+/// Looks up a generated line and column, both from 0, in the map that the bytes of the file at this path are.
+pub fn answer_lookup(
+    alloc: Global,
+    path: &str,
+    bytes: &[u8],
+    line: u32,
+    column: u32,
+) -> Result<Outcome, AllocError>
+    ensures { IfOk result (λ outcome. telling_of outcome
+        ≡ map_result (lookup_line line column) path.now (record_of bytes.now None interval)) }
+{
+    match MapFile::read(alloc, bytes, None, INTERVAL) {
+        Ok(map) => Ok(Outcome::Answer(lookup_line(alloc, &map, line, column)?)),
+        Err(refusal) => refuse(alloc, path, refusal),
+    }
+}
+
+// The line for what a map answers at a position.
+fn lookup_line(alloc: Global, map: &MapFile, line: u32, column: u32) -> Result<String, AllocError>
+    ensures { IfOk result (λ text. string_bytes text ≡ lookup_line line column map.now.stated) }
+{
+    let mut meter = Meter::new(alloc);
+    match map.look_up(line, column, &mut meter) {
+        Answer::Nothing => String::from_str(alloc, lines::NONE),
+        Answer::Unmapped { .. } => String::from_str(alloc, lines::UNMAPPED),
+        Answer::Found { origin, .. } => origin_line(alloc, map, &origin),
+    }
+}
+
+// The line for a place in a source.
+fn origin_line(alloc: Global, map: &MapFile, origin: &Origin) -> Result<String, AllocError>
+    ensures { IfOk result (λ text. string_bytes text ≡ origin_line map.now.stated origin.now) }
+{
+    let entry = map.source(origin.source);
+    let source = source_text(alloc, entry, origin.source)?;
+    let name = name_at(map, origin.name);
+    lines::place_line(
+        alloc,
+        &source,
+        origin.line,
+        origin.column,
+        name,
+        is_ignored(entry),
+    )
+}
+
+// How a source of this index prints. The map's contract says that an origin's indices name a source and a name that there are, so `None` never comes.
+fn source_text(alloc: Global, entry: Option<&SourceEntry>, index: u32) -> Result<String, AllocError>
+    ensures { IfOk result (λ text. string_bytes text
+        ≡ source_text (option_map (λ entry. source_of entry.now) entry.entry) index) }
+{
+    match entry {
+        Some(
+            SourceEntry {
+                name: Some(name),
+                ..
+            },
+        ) => lines::shown(alloc, name.text()),
+        _ => format!(in alloc; "[{index}]"),
+    }
+}
+
+// Whether the map says to pass over a source.
+fn is_ignored(entry: Option<&SourceEntry>) -> bool
+    ensures { result ≡ is_ignored (option_map (λ entry. source_of entry.now) entry.entry) }
+{
+    match entry {
+        Some(entry) => entry.ignored,
+        None => false,
+    }
+}
+
+// The name at an index, where there is one.
+fn name_at(map: &MapFile, index: Option<u32>) -> Option<&str>
+    ensures { option_map (λ name. name.now) result
+        ≡ option_and_then (slice_get map.now.stated.names) index }
+{
+    match index {
+        Some(index) => map.name(index),
+        None => None,
+    }
+}

@@ -1,0 +1,62 @@
+//! What a command comes to, and how that is told.
+ghost use Rattle.std.specs.Prelude.{◌≡◌};
+ghost use Rattle.smap_answers.specs.Outcome.{telling_of};
+
+use crate::lines;
+
+/// The exit status of a run that did what it was asked.
+pub const DONE: u8 = 0;
+/// The exit status of a run whose input is refused.
+pub const REFUSED: u8 = 1;
+/// The exit status where the words give no command.
+pub const MISUSED: u8 = 2;
+/// The exit status of a run in which a device failed, or memory ran out.
+pub const FAILED: u8 = 3;
+
+/// What a command comes to. Each text is whole, with its last LF.
+#[derive(Drop)]
+pub enum Outcome {
+    /// What was asked for: for standard output, with status 0.
+    Answer(String),
+    /// Why the input is refused: for standard error, as all that follow, with status 1.
+    Refusal(String),
+    /// Why the words of the command line give no command: status 2.
+    Misuse(String),
+    /// A word of the command line is not UTF-8: status 2.
+    WordsNotUtf8,
+    /// Which file can't be read: status 3.
+    Unreadable(String),
+    /// Standard input failed: status 3.
+    InputFailure,
+    /// Memory ran out: status 3.
+    Memory,
+}
+
+impl Outcome {
+    /// The exit status. The call takes no memory.
+    pub fn status(&self) -> u8
+        ensures { result ≡ (telling_of self.now).status }
+    {
+        match self {
+            Outcome::Answer(_) => DONE,
+            Outcome::Refusal(_) => REFUSED,
+            Outcome::Misuse(_) | Outcome::WordsNotUtf8 => MISUSED,
+            Outcome::Unreadable(_) | Outcome::InputFailure | Outcome::Memory => FAILED,
+        }
+    }
+
+    /// What the user reads. The call takes no memory.
+    pub fn text(&self) -> &str
+        ensures { result.now ≡ (telling_of self.now).text }
+    {
+        match self {
+            Outcome::Answer(text) => text,
+            Outcome::Refusal(text) => text,
+            Outcome::Misuse(text) => text,
+            Outcome::WordsNotUtf8 => lines::WORDS_NOT_UTF8,
+            Outcome::Unreadable(text) => text,
+            Outcome::InputFailure => lines::INPUT_FAILED,
+            Outcome::Memory => lines::NO_MEMORY,
+        }
+    }
+}

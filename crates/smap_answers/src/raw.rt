@@ -1,0 +1,126 @@
+//! Looking a position up in a bare mappings text.
+ghost use Rattle.std.specs.Prelude.{◌≡◌, ◌≤◌, IfOk, length, string_bytes};
+ghost use Rattle.smap_mappings.specs.Faults.{first_fault};
+ghost use Rattle.smap_mappings.specs.Mappings.{mappings_of};
+ghost use Rattle.smap_mappings.specs.PackedText.{most_bytes, most_indices};
+ghost use Rattle.smap_index.specs.Answer.{answer_at_or_before};
+ghost use Rattle.smap_answers.specs.Outcome.{telling_of};
+ghost use Rattle.smap_answers.specs.Raw.{answer_line, fault_or_answer, raw_result, text_result};
+ghost use Rattle.smap_answers.specs.Raw.{without_last_line_end};
+
+use crate::lines;
+use crate::outcome::Outcome;
+use smap_index::{Answer, BuildRefusal, Index, Part};
+use smap_mappings::{MOST_BYTES, MOST_INDICES, Meter, PackedText, TextRefusal};
+use std::alloc::{AllocError, Global};
+
+/// Looks up a generated line and column, both from 0, in the mappings text that the bytes are.
+pub fn answer_raw(
+    alloc: Global,
+    bytes: Vec<u8>,
+    line: u32,
+    column: u32,
+) -> Result<Outcome, AllocError>
+    ensures { IfOk result (λ outcome. telling_of outcome ≡ raw_result bytes.items line column) }
+{
+    answer_text(alloc, without_last_line_end(bytes), line, column)
+}
+
+// Drops one LF at the very end.
+fn without_last_line_end(mut bytes: Vec<u8>) -> Vec<u8>
+    ensures { result.items ≡ without_last_line_end bytes.items }
+{
+    let length = bytes.len();
+    if length > 0 && bytes[length - 1] == b'\n' {
+        bytes.truncate(length - 1);
+    }
+    bytes
+}
+
+// Looks the position up in the text, which may be too long, or not UTF-8.
+fn answer_text(
+    alloc: Global,
+    bytes: Vec<u8>,
+    line: u32,
+    column: u32,
+) -> Result<Outcome, AllocError>
+    ensures { IfOk result (λ outcome. telling_of outcome ≡ text_result bytes.items line column) }
+{
+    if bytes.len() > MOST_BYTES {
+        return Ok(Outcome::Refusal(String::from_str(
+            alloc,
+            lines::TEXT_TOO_LONG,
+        )?));
+    }
+    match String::from_utf8(bytes) {
+        Ok(text) => answer_mappings(alloc, text, line, column),
+        Err(_) => Ok(Outcome::Refusal(String::from_str(alloc, lines::NOT_UTF8)?)),
+    }
+}
+
+// Looks the position up in the text, or says what its first fault is.
+fn answer_mappings(
+    alloc: Global,
+    text: String,
+    line: u32,
+    column: u32,
+) -> Result<Outcome, AllocError>
+    requires { length (string_bytes text) ≤ most_bytes }
+    ensures { IfOk result (λ outcome. telling_of outcome
+        ≡ fault_or_answer (first_fault (string_bytes text) most_indices most_indices)
+        (answer_at_or_before (mappings_of (string_bytes text)) line column)) }
+{
+    match PackedText::check(text, MOST_INDICES, MOST_INDICES) {
+        Ok(packed) => {
+            let answer = look_up(alloc, packed, line, column)?;
+            Ok(Outcome::Answer(answer_line(alloc, &answer)?))
+        }
+        Err((TextRefusal::Fault(fault), _)) => {
+            Ok(Outcome::Refusal(lines::refused_line(alloc, fault)?))
+        }
+        Err((TextRefusal::TextTooLong, _)) => unreachable!(
+            "the text is no longer than a text may be"
+        ),
+    }
+}
+
+// Looks the position up in a text that is the one part of its index.
+fn look_up(alloc: Global, text: PackedText, line: u32, column: u32) -> Result<Answer, AllocError>
+    ensures { IfOk result (λ answer. answer ≡ answer_at_or_before (mappings_of text) line column) }
+{
+    let mut parts = Vec::new(alloc);
+    parts.push(Part {
+        line: 0,
+        column: 0,
+        text,
+        source_base: 0,
+        name_base: 0,
+    })?;
+    match Index::build(alloc, parts, 1) {
+        Ok(index) => {
+            let mut meter = Meter::new(alloc);
+            Ok(index.look_up(line, column, &mut meter))
+        }
+        Err(BuildRefusal::Memory) => Err(AllocError),
+        Err(BuildRefusal::Interval) => unreachable!("there are indexes with this interval"),
+    }
+}
+
+// The line for an answer.
+fn answer_line(alloc: Global, answer: &Answer) -> Result<String, AllocError>
+    ensures { IfOk result (λ text. string_bytes text ≡ answer_line answer.now) }
+{
+    match answer {
+        Answer::Nothing => String::from_str(alloc, lines::NONE),
+        Answer::Unmapped { .. } => String::from_str(alloc, lines::UNMAPPED),
+        Answer::Found { origin, .. } => {
+            lines::found_line(
+                alloc,
+                origin.source,
+                origin.line,
+                origin.column,
+                origin.name,
+            )
+        }
+    }
+}

@@ -1,0 +1,84 @@
+//! Telling why a map file is refused.
+ghost use Rattle.std.specs.Prelude.{◌≡◌, ◌≢◌, string_bytes, IfOk};
+ghost use Rattle.smap_answers.specs.Outcome.{refusal, telling_of};
+ghost use Rattle.smap_answers.specs.Lines.{map_refused_line};
+ghost use Rattle.smap_answers.specs.Refusal.{build_text, cause_text, parts_text, refusal_text, section_fault_text};
+ghost use Rattle.smap_record.specs.declared.refusal.MapRefusal.TheVariants.{Memory};
+
+use crate::lines;
+use crate::outcome::Outcome;
+use smap_record::{BuildRefusal, Fault, MapRefusal};
+use std::alloc::{AllocError, Global};
+
+/// What the refusal of the map file at this path comes to. Want of memory is no refusal of the map.
+pub fn refuse(alloc: Global, path: &str, refused: MapRefusal) -> Result<Outcome, AllocError>
+    ensures told { IfOk result (λ outcome.
+        telling_of outcome ≡ refusal (map_refused_line path.now (refusal_text refused))) }
+    ensures not_memory { IfOk result (λ _. refused ≢ Memory) }
+{
+    if let MapRefusal::Memory = refused {
+        return Err(AllocError);
+    }
+    let refused = refusal_text(alloc, refused)?;
+    Ok(Outcome::Refusal(lines::map_refused_line(alloc, path, &refused)?))
+}
+
+// A refusal: its number and name, and then its parts.
+fn refusal_text(alloc: Global, refusal: MapRefusal) -> Result<String, AllocError>
+    ensures { IfOk result (λ text. string_bytes text ≡ refusal_text refusal) }
+{
+    let cause = cause_text(refusal);
+    let parts = parts_text(alloc, refusal)?;
+    format!(in alloc; "{cause}{parts}")
+}
+
+// Its number and name.
+fn cause_text(refusal: MapRefusal) -> &'static str
+    ensures { result.now ≡ cause_text refusal }
+{
+    match refusal {
+        MapRefusal::TooLarge => "M1 TooLarge",
+        MapRefusal::NotJson => "M2 NotJson",
+        MapRefusal::NotObject => "M3 NotObject",
+        MapRefusal::Version => "M4 Version",
+        MapRefusal::Sections => "M5 Sections",
+        MapRefusal::Sources => "M8 Sources",
+        MapRefusal::Names => "M9 Names",
+        MapRefusal::SourcesContent => "M10 SourcesContent",
+        MapRefusal::IgnoreList => "M11 IgnoreList",
+        MapRefusal::FileOrRoot => "M12 FileOrRoot",
+        MapRefusal::Mappings => "M13 Mappings",
+        MapRefusal::Text(_, _) => "M14 Text",
+        MapRefusal::Build(_) => "M15 Build",
+        MapRefusal::Memory => "M17 Memory",
+    }
+}
+
+// Its parts, where it has some, each behind a space.
+fn parts_text(alloc: Global, refusal: MapRefusal) -> Result<String, AllocError>
+    ensures { IfOk result (λ text. string_bytes text ≡ parts_text refusal) }
+{
+    match refusal {
+        MapRefusal::Text(section, fault) => section_fault_text(alloc, section, fault),
+        MapRefusal::Build(refusal) => String::from_str(alloc, build_text(refusal)),
+        _ => Ok(String::new(alloc)),
+    }
+}
+
+// The first fault of the mappings of a section, which counts from 0.
+fn section_fault_text(alloc: Global, section: u64, fault: Fault) -> Result<String, AllocError>
+    ensures { IfOk result (λ text. string_bytes text ≡ section_fault_text section fault) }
+{
+    let fault = lines::fault_text(alloc, fault)?;
+    format!(in alloc; " {section} {fault}")
+}
+
+// Why an index is not built.
+fn build_text(refusal: BuildRefusal) -> &'static str
+    ensures { result.now ≡ build_text refusal }
+{
+    match refusal {
+        BuildRefusal::Interval => " B1 Interval",
+        BuildRefusal::Memory => " B5 Memory",
+    }
+}

@@ -1,0 +1,94 @@
+//! Running a command over its streams.
+ghost use Rattle.std.specs.Prelude.{◌≡◌, [], false, map};
+ghost use Rattle.smap_answers.specs.Files.{path_of, paths_of};
+ghost use Rattle.smap_answers.specs.Outcome.{telling_of, telling_or_memory};
+ghost use Rattle.smap_answers.specs.Run.{Runs, Tells};
+ghost use Rattle.smap_answers.specs.Streams.{sink_seen, source_seen, streams_seen};
+ghost use Rattle.smap_answers.specs.declared.command.Command.TheVariants.{Raw};
+
+use crate::check::answer_check;
+use crate::command::Command;
+use crate::load::Loaded;
+use crate::lookup::answer_lookup;
+use crate::outcome::Outcome;
+use crate::raw::answer_raw;
+use crate::telling::tell;
+use smap_io::{ByteSink, ByteSource, ReadFailure, read_all};
+use smap_mappings::MOST_BYTES;
+use std::alloc::{AllocError, Global};
+
+/// Runs a command, and gives the exit status. The caller gives a `Loaded` for each path of the command, in their
+/// order, and devices that have not failed.
+pub fn run<R: ByteSource, W: ByteSink, E: ByteSink>(
+    alloc: Global,
+    command: &Command,
+    files: &[Loaded],
+    input: &mut R,
+    output: &mut W,
+    errors: &mut E,
+) -> u8
+    requires loaded { map path_of files.now ≡ paths_of command.now }
+    requires input_works { R.has_failed input.old ≡ false }
+    requires output_works { W.has_failed output.old ≡ false }
+    requires errors_work { E.has_failed errors.old ≡ false }
+    ensures { Runs command.now files.now result
+        (streams_seen (source_seen R.left R.has_failed input.old)
+            (sink_seen W.taken W.is_flushed W.has_failed output.old)
+            (sink_seen E.taken E.is_flushed E.has_failed errors.old))
+        (streams_seen (source_seen R.left R.has_failed input.new)
+            (sink_seen W.taken W.is_flushed W.has_failed output.new)
+            (sink_seen E.taken E.is_flushed E.has_failed errors.new)) }
+{
+    let outcome = outcome_of(alloc, command, files, input);
+    tell(&outcome, output, errors)
+}
+
+// What a command comes to.
+fn outcome_of<R: ByteSource>(
+    alloc: Global,
+    command: &Command,
+    files: &[Loaded],
+    input: &mut R,
+) -> Outcome
+    requires loaded { map path_of files.now ≡ paths_of command.now }
+    requires input_works { R.has_failed input.old ≡ false }
+    ensures { Tells command.now files.now (source_seen R.left R.has_failed input.old)
+        (source_seen R.left R.has_failed input.new) (telling_of result) }
+{
+    match command {
+        Command::Raw { line, column } => outcome_of_raw(alloc, *line, *column, input),
+        Command::Check { path } => or_memory(answer_check(alloc, path, &files[0].bytes)),
+        Command::Lookup { path, line, column } => {
+            or_memory(answer_lookup(alloc, path, &files[0].bytes, *line, *column))
+        }
+    }
+}
+
+// What `raw` comes to.
+fn outcome_of_raw<R: ByteSource>(
+    alloc: Global,
+    line: u32,
+    column: u32,
+    input: &mut R,
+) -> Outcome
+    requires input_works { R.has_failed input.old ≡ false }
+    ensures { Tells (Raw line column) [] (source_seen R.left R.has_failed input.old)
+        (source_seen R.left R.has_failed input.new) (telling_of result) }
+{
+    // Two bytes more than a text may have: one of them may be the LF that is dropped.
+    match read_all(alloc, input, MOST_BYTES + 2) {
+        Ok(bytes) => or_memory(answer_raw(alloc, bytes, line, column)),
+        Err(ReadFailure::Device) => Outcome::InputFailure,
+        Err(ReadFailure::Memory) => Outcome::Memory,
+    }
+}
+
+// An outcome, or that memory ran out.
+fn or_memory(outcome: Result<Outcome, AllocError>) -> Outcome
+    ensures { telling_of result ≡ telling_or_memory outcome }
+{
+    match outcome {
+        Ok(outcome) => outcome,
+        Err(_) => Outcome::Memory,
+    }
+}

@@ -1,0 +1,53 @@
+//! Telling the user what a command comes to.
+ghost use Rattle.std.specs.Prelude.{◌≡◌, false, true, OnErr, OnOk};
+ghost use Rattle.smap_io.specs.Device.{Takes, TakesFront};
+ghost use Rattle.smap_answers.specs.Outcome.{telling_of};
+ghost use Rattle.smap_answers.specs.Streams.{Ends, IsToldTo, Sinks, sink_seen, sinks_seen};
+
+use crate::lines;
+use crate::outcome::{DONE, FAILED, Outcome};
+use smap_io::{ByteSink, DeviceFault, write_all};
+
+/// Writes the text of an outcome to the stream that it is for and flushes that, and gives the exit status. Where
+/// standard output fails, standard error says so. A failure of standard error is passed over. The caller gives
+/// devices that have not failed. The call takes no memory.
+pub fn tell<W: ByteSink, E: ByteSink>(outcome: &Outcome, output: &mut W, errors: &mut E) -> u8
+    requires output_works { W.has_failed output.old ≡ false }
+    ensures { Ends (telling_of outcome.now) result
+        (sinks_seen (sink_seen W.taken W.is_flushed W.has_failed output.old) (sink_seen E.taken E.is_flushed E.has_failed errors.old))
+        (sinks_seen (sink_seen W.taken W.is_flushed W.has_failed output.new) (sink_seen E.taken E.is_flushed E.has_failed errors.new)) }
+{
+    let status = outcome.status();
+    if status != DONE {
+        report(errors, outcome.text());
+        return status;
+    }
+    match print(output, outcome.text()) {
+        Ok(()) => DONE,
+        Err(_) => {
+            report(errors, lines::OUTPUT_FAILED);
+            FAILED
+        }
+    }
+}
+
+// Writes the text and flushes.
+fn print<W: ByteSink>(output: &mut W, text: &str) -> Result<(), DeviceFault>
+    ensures whole { OnOk result (Takes (W.taken output.old) (W.taken output.new) text.now) }
+    ensures flushed { OnOk result (W.is_flushed output.new ≡ true) }
+    ensures no_failure { OnOk result (W.has_failed output.new ≡ W.has_failed output.old) }
+
+    ensures front { OnErr result (TakesFront (W.taken output.old) (W.taken output.new) text.now) }
+    ensures failure { OnErr result (W.has_failed output.new ≡ true) }
+{
+    write_all(output, text.as_bytes())?;
+    output.flush()
+}
+
+// Tells the text to the user, and passes over a failure of the device.
+fn report<E: ByteSink>(errors: &mut E, text: &str)
+    ensures { IsToldTo (sink_seen E.taken E.is_flushed E.has_failed errors.old)
+        (sink_seen E.taken E.is_flushed E.has_failed errors.new) text.now }
+{
+    let _ = print(errors, text);
+}

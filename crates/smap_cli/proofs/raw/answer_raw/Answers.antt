@@ -1,6 +1,0 @@
-use Rattle.smap_cli.specs.Raw.{raw_result}
-use Rattle.smap_cli.proofs.raw.answer_raw.Goals as goal
-
-pub returns : goal.returns
-unfolding raw_result
-returns c = rw (← c.without_last_line_end.ensures) c.answer_text.ensures

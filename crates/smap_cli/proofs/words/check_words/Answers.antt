@@ -1,0 +1,10 @@
+use Rattle.std.proofs.Common.{rules, ap, ap₂, codes, ◌≡◌, ◌∙◌}
+use Rattle.std.proofs.lemmas.Result.{IfOk-weaker}
+use Rattle.clap.specs.Words.{app_of, new_app, with_rule}
+use Rattle.clap.specs.Simple.{app_of_fields}
+use Rattle.smap_cli.proofs.words.check_words.Goals as goal
+
+pub returns : goal.returns
+returns c =
+    let named : app_of c.after_help.result ≡ new_app (codes "check") = ap app_of_fields c.after_help.ensures ∙ (ap app_of_fields c.about.ensures ∙ c.new.ensures.app) in
+    IfOk-weaker c.arg.result _ _ (λ command added. (added.shape (search rules) ∙ ap₂ with_rule named c.map_path.ensures.rule, search rules)) c.arg.ensures

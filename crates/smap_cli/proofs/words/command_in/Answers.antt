@@ -1,0 +1,45 @@
+use Rattle.std.proofs.Common.{◌≡◌, ◌∙◌, List, Option, Some, None, ap, codes, false, inl, inr, refl, subst, sym, true}
+use Rattle.std.specs.Box.{box_value}
+use Rattle.std.specs.Option.{IsSome}
+use Rattle.std.specs.Prelude.{Box, option_map}
+use Rattle.std.specs.Str.{bytes_eq}
+use Rattle.clap.specs.Matches.{subcommand_name_of}
+use Rattle.clap.specs.Simple.{subcommand_rows, subcommand_rows_of}
+use Rattle.clap.specs.Walk.{Row, Text}
+use Rattle.clap.specs.declared.parser.matches.ArgMatches.{ArgMatches}
+use Rattle.clap.specs.declared.parser.matches.ArgMatches.TheViews.{out-ArgMatches, out-SubCommand}
+use Rattle.clap.specs.declared.parser.matches.SubCommand.{SubCommand}
+use Rattle.smap_cli.specs.Words.{HasCommand, HasNumber}
+use Rattle.smap_cli.proofs.words.command_in.Goals as goal
+
+name_of_rows : (m : ArgMatches) → option_map (λ p. p.0) (subcommand_rows_of m) ≡ subcommand_name_of m
+name_of_rows m = go (out-ArgMatches m).subcommand
+  where
+    go : {Z : Type 0} (o : Option (Box SubCommand Z))
+        → option_map (λ p. p.0) (subcommand_rows o) ≡ option_map (λ b. (out-SubCommand (box_value b)).name.now) o
+    go None = refl
+    go (Some b) = refl
+
+-- where the subcommand is `raw`, it has both numbers
+raw_numbers : (o : Option (Text × List Row)) (rows : List Row) → HasCommand o → option_map (λ p. p.0) o ≡ Some (codes "raw") → option_map (λ p. p.1) o ≡ Some rows
+    → HasNumber rows (codes "LINE") × HasNumber rows (codes "COLUMN")
+raw_numbers o rows (inl has) named is =
+    let both : Some has.0 ≡ Some rows = ap (option_map (λ (p : Text × List Row). p.1)) (sym has.1) ∙ is in
+    let same : has.0 ≡ rows = cc in
+    subst (λ r. HasNumber r (codes "LINE") × HasNumber r (codes "COLUMN")) same (has.2, has.3)
+raw_numbers o rows (inr (inl has)) named is =
+    let both : Some (codes "check") ≡ Some (codes "raw") = ap (option_map (λ (p : Text × List Row). p.0)) (sym has.1) ∙ named in
+    let same : codes "check" ≡ codes "raw" = cc in
+    let bad : false ≡ true = ap (λ name. bytes_eq name (codes "raw")) same in
+    cc
+raw_numbers o rows (inr (inr has)) named is =
+    let both : Some (codes "lookup") ≡ Some (codes "raw") = ap (option_map (λ (p : Text × List Row). p.0)) (sym has.1) ∙ named in
+    let same : codes "lookup" ≡ codes "raw" = cc in
+    let bad : false ≡ true = ap (λ name. bytes_eq name (codes "raw")) same in
+    cc
+
+pub number_in-requires-3 : goal.number_in-requires-3
+number_in-requires-3 c =
+    let named = c.subcommand_matches-3.ensures.found.0 (subst IsSome (sym c.unwrap-raw.ensures) refl) in
+    let given = rw c.unwrap-raw.ensures at c.subcommand_matches-3.ensures.rows in
+    (raw_numbers (subcommand_rows_of c.args.matches.now) _ c.requires (name_of_rows c.args.matches.now ∙ named) given).1

@@ -1,0 +1,11 @@
+-- What is told where the words give no command.
+use Rattle.std.specs.Prelude.{string_bytes}
+use Rattle.smap_answers.specs.Outcome.{Telling, answer, misuse, out_of_memory}
+use Rattle.smap_cli.specs.declared.words.Usage.{Usage}
+use Rattle.smap_cli.specs.declared.words.Usage.TheVariants.{Help, Words, Memory}
+
+-- help is what was asked for; other words are a mistake
+abbrev pub telling_of_usage : Usage → Telling
+telling_of_usage (Help text) = answer (string_bytes text)
+telling_of_usage (Words text) = misuse (string_bytes text)
+telling_of_usage Memory = out_of_memory

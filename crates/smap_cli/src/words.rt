@@ -1,0 +1,247 @@
+//! The words of the command line, read into a command.
+ghost use Rattle.std.specs.Prelude.{◌≡◌, ◌≤◌, ◌+◌, ℕ, IfErr, IfOk, MatchResult, codes, false};
+ghost use Rattle.std.specs.Prelude.{string_bytes};
+ghost use Rattle.clap.specs.Words.{Text, app_of, found_of, kind_of, rows_of, rule_of};
+ghost use Rattle.clap.specs.Words.{subcommand_rows_of};
+ghost use Rattle.smap_cli.specs.Words.{GivesNumber, GivesText, HasCommand, HasNumber, HasText};
+ghost use Rattle.smap_cli.specs.Words.{IsCheck, IsCheckCall, IsInRange, IsLocalCommand, IsLookup};
+ghost use Rattle.smap_cli.specs.Words.{IsLookupCall, IsRawCall, IsRefusalOf, IsUsageOf};
+ghost use Rattle.smap_cli.specs.Words.{SubcommandAsksFor, WordsAskFor, check, lookup};
+ghost use Rattle.smap_mappings.specs.Limits.{limit};
+ghost use Rattle.smap_cli.specs.Words.{path_rule, place, raw, smap, texts};
+ghost use Rattle.smap_answers.specs.declared.command.Command.TheVariants.{Raw};
+ghost use Rattle.smap_cli.specs.declared.words.Usage.TheVariants.{Memory};
+
+use clap::error::ErrorKind;
+use clap::{Arg, ArgMatches, Error, value_parser};
+use smap_answers::{Command, Outcome};
+use smap_mappings::LIMIT;
+use std::alloc::{AllocError, Global};
+
+const VERSION: &str = "0.1.0";
+
+const STATUSES: &str = "\
+Columns are UTF-16 code units. LINE and COLUMN count from 1, as V8 prints them in a stack trace.
+
+Status: 0 answered, 1 the map or the text is refused, 2 wrong arguments, 3 an I/O error or out of memory.
+
+Example: smap lookup examples/preset-react.js.map 65 80";
+
+const LOOKUP_NOTES: &str = "\
+Answers:
+  SOURCE:LINE:COLUMN  the original position, from 1; behind it ` name NAME` where the mapping names the
+                      identifier there, and ` ignored` where the map says to pass over the source
+  unmapped            the mapping is of generated code without an original
+  none                no mapping stands at the position or before it on its line
+
+Columns are UTF-16 code units. LINE and COLUMN count from 1, as V8 prints them in a stack trace.
+
+Example: smap lookup examples/preset-react.js.map 65 80";
+
+const CHECK_NOTES: &str = "\
+Answer: how many sections, sources, names and segments the map has, how many generated lines hold a
+segment, and how many checkpoints its index has.
+
+Example: smap check examples/preset-react.js.map";
+
+const RAW_NOTES: &str = "\
+Answers:
+  source S line L column C  the original position, L and C from 1; S is a place in `sources`, from 0; behind
+                            it ` name N` where the mapping has a name, N being a place in `names`, from 0
+  unmapped                  the mapping is of generated code without an original
+  none                      no mapping stands at the position or before it on its line
+
+Columns are UTF-16 code units. LINE and COLUMN count from 1, as V8 prints them in a stack trace.
+
+Example: printf 'AAAA,CAAC;AACA' | smap raw 1 6";
+
+const LINE_HELP: &str = "Line of the generated file, from 1";
+
+const COLUMN_HELP: &str = "Column of the generated file, from 1, in UTF-16 code units";
+
+/// Why the words give no command. A text ends in one LF.
+#[derive(Drop)]
+pub enum Usage {
+    /// They ask for help or for the version: the text goes to standard output, with status 0.
+    Help(String),
+    /// They are no command: the text goes to standard error, with status 2.
+    Words(String),
+    /// Memory ran out.
+    Memory,
+}
+
+impl From<AllocError> for Usage {
+    ghost from_gives = { λ _ usage. usage ≡ Memory };
+
+    fn from(_error: AllocError) -> Usage {
+        Usage::Memory
+    }
+}
+
+impl Usage {
+    ghost use Rattle.smap_answers.specs.Outcome.{telling_of};
+    ghost use Rattle.smap_cli.specs.Usage.{telling_of_usage};
+
+    /// What the program comes to.
+    pub fn outcome(self) -> Outcome
+        ensures { telling_of result ≡ telling_of_usage self }
+    {
+        match self {
+            Usage::Help(text) => Outcome::Answer(text),
+            Usage::Words(text) => Outcome::Misuse(text),
+            Usage::Memory => Outcome::Memory,
+        }
+    }
+}
+
+/// The command that the words ask for, where the first word is the program's name. An `Err` has the
+/// text for the user, as clap writes it.
+pub fn parse(alloc: Global, words: Vec<String>) -> Result<Command, Usage>
+    ensures plain_raw { (line column : ℕ) → IsRawCall (texts words.items) line column
+        → MatchResult result (λ command. command ≡ Raw line column) (λ usage. usage ≡ Memory) }
+    ensures plain_check { (path : Text) → IsCheckCall (texts words.items) path
+        → MatchResult result (IsCheck path) (λ usage. usage ≡ Memory) }
+    ensures plain_lookup { (path : Text) (line column : ℕ)
+        → IsLookupCall (texts words.items) path line column
+        → MatchResult result (IsLookup path line column) (λ usage. usage ≡ Memory) }
+    ensures asked { IfOk result (WordsAskFor (texts words.items)) }
+    ensures in_range { IfOk result IsInRange }
+    ensures refused { IfErr result (IsRefusalOf (texts words.items)) }
+{
+    let smap = command_line(alloc)?;
+    match smap.try_get_matches_from(words.as_slice()) {
+        Ok(matches) => Ok(command_in(alloc, &matches)?),
+        Err(error) => Err(usage_of(alloc, &error)),
+    }
+}
+
+// A lifetime of the caller's, since clap keeps its texts and the words under one.
+fn command_line<'a>(alloc: Global) -> Result<clap::Command<'a>, AllocError>
+    ensures { IfOk result (λ command. app_of command ≡ smap) }
+{
+    clap::Command::new(alloc, "smap")
+        .bin_name("smap")?
+        .version(VERSION)
+        .about("Answers questions about source maps")
+        .after_help(STATUSES)
+        .subcommand_required(true)
+        .subcommand(lookup_words(alloc)?)?
+        .subcommand(check_words(alloc)?)?
+        .subcommand(raw_words(alloc)?)
+}
+
+// The words of `lookup`.
+fn lookup_words<'a>(alloc: Global) -> Result<clap::Command<'a>, AllocError>
+    ensures { IfOk result (IsLocalCommand lookup) }
+{
+    clap::Command::new(alloc, "lookup")
+        .about("Looks a generated position up in a source map file")
+        .after_help(LOOKUP_NOTES)
+        .arg(map_path(alloc))?
+        .arg(place(alloc, "LINE").help(LINE_HELP))?
+        .arg(place(alloc, "COLUMN").help(COLUMN_HELP))
+}
+
+// The words of `check`.
+fn check_words<'a>(alloc: Global) -> Result<clap::Command<'a>, AllocError>
+    ensures { IfOk result (IsLocalCommand check) }
+{
+    clap::Command::new(alloc, "check")
+        .about("Checks a source map file and prints its counts")
+        .after_help(CHECK_NOTES)
+        .arg(map_path(alloc))
+}
+
+// The words of `raw`.
+fn raw_words<'a>(alloc: Global) -> Result<clap::Command<'a>, AllocError>
+    ensures { IfOk result (IsLocalCommand raw) }
+{
+    clap::Command::new(alloc, "raw")
+        .about("Looks a generated position up in the bare mappings text on standard input")
+        .after_help(RAW_NOTES)
+        .arg(place(alloc, "LINE").help(LINE_HELP))?
+        .arg(place(alloc, "COLUMN").help(COLUMN_HELP))
+}
+
+// The argument that is the path of a map file.
+fn map_path<'a>(alloc: Global) -> Arg<'a>
+    ensures rule { rule_of result ≡ path_rule }
+    ensures local { result.global ≡ false }
+{
+    Arg::new(alloc, "PATH")
+        .required(true)
+        .help("Path of the source map file")
+}
+
+// An argument that is a line or column, from 1.
+fn place<'a>(alloc: Global, name: &'a str) -> Arg<'a>
+    ensures rule { rule_of result ≡ place name.entry.now }
+    ensures local { result.global ≡ false }
+{
+    Arg::new(alloc, name)
+        .required(true)
+        .value_parser(value_parser!(u32).range(1..=i64::from(LIMIT) + 1))
+}
+
+// The command that the subcommand and its arguments ask for.
+fn command_in(alloc: Global, matches: &ArgMatches<'_>) -> Result<Command, AllocError>
+    requires { HasCommand (subcommand_rows_of matches.now) }
+    ensures asked { IfOk result (SubcommandAsksFor (subcommand_rows_of matches.now)) }
+    ensures in_range { IfOk result IsInRange }
+{
+    if let Some(check) = matches.subcommand_matches("check") {
+        return Ok(Command::Check {
+            path: path_in(alloc, check)?,
+        });
+    }
+    if let Some(lookup) = matches.subcommand_matches("lookup") {
+        return Ok(Command::Lookup {
+            path: path_in(alloc, lookup)?,
+            line: number_in(lookup, "LINE") - 1,
+            column: number_in(lookup, "COLUMN") - 1,
+        });
+    }
+    let raw = matches.subcommand_matches("raw").unwrap();
+    Ok(Command::Raw {
+        line: number_in(raw, "LINE") - 1,
+        column: number_in(raw, "COLUMN") - 1,
+    })
+}
+
+// The text of the argument PATH.
+fn path_in(alloc: Global, matches: &ArgMatches<'_>) -> Result<String, AllocError>
+    requires { HasText (rows_of (found_of matches.now)) (codes "PATH") }
+    ensures { let rows = rows_of (found_of matches.now)
+        in IfOk result (λ path. GivesText rows (codes "PATH") (string_bytes path)) }
+{
+    String::from_str(alloc, matches.get_str("PATH").unwrap())
+}
+
+// The number of an argument.
+fn number_in(matches: &ArgMatches<'_>, name: &str) -> u32
+    requires { HasNumber (rows_of (found_of matches.now)) name.now }
+    ensures given { GivesNumber (rows_of (found_of matches.now)) name.now result }
+    ensures in_range { (1 ≤ result) × (result ≤ limit + 1) }
+{
+    matches.get_one::<u32>(name).unwrap()
+}
+
+// What an error of clap comes to.
+fn usage_of(alloc: Global, error: &Error) -> Usage
+    ensures { IsUsageOf (kind_of error.now) result }
+{
+    match error.kind() {
+        ErrorKind::OutOfMemory => Usage::Memory,
+        kind => {
+            let is_request = kind == ErrorKind::DisplayHelp || kind == ErrorKind::DisplayVersion;
+            match format!(in alloc; "{error}") {
+                Ok(text) if is_request => Usage::Help(text),
+                Ok(text) => Usage::Words(text),
+                Err(_) => Usage::Memory,
+            }
+        }
+    }
+}
+
+#[cfg(test)]
+mod tests;

@@ -1,0 +1,3 @@
+use Rattle.std.specs.Prelude.{ℕ}
+abbrev pub limit : ℕ
+limit = 2147483647
