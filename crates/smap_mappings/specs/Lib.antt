@@ -15,4 +15,3 @@ pub mod Order
 pub mod Faults
 pub mod Spelling
 pub mod Within
-pub mod Limits

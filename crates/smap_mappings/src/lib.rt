@@ -19,7 +19,7 @@ pub use fault::{Fault, FaultKind};
 pub use mapping::{Mapping, Origin};
 pub use meter::Meter;
 pub use state::State;
-pub use text::{MOST_BYTES, MOST_INDICES, PackedText, TextRefusal};
+pub use text::{MOST_BYTES, PackedText, TextRefusal};
 pub use vlq::{VlqFault, read_vlq};
 
 /// The greatest line, column or index, and the greatest magnitude of a difference.

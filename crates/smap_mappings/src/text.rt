@@ -24,7 +24,7 @@ use std::marker::Model;
 pub const MOST_BYTES: usize = 67108864;
 
 // How many sources, or names, indices up to the limit can name.
-pub const MOST_INDICES: u32 = 2147483648;
+const MOST_INDICES: u32 = 2147483648;
 
 /// Why a text is refused.
 #[derive(Clone, Copy, Debug, PartialEq, Eq)]

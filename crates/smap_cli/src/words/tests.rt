@@ -1,251 +1,265 @@
-use super::{Command, Usage, parse};
+//! Words that are commands, words that are none, and requests for help.
+use super::{Usage, parse};
+use smap_answers::Command;
 use std::alloc::{AllocError, Global};
 use std::test::Fail;
 
-fn parse_words(alloc: Global, words: &[&str]) -> Result<Result<Command, Usage>, AllocError> {
+// What the words come to, on one line or, for help and mistakes, with their text.
+fn read(alloc: Global, words: &[&str]) -> Result<String, AllocError> {
     let mut owned = Vec::new(alloc);
     for word in words {
         owned.push(String::from_str(alloc, word)?)?;
     }
-    Ok(parse(alloc, owned))
+    match parse(alloc, owned) {
+        Ok(Command::Raw { line, column }) => format!(in alloc; "raw {line} {column}"),
+        Ok(Command::Check { path }) => format!(in alloc; "check {path}"),
+        Ok(Command::Lookup { path, line, column }) => {
+            format!(in alloc; "lookup {path} {line} {column}")
+        }
+        Err(usage) => read_usage(alloc, &usage),
+    }
 }
 
+fn read_usage(alloc: Global, usage: &Usage) -> Result<String, AllocError> {
+    match usage {
+        Usage::Help(text) => format!(in alloc; "help: {text}"),
+        Usage::Words(text) => format!(in alloc; "words: {text}"),
+        Usage::Memory => String::from_str(alloc, "memory"),
+    }
+}
+
+// Words, and the command that they give, with lines and columns from 0.
+const COMMANDS: [(&[&str], &str); 14] = [
+    (&["smap", "raw", "1", "6"], "raw 0 5"),
+    (&["smap", "raw", "1", "1"], "raw 0 0"),
+    (&["./smap", "raw", "007", "+2"], "raw 6 1"),
+    (
+        &["smap", "raw", "2147483648", "2147483648"],
+        "raw 2147483647 2147483647",
+    ),
+    (&["smap", "check", "app.js.map"], "check app.js.map"),
+    (
+        &["./smap", "check", "maps/größe 1.map"],
+        "check maps/größe 1.map",
+    ),
+    (&["smap", "check", ""], "check "),
+    (&["smap", "check", "-"], "check -"),
+    (&["smap", "check", "--", "--help"], "check --help"),
+    (
+        &["smap", "lookup", "app.js.map", "1", "6"],
+        "lookup app.js.map 0 5",
+    ),
+    (&["smap", "lookup", "7", "8", "9"], "lookup 7 7 8"),
+    (&["smap", "lookup", "-", "007", "+2"], "lookup - 6 1"),
+    (&["smap", "lookup", "", "1", "1"], "lookup  0 0"),
+    (
+        &["smap", "lookup", "--", "-x", "2147483648", "2147483648"],
+        "lookup -x 2147483647 2147483647",
+    ),
+];
+
 #[test]
-fn reads_raw(rt: HostRuntime) -> Result<(), Fail> {
-    let rows: [([&str; 4], u32, u32); 4] = [
-        (["smap", "raw", "1", "6"], 0, 5),
-        (["smap", "raw", "1", "1"], 0, 0),
-        (["./smap", "raw", "007", "+2"], 6, 1),
-        (
-            ["smap", "raw", "2147483648", "2147483648"],
-            2147483647,
-            2147483647,
-        ),
-    ];
-    for (words, line, column) in rows.as_slice() {
-        let command = parse_words(rt.alloc(), words.as_slice())??;
-        let want = Command::Raw {
-            line: *line,
-            column: *column,
-        };
-        assert_eq!(rt; command, want, "{words:?}");
+fn reads_commands(rt: HostRuntime) -> Result<(), Fail> {
+    for (words, want) in COMMANDS.as_slice() {
+        let command = read(rt.alloc(), words)?;
+        assert_eq!(rt; command.as_str(), *want, "{words:?}");
     }
     Ok(())
 }
 
-#[test]
-fn reads_check(rt: HostRuntime) -> Result<(), Fail> {
-    let rows: [(&[&str], &str); 5] = [
-        (&["smap", "check", "app.js.map"], "app.js.map"),
-        (&["./smap", "check", "maps/größe 1.map"], "maps/größe 1.map"),
-        (&["smap", "check", ""], ""),
-        (&["smap", "check", "-"], "-"),
-        (&["smap", "check", "--", "--help"], "--help"),
-    ];
-    for (words, path) in rows.as_slice() {
-        let command = parse_words(rt.alloc(), words)??;
-        let want = Command::Check {
-            path: String::from_str(rt.alloc(), path)?,
-        };
-        assert_eq!(rt; command, want, "{words:?}");
-    }
-    Ok(())
-}
-
-#[test]
-fn reads_lookup(rt: HostRuntime) -> Result<(), Fail> {
-    let rows: [(&[&str], &str, u32, u32); 5] = [
-        (
-            &["smap", "lookup", "app.js.map", "1", "6"],
-            "app.js.map",
-            0,
-            5,
-        ),
-        (&["smap", "lookup", "7", "8", "9"], "7", 7, 8),
-        (&["smap", "lookup", "-", "007", "+2"], "-", 6, 1),
-        (&["smap", "lookup", "", "1", "1"], "", 0, 0),
-        (
-            &["smap", "lookup", "--", "-x", "2147483648", "2147483648"],
-            "-x",
-            2147483647,
-            2147483647,
-        ),
-    ];
-    for (words, path, line, column) in rows.as_slice() {
-        let command = parse_words(rt.alloc(), words)??;
-        let want = Command::Lookup {
-            path: String::from_str(rt.alloc(), path)?,
-            line: *line,
-            column: *column,
-        };
-        assert_eq!(rt; command, want, "{words:?}");
-    }
-    Ok(())
-}
+// Words that are no command, and how the text for them begins.
+const MISTAKES: [(&[&str], &str); 24] = [
+    (
+        &[],
+        "error: 'smap' requires a subcommand but one was not provided\n",
+    ),
+    (
+        &["smap"],
+        "error: 'smap' requires a subcommand but one was not provided\n",
+    ),
+    (&["smap", "foo"], "error: unrecognized subcommand 'foo'\n"),
+    (
+        &["smap", "raw"],
+        "error: the following required arguments were not provided:\n",
+    ),
+    (
+        &["smap", "raw", "1"],
+        "error: the following required arguments were not provided:\n",
+    ),
+    (
+        &["smap", "raw", "1", "1", "1"],
+        "error: unexpected argument '1' found\n",
+    ),
+    (
+        &["smap", "raw", "-1", "1"],
+        "error: unexpected argument '-1' found\n",
+    ),
+    (
+        &["smap", "raw", "0", "1"],
+        "error: invalid value '0' for '<LINE>': 0 is not in 1..=2147483648\n",
+    ),
+    (
+        &["smap", "raw", "1", "0"],
+        "error: invalid value '0' for '<COLUMN>': 0 is not in 1..=2147483648\n",
+    ),
+    (
+        &["smap", "raw", "1", "2147483649"],
+        "error: invalid value '2147483649' for '<COLUMN>': 2147483649 is not in 1..=2147483648\n",
+    ),
+    (
+        &["smap", "raw", "4294967297", "1"],
+        "error: invalid value '4294967297' for '<LINE>': 4294967297 is not in 1..=2147483648\n",
+    ),
+    (
+        &["smap", "raw", "x", "1"],
+        "error: invalid value 'x' for '<LINE>': invalid digit found in string\n",
+    ),
+    (
+        &["smap", "check"],
+        "error: the following required arguments were not provided:\n  <PATH>\n",
+    ),
+    (
+        &["smap", "check", "a.map", "b.map"],
+        "error: unexpected argument 'b.map' found\n",
+    ),
+    (
+        &["smap", "check", "-x"],
+        "error: unexpected argument '-x' found\n",
+    ),
+    (
+        &["smap", "lookup"],
+        "error: the following required arguments were not provided:\n  <PATH>\n  <LINE>\n  <COLUMN>\n",
+    ),
+    (
+        &["smap", "lookup", "a.map"],
+        "error: the following required arguments were not provided:\n  <LINE>\n  <COLUMN>\n",
+    ),
+    (
+        &["smap", "lookup", "a.map", "1"],
+        "error: the following required arguments were not provided:\n  <COLUMN>\n",
+    ),
+    (
+        &["smap", "lookup", "a.map", "1", "1", "1"],
+        "error: unexpected argument '1' found\n",
+    ),
+    (
+        &["smap", "lookup", "a.map", "-1", "1"],
+        "error: unexpected argument '-1' found\n",
+    ),
+    (
+        &["smap", "lookup", "a.map", "0", "1"],
+        "error: invalid value '0' for '<LINE>': 0 is not in 1..=2147483648\n",
+    ),
+    (
+        &["smap", "lookup", "a.map", "1", "0"],
+        "error: invalid value '0' for '<COLUMN>': 0 is not in 1..=2147483648\n",
+    ),
+    (
+        &["smap", "lookup", "a.map", "2147483649", "1"],
+        "error: invalid value '2147483649' for '<LINE>': 2147483649 is not in 1..=2147483648\n",
+    ),
+    (
+        &["smap", "lookup", "1", "1", "a.map"],
+        "error: invalid value 'a.map' for '<COLUMN>': invalid digit found in string\n",
+    ),
+];
 
 #[test]
 fn refuses_words(rt: HostRuntime) -> Result<(), Fail> {
-    let rows: [(&[&str], &str); 24] = [
-        (
-            &[],
-            "error: 'smap' requires a subcommand but one was not provided\n",
-        ),
-        (
-            &["smap"],
-            "error: 'smap' requires a subcommand but one was not provided\n",
-        ),
-        (&["smap", "foo"], "error: unrecognized subcommand 'foo'\n"),
-        (
-            &["smap", "raw"],
-            "error: the following required arguments were not provided:\n",
-        ),
-        (
-            &["smap", "raw", "1"],
-            "error: the following required arguments were not provided:\n",
-        ),
-        (
-            &["smap", "raw", "1", "1", "1"],
-            "error: unexpected argument '1' found\n",
-        ),
-        (
-            &["smap", "raw", "-1", "1"],
-            "error: unexpected argument '-1' found\n",
-        ),
-        (
-            &["smap", "raw", "0", "1"],
-            "error: invalid value '0' for '<LINE>': 0 is not in 1..=2147483648\n",
-        ),
-        (
-            &["smap", "raw", "1", "0"],
-            "error: invalid value '0' for '<COLUMN>': 0 is not in 1..=2147483648\n",
-        ),
-        (
-            &["smap", "raw", "1", "2147483649"],
-            "error: invalid value '2147483649' for '<COLUMN>': 2147483649 is not in 1..=2147483648\n",
-        ),
-        (
-            &["smap", "raw", "4294967297", "1"],
-            "error: invalid value '4294967297' for '<LINE>': 4294967297 is not in 1..=2147483648\n",
-        ),
-        (
-            &["smap", "raw", "x", "1"],
-            "error: invalid value 'x' for '<LINE>': invalid digit found in string\n",
-        ),
-        (
-            &["smap", "check"],
-            "error: the following required arguments were not provided:\n  <PATH>\n",
-        ),
-        (
-            &["smap", "check", "a.map", "b.map"],
-            "error: unexpected argument 'b.map' found\n",
-        ),
-        (
-            &["smap", "check", "-x"],
-            "error: unexpected argument '-x' found\n",
-        ),
-        (
-            &["smap", "lookup"],
-            "error: the following required arguments were not provided:\n  <PATH>\n  <LINE>\n  <COLUMN>\n",
-        ),
-        (
-            &["smap", "lookup", "a.map"],
-            "error: the following required arguments were not provided:\n  <LINE>\n  <COLUMN>\n",
-        ),
-        (
-            &["smap", "lookup", "a.map", "1"],
-            "error: the following required arguments were not provided:\n  <COLUMN>\n",
-        ),
-        (
-            &["smap", "lookup", "a.map", "1", "1", "1"],
-            "error: unexpected argument '1' found\n",
-        ),
-        (
-            &["smap", "lookup", "a.map", "-1", "1"],
-            "error: unexpected argument '-1' found\n",
-        ),
-        (
-            &["smap", "lookup", "a.map", "0", "1"],
-            "error: invalid value '0' for '<LINE>': 0 is not in 1..=2147483648\n",
-        ),
-        (
-            &["smap", "lookup", "a.map", "1", "0"],
-            "error: invalid value '0' for '<COLUMN>': 0 is not in 1..=2147483648\n",
-        ),
-        (
-            &["smap", "lookup", "a.map", "2147483649", "1"],
-            "error: invalid value '2147483649' for '<LINE>': 2147483649 is not in 1..=2147483648\n",
-        ),
-        (
-            &["smap", "lookup", "1", "1", "a.map"],
-            "error: invalid value 'a.map' for '<COLUMN>': invalid digit found in string\n",
-        ),
-    ];
-    for (words, start) in rows.as_slice() {
-        match parse_words(rt.alloc(), words)? {
-            Err(Usage::Words(text)) => {
-                let text = text.as_str();
-                assert!(rt; text.starts_with(*start), "{words:?}: {text}");
-                assert!(rt;
-                    text.ends_with("\n") && !text.ends_with("\n\n"),
-                    "{words:?}: {text}"
-                );
-            }
-            other => panic!(rt; "{words:?}: {other:?}"),
-        }
+    for (words, start) in MISTAKES.as_slice() {
+        let told = read(rt.alloc(), words)?;
+        let wanted = format!(in rt.alloc(); "words: {start}")?;
+        assert!(rt; told.starts_with(wanted.as_str()), "{words:?}: {told}");
+        assert!(rt;
+            told.ends_with("\n") && !told.ends_with("\n\n"),
+            "{words:?}: {told}"
+        );
     }
     Ok(())
 }
 
+const LOOKUP_EXAMPLE: &str = "Example: smap lookup examples/preset-react.js.map 65 80\n";
+
+const CHECK_EXAMPLE: &str = "Example: smap check examples/preset-react.js.map\n";
+
+const RAW_EXAMPLE: &str = "Example: printf 'AAAA,CAAC;AACA' | smap raw 1 6\n";
+
+// Requests for help, the usage that they show, and how the text ends.
+const REQUESTS: [(&[&str], &str, &str); 13] = [
+    (&["out/program", "--help"], "smap <COMMAND>", LOOKUP_EXAMPLE),
+    (&["smap", "-h"], "smap <COMMAND>", LOOKUP_EXAMPLE),
+    (&["smap", "help"], "smap <COMMAND>", LOOKUP_EXAMPLE),
+    (
+        &["smap", "help", "raw"],
+        "smap raw <LINE> <COLUMN>",
+        RAW_EXAMPLE,
+    ),
+    (
+        &["smap", "raw", "--help"],
+        "smap raw <LINE> <COLUMN>",
+        RAW_EXAMPLE,
+    ),
+    (
+        &["smap", "raw", "-h"],
+        "smap raw <LINE> <COLUMN>",
+        RAW_EXAMPLE,
+    ),
+    (
+        &["smap", "raw", "1", "6", "--help"],
+        "smap raw <LINE> <COLUMN>",
+        RAW_EXAMPLE,
+    ),
+    (
+        &["smap", "help", "check"],
+        "smap check <PATH>",
+        CHECK_EXAMPLE,
+    ),
+    (
+        &["smap", "check", "--help"],
+        "smap check <PATH>",
+        CHECK_EXAMPLE,
+    ),
+    (
+        &["smap", "check", "a.map", "-h"],
+        "smap check <PATH>",
+        CHECK_EXAMPLE,
+    ),
+    (
+        &["smap", "help", "lookup"],
+        "smap lookup <PATH> <LINE> <COLUMN>",
+        LOOKUP_EXAMPLE,
+    ),
+    (
+        &["smap", "lookup", "--help"],
+        "smap lookup <PATH> <LINE> <COLUMN>",
+        LOOKUP_EXAMPLE,
+    ),
+    (
+        &["smap", "lookup", "a.map", "1", "6", "-h"],
+        "smap lookup <PATH> <LINE> <COLUMN>",
+        LOOKUP_EXAMPLE,
+    ),
+];
+
 #[test]
 fn shows_help(rt: HostRuntime) -> Result<(), Fail> {
-    let raw = "Example: printf 'AAAA,CAAC;AACA' | smap raw 1 6\n";
-    let check = "Example: smap check app.js.map\n";
-    let lookup = "Example: smap lookup app.js.map 1 6\n";
-    let rows: [(&[&str], &str, &str); 13] = [
-        (&["out/program", "--help"], "smap <COMMAND>", raw),
-        (&["smap", "-h"], "smap <COMMAND>", raw),
-        (&["smap", "help"], "smap <COMMAND>", raw),
-        (&["smap", "help", "raw"], "smap raw <LINE> <COLUMN>", raw),
-        (&["smap", "raw", "--help"], "smap raw <LINE> <COLUMN>", raw),
-        (&["smap", "raw", "-h"], "smap raw <LINE> <COLUMN>", raw),
-        (
-            &["smap", "raw", "1", "6", "--help"],
-            "smap raw <LINE> <COLUMN>",
-            raw,
-        ),
-        (&["smap", "help", "check"], "smap check <PATH>", check),
-        (&["smap", "check", "--help"], "smap check <PATH>", check),
-        (
-            &["smap", "check", "a.map", "-h"],
-            "smap check <PATH>",
-            check,
-        ),
-        (
-            &["smap", "help", "lookup"],
-            "smap lookup <PATH> <LINE> <COLUMN>",
-            lookup,
-        ),
-        (
-            &["smap", "lookup", "--help"],
-            "smap lookup <PATH> <LINE> <COLUMN>",
-            lookup,
-        ),
-        (
-            &["smap", "lookup", "a.map", "1", "6", "-h"],
-            "smap lookup <PATH> <LINE> <COLUMN>",
-            lookup,
-        ),
-    ];
-    for (words, usage, example) in rows.as_slice() {
-        match parse_words(rt.alloc(), words)? {
-            Err(Usage::Help(text)) => {
-                let usage = format!(in rt.alloc(); "\nUsage: {usage}\n")?;
-                let text = text.as_str();
-                assert!(rt; text.contains(usage.as_str()), "{words:?}: {text}");
-                assert!(rt; text.ends_with(*example), "{words:?}: {text}");
-            }
-            other => panic!(rt; "{words:?}: {other:?}"),
-        }
+    for (words, usage, example) in REQUESTS.as_slice() {
+        let told = read(rt.alloc(), words)?;
+        let usage = format!(in rt.alloc(); "\nUsage: {usage}\n")?;
+        assert!(rt; told.starts_with("help: "), "{words:?}: {told}");
+        assert!(rt; told.contains(usage.as_str()), "{words:?}: {told}");
+        assert!(rt; told.ends_with(*example), "{words:?}: {told}");
+    }
+    Ok(())
+}
+
+const VERSIONS: [&[&str]; 2] = [&["smap", "--version"], &["./smap", "-V"]];
+
+#[test]
+fn shows_the_version(rt: HostRuntime) -> Result<(), Fail> {
+    for words in VERSIONS.as_slice() {
+        let told = read(rt.alloc(), words)?;
+        assert_eq!(rt; told.as_str(), "help: smap 0.1.0\n", "{words:?}");
     }
     Ok(())
 }

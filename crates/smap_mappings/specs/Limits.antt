@@ -1,3 +1,0 @@
-use Rattle.std.specs.Prelude.{ℕ}
-abbrev pub limit : ℕ
-limit = 2147483647
