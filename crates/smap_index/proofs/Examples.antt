@@ -1,5 +1,5 @@
 -- Worked examples of the definitions: each holds by computing both sides.
-use Rattle.std.proofs.Common.{◌≡◌, ℕ, List, [], ◌∷◌, Some, None, refl, codes}
+use Rattle.std.proofs.Common.{◌≡◌, ℕ, List, [], ◌∷◌, ◌++◌, Some, None, refl, codes}
 use Rattle.smap_mappings.specs.Base64.{digit_of}
 use Rattle.smap_mappings.specs.Vlq.{number_of, unsigned_of}
 use Rattle.smap_mappings.specs.Segment.{fields_of}
@@ -9,13 +9,17 @@ use Rattle.smap_mappings.specs.Mappings.{mappings_of, mapping_after, moves_of, v
 use Rattle.smap_mappings.specs.declared.mapping.Mapping.{Mapping}
 use Rattle.smap_index.specs.Answer.{answer_at_or_before}
 use Rattle.smap_index.specs.Parts.{placed, joined}
-use Rattle.smap_index.specs.Marks.{marks, used_lines_in, binary_digits}
+use Rattle.smap_index.specs.Marks.{mark_in, marks, used_lines_in}
 use Rattle.smap_index.specs.declared.part.Part.{Part}
 use Rattle.smap_index.specs.declared.answer.Answer.TheVariants.{Nothing, Unmapped, Found}
 
 -- a text alone
 whole : List ℕ → List Part
 whole text = record { line = 0; column = 0; text = text; source_base = 0; name_base = 0 } ∷ []
+
+-- a text that begins at this column of the first line
+at_column : ℕ → List ℕ → List Part
+at_column column text = record { line = 0; column = column; text = text; source_base = 0; name_base = 0 } ∷ []
 
 unmapped_at : ℕ → ℕ → Mapping
 unmapped_at line column = record { line = line; column = column; origin = None }
@@ -59,35 +63,25 @@ never_the_line_before = refl
 
 -- ---- checkpoints and counts
 
-every_second : marks (whole (codes "AAAA,CAAC,C,CAAC")) 2 ≡ mapped_at 0 0 0 0 0 ∷ unmapped_at 0 2 ∷ []
-unfolding whole unmapped_at mapped_at placed mappings_of mapping_after moves_of values_on pieces_of pieces_from pieces_on fields_of number_of unsigned_of digit_of
+every_second : marks (whole (codes "AAAA,CAAC,C,CAAC")) 2 ≡ mark_in 0 0 ∷ mark_in 0 2 ∷ []
+unfolding whole placed mappings_of mapping_after moves_of values_on pieces_of pieces_from pieces_on fields_of number_of unsigned_of digit_of
 every_second = refl
 
+-- equal segments are different marks
+equal_segments : marks (whole (codes "AAAA,AAAA")) 1 ≡ mark_in 0 0 ∷ mark_in 0 1 ∷ []
+unfolding whole placed mappings_of mapping_after moves_of values_on pieces_of pieces_from pieces_on fields_of number_of unsigned_of digit_of
+equal_segments = refl
+
 -- each line begins anew
-first_of_each_line : marks (whole (codes "A,C;;A,C,C")) 2 ≡ unmapped_at 0 0 ∷ unmapped_at 2 0 ∷ unmapped_at 2 2 ∷ []
-unfolding whole unmapped_at placed mappings_of mapping_after moves_of values_on pieces_of pieces_from pieces_on fields_of number_of unsigned_of digit_of
-first_of_each_line = refl
+every_third : marks (whole (codes "A,C,C,C;;A,C,C")) 3 ≡ mark_in 0 0 ∷ mark_in 0 3 ∷ mark_in 0 4 ∷ []
+unfolding whole placed mappings_of mapping_after moves_of values_on pieces_of pieces_from pieces_on fields_of number_of unsigned_of digit_of
+every_third = refl
+
+-- and each part too, also where it begins on a line of the one before
+every_second_of_two : marks (whole (codes "A,C,C") ++ at_column 10 (codes "A,C,C,C")) 2 ≡ mark_in 0 0 ∷ mark_in 0 2 ∷ mark_in 1 0 ∷ mark_in 1 2 ∷ []
+unfolding at_column whole placed mappings_of mapping_after moves_of values_on pieces_of pieces_from pieces_on fields_of number_of unsigned_of digit_of
+every_second_of_two = refl
 
 two_used_lines : used_lines_in (whole (codes "A,C;;A,C,C")) ≡ 2
 unfolding whole used_lines_of moves_of values_on pieces_of pieces_from pieces_on fields_of number_of unsigned_of digit_of
 two_used_lines = refl
-
-zero_has_none : binary_digits 0 ≡ 0
-unfolding binary_digits
-zero_has_none = refl
-
-one_has_one : binary_digits 1 ≡ 1
-unfolding binary_digits
-one_has_one = refl
-
-two_has_two : binary_digits 2 ≡ 2
-unfolding binary_digits
-two_has_two = refl
-
-three_has_two : binary_digits 3 ≡ 2
-unfolding binary_digits
-three_has_two = refl
-
-four_has_three : binary_digits 4 ≡ 3
-unfolding binary_digits
-four_has_three = refl

@@ -1,8 +1,8 @@
-pub mod Digits
+pub mod Halving
 pub mod ListLaws
 pub mod SearchLaws
 pub mod MarkLaws
-pub mod PlainLaws
+pub mod UnshiftedLaws
 pub mod WalkLaws
 pub mod PartLaws
 pub mod Examples

@@ -1,31 +1,139 @@
--- At the interval 1 every mapping has a checkpoint.
-use Rattle.std.proofs.Common.{◌≡◌, ℕ, ◌%◌, List, [], ◌∷◌, ◌++◌, length, refl, ap, sym, subst, ◌∙◌, eqb, eq-eqb}
+-- At the interval 1 each segment has a checkpoint, so the mappings of a table are the joined list.
+use Rattle.std.proofs.Common.{◌≡◌, ℕ, ◌+◌, ◌%◌, ◌^◌, ◌<◌, ◌≤◌, List, [], ◌∷◌, ◌++◌, length, map, Some, refl, ap, sym, subst, ◌∙◌, eqb, eq-eqb, suc}
+use Rattle.std.specs.List.{AllZip, slice_get}
 use Rattle.std.proofs.Math.Nat.{mod-one}
 use Rattle.std.proofs.lemmas.Bool.{cond-true}
-use Rattle.smap_mappings.specs.declared.mapping.Mapping.{Mapping}
-use Rattle.smap_index.specs.declared.part.Part.{Part}
-use Rattle.smap_index.specs.Parts.{placed, joined}
+use Rattle.std.proofs.lemmas.List.{append_assoc, length-append, length-map, map-append}
 use Rattle.smap_mappings.specs.Order.{IsInOrder}
-use Rattle.smap_index.specs.Marks.{number_on_line, marked_after, marks, mappings_at, used_lines_in}
+use Rattle.smap_mappings.specs.declared.mapping.Mapping.{Mapping}
+use Rattle.smap_index.specs.Parts.{placed, joined}
+use Rattle.smap_index.specs.Marks.{Mark, mark_in, number_on_line, marked_segments, marks_from, marks, IsCheckpointOf, IsTableOf, used_lines_in}
+use Rattle.smap_index.specs.Search.{mappings_at}
+use Rattle.smap_index.specs.Index.{IndexContents, IsIndexOf, IsIndex}
+use Rattle.smap_index.specs.declared.part.Part.{Part}
 use Rattle.smap_index.specs.declared.table.Checkpoint.{Checkpoint}
-use Rattle.std.proofs.lemmas.List.{length-map}
-use Rattle.smap_index.specs.Index.{Indexed, IsIndexOf, IsIndex}
 
-every_marked : (before mappings : List Mapping) → marked_after 1 before mappings ≡ mappings
-every_marked before [] = refl
-every_marked before (mapping ∷ mappings) =
-    cond-true (eqb (number_on_line before mapping % 1) 0) (mapping ∷ marked_after 1 (before ++ mapping ∷ []) mappings) (marked_after 1 (before ++ mapping ∷ []) mappings) (eq-eqb _ _ (mod-one (number_on_line before mapping)))
-    ∙ ap (λ behind. mapping ∷ behind) (every_marked (before ++ mapping ∷ []) mappings)
+-- ---- pairs of lists
 
-pub marks_at_one : (parts : List Part) → marks parts 1 ≡ joined parts
-marks_at_one [] = refl
-marks_at_one (part ∷ parts) = λ i. every_marked [] (placed part) i ++ marks_at_one parts i
+AllZip-append : {A B : Type 0} (R : A → B → Type 0) (xs xs' : List A) (ys ys' : List B) → AllZip R xs ys → AllZip R xs' ys' → AllZip R (xs ++ xs') (ys ++ ys')
+AllZip-append R [] xs' [] ys' front rest = rest
+AllZip-append R [] xs' (y ∷ ys) ys' front rest = absurd front
+AllZip-append R (x ∷ xs) xs' [] ys' front rest = absurd front
+AllZip-append R (x ∷ xs) xs' (y ∷ ys) ys' front rest = (front.0, AllZip-append R xs xs' ys ys' front.1 rest)
 
-pub table_is_joined : (index : Indexed) → IsIndex index → mappings_at index.checkpoints ≡ joined index.parts
-table_is_joined index is = is.holds.marked ∙ ap (marks index.parts) is.every ∙ marks_at_one index.parts
+AllZip-length : {A B : Type 0} (R : A → B → Type 0) (xs : List A) (ys : List B) → AllZip R xs ys → length ys ≡ length xs
+AllZip-length R [] [] zip = refl
+AllZip-length R [] (y ∷ ys) zip = absurd zip
+AllZip-length R (x ∷ xs) [] zip = absurd zip
+AllZip-length R (x ∷ xs) (y ∷ ys) zip = ap suc (AllZip-length R xs ys zip.1)
 
-pub table_in_order : (index : Indexed) → IsIndex index → IsInOrder (mappings_at index.checkpoints)
-table_in_order index is = subst IsInOrder (sym (table_is_joined index is)) is.holds.ordered
+-- the element behind a front
+slice_get-behind : {A : Type 0} (front : List A) (x : A) (behind : List A) → slice_get (front ++ x ∷ behind) (length front) ≡ Some x
+slice_get-behind [] x behind = refl
+slice_get-behind (a ∷ front) x behind = slice_get-behind front x behind
+
+-- ---- the checkpoints of all segments
+
+checkpoint_of : Mapping → Checkpoint
+checkpoint_of mapping = record { mapping = mapping }
+
+all_checkpoints : List Part → List Checkpoint
+all_checkpoints [] = []
+all_checkpoints (part ∷ parts) = map checkpoint_of (placed part) ++ all_checkpoints parts
+
+module _ (parts : List Part) (i : ℕ) (part : Part) (part_is : slice_get parts i ≡ Some part) where
+  part_marked : (before mappings : List Mapping) → before ++ mappings ≡ placed part → AllZip (IsCheckpointOf parts) (map (mark_in i) (marked_segments 1 before mappings)) (map checkpoint_of mappings)
+  unfolding checkpoint_of
+  part_marked before [] whole = tt
+  part_marked before (m ∷ mappings) whole =
+      let each = eq-eqb (number_on_line before m % 1) 0 (mod-one (number_on_line before m)) in
+      let here : IsCheckpointOf parts (mark_in i (length before)) (checkpoint_of m) = record {
+        part = part;
+        part_is = part_is;
+        mapping_is = ap (λ list. slice_get list (length before)) (sym whole) ∙ slice_get-behind before m mappings;
+      } in
+      let behind = marked_segments 1 (before ++ m ∷ []) mappings in
+      subst
+      (λ segments. AllZip (IsCheckpointOf parts) (map (mark_in i) segments) (map checkpoint_of (m ∷ mappings)))
+      (sym (cond-true (eqb (number_on_line before m % 1) 0) (length before ∷ behind) behind each))
+      (here, part_marked (before ++ m ∷ []) mappings (append_assoc before (m ∷ []) mappings ∙ whole))
+
+parts_marked : (all front parts : List Part) → front ++ parts ≡ all → AllZip (IsCheckpointOf all) (marks_from (length front) parts 1) (all_checkpoints parts)
+unfolding all_checkpoints
+parts_marked all front [] whole = tt
+parts_marked all front (part ∷ parts) whole =
+    let part_is = ap (λ ps. slice_get ps (length front)) (sym whole) ∙ slice_get-behind front part parts in
+    AllZip-append (IsCheckpointOf all) _ _ _ _
+    (part_marked all (length front) part part_is [] (placed part) refl)
+    (subst
+    (λ i. AllZip (IsCheckpointOf all) (marks_from i parts 1) (all_checkpoints parts))
+    (length-append front (part ∷ []))
+    (parts_marked all (front ++ part ∷ []) parts (append_assoc front (part ∷ []) parts ∙ whole)))
+
+all_marked : (parts : List Part) → IsTableOf parts 1 (all_checkpoints parts)
+all_marked parts = parts_marked parts [] parts refl
+
+-- ---- the mappings of a table
+
+mappings_of_part : (list : List Mapping) → mappings_at (map checkpoint_of list) ≡ list
+unfolding checkpoint_of
+mappings_of_part [] = refl
+mappings_of_part (m ∷ list) = ap (λ list. m ∷ list) (mappings_of_part list)
+
+mappings_of_all : (parts : List Part) → mappings_at (all_checkpoints parts) ≡ joined parts
+unfolding all_checkpoints
+mappings_of_all [] = refl
+mappings_of_all (part ∷ parts) =
+    map-append (λ (c : Checkpoint). c.mapping) (map checkpoint_of (placed part)) (all_checkpoints parts)
+    ∙ (λ i. mappings_of_part (placed part) i ++ mappings_of_all parts i)
+
+-- a mark has one mapping
+same_mapping : (parts : List Part) (mark : Mark) (a b : Checkpoint) → IsCheckpointOf parts mark a → IsCheckpointOf parts mark b → a.mapping ≡ b.mapping
+same_mapping parts mark a b is_a is_b =
+    let same : is_a.part ≡ is_b.part = cc (is_a.part_is, is_b.part_is) in
+    let there : slice_get (placed is_a.part) mark.segment ≡ slice_get (placed is_b.part) mark.segment = ap (λ part. slice_get (placed part) mark.segment) same in
+    cc (there, is_a.mapping_is, is_b.mapping_is)
+
+same_mappings : (parts : List Part) (marks : List Mark) (a b : List Checkpoint) → AllZip (IsCheckpointOf parts) marks a → AllZip (IsCheckpointOf parts) marks b → mappings_at a ≡ mappings_at b
+same_mappings parts [] [] [] is_a is_b = refl
+same_mappings parts [] [] (c ∷ b) is_a is_b = absurd is_b
+same_mappings parts [] (c ∷ a) b is_a is_b = absurd is_a
+same_mappings parts (mark ∷ marks) [] b is_a is_b = absurd is_a
+same_mappings parts (mark ∷ marks) (c ∷ a) [] is_a is_b = absurd is_b
+same_mappings parts (mark ∷ marks) (c ∷ a) (d ∷ b) is_a is_b = λ i. same_mapping parts mark c d is_a.0 is_b.0 i ∷ same_mappings parts marks a b is_a.1 is_b.1 i
+
+module _ (index : IndexContents) (is : IsIndex index) where
+  marked_at_one : IsTableOf index.parts 1 index.checkpoints
+  marked_at_one = subst (λ k. IsTableOf index.parts k index.checkpoints) is.interval is.holds.marked
+
+  pub table_is_joined : mappings_at index.checkpoints ≡ joined index.parts
+  table_is_joined = same_mappings index.parts (marks index.parts 1) index.checkpoints (all_checkpoints index.parts) marked_at_one (all_marked index.parts) ∙ mappings_of_all index.parts
+
+  pub table_in_order : IsInOrder (mappings_at index.checkpoints)
+  table_in_order = subst IsInOrder (sym table_is_joined) is.holds.ordered
+
+  -- there are as many checkpoints as marks
+  pub as_many : (seen : IndexContents) → index ≡ seen → length index.checkpoints ≡ length (marks seen.parts seen.k)
+  as_many seen same = AllZip-length (IsCheckpointOf index.parts) (marks index.parts index.k) index.checkpoints is.holds.marked ∙ ap (λ (i : IndexContents). length (marks i.parts i.k)) same
+
+  pub compared : (seen : IndexContents) → index ≡ seen → (next count : ℕ) → ((b : ℕ) → length index.checkpoints < 2 ^ b → next ≤ count + b) → (b : ℕ) → length (marks seen.parts seen.k) < 2 ^ b → next ≤ count + b
+  compared seen same next count few b below = few b (subst (λ n. n < 2 ^ b) (sym (as_many seen same)) below)
+
+-- ---- a table made of all segments
+
+checkpoints_again : (table : List Checkpoint) → map checkpoint_of (mappings_at table) ≡ table
+unfolding checkpoint_of
+checkpoints_again [] = refl
+checkpoints_again (c ∷ table) = ap (λ table. c ∷ table) (checkpoints_again table)
+
+checkpoints_joined : (parts : List Part) → map checkpoint_of (joined parts) ≡ all_checkpoints parts
+unfolding all_checkpoints
+checkpoints_joined [] = refl
+checkpoints_joined (part ∷ parts) = map-append checkpoint_of (placed part) (joined parts) ∙ ap (λ rest. map checkpoint_of (placed part) ++ rest) (checkpoints_joined parts)
+
+made_of_all : (parts : List Part) (table : List Checkpoint) → mappings_at table ≡ joined parts → IsTableOf parts 1 table
+made_of_all parts table all =
+    subst (IsTableOf parts 1) (sym (sym (checkpoints_again table) ∙ ap (map checkpoint_of) all ∙ checkpoints_joined parts)) (all_marked parts)
 
 pub index_made : (given counted parts : List Part) (k : ℕ) (start table : List Checkpoint) (segments used_lines : ℕ) → given ≡ parts → counted ≡ parts → k ≡ 1 → start ≡ [] → mappings_at table ≡ mappings_at start ++ joined given → segments ≡ length table → used_lines ≡ used_lines_in counted → IsInOrder (joined given)
     → IsIndexOf (record { parts = parts; k = k; checkpoints = table; segments = segments; used_lines = used_lines }) parts k
@@ -34,7 +142,7 @@ index_made given counted parts k start table segments used_lines same same_count
     record {
       parts_are = refl;
       k_is = refl;
-      marked = all ∙ sym (ap (marks parts) one ∙ marks_at_one parts);
+      marked = subst (λ k. IsTableOf parts k table) (sym one) (made_of_all parts table all);
       segments_are = length_is ∙ sym (length-map table (λ checkpoint. checkpoint.mapping)) ∙ ap length all;
       used_lines_are = lines ∙ ap used_lines_in same_counted;
       ordered = subst (λ parts. IsInOrder (joined parts)) same order;

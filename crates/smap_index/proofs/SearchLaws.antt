@@ -6,12 +6,11 @@ use Rattle.std.specs.Prelude.{option_map}
 use Rattle.std.proofs.lemmas.Option.{slice_get-map}
 use Rattle.smap_mappings.specs.Order.{IsAtOrBefore, IsInOrder}
 use Rattle.smap_mappings.specs.declared.mapping.Mapping.{Mapping}
-use Rattle.smap_index.specs.Answer.{is_kept, answer_of, answer_of_last, answer_at_or_before}
+use Rattle.smap_index.specs.Answer.{is_on_line_at_or_before, answer_of, answer_of_last, answer_at_or_before}
 use Rattle.smap_index.specs.declared.answer.Answer.TheVariants.{Nothing}
-use Rattle.smap_index.specs.Marks.{mappings_at}
 use Rattle.smap_index.specs.declared.table.Checkpoint.{Checkpoint}
 use Rattle.smap_index.proofs.ListLaws.{tail_in_order}
-use Rattle.smap_index.specs.Search.{is_not_after, front_not_after, last_not_after}
+use Rattle.smap_index.specs.Search.{mappings_at, is_not_after, front_not_after, last_not_after}
 
 module _ (line column : ℕ) where
   -- what the test says
@@ -82,10 +81,10 @@ module _ (line column : ℕ) where
   Precedes None xs = IsInOrder xs
   Precedes (Some m) xs = IsInOrder (m ∷ xs)
 
-  kept_stands : (m : Mapping) → is_not_after line column m ≡ false → is_kept line column m ≡ false
+  kept_stands : (m : Mapping) → is_not_after line column m ≡ false → is_on_line_at_or_before line column m ≡ false
   kept_stands m after = (or_parts _ _ after).1
 
-  none_kept : (a : Mapping) (xs : List Mapping) → IsInOrder (a ∷ xs) → is_not_after line column a ≡ false → filter (is_kept line column) (a ∷ xs) ≡ []
+  none_kept : (a : Mapping) (xs : List Mapping) → IsInOrder (a ∷ xs) → is_not_after line column a ≡ false → filter (is_on_line_at_or_before line column) (a ∷ xs) ≡ []
   none_kept a [] order after = cond-false _ _ _ (kept_stands a after)
   none_kept a (b ∷ xs) order after =
       ⊎_elim
@@ -103,7 +102,7 @@ module _ (line column : ℕ) where
   later None a xs order = order
   later (Some m) a xs order = order.1
 
-  kept_last : (e : Option Mapping) (xs : List Mapping) → Precedes e xs → last_or (on_line e) (filter (is_kept line column) xs) ≡ on_line (last_or e (take (front_not_after line column xs) xs))
+  kept_last : (e : Option Mapping) (xs : List Mapping) → Precedes e xs → last_or (on_line e) (filter (is_on_line_at_or_before line column) xs) ≡ on_line (last_or e (take (front_not_after line column xs) xs))
   kept_last e [] order = refl
   kept_last e (a ∷ xs) order =
       let p = is_not_after line column a in
@@ -116,17 +115,17 @@ module _ (line column : ℕ) where
       ap (last_or (on_line e)) (none_kept a xs (later e a xs order) no) ∙ ap (λ n. on_line (last_or e (take n (a ∷ xs)))) (sym counted))
       (cases_Bool p)
     where
-      step : is_not_after line column a ≡ true → last_or (on_line e) (filter (is_kept line column) (a ∷ xs)) ≡ last_or (on_line (Some a)) (filter (is_kept line column) xs)
+      step : is_not_after line column a ≡ true → last_or (on_line e) (filter (is_on_line_at_or_before line column) (a ∷ xs)) ≡ last_or (on_line (Some a)) (filter (is_on_line_at_or_before line column) xs)
       step passes =
           ⊎_elim
           (λ kept.
           ap (last_or (on_line e)) (cond-true _ _ _ kept)
-          ∙ ap (λ o. last_or o (filter (is_kept line column) xs)) (sym (cond-true (eqb a.line line) (Some a) None (and_parts _ _ kept).0)))
+          ∙ ap (λ o. last_or o (filter (is_on_line_at_or_before line column) xs)) (sym (cond-true (eqb a.line line) (Some a) None (and_parts _ _ kept).0)))
           (λ left.
           let above : a.line < line = ⊎_elim (λ above. above) (λ same. absurd (both_ways _ left (and_from _ _ (eq-eqb _ _ same.0) (le-leb _ _ same.1)))) (stands a passes) in
           ap (last_or (on_line e)) (cond-false _ _ _ left)
-          ∙ ap (λ o. last_or o (filter (is_kept line column) xs)) (on_line_none e a xs order above ∙ sym (cond-false (eqb a.line line) (Some a) None (ne_eqb _ _ (λ same. absurd (omega arith))))))
-          (cases_Bool (is_kept line column a))
+          ∙ ap (λ o. last_or o (filter (is_on_line_at_or_before line column) xs)) (on_line_none e a xs order above ∙ sym (cond-false (eqb a.line line) (Some a) None (ne_eqb _ _ (λ same. absurd (omega arith))))))
+          (cases_Bool (is_on_line_at_or_before line column a))
 
   -- the last mapping that is not after the position decides: where it stands on the line, it answers, else nothing does
   pub last_answers : (list : List Mapping) → IsInOrder list → answer_at_or_before list line column ≡ answer_of_last (on_line (last_not_after line column list))

@@ -8,7 +8,7 @@ use Rattle.smap_mappings.specs.State.{IsAfter}
 use Rattle.smap_mappings.specs.Step.{IsNext}
 use Rattle.smap_mappings.specs.declared.cursor.Cursor.{Cursor}
 use Rattle.smap_mappings.specs.declared.mapping.Mapping.{Mapping}
-use Rattle.smap_index.specs.Marks.{mappings_at}
+use Rattle.smap_index.specs.Search.{mappings_at}
 use Rattle.smap_index.specs.declared.table.Checkpoint.{Checkpoint}
 use Rattle.smap_index.proofs.ListLaws.{take_next}
 

@@ -6,9 +6,9 @@ use Rattle.smap_mappings.specs.declared.mapping.Origin.{Origin}
 use Rattle.smap_index.specs.declared.answer.Answer.{Answer}
 use Rattle.smap_index.specs.declared.answer.Answer.TheVariants.{Nothing, Unmapped, Found}
 
--- the mapping stands on this line, and not after this column
-abbrev pub is_kept : ℕ → ℕ → Mapping → Bool
-is_kept line column mapping = mapping.line == line && nat_le mapping.column column
+-- the mapping stands on this line, at this column or before it
+abbrev pub is_on_line_at_or_before : ℕ → ℕ → Mapping → Bool
+is_on_line_at_or_before line column mapping = mapping.line == line && nat_le mapping.column column
 
 -- a column with an origin, or without one
 abbrev pub answer_with : ℕ → Option Origin → Answer
@@ -26,4 +26,4 @@ answer_of_last (Some mapping) = answer_of mapping
 
 -- of the mappings on the line whose column is not after the asked one, the last answers
 unfoldable pub answer_at_or_before : List Mapping → ℕ → ℕ → Answer
-answer_at_or_before list line column = answer_of_last (last_or None (filter (is_kept line column) list))
+answer_at_or_before list line column = answer_of_last (last_or None (filter (is_on_line_at_or_before line column) list))

@@ -1,41 +1,52 @@
--- Which mappings have a checkpoint, and how many of these a look-up reads at most.
-use Rattle.std.specs.Prelude.{ℕ, zero, suc, ◌+◌, ◌%◌, ◌^◌, List, [], ◌∷◌, ◌++◌, ◌==◌, nat_lt, if◌then◌else◌, length, map, filter}
+-- Which segments have a checkpoint, and what a checkpoint is of.
+use Rattle.std.specs.Prelude.{◌≡◌, ℕ, ◌+◌, ◌%◌, List, [], ◌∷◌, ◌++◌, Some, ◌==◌, if◌then◌else◌, length, map, filter, slice_get}
+use Rattle.std.specs.List.{AllZip}
 use Rattle.smap_mappings.specs.Counts.{used_lines_of}
 use Rattle.smap_mappings.specs.declared.mapping.Mapping.{Mapping}
 use Rattle.smap_index.specs.declared.part.Part.{Part}
 use Rattle.smap_index.specs.declared.table.Checkpoint.{Checkpoint}
 use Rattle.smap_index.specs.Parts.{placed}
 
+-- a segment, by the number of its part and its own number in that part, both from 0
+pub record Mark : Type 0 where
+  pub part : ℕ
+  pub segment : ℕ
+
+abbrev pub mark_in : ℕ → ℕ → Mark
+mark_in part segment = record { part = part; segment = segment }
+
 -- the number of a mapping on its line, from 0, where these stand before it in its part
 abbrev pub number_on_line : List Mapping → Mapping → ℕ
 number_on_line before mapping = length (filter (λ earlier. earlier.line == mapping.line) before)
 
--- the marked ones of some mappings of a part, where the others stand before them
-abbrev pub marked_after : ℕ → List Mapping → List Mapping → List Mapping
-marked_after k before [] = []
-marked_after k before (mapping ∷ mappings) =
-    let behind = marked_after k (before ++ mapping ∷ []) mappings in
-    if number_on_line before mapping % k == 0 then mapping ∷ behind else behind
+-- of some mappings of a part, where the others stand before them, the segment numbers of those whose number on their
+-- line is a multiple of k
+abbrev pub marked_segments : ℕ → List Mapping → List Mapping → List ℕ
+marked_segments k before [] = []
+marked_segments k before (mapping ∷ mappings) =
+    let behind = marked_segments k (before ++ mapping ∷ []) mappings in
+    if number_on_line before mapping % k == 0 then length before ∷ behind else behind
 
--- the mappings whose number on their part's line is a multiple of k, in order
-abbrev pub marks : List Part → ℕ → List Mapping
-marks [] k = []
-marks (part ∷ parts) k = marked_after k [] (placed part) ++ marks parts k
+-- the marks of these parts, the first of which has this number
+abbrev pub marks_from : ℕ → List Part → ℕ → List Mark
+marks_from i [] k = []
+marks_from i (part ∷ parts) k = map (mark_in i) (marked_segments k [] (placed part)) ++ marks_from (i + 1) parts k
+
+-- in order, the segments whose number on their part's line is a multiple of k
+abbrev pub marks : List Part → ℕ → List Mark
+marks parts k = marks_from 0 parts k
+
+-- the checkpoint is of this mark: its mapping is that of the mark's segment, at its place
+pub record IsCheckpointOf (parts : List Part) (mark : Mark) (checkpoint : Checkpoint) : Type 0 where
+  pub part : Part
+  pub part_is : slice_get parts mark.part ≡ Some part
+  pub mapping_is : slice_get (placed part) mark.segment ≡ Some checkpoint.mapping
+
+-- the table has, in order, one checkpoint for each mark and no other
+abbrev pub IsTableOf : List Part → ℕ → List Checkpoint → Type 0
+IsTableOf parts k table = AllZip (IsCheckpointOf parts) (marks parts k) table
 
 -- how many lines hold a mapping, each part's lines counted by themselves
 abbrev pub used_lines_in : List Part → ℕ
 used_lines_in [] = 0
 used_lines_in (part ∷ parts) = used_lines_of part.text + used_lines_in parts
-
--- the mappings of these checkpoints
-abbrev pub mappings_at : List Checkpoint → List Mapping
-mappings_at checkpoints = map (λ checkpoint. checkpoint.mapping) checkpoints
-
--- the first of these many exponents, from b on, at which a power of two is above c, or else the one after them
-abbrev pub first_above : ℕ → ℕ → ℕ → ℕ
-first_above zero b c = b
-first_above (suc more) b c = if nat_lt c (2 ^ b) then b else first_above more (b + 1) c
-
--- how many binary digits c has: the least b with c < 2 ^ b. It is at most c, since c < 2 ^ c
-unfoldable pub binary_digits : ℕ → ℕ
-binary_digits c = first_above c 0 c

@@ -1,7 +1,12 @@
--- What the search over a list in order finds.
-use Rattle.std.specs.Prelude.{ℕ, List, Option, None, Bool, ◌&&◌, ◌||◌, ◌==◌, nat_lt, nat_le, take}
+-- What the search over a table in order finds. Only contracts of private functions cite it.
+use Rattle.std.specs.Prelude.{ℕ, List, Option, None, Bool, ◌&&◌, ◌||◌, ◌==◌, nat_lt, nat_le, map, take}
 use Rattle.std.specs.List.{last_or, prefix_len}
 use Rattle.smap_mappings.specs.declared.mapping.Mapping.{Mapping}
+use Rattle.smap_index.specs.declared.table.Checkpoint.{Checkpoint}
+
+-- the mappings of these checkpoints
+abbrev pub mappings_at : List Checkpoint → List Mapping
+mappings_at checkpoints = map (λ checkpoint. checkpoint.mapping) checkpoints
 
 -- the mapping stands at this position, or before it
 abbrev pub is_not_after : ℕ → ℕ → Mapping → Bool

@@ -1,3 +1,5 @@
+//! What a look-up answers.
+
 ghost use Rattle.std.specs.Prelude.{◌≡◌};
 ghost use Rattle.smap_index.specs.Answer.{answer_of};
 
@@ -14,7 +16,7 @@ pub enum Answer {
     Found { column: u32, origin: Origin },
 }
 
-/// What this mapping answers.
+// What this mapping answers.
 pub fn answer_of(mapping: &Mapping) -> Answer
     ensures { result ≡ answer_of mapping.now }
 {

@@ -1,9 +1,12 @@
-ghost use Rattle.std.specs.Prelude.{◌≡◌, ◌≢◌, ◌+◌, ◌-◌, ◌≤◌, ◌↔◌, length, IfOk, Err};
+//! An index: the parts of a map, and the table of checkpoints from which positions are looked up in them.
+
+ghost use Rattle.std.specs.Prelude.{◌≡◌, ℕ, ◌+◌, ◌-◌, ◌^◌, ◌<◌, ◌≤◌, length, IfOk, OnOk, IsOkUnless, Err, Some, None};
 ghost use Rattle.std.specs.List.{All};
 ghost use Rattle.smap_mappings.specs.Meter.{HasRoom};
 ghost use Rattle.smap_mappings.specs.Order.{IsInOrder};
-ghost use Rattle.smap_index.specs.Parts.{IsPlain, joined};
-ghost use Rattle.smap_index.specs.Marks.{marks, used_lines_in, binary_digits};
+ghost use Rattle.smap_index.specs.Parts.{IsUnshifted, joined};
+ghost use Rattle.smap_index.specs.Marks.{marks, used_lines_in};
+ghost use Rattle.smap_index.specs.Faults.{build_fault};
 ghost use Rattle.smap_index.specs.Answer.{answer_at_or_before};
 
 use crate::answer::{Answer, answer_of};
@@ -28,15 +31,15 @@ pub struct Index {
 }
 
 impl Model for Index {
-    ghost use Rattle.smap_index.specs.Index.{Indexed, IsIndex};
+    ghost use Rattle.smap_index.specs.Index.{IndexContents, IsIndex};
 
-    ghost Value = { Indexed };
+    ghost Value = { IndexContents };
 
-    ghost use Rattle.smap_index.specs.Fields.{indexed};
+    ghost use Rattle.smap_index.specs.Fields.{contents_of};
 
-    ghost view = { indexed };
+    ghost view = { contents_of };
 
-    ghost invariant = { λ fields. IsIndex (indexed fields) };
+    ghost invariant = { λ fields. IsIndex (contents_of fields) };
 }
 
 impl Index {
@@ -47,9 +50,12 @@ impl Index {
     /// is refused. After a refusal the parts are dropped.
     pub fn build(alloc: Global, parts: Vec<Part>, k: u32) -> Result<Index, BuildRefusal>
         requires at_most_one { length parts.items ≤ 1 }
-        requires plain { All IsPlain parts.items }
-        ensures interval { (result ≡ Err BuildRefusal.Interval) ↔ (k ≢ 1) }
+        requires unshifted { All IsUnshifted parts.items }
         ensures built { IfOk result (λ index. IsIndexOf index parts.items k) }
+        ensures sound { OnOk result (build_fault parts.items k ≡ None) }
+        ensures fault { (refusal : BuildRefusal) →
+            build_fault parts.items k ≡ Some refusal → result ≡ Err refusal }
+        ensures memory { build_fault parts.items k ≡ None → IsOkUnless result BuildRefusal.Memory }
     {
         if k != 1 {
             return Err(BuildRefusal::Interval);
@@ -70,15 +76,16 @@ impl Index {
     }
 
     /// Looks a generated position up, from 0 and in UTF-16 code units: the last mapping on the line whose column is
-    /// not after the asked one answers, and of equal columns the last. It compares at most as many checkpoints as
-    /// their number has binary digits, and decodes fewer than `k` segments; the meter has room for both. The call
-    /// takes no memory.
+    /// not after the asked one answers, and of equal columns the last. Of fewer than 2 ^ b checkpoints it compares at
+    /// most b, and it decodes fewer than `k` segments; the meter has room for both. The call takes no memory.
     pub fn look_up(&self, line: u32, column: u32, meter: &mut Meter) -> Answer
         requires room { HasRoom meter.old }
         ensures answer { result ≡ answer_at_or_before (joined self.now.parts) line column }
-        ensures compared { meter.new.comparisons ≤ meter.old.comparisons + binary_digits (length (marks self.now.parts self.now.k)) }
+        ensures compared { (b : ℕ) → length (marks self.now.parts self.now.k) < 2 ^ b →
+            meter.new.comparisons ≤ meter.old.comparisons + b }
         ensures decoded { meter.new.segments ≤ meter.old.segments + (self.now.k - 1) }
-        ensures onward { (meter.old.comparisons ≤ meter.new.comparisons) × (meter.old.segments ≤ meter.new.segments) }
+        ensures onward { (meter.old.comparisons ≤ meter.new.comparisons)
+            × (meter.old.segments ≤ meter.new.segments) }
     {
         match last_not_after(&self.table, line, column, meter) {
             Some(mapping) if mapping.line == line => answer_of(&mapping),

@@ -19,8 +19,6 @@ mod part;
 mod refusal;
 mod search;
 mod table;
-#[cfg(test)]
-mod tests;
 
 pub use answer::Answer;
 pub use index::Index;

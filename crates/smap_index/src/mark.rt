@@ -1,18 +1,21 @@
+//! The checkpoints of parts, and the counts of their lines.
+
 ghost use Rattle.std.specs.Prelude.{◌≡◌, ◌≤◌, ◌++◌, length, IfOk};
 ghost use Rattle.std.specs.List.{All};
 ghost use Rattle.smap_mappings.specs.Order.{IsInOrder};
-ghost use Rattle.smap_index.specs.Parts.{IsPlain, placed, joined};
-ghost use Rattle.smap_index.specs.Marks.{mappings_at, used_lines_in};
+ghost use Rattle.smap_index.specs.Parts.{IsUnshifted, placed, joined};
+ghost use Rattle.smap_index.specs.Marks.{used_lines_in};
+ghost use Rattle.smap_index.specs.Search.{mappings_at};
 
 use crate::part::Part;
 use crate::table::{Checkpoint, Table};
 use smap_mappings::Meter;
 use std::alloc::{AllocError, Global};
 
-/// Adds a checkpoint for each segment of the parts.
+// Adds a checkpoint for each segment of the parts.
 pub fn mark_parts(alloc: Global, parts: &[Part], table: &mut Table) -> Result<(), AllocError>
     requires at_most_one { length parts.now ≤ 1 }
-    requires plain { All IsPlain parts.now }
+    requires unshifted { All IsUnshifted parts.now }
     ensures marked { IfOk result (λ _. mappings_at table.new ≡ mappings_at table.old ++ joined parts.now) }
     ensures ordered { IfOk result (λ _. IsInOrder (joined parts.now)) }
 {
@@ -22,8 +25,9 @@ pub fn mark_parts(alloc: Global, parts: &[Part], table: &mut Table) -> Result<()
     Ok(())
 }
 
+// Adds a checkpoint for each segment of a part.
 fn mark_part(alloc: Global, part: &Part, table: &mut Table) -> Result<(), AllocError>
-    requires plain { IsPlain part.now }
+    requires unshifted { IsUnshifted part.now }
     ensures marked { IfOk result (λ _. mappings_at table.new ≡ mappings_at table.old ++ placed part.now) }
     ensures ordered { IfOk result (λ _. IsInOrder (placed part.now)) }
 {
@@ -38,7 +42,7 @@ fn mark_part(alloc: Global, part: &Part, table: &mut Table) -> Result<(), AllocE
     Ok(())
 }
 
-/// How many lines of the parts hold a segment.
+// How many lines of the parts hold a segment.
 pub fn used_lines_in(parts: &[Part]) -> u64
     requires at_most_one { length parts.now ≤ 1 }
     ensures { result ≡ used_lines_in parts.now }

@@ -1,3 +1,5 @@
+//! One section of a map.
+
 use smap_mappings::PackedText;
 
 /// One section of a map (ECMA-426, Index source map): a checked text, the position at which its first line begins,

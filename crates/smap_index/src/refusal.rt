@@ -1,3 +1,5 @@
+//! Why an index is not built.
+
 /// Why an index is not built.
 #[derive(Clone, Copy, Debug, PartialEq, Eq)]
 pub enum BuildRefusal {

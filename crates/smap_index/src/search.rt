@@ -1,20 +1,21 @@
-ghost use Rattle.std.specs.Prelude.{◌≡◌, ◌+◌, ◌≤◌, length};
+//! The search for the last checkpoint at a position or before it.
+
+ghost use Rattle.std.specs.Prelude.{◌≡◌, ℕ, ◌+◌, ◌^◌, ◌<◌, ◌≤◌, length};
 ghost use Rattle.smap_mappings.specs.Meter.{HasRoom};
 ghost use Rattle.smap_mappings.specs.Order.{IsInOrder};
-ghost use Rattle.smap_index.specs.Marks.{mappings_at, binary_digits};
-ghost use Rattle.smap_index.specs.Search.{is_not_after, last_not_after};
+ghost use Rattle.smap_index.specs.Search.{mappings_at, is_not_after, last_not_after};
 
 use crate::table::Table;
 use smap_mappings::{Mapping, Meter};
 
-/// The last mapping of the table that stands at the position or before it, if there is one. The search halves, so
-/// that it reads at most one checkpoint for each binary digit of their number.
+// The last mapping of the table that stands at the position or before it, if there is one. The search halves, so
+// that it reads at most b of fewer than 2 ^ b checkpoints.
 pub fn last_not_after(table: &Table, line: u32, column: u32, meter: &mut Meter) -> Option<Mapping>
     requires ordered { IsInOrder (mappings_at table.now) }
     requires room { HasRoom meter.old }
     ensures last { result ≡ last_not_after line column (mappings_at table.now) }
     ensures onward { meter.old.comparisons ≤ meter.new.comparisons }
-    ensures few { meter.new.comparisons ≤ meter.old.comparisons + binary_digits (length table.now) }
+    ensures few { (b : ℕ) → length table.now < 2 ^ b → meter.new.comparisons ≤ meter.old.comparisons + b }
     ensures none_decoded { meter.new.segments ≡ meter.old.segments }
 {
     let mut low = 0;
@@ -33,6 +34,7 @@ pub fn last_not_after(table: &Table, line: u32, column: u32, meter: &mut Meter) 
     best
 }
 
+// Whether the mapping stands at the position or before it.
 fn is_not_after(mapping: &Mapping, line: u32, column: u32) -> bool
     ensures { result ≡ is_not_after line column mapping.now }
 {

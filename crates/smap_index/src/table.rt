@@ -1,16 +1,18 @@
+//! The table of checkpoints, in which each reading is counted.
+
 ghost use Rattle.std.specs.Prelude.{◌≡◌, ◌+◌, ◌<◌, [], ◌∷◌, ◌++◌, Some, length, slice_get, IfOk};
 
 use smap_mappings::{Mapping, Meter};
 use std::alloc::{AllocError, Global};
 use std::marker::Model;
 
-/// A mapping from which a look-up can begin, at its place in the joined list.
-#[derive(Clone, Copy, Debug, PartialEq, Eq)]
+// A mapping from which a look-up can begin, at its place in the joined list.
+#[derive(Clone, Copy)]
 pub struct Checkpoint {
     pub mapping: Mapping,
 }
 
-/// The checkpoints of an index, in order. One is read only by a call that counts it.
+// The checkpoints of an index, in order. One is read only by a call that counts it.
 #[derive(Drop)]
 pub struct Table {
     checkpoints: Vec<Checkpoint>,
@@ -26,6 +28,7 @@ impl Model for Table {
 }
 
 impl Table {
+    // A table of no checkpoint.
     pub fn new(alloc: Global) -> Self
         ensures { result ≡ [] }
     {
@@ -34,13 +37,14 @@ impl Table {
         }
     }
 
-    /// Makes room for this many checkpoints more.
+    // Makes room for this many checkpoints more.
     pub fn reserve(&mut self, additional: usize) -> Result<(), AllocError>
         ensures { self.new ≡ self.old }
     {
         self.checkpoints.reserve(additional)
     }
 
+    // Adds a checkpoint at the end.
     pub fn push(&mut self, checkpoint: Checkpoint) -> Result<(), AllocError>
         ensures { IfOk result (λ _. self.new ≡ self.old ++ checkpoint ∷ []) }
     {
@@ -48,13 +52,14 @@ impl Table {
         Ok(())
     }
 
+    // How many checkpoints there are.
     pub fn len(&self) -> usize
         ensures { result ≡ length self.now }
     {
         self.checkpoints.len()
     }
 
-    /// Reads checkpoint `i`, from 0, to compare it, and counts that.
+    // Reads checkpoint `i`, from 0, to compare it, and counts that.
     pub fn at(&self, i: usize, meter: &mut Meter) -> Checkpoint
         requires within { i < length self.now }
         requires room { meter.old.comparisons < u64.MAX }

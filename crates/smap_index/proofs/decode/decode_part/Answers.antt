@@ -1,6 +1,6 @@
 use Rattle.std.proofs.Common.{◌++◌, sym, ◌∙◌, ap, arith}
 use Rattle.smap_index.proofs.WalkLaws.{all_taken, after_next, listed_next}
-use Rattle.smap_index.proofs.PlainLaws.{placed_plain}
+use Rattle.smap_index.proofs.UnshiftedLaws.{placed_unshifted}
 use Rattle.smap_index.proofs.decode.decode_part.Goals as goal
 
 pub next-requires-clause-room : goal.next-requires-clause-room
@@ -21,4 +21,4 @@ pub returns : goal.returns
 returns c =
     let text = c.args.part.now.text in
     c.loop-mapping.invariant.listed
-    ∙ ap (λ list. c.args.list.now.items ++ list) (all_taken text _ (c.in_default.ensures.none _ c.loop-mapping.invariant.after) ∙ sym (placed_plain c.args.part.now c.requires.plain))
+    ∙ ap (λ list. c.args.list.now.items ++ list) (all_taken text _ (c.in_default.ensures.none _ c.loop-mapping.invariant.after) ∙ sym (placed_unshifted c.args.part.now c.requires.unshifted))

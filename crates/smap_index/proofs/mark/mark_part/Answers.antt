@@ -1,8 +1,8 @@
 use Rattle.std.proofs.Common.{◌++◌, sym, ◌∙◌, ap, subst, arith}
 use Rattle.smap_mappings.specs.Order.{IsInOrder}
-use Rattle.smap_index.specs.Marks.{mappings_at}
+use Rattle.smap_index.specs.Search.{mappings_at}
 use Rattle.smap_index.proofs.WalkLaws.{all_taken, after_next, listed_next, mappings_at-push}
-use Rattle.smap_index.proofs.PlainLaws.{placed_plain}
+use Rattle.smap_index.proofs.UnshiftedLaws.{placed_unshifted}
 use Rattle.smap_index.proofs.mark.mark_part.Goals as goal
 
 pub next-requires-clause-room : goal.next-requires-clause-room
@@ -23,7 +23,7 @@ loop-mapping-preserved c =
 pub returns-clause-marked : goal.returns-clause-marked
 returns-clause-marked c =
     c.loop-mapping.invariant.marked
-    ∙ ap (λ list. mappings_at c.args.table.now ++ list) (all_taken c.args.part.now.text _ (c.in_default.ensures.none _ c.loop-mapping.invariant.after) ∙ sym (placed_plain c.args.part.now c.requires.plain))
+    ∙ ap (λ list. mappings_at c.args.table.now ++ list) (all_taken c.args.part.now.text _ (c.in_default.ensures.none _ c.loop-mapping.invariant.after) ∙ sym (placed_unshifted c.args.part.now c.requires.unshifted))
 
 pub returns-clause-ordered : goal.returns-clause-ordered
-returns-clause-ordered c = subst IsInOrder (sym (placed_plain c.args.part.now c.requires.plain)) c.start-state.ensures.ordered
+returns-clause-ordered c = subst IsInOrder (sym (placed_unshifted c.args.part.now c.requires.unshifted)) c.start-state.ensures.ordered

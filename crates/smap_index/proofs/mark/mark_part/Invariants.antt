@@ -2,7 +2,7 @@ use Rattle.std.proofs.Common.{◌≡◌, ◌++◌, ◌-◌, length, take}
 use Rattle.smap_mappings.specs.Pieces.{pieces_of}
 use Rattle.smap_mappings.specs.Mappings.{mappings_of}
 use Rattle.smap_mappings.specs.State.{IsAfter}
-use Rattle.smap_index.specs.Marks.{mappings_at}
+use Rattle.smap_index.specs.Search.{mappings_at}
 use Rattle.smap_index.proofs.mark.mark_part.Given as goal
 
 -- the segments so far are those that were counted, each with its checkpoint

@@ -1,7 +1,7 @@
 use Rattle.std.proofs.Common.{◌≡◌, ◌++◌, take}
 use Rattle.smap_mappings.specs.Order.{IsInOrder}
 use Rattle.smap_index.specs.Parts.{joined}
-use Rattle.smap_index.specs.Marks.{mappings_at}
+use Rattle.smap_index.specs.Search.{mappings_at}
 use Rattle.smap_index.proofs.mark.mark_parts.Given as goal
 
 -- the parts so far have their checkpoints, and stand in order

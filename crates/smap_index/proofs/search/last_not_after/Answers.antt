@@ -1,6 +1,6 @@
-use Rattle.std.proofs.Common.{◌≡◌, ◌+◌, ◌-◌, ◌/◌, length, sym, ap, refl, ◌∙◌, arith, None}
-use Rattle.smap_index.specs.Marks.{mappings_at, binary_digits}
-use Rattle.smap_index.proofs.Digits.{half_has_fewer_digits, digits_least}
+use Rattle.std.proofs.Common.{sym, ap, refl, ◌∙◌, arith, None}
+use Rattle.smap_index.specs.Search.{mappings_at}
+use Rattle.smap_index.proofs.Halving.{one_more}
 use Rattle.smap_index.proofs.ListLaws.{last_taken}
 use Rattle.smap_index.proofs.SearchLaws.{in_front, ends_front, front_within, read_mapping}
 use Rattle.smap_index.proofs.search.last_not_after.Goals as goal
@@ -12,19 +12,18 @@ loop-low-init c = record {
   inside = omega (arith, c.len-high.ensures);
   best = refl;
   onward = omega arith;
-  few = let same : c.len-high.result - 0 ≡ length c.args.table.now = omega (arith, c.len-high.ensures) in omega (arith, ap binary_digits same);
+  few = λ b below. (b, omega arith, omega (arith, c.len-high.ensures));
   none_decoded = refl;
 }
 
 pub at-requires-clause-room : goal.at-requires-clause-room
 at-requires-clause-room c =
-    let most = digits_least (length c.args.table.now) 64 (omega (arith, c.len-high.ensures)) in
-    omega (arith, c.loop-low.invariant.few, c.requires.room.0)
+    let most = c.loop-low.invariant.few 64 (omega (arith, c.len-high.ensures)) in
+    omega (arith, most.1, c.requires.room.0)
 
 pub loop-low-preserved-then-is_not_after : goal.loop-low-preserved-then-is_not_after
 loop-low-preserved-then-is_not_after c =
     let there = read_mapping c.args.table.now _ c.at.result c.at.ensures.read in
-    let fewer = half_has_fewer_digits (c.loop-low.high - c.loop-low.low) (c.loop-low.high - (c.loop-low.low + (c.loop-low.high - c.loop-low.low) / 2 + 1)) (omega arith) (omega arith) in
     let counted = ap (λ m. m.comparisons) c.at.ensures.counted in
     record {
       low = in_front c.args.line c.args.column (mappings_at c.args.table.now) _ c.at.result.mapping c.requires.ordered there (sym c.is_not_after.ensures ∙ c.if-is_not_after.true);
@@ -32,14 +31,13 @@ loop-low-preserved-then-is_not_after c =
       inside = c.loop-low.invariant.inside;
       best = sym (last_taken None (mappings_at c.args.table.now) _ c.at.result.mapping there);
       onward = omega (arith, c.loop-low.invariant.onward);
-      few = omega (arith, c.loop-low.invariant.few);
+      few = λ b below. one_more _ _ _ b _ _ (omega arith) (omega arith) counted (c.loop-low.invariant.few b below);
       none_decoded = ap (λ m. m.segments) c.at.ensures.counted ∙ c.loop-low.invariant.none_decoded;
     }
 
 pub loop-low-preserved : goal.loop-low-preserved
 loop-low-preserved c =
     let there = read_mapping c.args.table.now _ c.at.result c.at.ensures.read in
-    let fewer = half_has_fewer_digits (c.loop-low.high - c.loop-low.low) (c.loop-low.low + (c.loop-low.high - c.loop-low.low) / 2 - c.loop-low.low) (omega arith) (omega arith) in
     let counted = ap (λ m. m.comparisons) c.at.ensures.counted in
     record {
       low = c.loop-low.invariant.low;
@@ -47,6 +45,6 @@ loop-low-preserved c =
       inside = omega (arith, c.loop-low.invariant.inside);
       best = c.loop-low.invariant.best;
       onward = omega (arith, c.loop-low.invariant.onward);
-      few = omega (arith, c.loop-low.invariant.few);
+      few = λ b below. one_more _ _ _ b _ _ (omega arith) (omega arith) counted (c.loop-low.invariant.few b below);
       none_decoded = ap (λ m. m.segments) c.at.ensures.counted ∙ c.loop-low.invariant.none_decoded;
     }
