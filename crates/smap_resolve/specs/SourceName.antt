@@ -1,8 +1,8 @@
 -- The name of a source (ECMA-426, Source map format): a URL, or a text that is kept as it is.
 use Rattle.std.specs.Prelude.{ℕ, List, Option, string_bytes}
 use Rattle.url.specs.Parts.{Parts}
-use Rattle.smap_resolve.specs.declared.SourceName.{SourceName}
-use Rattle.smap_resolve.specs.declared.SourceName.TheVariants.{Resolved, Kept}
+use Rattle.smap_resolve.specs.declared.source_name.SourceName.{SourceName}
+use Rattle.smap_resolve.specs.declared.source_name.SourceName.TheVariants.{Resolved, Kept}
 
 -- a name as contracts compare it: by the bytes of its text, and by whether it is a URL
 pub data Name : Type 0 where
