@@ -1,5 +1,5 @@
 -- What a call does to the bytes that a device tells: those that a source has left, and those that a sink has taken. A device that tells none has `None`.
-use Rattle.std.specs.Prelude.{◌≡◌, ℕ, List, Option}
+use Rattle.std.specs.Prelude.{◌≡◌, ℕ, ◌≤◌, List, ◌++◌, length, Option}
 use Rattle.std.specs.Io.KnownBytes.{prepend_known, append_known}
 
 -- a read gave these bytes: they stood before those that are left
@@ -9,3 +9,11 @@ Gives old new bytes = old ≡ prepend_known bytes new
 -- a write took these bytes: they stand behind those that were taken before
 abbrev pub Takes : (old new : Option (List ℕ)) → List ℕ → Type 0
 Takes old new bytes = new ≡ append_known old bytes
+
+-- a sink took a front of these bytes
+abbrev pub TakesFront : (old new : Option (List ℕ)) → List ℕ → Type 0
+TakesFront old new bytes = (front rest : List ℕ) × (bytes ≡ front ++ rest) × Takes old new front
+
+-- a source gave at most so many bytes
+abbrev pub GivesAtMost : (old new : Option (List ℕ)) → ℕ → Type 0
+GivesAtMost old new most = (bytes : List ℕ) × Gives old new bytes × (length bytes ≤ most)

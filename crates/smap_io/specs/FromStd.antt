@@ -9,3 +9,7 @@ inner_of device = device.inner
 -- whether a call has failed
 abbrev pub has_failed : {T : Type 0} → FromStd T → Bool
 has_failed device = device.failed
+
+-- whether the last write or flush was a flush that is Ok
+abbrev pub is_flushed : {T : Type 0} → FromStd T → Bool
+is_flushed device = device.flushed

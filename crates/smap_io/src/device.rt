@@ -1,5 +1,5 @@
 //! What a device is: a source or a sink of bytes that says what it moved, and whether it failed.
-ghost use Rattle.std.specs.Prelude.{◌≡◌, ◌<◌, ◌≤◌, ℕ, Bool, true, Option, List, length, take, IfOk, OnOk, OnErr};
+ghost use Rattle.std.specs.Prelude.{◌≡◌, ◌<◌, ◌≤◌, ℕ, Bool, true, false, Option, List, length, take, IfOk, OnOk, OnErr};
 ghost use Rattle.std.specs.Io.KnownBytes.{IsAtEnd};
 ghost use Rattle.smap_io.specs.Device.{Gives, Takes};
 
@@ -40,9 +40,14 @@ pub trait ByteSink {
     // Whether a call has failed.
     ghost has_failed: { Self → Bool };
 
+    // Whether it was flushed after its last byte: the last write or flush was a flush that is Ok.
+    ghost is_flushed: { Self → Bool };
+
     /// Takes the front of `bytes` and counts what it took, which is at least one byte where there are
-    /// any. A fault leaves the device with what it held.
+    /// any. A fault leaves the device with what it held. Flush after the last write.
     fn write(&mut self, bytes: &[u8]) -> Result<usize, DeviceFault>
+        ensures cleared { is_flushed self.new ≡ false }
+
         ensures fits { IfOk result (λ n. n ≤ length bytes.now) }
         ensures takes { IfOk result (λ n. Takes (taken self.old) (taken self.new) (take n bytes.now)) }
         ensures some { IfOk result (λ n. 0 < length bytes.now → 0 < n) }
@@ -51,11 +56,15 @@ pub trait ByteSink {
         ensures keeps { OnErr result (taken self.new ≡ taken self.old) }
         ensures failure { OnErr result (has_failed self.new ≡ true) };
 
-    /// Hands on what the device may hold back.
+    /// Hands on what the device may hold back. It brings no byte, also where it fails.
     fn flush(&mut self) -> Result<(), DeviceFault>
         ensures keeps { taken self.new ≡ taken self.old }
+
         ensures no_failure { OnOk result (has_failed self.new ≡ has_failed self.old) }
-        ensures failure { OnErr result (has_failed self.new ≡ true) };
+        ensures flushed { OnOk result (is_flushed self.new ≡ true) }
+
+        ensures failure { OnErr result (has_failed self.new ≡ true) }
+        ensures unflushed { OnErr result (is_flushed self.new ≡ false) };
 
     /// Whether a call has ever failed.
     fn failed(&self) -> bool

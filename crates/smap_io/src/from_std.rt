@@ -1,7 +1,7 @@
 //! Devices over the readers and writers of std.
 ghost use Rattle.std.specs.Prelude.{◌≡◌, ◌<◌, ◌≤◌, None, true, false, length, IfOk, OnOk, OnErr};
 ghost use Rattle.std.specs.Io.KnownBytes.{Keeps, ReadConsumes, WriteAppends};
-ghost use Rattle.smap_io.specs.FromStd.{inner_of, has_failed};
+ghost use Rattle.smap_io.specs.FromStd.{inner_of, has_failed, is_flushed};
 
 use crate::device::{ByteSink, ByteSource, DeviceFault};
 use std::io::{Read, Write};
@@ -13,22 +13,28 @@ use std::io::{Read, Write};
 pub struct FromStd<T> {
     inner: T,
     failed: bool,
+    // Whether the last write or flush was a flush that is Ok.
+    flushed: bool,
 }
 
 impl<T> FromStd<T> {
-    /// The device over `inner`.
+    /// The device over `inner`, which is not asked yet.
     pub fn new(inner: T) -> FromStd<T>
         ensures over { inner_of result ≡ inner }
         ensures healthy { has_failed result ≡ false }
+        ensures unflushed { is_flushed result ≡ false }
     {
         FromStd {
             inner,
             failed: false,
+            flushed: false,
         }
     }
 
+    // Notes a failure of the inner device.
     fn fail(&mut self) -> DeviceFault
         ensures same { inner_of self.new ≡ inner_of self.old }
+        ensures same_flush { is_flushed self.new ≡ is_flushed self.old }
         ensures failure { has_failed self.new ≡ true }
     {
         self.failed = true;
@@ -66,7 +72,11 @@ impl<W: Write> ByteSink for FromStd<W> {
 
     ghost has_failed = { has_failed };
 
+    ghost is_flushed = { is_flushed };
+
     fn write(&mut self, bytes: &[u8]) -> Result<usize, DeviceFault>
+        ensures cleared { is_flushed self.new ≡ false }
+
         ensures fits { IfOk result (λ n. n ≤ length bytes.now) }
         ensures some { IfOk result (λ n. 0 < length bytes.now → 0 < n) }
         ensures no_failure { OnOk result (has_failed self.new ≡ has_failed self.old) }
@@ -76,6 +86,7 @@ impl<W: Write> ByteSink for FromStd<W> {
         ensures hands_on { WriteAppends
             (W.contents (inner_of self.old)) (W.contents (inner_of self.new)) result bytes.now }
     {
+        self.flushed = false;
         match self.inner.write(bytes) {
             Ok(count) if count > 0 || bytes.is_empty() => Ok(count),
             _ => Err(self.fail()),
@@ -84,13 +95,20 @@ impl<W: Write> ByteSink for FromStd<W> {
 
     fn flush(&mut self) -> Result<(), DeviceFault>
         ensures no_failure { OnOk result (has_failed self.new ≡ has_failed self.old) }
+        ensures flushed { OnOk result (is_flushed self.new ≡ true) }
+
         ensures failure { OnErr result (has_failed self.new ≡ true) }
+        ensures unflushed { OnErr result (is_flushed self.new ≡ false) }
+
+        // Where the writer tells its bytes, they stay.
         ensures hands_on { Keeps
             (W.contents (inner_of self.old)) (W.contents (inner_of self.new)) }
     {
-        match self.inner.flush() {
-            Ok(()) => Ok(()),
-            Err(_) => Err(self.fail()),
+        self.flushed = self.inner.flush().is_ok();
+        if self.flushed {
+            Ok(())
+        } else {
+            Err(self.fail())
         }
     }
 

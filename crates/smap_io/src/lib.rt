@@ -5,12 +5,12 @@
 //! So a program knows after each call what has passed, and whether a device is to blame.
 //!
 //! [`FromStd`] makes a device of a reader or a writer of std. [`MemorySource`] and [`MemorySink`]
-//! stand in memory, and fail at a call that is chosen beforehand. To read a file:
+//! stand in memory, and fail at a call that is chosen beforehand. [`read_all`] and [`write_all`] call
+//! a device until all is done. To read a file of at most 1,000 bytes:
 //!
 //! ```text
 //! let mut input = FromStd::new(File::open(&rt, "trace.txt")?);
-//! let count = input.read(&mut room)?;
-//! let got = &room[..count];
+//! let bytes = read_all(rt.alloc(), &mut input, 1_000)?;
 //! ```
 #![tactic(auto)]
 
@@ -19,10 +19,10 @@ mod device;
 mod from_std;
 mod memory_sink;
 mod memory_source;
-#[cfg(test)]
-mod tests;
+mod transfer;
 
 pub use device::{ByteSink, ByteSource, DeviceFault};
 pub use from_std::FromStd;
 pub use memory_sink::MemorySink;
 pub use memory_source::MemorySource;
+pub use transfer::{ReadFailure, read_all, write_all};

@@ -17,6 +17,8 @@ pub struct MemorySink {
     // The call that fails, counted from the next one, which is 1. At 0 none does.
     fails_in: u64,
     failed: bool,
+    // Whether the last write or flush was a flush that is Ok.
+    flushed: bool,
 }
 
 impl Model for MemorySink {
@@ -31,14 +33,16 @@ impl Model for MemorySink {
       piece = s.piece;
       fails_in = s.fails_in;
       failed = s.failed;
+      flushed = s.flushed;
     } };
 
     ghost invariant = { λ s. (vec_len s.bytes + s.spare ≤ vec_capacity s.bytes) × (0 < s.piece) };
 }
 
 impl MemorySink {
-    /// The sink that fills `room` up to its capacity and takes at most `piece` bytes at a call. Call
-    /// `fails_at`, a write or a flush, counted from 1, fails, and with 0 none does.
+    /// The sink that fills `room`, which comes empty, up to its capacity and takes at most `piece`
+    /// bytes at a call, 1 or more. Call `fails_at`, a write or a flush, counted from 1, fails, and with
+    /// 0 none does. A new sink is not flushed.
     pub fn new(room: Vec<u8>, piece: usize, fails_at: u64) -> MemorySink
         requires empty { room.items ≡ [] }
         requires some { 1 ≤ piece }
@@ -48,6 +52,7 @@ impl MemorySink {
           piece = piece;
           fails_in = fails_at;
           failed = false;
+          flushed = false;
         } }
     {
         let spare = room.capacity();
@@ -57,10 +62,11 @@ impl MemorySink {
             piece,
             fails_in: fails_at,
             failed: false,
+            flushed: false,
         }
     }
 
-    /// What the sink holds.
+    /// What the sink holds: all bytes that it took, flushed or not.
     pub fn bytes(&self) -> &[u8]
         ensures { result.now ≡ self.now.taken }
     {
@@ -73,10 +79,13 @@ impl ByteSink for MemorySink {
 
     ghost has_failed = { λ s. s.failed };
 
+    ghost is_flushed = { λ s. s.flushed };
+
     fn write(&mut self, bytes: &[u8]) -> Result<usize, DeviceFault>
         ensures some { IfOk result (λ n. 0 < length bytes.now → 0 < n) }
         ensures exact { Writes self.old self.new bytes.now result }
     {
+        self.flushed = false;
         let is_failing = count_call(&mut self.fails_in);
         if is_failing || (self.spare == 0 && !bytes.is_empty()) {
             self.failed = true;
@@ -93,11 +102,13 @@ impl ByteSink for MemorySink {
     fn flush(&mut self) -> Result<(), DeviceFault>
         ensures exact { Flushes self.old self.new result }
     {
-        if count_call(&mut self.fails_in) {
+        self.flushed = !count_call(&mut self.fails_in);
+        if self.flushed {
+            Ok(())
+        } else {
             self.failed = true;
-            return Err(DeviceFault);
+            Err(DeviceFault)
         }
-        Ok(())
     }
 
     fn failed(&self) -> bool {

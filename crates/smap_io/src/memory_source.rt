@@ -35,8 +35,8 @@ impl Model for MemorySource {
 }
 
 impl MemorySource {
-    /// The source of `bytes` that gives at most `piece` of them at a call. Call `fails_at`, counted
-    /// from 1, fails, and with 0 none does.
+    /// The source of `bytes` that gives at most `piece` of them at a call, 1 or more. Call `fails_at`,
+    /// counted from 1, fails, and with 0 none does.
     pub fn new(bytes: Vec<u8>, piece: usize, fails_at: u64) -> MemorySource
         requires { 1 ≤ piece }
         ensures { result ≡ record {
