@@ -44,7 +44,7 @@ pub trait ByteSink {
     ghost is_flushed: { Self → Bool };
 
     /// Takes the front of `bytes` and counts what it took, which is at least one byte where there are
-    /// any. A fault leaves the device with what it held. Flush after the last write.
+    /// any. The device may hold it back until a flush. A fault leaves the device with what it held.
     fn write(&mut self, bytes: &[u8]) -> Result<usize, DeviceFault>
         ensures cleared { is_flushed self.new ≡ false }
 
