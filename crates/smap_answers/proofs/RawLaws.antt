@@ -13,25 +13,26 @@ use Rattle.smap_mappings.specs.Mappings.{mappings_of}
 use Rattle.smap_mappings.specs.declared.mapping.Mapping.{Mapping}
 use Rattle.smap_mappings.specs.declared.mapping.Origin.{Origin}
 use Rattle.smap_index.specs.Answer.{answer_at_or_before}
-use Rattle.smap_index.specs.Parts.{place_origin, place, placed, joined}
+use Rattle.smap_index.specs.Parts.{placed_origin, placed_mapping, placed, joined}
 use Rattle.smap_index.specs.declared.part.Part.{Part}
 use Rattle.smap_answers.specs.Raw.{fault_or_answer, text_result, without_last_line_end, raw_result}
 use Rattle.smap_answers.specs.Outcome.{refusal}
 use Rattle.smap_answers.specs.Lines.{text_too_long_line, not_utf8_line}
+use Rattle.smap_mappings.specs.Limits.{most_indices, most_text_bytes}
 
 -- ---- the tests of a text
 
-pub text_too_long : (text : List ℕ) (line column : ℕ) → 67108864 < length text → text_result text line column ≡ refusal text_too_long_line
-text_too_long text line column long = cond-true _ _ _ (lt-ltb 67108864 (length text) long)
+pub text_too_long : (text : List ℕ) (line column : ℕ) → most_text_bytes < length text → text_result text line column ≡ refusal text_too_long_line
+text_too_long text line column long = cond-true _ _ _ (lt-ltb most_text_bytes (length text) long)
 
-pub text_not_utf8 : (text : List ℕ) (line column : ℕ) → length text ≤ 67108864 → (IsUtf8 text → ⊥) → text_result text line column ≡ refusal not_utf8_line
+pub text_not_utf8 : (text : List ℕ) (line column : ℕ) → length text ≤ most_text_bytes → (IsUtf8 text → ⊥) → text_result text line column ≡ refusal not_utf8_line
 text_not_utf8 text line column short not_text =
-    cond-false _ _ _ (le-ltb 67108864 (length text) short)
+    cond-false _ _ _ (le-ltb most_text_bytes (length text) short)
     ∙ cond-true _ _ _ (ap not (false_from_ne_true (is_utf8 text) (λ is. not_text (IsUtf8-from_is_utf8 text is))))
 
-pub text_is_utf8 : (text : List ℕ) (line column : ℕ) → length text ≤ 67108864 → IsUtf8 text → text_result text line column ≡ fault_or_answer (first_fault text 2147483648 2147483648) (answer_at_or_before (mappings_of text) line column)
+pub text_is_utf8 : (text : List ℕ) (line column : ℕ) → length text ≤ most_text_bytes → IsUtf8 text → text_result text line column ≡ fault_or_answer (first_fault text most_indices most_indices) (answer_at_or_before (mappings_of text) line column)
 text_is_utf8 text line column short is_text =
-    cond-false _ _ _ (le-ltb 67108864 (length text) short) ∙ cond-false _ _ _ (ap not (is_utf8-from_IsUtf8 text is_text))
+    cond-false _ _ _ (le-ltb most_text_bytes (length text) short) ∙ cond-false _ _ _ (ap not (is_utf8-from_IsUtf8 text is_text))
 
 -- ---- one part at the start
 
@@ -42,7 +43,7 @@ no_name_moved (Some n) = ap Some (zero-add n)
 whole : List ℕ → Part
 whole text = record { line = 0; column = 0; text = text; source_base = 0; name_base = 0 }
 
-origin_stays : (text : List ℕ) (origin : Option Origin) → option_map (place_origin (record { line = 0; column = 0; text = text; source_base = 0; name_base = 0 })) origin ≡ origin
+origin_stays : (text : List ℕ) (origin : Option Origin) → option_map (placed_origin (record { line = 0; column = 0; text = text; source_base = 0; name_base = 0 })) origin ≡ origin
 origin_stays text None = refl
 origin_stays text (Some o) = λ i. Some (record { source = zero-add o.source i; line = o.line; column = o.column; name = no_name_moved o.name i })
 
@@ -50,10 +51,10 @@ column_stays : (b : Bool) (column : ℕ) → cond b (0 + column) column ≡ colu
 column_stays true column = zero-add column
 column_stays false column = refl
 
-mapping_stays : (text : List ℕ) (mapping : Mapping) → place (record { line = 0; column = 0; text = text; source_base = 0; name_base = 0 }) mapping ≡ mapping
+mapping_stays : (text : List ℕ) (mapping : Mapping) → placed_mapping (record { line = 0; column = 0; text = text; source_base = 0; name_base = 0 }) mapping ≡ mapping
 mapping_stays text m = λ i. record { line = zero-add m.line i; column = column_stays (eqb m.line 0) m.column i; origin = origin_stays text m.origin i }
 
-mappings_stay : (text : List ℕ) (mappings : List Mapping) → map (place (record { line = 0; column = 0; text = text; source_base = 0; name_base = 0 })) mappings ≡ mappings
+mappings_stay : (text : List ℕ) (mappings : List Mapping) → map (placed_mapping (record { line = 0; column = 0; text = text; source_base = 0; name_base = 0 })) mappings ≡ mappings
 mappings_stay text [] = refl
 mappings_stay text (m ∷ mappings) = λ i. mapping_stays text m i ∷ mappings_stay text mappings i
 
@@ -72,17 +73,16 @@ length_without bytes =
     (cases_Bool (eqb (get_or bytes (length bytes - 1) 0) 10))
 
 -- a text that is too long is so however much of it was read
-pub raw_too_long : (bytes : List ℕ) (line column : ℕ) → 67108866 ≤ length bytes → raw_result bytes line column ≡ refusal text_too_long_line
+pub raw_too_long : (bytes : List ℕ) (line column : ℕ) → (most_text_bytes + 2) ≤ length bytes → raw_result bytes line column ≡ refusal text_too_long_line
 unfolding raw_result
 raw_too_long bytes line column long = text_too_long (without_last_line_end bytes) line column (omega (arith, length_without bytes))
 
 -- what was read decides the answer to the whole input
-pub raw_of_read : (before after : Option (List ℕ)) (bytes : List ℕ) (line column : ℕ) → Gives before after bytes → length bytes ≤ 67108866 → (length bytes < 67108866 → IsAtEnd after) → IfSome before (λ all. raw_result all line column ≡ raw_result bytes line column)
+pub raw_of_read : (before after : Option (List ℕ)) (bytes : List ℕ) (line column : ℕ) → Gives before after bytes → length bytes ≤ (most_text_bytes + 2) → (length bytes < (most_text_bytes + 2) → IsAtEnd after) → IfSome before (λ all. raw_result all line column ≡ raw_result bytes line column)
 raw_of_read before None bytes line column gives short whole_read = subst (λ b. IfSome b (λ all. raw_result all line column ≡ raw_result bytes line column)) (sym gives) tt
 raw_of_read before (Some rest) bytes line column gives short whole_read =
     subst (λ b. IfSome b (λ all. raw_result all line column ≡ raw_result bytes line column)) (sym gives)
     (⊎_elim
-    (λ (less : length bytes < 67108866). ap (λ r. raw_result (bytes ++ r) line column) (whole_read less) ∙ ap (λ b. raw_result b line column) (append-nil bytes))
-    (λ (long : 67108866 ≤ length bytes). raw_too_long (bytes ++ rest) line column (omega (arith, length-append bytes rest)) ∙ sym (raw_too_long bytes line column long))
-    (cases_lt (length bytes) 67108866))
-
+    (λ (less : length bytes < (most_text_bytes + 2)). ap (λ r. raw_result (bytes ++ r) line column) (whole_read less) ∙ ap (λ b. raw_result b line column) (append-nil bytes))
+    (λ (long : (most_text_bytes + 2) ≤ length bytes). raw_too_long (bytes ++ rest) line column (omega (arith, length-append bytes rest)) ∙ sym (raw_too_long bytes line column long))
+    (cases_lt (length bytes) (most_text_bytes + 2)))

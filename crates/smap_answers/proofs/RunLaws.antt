@@ -1,5 +1,5 @@
 -- What a run tells, by what was read and what it came to.
-use Rattle.std.proofs.Common.{◌≡◌, ℕ, ◌<◌, ◌≤◌, ◌⊎◌, Bool, true, false, List, [], ◌∷◌, length, get_or, map, Option, Some, None, refl, sym, subst, inl, inr}
+use Rattle.std.proofs.Common.{◌≡◌, ℕ, ◌+◌, ◌<◌, ◌≤◌, ◌⊎◌, Bool, true, false, List, [], ◌∷◌, length, get_or, map, Option, Some, None, refl, sym, subst, inl, inr}
 use Rattle.std.specs.Prelude.{IfOk, IfSome, Result, Ok, Err}
 use Rattle.std.specs.Io.KnownBytes.{IsAtEnd}
 use Rattle.std.specs.declared.alloc.AllocError.{AllocError}
@@ -14,6 +14,7 @@ use Rattle.smap_answers.specs.declared.command.Command.{Command}
 use Rattle.smap_answers.specs.declared.load.Loaded.{Loaded}
 use Rattle.smap_answers.specs.declared.outcome.Outcome.{Outcome}
 use Rattle.smap_answers.proofs.RawLaws.{raw_of_read}
+use Rattle.smap_mappings.specs.Limits.{most_text_bytes}
 
 -- an outcome is the wanted one, or memory ran out
 pub or_memory : (outcome : Result Outcome AllocError) (telling wanted : Telling) → telling ≡ telling_or_memory outcome
@@ -37,7 +38,7 @@ some_input None = ([], tt)
 some_input (Some all) = (all, refl)
 
 -- the input of `raw`: what was read of it decides what the whole of it gives
-pub raw_input : (before after : Option (List ℕ)) (bytes : List ℕ) (line column : ℕ) → Gives before after bytes → length bytes ≤ 67108866 → (length bytes < 67108866 → IsAtEnd after)
+pub raw_input : (before after : Option (List ℕ)) (bytes : List ℕ) (line column : ℕ) → Gives before after bytes → length bytes ≤ (most_text_bytes + 2) → (length bytes < (most_text_bytes + 2) → IsAtEnd after)
     → (input : List ℕ) × IfSome before (λ all. all ≡ input) × (raw_result bytes line column ≡ raw_result input line column)
 raw_input before after bytes line column gives short whole_read = go before (raw_of_read before after bytes line column gives short whole_read)
   where

@@ -5,7 +5,7 @@ use Rattle.smap_mappings.specs.declared.mapping.Origin.{Origin}
 use Rattle.smap_index.specs.declared.answer.Answer.{Answer}
 use Rattle.smap_index.specs.declared.answer.Answer.TheVariants.{Nothing, Unmapped, Found}
 use Rattle.smap_resolve.specs.SourceName.{Name, name_text}
-use Rattle.smap_record.specs.Section.{Source}
+use Rattle.smap_record.specs.Sources.{StatedSource}
 use Rattle.smap_record.specs.Record.{MapRecord, answer_of_map}
 use Rattle.smap_answers.specs.Lines.{shown, none_line, unmapped_line, place_line}
 
@@ -14,11 +14,11 @@ abbrev pub name_or_index : Option Name → ℕ → List ℕ
 name_or_index (Some name) i = shown (name_text name)
 name_or_index None i = codes "[" ++ decimal i ++ codes "]"
 
-abbrev pub source_text : Option Source → ℕ → List ℕ
+abbrev pub source_text : Option StatedSource → ℕ → List ℕ
 source_text (Some source) i = name_or_index source.name i
 source_text None i = name_or_index None i
 
-abbrev pub is_ignored : Option Source → Bool
+abbrev pub is_ignored : Option StatedSource → Bool
 is_ignored (Some source) = source.ignored
 is_ignored None = false
 

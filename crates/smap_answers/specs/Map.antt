@@ -1,7 +1,5 @@
 -- What a question to a map file comes to: the line for what the map states, or the line for why it is refused.
-use Rattle.std.specs.Prelude.{ℕ, List, Option, Result, Ok, Err}
-use Rattle.url.specs.Parts.{Parts}
-use Rattle.smap_record.specs.Record as r
+use Rattle.std.specs.Prelude.{ℕ, List, Result, Ok, Err}
 use Rattle.smap_record.specs.Record.{MapRecord}
 use Rattle.smap_record.specs.declared.refusal.MapRefusal.{MapRefusal}
 use Rattle.smap_answers.specs.Lines.{map_refused_line}
@@ -12,6 +10,3 @@ use Rattle.smap_answers.specs.Refusal.{refusal_text}
 abbrev pub map_result : (line_of : MapRecord → List ℕ) → (path : List ℕ) → Result MapRecord MapRefusal → Telling
 map_result line_of path (Ok stated) = answer (line_of stated)
 map_result line_of path (Err refused) = refusal (map_refused_line path (refusal_text refused))
-
-abbrev pub record_of : List ℕ → Option Parts → ℕ → Result MapRecord MapRefusal
-record_of bytes base k = r.record_of bytes k

@@ -3,7 +3,7 @@ use Rattle.std.specs.Prelude.{ℕ, ◌-◌, List, Option, Some, None, ◌==◌, 
 use Rattle.std.specs.Str.{is_utf8}
 use Rattle.smap_mappings.specs.Faults.{first_fault}
 use Rattle.smap_mappings.specs.Mappings.{mappings_of}
-use Rattle.smap_mappings.specs.PackedText.{most_bytes, most_indices}
+use Rattle.smap_mappings.specs.Limits.{most_indices, most_text_bytes}
 use Rattle.smap_mappings.specs.declared.fault.Fault.{Fault}
 use Rattle.smap_index.specs.Answer.{answer_at_or_before}
 use Rattle.smap_index.specs.declared.answer.Answer.{Answer}
@@ -28,7 +28,7 @@ fault_or_answer None found = answer (answer_line found)
 -- what a text tells of a generated line and column, from 0; its indices may be any
 abbrev pub text_result : List ℕ → ℕ → ℕ → Telling
 text_result text line column =
-    if nat_lt most_bytes (length text) then refusal text_too_long_line
+    if nat_lt most_text_bytes (length text) then refusal text_too_long_line
     else (if not (is_utf8 text) then refusal not_utf8_line
     else fault_or_answer (first_fault text most_indices most_indices) (answer_at_or_before (mappings_of text) line column))
 

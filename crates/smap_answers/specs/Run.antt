@@ -5,13 +5,14 @@ use Rattle.smap_answers.specs.Check.{check_line}
 use Rattle.smap_answers.specs.Files.{first_bytes}
 use Rattle.smap_answers.specs.Lines.{input_failed_line}
 use Rattle.smap_answers.specs.Lookup.{lookup_line}
-use Rattle.smap_answers.specs.Map.{map_result, record_of}
+use Rattle.smap_answers.specs.Map.{map_result}
 use Rattle.smap_answers.specs.Outcome.{Telling, failure, out_of_memory}
 use Rattle.smap_answers.specs.Raw.{raw_result}
 use Rattle.smap_answers.specs.Streams.{SourceSeen, Streams, Ends}
 use Rattle.smap_answers.specs.declared.command.Command.{Command}
 use Rattle.smap_answers.specs.declared.command.Command.TheVariants.{Raw, Check, Lookup}
 use Rattle.smap_answers.specs.declared.load.Loaded.{Loaded}
+use Rattle.smap_record.specs.Record.{record_of}
 
 -- the interval of the checkpoints of a map that a command reads
 abbrev pub interval : ℕ

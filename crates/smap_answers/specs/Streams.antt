@@ -75,5 +75,5 @@ pub record Reports (text : List ℕ) (before after : Sinks) : Type 0 where
 abbrev pub Ends : Telling → ℕ → Sinks → Sinks → Type 0
 Ends telling status before after =
     ((telling.status ≡ 0)
-        × (((status ≡ 0) × Answers telling.text before after) ⊎ ((status ≡ 3) × FailsToAnswer telling.text before after)))
+    × (((status ≡ 0) × Answers telling.text before after) ⊎ ((status ≡ 3) × FailsToAnswer telling.text before after)))
     ⊎ ((telling.status ≢ 0) × (status ≡ telling.status) × Reports telling.text before after)

@@ -1,7 +1,8 @@
 //! Counting what a map file holds.
 ghost use Rattle.std.specs.Prelude.{◌≡◌, string_bytes, None, IfOk};
+ghost use Rattle.smap_record.specs.Record.{record_of};
 ghost use Rattle.smap_answers.specs.Check.{check_line, counts_of};
-ghost use Rattle.smap_answers.specs.Map.{map_result, record_of};
+ghost use Rattle.smap_answers.specs.Map.{map_result};
 ghost use Rattle.smap_answers.specs.Outcome.{telling_of};
 ghost use Rattle.smap_answers.specs.Run.{interval};
 

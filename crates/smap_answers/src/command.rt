@@ -4,9 +4,14 @@
 #[derive(Drop)]
 pub enum Command {
     /// Looks up a generated line and column in the bare mappings text on standard input.
-    Raw { line: u32, column: u32 },
+    Raw {
+        line: u32,
+        column: u32,
+    },
     /// Checks the source map in the file at this path.
-    Check { path: String },
+    Check {
+        path: String,
+    },
     /// Looks up a generated line and column in the source map in the file at this path.
     Lookup {
         path: String,

@@ -1,8 +1,9 @@
 //! Looking a position up in a map file.
 ghost use Rattle.std.specs.Prelude.{◌≡◌, option_and_then, option_map, slice_get, string_bytes, None, IfOk};
-ghost use Rattle.smap_record.specs.Record.{source_of};
+ghost use Rattle.smap_record.specs.Record.{record_of};
+ghost use Rattle.smap_record.specs.Sources.{source_of};
 ghost use Rattle.smap_answers.specs.Lookup.{is_ignored, lookup_line, origin_line, source_text};
-ghost use Rattle.smap_answers.specs.Map.{map_result, record_of};
+ghost use Rattle.smap_answers.specs.Map.{map_result};
 ghost use Rattle.smap_answers.specs.Outcome.{telling_of};
 ghost use Rattle.smap_answers.specs.Run.{interval};
 

@@ -2,12 +2,13 @@
 ghost use Rattle.std.specs.Prelude.{◌≡◌, ◌≤◌, IfOk, length, string_bytes};
 ghost use Rattle.smap_mappings.specs.Faults.{first_fault};
 ghost use Rattle.smap_mappings.specs.Mappings.{mappings_of};
-ghost use Rattle.smap_mappings.specs.PackedText.{most_bytes, most_indices};
+ghost use Rattle.smap_mappings.specs.Limits.{most_indices, most_text_bytes};
 ghost use Rattle.smap_index.specs.Answer.{answer_at_or_before};
 ghost use Rattle.smap_answers.specs.Outcome.{telling_of};
 ghost use Rattle.smap_answers.specs.Raw.{answer_line, fault_or_answer, raw_result, text_result};
 ghost use Rattle.smap_answers.specs.Raw.{without_last_line_end};
 
+use crate::command::INTERVAL;
 use crate::lines;
 use crate::outcome::Outcome;
 use smap_index::{Answer, BuildRefusal, Index, Part};
@@ -38,19 +39,11 @@ fn without_last_line_end(mut bytes: Vec<u8>) -> Vec<u8>
 }
 
 // Looks the position up in the text, which may be too long, or not UTF-8.
-fn answer_text(
-    alloc: Global,
-    bytes: Vec<u8>,
-    line: u32,
-    column: u32,
-) -> Result<Outcome, AllocError>
+fn answer_text(alloc: Global, bytes: Vec<u8>, line: u32, column: u32) -> Result<Outcome, AllocError>
     ensures { IfOk result (λ outcome. telling_of outcome ≡ text_result bytes.items line column) }
 {
     if bytes.len() > MOST_BYTES {
-        return Ok(Outcome::Refusal(String::from_str(
-            alloc,
-            lines::TEXT_TOO_LONG,
-        )?));
+        return Ok(Outcome::Refusal(String::from_str(alloc, lines::TEXT_TOO_LONG)?));
     }
     match String::from_utf8(bytes) {
         Ok(text) => answer_mappings(alloc, text, line, column),
@@ -65,7 +58,7 @@ fn answer_mappings(
     line: u32,
     column: u32,
 ) -> Result<Outcome, AllocError>
-    requires { length (string_bytes text) ≤ most_bytes }
+    requires { length (string_bytes text) ≤ most_text_bytes }
     ensures { IfOk result (λ outcome. telling_of outcome
         ≡ fault_or_answer (first_fault (string_bytes text) most_indices most_indices)
         (answer_at_or_before (mappings_of (string_bytes text)) line column)) }
@@ -96,7 +89,7 @@ fn look_up(alloc: Global, text: PackedText, line: u32, column: u32) -> Result<An
         source_base: 0,
         name_base: 0,
     })?;
-    match Index::build(alloc, parts, 1) {
+    match Index::build(alloc, parts, INTERVAL) {
         Ok(index) => {
             let mut meter = Meter::new(alloc);
             Ok(index.look_up(line, column, &mut meter))

@@ -33,11 +33,11 @@ pub fn run<R: ByteSource, W: ByteSink, E: ByteSink>(
     requires errors_work { E.has_failed errors.old ≡ false }
     ensures { Runs command.now files.now result
         (streams_seen (source_seen R.left R.has_failed input.old)
-            (sink_seen W.taken W.is_flushed W.has_failed output.old)
-            (sink_seen E.taken E.is_flushed E.has_failed errors.old))
+        (sink_seen W.taken W.is_flushed W.has_failed output.old)
+        (sink_seen E.taken E.is_flushed E.has_failed errors.old))
         (streams_seen (source_seen R.left R.has_failed input.new)
-            (sink_seen W.taken W.is_flushed W.has_failed output.new)
-            (sink_seen E.taken E.is_flushed E.has_failed errors.new)) }
+        (sink_seen W.taken W.is_flushed W.has_failed output.new)
+        (sink_seen E.taken E.is_flushed E.has_failed errors.new)) }
 {
     let outcome = outcome_of(alloc, command, files, input);
     tell(&outcome, output, errors)
@@ -65,12 +65,7 @@ fn outcome_of<R: ByteSource>(
 }
 
 // What `raw` comes to.
-fn outcome_of_raw<R: ByteSource>(
-    alloc: Global,
-    line: u32,
-    column: u32,
-    input: &mut R,
-) -> Outcome
+fn outcome_of_raw<R: ByteSource>(alloc: Global, line: u32, column: u32, input: &mut R) -> Outcome
     requires input_works { R.has_failed input.old ≡ false }
     ensures { Tells (Raw line column) [] (source_seen R.left R.has_failed input.old)
         (source_seen R.left R.has_failed input.new) (telling_of result) }

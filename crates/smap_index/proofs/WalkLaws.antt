@@ -5,7 +5,7 @@ use Rattle.smap_mappings.specs.Counts.{segments_of}
 use Rattle.smap_mappings.specs.Pieces.{pieces_of}
 use Rattle.smap_mappings.specs.Mappings.{Move, move_of, moves_of, mappings_after, mappings_of}
 use Rattle.smap_mappings.specs.State.{IsAfter}
-use Rattle.smap_mappings.specs.Step.{IsNext}
+use Rattle.smap_mappings.specs.State.{IsNext}
 use Rattle.smap_mappings.specs.declared.cursor.Cursor.{Cursor}
 use Rattle.smap_mappings.specs.declared.mapping.Mapping.{Mapping}
 use Rattle.smap_index.specs.Search.{mappings_at}

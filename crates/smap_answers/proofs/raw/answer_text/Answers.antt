@@ -9,18 +9,19 @@ use Rattle.smap_index.specs.Answer.{answer_at_or_before}
 use Rattle.smap_answers.specs.Outcome.{refusal, telling_of}
 use Rattle.smap_answers.specs.Raw.{fault_or_answer}
 use Rattle.smap_answers.proofs.RawLaws.{text_is_utf8, text_not_utf8}
+use Rattle.smap_mappings.specs.Limits.{most_indices, most_text_bytes}
 use Rattle.smap_answers.proofs.raw.answer_text.Goals as goal
 
 pub returns-in-Ok : goal.returns-in-Ok
 returns-in-Ok c =
     let items : string_bytes c.in-Ok.text ≡ c.args.bytes.items = ap (λ (v : Vec ℕ Global). v.items) c.in-Ok.ensures.ok in
-    let short : length c.args.bytes.items ≤ 67108864 = omega (arith, c.len.ensures) in
+    let short : length c.args.bytes.items ≤ most_text_bytes = omega (arith, c.len.ensures) in
     let is_text = subst IsUtf8 items (IsUtf8-string_bytes c.in-Ok.text) in
     rw (text_is_utf8 c.args.bytes.items c.args.line c.args.column short is_text)
-    (subst (λ bytes. IfOk c.answer_mappings.result (λ outcome. telling_of outcome ≡ fault_or_answer (first_fault bytes 2147483648 2147483648) (answer_at_or_before (mappings_of bytes) c.args.line c.args.column))) items c.answer_mappings.ensures)
+    (subst (λ bytes. IfOk c.answer_mappings.result (λ outcome. telling_of outcome ≡ fault_or_answer (first_fault bytes most_indices most_indices) (answer_at_or_before (mappings_of bytes) c.args.line c.args.column))) items c.answer_mappings.ensures)
 
 pub returns : goal.returns
 returns c =
-    let short : length c.args.bytes.items ≤ 67108864 = omega (arith, c.len.ensures) in
+    let short : length c.args.bytes.items ≤ most_text_bytes = omega (arith, c.len.ensures) in
     ap refusal c.in_ok-from_str-in-Err.ensures.ok
     ∙ sym (text_not_utf8 c.args.bytes.items c.args.line c.args.column short (λ is_text. false≢true (c.in-Err.ensures.succeeds is_text)))

@@ -5,9 +5,10 @@ use Rattle.smap_answers.specs.Files.{first_bytes, paths_of}
 use Rattle.smap_answers.specs.Lookup.{lookup_line}
 use Rattle.smap_answers.specs.Outcome.{telling_of}
 use Rattle.smap_answers.specs.Run.{command_result, interval}
-use Rattle.smap_answers.specs.Map.{map_result, record_of}
+use Rattle.smap_answers.specs.Map.{map_result}
 use Rattle.smap_answers.specs.declared.command.Command.TheVariants.{Check, Lookup}
 use Rattle.smap_answers.proofs.RunLaws.{first_is, or_memory, tells_unread}
+use Rattle.smap_record.specs.Record.{record_of}
 use Rattle.smap_answers.proofs.running.outcome_of.Goals as goal
 
 pub returns-in-Check : goal.returns-in-Check

@@ -8,7 +8,7 @@ use Rattle.smap_answers.proofs.running.outcome_of_raw.Goals as goal
 pub returns-in-Ok : goal.returns-in-Ok
 returns-in-Ok g c =
     let read = raw_input (g.R.ByteSource.left c.args.input.now) (g.R.ByteSource.left c.read_all.new.input) c.in-Ok.bytes.items c.args.line c.args.column c.in-Ok.ensures.gives
-        (omega (arith, c.in-Ok.ensures.fits)) (λ less. c.in-Ok.ensures.whole (omega arith)) in
+    (omega (arith, c.in-Ok.ensures.fits)) (λ less. c.in-Ok.ensures.whole (omega arith)) in
     record {
       input = read.0;
       is_input = read.1;
