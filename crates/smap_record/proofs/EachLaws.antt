@@ -8,12 +8,12 @@ use Rattle.serde_json.specs.Data.{Data}
 use Rattle.serde_json.specs.View.{view, items_view}
 use Rattle.serde_json.specs.declared.value.Value.{Value, Array}
 use Rattle.serde_json.proofs.Views.{view-Array}
-use Rattle.smap_record.specs.Json.{each, list_of}
+use Rattle.smap_record.specs.Json.{readings, list_of}
 
 module _ {A : Type 0} (read : Data → Option A) where
   -- what is read of these values, behind what was read before them
   abbrev pub behind : List A → List Value → Option (List A)
-  behind before values = option_map (λ others. before ++ others) (each read (items_view values))
+  behind before values = option_map (λ others. before ++ others) (readings read (items_view values))
 
   added : (before : List A) (first : A) (others : Option (List A)) → option_map (λ more. (before ++ first ∷ []) ++ more) others ≡ option_map (λ more. before ++ more) (option_map (λ more. first ∷ more) others)
   added before first None = refl
@@ -21,11 +21,11 @@ module _ {A : Type 0} (read : Data → Option A) where
 
   -- what is read of a value and of others, by what is read of it
   abbrev opened : List A → List Value → Option A → Option (List A)
-  opened before values found = option_map (λ more. before ++ more) (option_and_then (λ first. option_map (λ others. first ∷ others) (each read (items_view values))) found)
+  opened before values found = option_map (λ more. before ++ more) (option_and_then (λ first. option_map (λ others. first ∷ others) (readings read (items_view values))) found)
 
   -- one more item was read
   pub one_more : (before : List A) (value : Value) (values : List Value) (first : A) → read (view value) ≡ Some first → behind (before ++ first ∷ []) values ≡ behind before (value ∷ values)
-  one_more before value values first is = added before first (each read (items_view values)) ∙ ap (opened before values) (sym is)
+  one_more before value values first is = added before first (readings read (items_view values)) ∙ ap (opened before values) (sym is)
 
   -- an item is no such value
   pub not_one : (before : List A) (value : Value) (values : List Value) → read (view value) ≡ None → behind before (value ∷ values) ≡ None
@@ -41,7 +41,7 @@ module _ {A : Type 0} (read : Data → Option A) where
 
   -- nothing was read so far of the list that an array is
   pub none_yet : (value : Value) (items : Vec Value Global) → value ≡ Array items → behind [] items.items ≡ list_of read (view value)
-  none_yet value items is = same (each read (items_view items.items)) ∙ sym (ap (λ v. list_of read (view v)) is ∙ ap (list_of read) (view-Array items))
+  none_yet value items is = same (readings read (items_view items.items)) ∙ sym (ap (λ v. list_of read (view v)) is ∙ ap (list_of read) (view-Array items))
 
 -- the value at a place, and those behind it
 pub next_value : (values : List Value) (i : ℕ) (value : Value) → i < length values → value ≡ slice_index_or values i value → drop i values ≡ value ∷ drop (i + 1) values

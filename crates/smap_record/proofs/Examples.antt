@@ -16,9 +16,9 @@ use Rattle.smap_index.specs.declared.answer.Answer.{Answer}
 use Rattle.smap_index.specs.declared.answer.Answer.TheVariants.{Nothing, Found}
 use Rattle.smap_index.specs.declared.part.Part.{Part}
 use Rattle.smap_index.specs.declared.refusal.BuildRefusal.TheVariants.{Interval}
-use Rattle.smap_resolve.specs.SourceName.{kept}
+use Rattle.smap_resolve.specs.SourceName.{kept, source_name}
 use Rattle.smap_record.specs.FileText.{byte_order_mark}
-use Rattle.smap_record.specs.Section.{Source}
+use Rattle.smap_record.specs.Sources.{StatedSource}
 use Rattle.smap_record.specs.Record.{MapRecord, record_of, answer_of_map}
 use Rattle.smap_record.specs.declared.refusal.MapRefusal.{MapRefusal}
 use Rattle.smap_record.specs.declared.refusal.MapRefusal.TheVariants as refusals
@@ -28,12 +28,12 @@ whole : List ℕ → List Part
 whole text = record { line = 0; column = 0; text = text; source_base = 0; name_base = 0 } ∷ []
 
 -- a source that is called this, and no more
-called : List ℕ → Source
+called : List ℕ → StatedSource
 called text = record { name = Some (kept text); content = None; ignored = false }
 
 -- what an example unfolds to compute the record of a file
 unfoldable record_on_literals : ⊤
-unfolding record_of is_utf8 chars serde_json_on_literals whole called first_fault spelling_fault move_fault values_on pieces_of pieces_from pieces_on fields_of number_of unsigned_of digit_of
+unfolding record_of source_name is_utf8 chars serde_json_on_literals whole called first_fault spelling_fault move_fault values_on pieces_of pieces_from pieces_on fields_of number_of unsigned_of digit_of
 record_on_literals = tt
 
 -- the refusal of a file, where it is refused
@@ -43,68 +43,68 @@ refusal_in (Err refusal) = Some refusal
 
 abbrev refusals_of : List (List ℕ) → List (Option MapRefusal)
 refusals_of [] = []
-refusals_of (bytes ∷ files) = refusal_in (record_of bytes 1) ∷ refusals_of files
+refusals_of (bytes ∷ files) = refusal_in (record_of bytes None 1) ∷ refusals_of files
 
 -- the sources of a record
-abbrev sources_of : Result MapRecord MapRefusal → List Source
+abbrev sources_of : Result MapRecord MapRefusal → List StatedSource
 sources_of (Ok stated) = stated.sources
 sources_of (Err refusal) = []
 
 -- ---- the record
 
-one_source : record_of (codes "{\"version\":3,\"sources\":[\"a.ts\"],\"mappings\":\"AAAA,CAAC\"}") 1
+one_source : record_of (codes "{\"version\":3,\"sources\":[\"a.ts\"],\"mappings\":\"AAAA,CAAC\"}") None 1
     ≡ Ok (record { parts = whole (codes "AAAA,CAAC"); sources = called (codes "a.ts") ∷ []; names = []; file = None })
 unfolding record_on_literals
 one_source = refl
 
-behind_a_mark : record_of (byte_order_mark ++ codes "{\"version\":3,\"sources\":[\"a.ts\"],\"mappings\":\"AAAA,CAAC\"}") 1
+behind_a_mark : record_of (byte_order_mark ++ codes "{\"version\":3,\"sources\":[\"a.ts\"],\"mappings\":\"AAAA,CAAC\"}") None 1
     ≡ Ok (record { parts = whole (codes "AAAA,CAAC"); sources = called (codes "a.ts") ∷ []; names = []; file = None })
 unfolding record_on_literals
 behind_a_mark = refl
 
-behind_a_guard_line : record_of (codes ")]}' and more" ++ 10 ∷ codes "{\"version\":3,\"sources\":[\"a.ts\"],\"mappings\":\"AAAA,CAAC\"}") 1
+behind_a_guard_line : record_of (codes ")]}' and more" ++ 10 ∷ codes "{\"version\":3,\"sources\":[\"a.ts\"],\"mappings\":\"AAAA,CAAC\"}") None 1
     ≡ Ok (record { parts = whole (codes "AAAA,CAAC"); sources = called (codes "a.ts") ∷ []; names = []; file = None })
 unfolding record_on_literals
 behind_a_guard_line = refl
 
-behind_both : record_of (byte_order_mark ++ codes ")]}'" ++ 10 ∷ codes "{\"version\":3,\"sources\":[\"a.ts\"],\"mappings\":\"AAAA,CAAC\"}") 1
+behind_both : record_of (byte_order_mark ++ codes ")]}'" ++ 10 ∷ codes "{\"version\":3,\"sources\":[\"a.ts\"],\"mappings\":\"AAAA,CAAC\"}") None 1
     ≡ Ok (record { parts = whole (codes "AAAA,CAAC"); sources = called (codes "a.ts") ∷ []; names = []; file = None })
 unfolding record_on_literals
 behind_both = refl
 
 -- a source at null has no name, and a content beyond the sources is passed over
-all_fields : record_of (codes "{\"version\":3,\"file\":\"o.js\",\"sourceRoot\":\"src\",\"sources\":[\"a.ts\",null],\"names\":[\"f\"],\"sourcesContent\":[null,\"x\",\"y\"],\"ignoreList\":[1,1],\"mappings\":\"AAAAA\"}") 1
+all_fields : record_of (codes "{\"version\":3,\"file\":\"o.js\",\"sourceRoot\":\"src\",\"sources\":[\"a.ts\",null],\"names\":[\"f\"],\"sourcesContent\":[null,\"x\",\"y\"],\"ignoreList\":[1,1],\"mappings\":\"AAAAA\"}") None 1
     ≡ Ok (record { parts = whole (codes "AAAAA"); sources = called (codes "a.ts") ∷ record { name = None; content = Some (codes "x"); ignored = true } ∷ []; names = codes "f" ∷ []; file = Some (codes "o.js") })
 unfolding record_on_literals
 all_fields = refl
 
 -- a list of contents that is shorter than the sources
-fewer_contents : sources_of (record_of (codes "{\"version\":3,\"sources\":[\"a.ts\",\"b.ts\"],\"sourcesContent\":[\"x\"],\"mappings\":\"\"}") 1)
+fewer_contents : sources_of (record_of (codes "{\"version\":3,\"sources\":[\"a.ts\",\"b.ts\"],\"sourcesContent\":[\"x\"],\"mappings\":\"\"}") None 1)
     ≡ record { name = Some (kept (codes "a.ts")); content = Some (codes "x"); ignored = false } ∷ called (codes "b.ts") ∷ []
 unfolding record_on_literals
 fewer_contents = refl
 
-last_of_equal_keys : record_of (codes "{\"version\":2,\"sources\":7,\"version\":3,\"sources\":[\"a.ts\"],\"mappings\":\"AAAA,CAAC\"}") 1
+last_of_equal_keys : record_of (codes "{\"version\":2,\"sources\":7,\"version\":3,\"sources\":[\"a.ts\"],\"mappings\":\"AAAA,CAAC\"}") None 1
     ≡ Ok (record { parts = whole (codes "AAAA,CAAC"); sources = called (codes "a.ts") ∷ []; names = []; file = None })
 unfolding record_on_literals
 last_of_equal_keys = refl
 
-nulls_are_absent : record_of (codes "{\"version\":3,\"sections\":null,\"file\":null,\"sourceRoot\":null,\"names\":null,\"sourcesContent\":null,\"ignoreList\":null,\"x_google_ignoreList\":null,\"sources\":[\"a.ts\"],\"mappings\":\"AAAA,CAAC\"}") 1
+nulls_are_absent : record_of (codes "{\"version\":3,\"sections\":null,\"file\":null,\"sourceRoot\":null,\"names\":null,\"sourcesContent\":null,\"ignoreList\":null,\"x_google_ignoreList\":null,\"sources\":[\"a.ts\"],\"mappings\":\"AAAA,CAAC\"}") None 1
     ≡ Ok (record { parts = whole (codes "AAAA,CAAC"); sources = called (codes "a.ts") ∷ []; names = []; file = None })
 unfolding record_on_literals
 nulls_are_absent = refl
 
 -- ---- ignored sources
 
-ignored_by_the_older_key : sources_of (record_of (codes "{\"version\":3,\"sources\":[\"a.js\"],\"x_google_ignoreList\":[0],\"mappings\":\"AAAA\"}") 1) ≡ record { name = Some (kept (codes "a.js")); content = None; ignored = true } ∷ []
+ignored_by_the_older_key : sources_of (record_of (codes "{\"version\":3,\"sources\":[\"a.js\"],\"x_google_ignoreList\":[0],\"mappings\":\"AAAA\"}") None 1) ≡ record { name = Some (kept (codes "a.js")); content = None; ignored = true } ∷ []
 unfolding record_on_literals
 ignored_by_the_older_key = refl
 
-ignored_where_the_newer_key_is_null : sources_of (record_of (codes "{\"version\":3,\"sources\":[\"a.js\"],\"ignoreList\":null,\"x_google_ignoreList\":[0],\"mappings\":\"AAAA\"}") 1) ≡ record { name = Some (kept (codes "a.js")); content = None; ignored = true } ∷ []
+ignored_where_the_newer_key_is_null : sources_of (record_of (codes "{\"version\":3,\"sources\":[\"a.js\"],\"ignoreList\":null,\"x_google_ignoreList\":[0],\"mappings\":\"AAAA\"}") None 1) ≡ record { name = Some (kept (codes "a.js")); content = None; ignored = true } ∷ []
 unfolding record_on_literals
 ignored_where_the_newer_key_is_null = refl
 
-not_ignored_where_the_newer_list_is_empty : sources_of (record_of (codes "{\"version\":3,\"sources\":[\"a.js\"],\"ignoreList\":[],\"x_google_ignoreList\":[0],\"mappings\":\"AAAA\"}") 1) ≡ called (codes "a.js") ∷ []
+not_ignored_where_the_newer_list_is_empty : sources_of (record_of (codes "{\"version\":3,\"sources\":[\"a.js\"],\"ignoreList\":[],\"x_google_ignoreList\":[0],\"mappings\":\"AAAA\"}") None 1) ≡ called (codes "a.js") ∷ []
 unfolding record_on_literals
 not_ignored_where_the_newer_list_is_empty = refl
 
@@ -147,11 +147,11 @@ faulty_mappings : refusals_of (codes "{\"version\":3,\"sources\":[\"a.js\"],\"ma
 unfolding record_on_literals
 faulty_mappings = refl
 
-other_interval : record_of (codes "{\"version\":3,\"sources\":[\"a.ts\"],\"mappings\":\"AAAA,CAAC\"}") 2 ≡ Err (refusals.Build Interval)
+other_interval : record_of (codes "{\"version\":3,\"sources\":[\"a.ts\"],\"mappings\":\"AAAA,CAAC\"}") None 2 ≡ Err (refusals.Build Interval)
 unfolding record_on_literals
 other_interval = refl
 
-other_interval_comes_last : record_of (codes "{\"version\":3,\"sources\":[],\"mappings\":7}") 2 ≡ Err refusals.Mappings
+other_interval_comes_last : record_of (codes "{\"version\":3,\"sources\":[],\"mappings\":7}") None 2 ≡ Err refusals.Mappings
 unfolding record_on_literals
 other_interval_comes_last = refl
 
@@ -162,10 +162,10 @@ abbrev answer_in : Result MapRecord MapRefusal → ℕ → ℕ → Option Answer
 answer_in (Ok stated) line column = Some (answer_of_map stated line column)
 answer_in (Err refusal) line column = None
 
-last_on_the_line : answer_in (record_of (codes "{\"version\":3,\"sources\":[\"a.ts\"],\"mappings\":\"AAAA,CAAC\"}") 1) 0 5 ≡ Some (Found 1 (record { source = 0; line = 0; column = 1; name = None }))
+last_on_the_line : answer_in (record_of (codes "{\"version\":3,\"sources\":[\"a.ts\"],\"mappings\":\"AAAA,CAAC\"}") None 1) 0 5 ≡ Some (Found 1 (record { source = 0; line = 0; column = 1; name = None }))
 unfolding record_on_literals answer_at_or_before placed mappings_of mapping_after moves_of
 last_on_the_line = refl
 
-nothing_on_the_next_line : answer_in (record_of (codes "{\"version\":3,\"sources\":[\"a.ts\"],\"mappings\":\"AAAA,CAAC\"}") 1) 1 0 ≡ Some Nothing
+nothing_on_the_next_line : answer_in (record_of (codes "{\"version\":3,\"sources\":[\"a.ts\"],\"mappings\":\"AAAA,CAAC\"}") None 1) 1 0 ≡ Some Nothing
 unfolding record_on_literals answer_at_or_before placed mappings_of mapping_after moves_of
 nothing_on_the_next_line = refl

@@ -1,9 +1,10 @@
-pub mod Examples
-pub mod FileTextLaws
 pub mod EachLaws
-pub mod FieldLaws
-pub mod MarkLaws
 pub mod EntryLaws
-pub mod RefusalLaws
+pub mod Examples
+pub mod FieldLaws
+pub mod FileTextLaws
+pub mod IgnoredLaws
+pub mod LimitLaws
 pub mod RecordLaws
+pub mod RefusalLaws
 pub mod WithinLaws

@@ -1,27 +1,23 @@
 -- The mappings of a map file, and its answers, keep to the limit and to its sources and names.
 use Rattle.std.proofs.Common.{◌≡◌, ℕ, List, [], ◌∷◌, length, map, filter, string_bytes, Option, Some, None, refl, sym, ap, subst, ◌∙◌}
 use Rattle.std.specs.Prelude.{IfSome}
-use Rattle.std.specs.List.{All, AllByRecursion, enumerate_from, last_or}
+use Rattle.std.specs.List.{All, AllByRecursion, last_or}
 use Rattle.std.proofs.lemmas.List.{append-nil, length-map}
 use Rattle.std.proofs.lemmas.List.Elements.{All-filter, recursion_from_All}
-use Rattle.std.proofs.lemmas.List.FromFn.{length-enumerate_from}
 use Rattle.smap_mappings.specs.Mappings.{mappings_of}
 use Rattle.smap_mappings.specs.Within.{IsOriginWithin, IsWithin}
 use Rattle.smap_mappings.specs.declared.mapping.Mapping.{Mapping}
 use Rattle.smap_mappings.specs.declared.mapping.Origin.{Origin}
-use Rattle.smap_index.specs.Answer.{is_kept, answer_with, answer_of_last, answer_at_or_before}
+use Rattle.smap_index.specs.Answer.{is_on_line_at_or_before, answer_with, answer_of_last, answer_at_or_before}
 use Rattle.smap_index.specs.Parts.{placed, joined}
 use Rattle.smap_index.specs.declared.answer.Answer.{Answer}
 use Rattle.smap_index.specs.declared.part.Part.{Part}
-use Rattle.smap_index.proofs.PlainLaws.{placed_plain}
-use Rattle.smap_record.specs.MapFile.{Map, map_seen, IsCounted, IsAnswerWithin, whole_part}
-use Rattle.smap_record.specs.Record.{source_of}
-use Rattle.smap_record.specs.Section.{source_at, sources_with}
+use Rattle.smap_index.proofs.UnshiftedLaws.{placed_unshifted}
+use Rattle.smap_record.specs.MapFile.{Map, map_seen, IsCounted, IsAnswerWithin}
+use Rattle.smap_record.specs.Record.{regular_place}
+use Rattle.smap_record.specs.Section.{part_at}
+use Rattle.smap_record.specs.Sources.{source_of}
 use Rattle.smap_record.specs.declared.map_file.MapFile.TheInside.{Inside}
-
--- a source for each text
-pub length-sources_with : (contents : List (Option (List ℕ))) (ignored : List ℕ) (texts : List (Option (List ℕ))) → length (sources_with contents ignored texts) ≡ length texts
-length-sources_with contents ignored texts = length-map (enumerate_from 0 texts) (λ at. source_at contents ignored at.0 at.1) ∙ length-enumerate_from 0 texts
 
 -- ---- the mappings
 
@@ -30,9 +26,9 @@ with_counts sources names sources' names' list sources_are names_are all =
     subst (λ n. All (IsWithin sources' n) list) names_are (subst (λ n. All (IsWithin n names) list) sources_are all)
 
 -- the mappings of the one part of a regular map are those of its text
-pub whole_within : (sources names : ℕ) (text : List ℕ) (parts : List Part) → parts ≡ whole_part text ∷ [] → All (IsWithin sources names) (mappings_of text) → All (IsWithin sources names) (joined parts)
-whole_within sources names text parts parts_are all =
-    let whole : joined parts ≡ mappings_of text = ap joined parts_are ∙ append-nil (placed (whole_part text)) ∙ placed_plain (whole_part text) (record { line = refl; column = refl; source_base = refl; name_base = refl }) in
+pub regular_within : (sources names : ℕ) (text : List ℕ) (parts : List Part) → parts ≡ part_at regular_place text ∷ [] → All (IsWithin sources names) (mappings_of text) → All (IsWithin sources names) (joined parts)
+regular_within sources names text parts parts_are all =
+    let whole : joined parts ≡ mappings_of text = ap joined parts_are ∙ append-nil (placed (part_at regular_place text)) ∙ placed_unshifted (part_at regular_place text) (record { line = refl; column = refl; source_base = refl; name_base = refl }) in
     subst (λ list. All (IsWithin sources names) list) (sym whole) all
 
 -- ---- the answers
@@ -55,9 +51,9 @@ module _ (sources names : ℕ) where
   of_list : (list : List Mapping) (line column : ℕ) → All (IsWithin sources names) list → IsAnswerWithin sources names (answer_at_or_before list line column)
   unfolding answer_at_or_before
   of_list list line column all =
-      let kept = filter (is_kept line column) list in
+      let kept = filter (is_on_line_at_or_before line column) list in
       of_last (last_or None kept)
-      (last_holds (IsWithin sources names) None kept tt (recursion_from_All (IsWithin sources names) kept (All-filter (is_kept line column) (IsWithin sources names) list all)))
+      (last_holds (IsWithin sources names) None kept tt (recursion_from_All (IsWithin sources names) kept (All-filter (is_on_line_at_or_before line column) (IsWithin sources names) list all)))
 
 -- ---- a map file
 

@@ -1,21 +1,8 @@
--- The fields of a map's object that are read (ECMA-426, Source map format). Other keys are passed over.
+-- The fields of a section's map that are read (ECMA-426, Source map format). Other keys are passed over.
 use Rattle.std.specs.Prelude.{Option, codes}
 use Rattle.std.specs.Option.{option_or}
 use Rattle.serde_json.specs.Data.{Data}
 use Rattle.smap_record.specs.Json.{field}
-
--- what stands, where it is not null, at the keys that are read of the outer object alone
-pub record OuterFields : Type 0 where
-  pub version : Option Data
-  pub sections : Option Data
-  pub file : Option Data
-
-abbrev pub outer_of : Data → OuterFields
-outer_of value = record {
-  version = field (codes "version") value;
-  sections = field (codes "sections") value;
-  file = field (codes "file") value;
-}
 
 -- what stands, where it is not null, at the keys that are read of each section's map
 pub record Fields : Type 0 where

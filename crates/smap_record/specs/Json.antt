@@ -30,11 +30,11 @@ abbrev pub text_or_null : Data → Option (Option (List ℕ))
 text_or_null null = Some None
 text_or_null other = option_map Some (as_str other)
 
--- the items, where each of them is such a value
-abbrev pub each : {A : Type 0} → (Data → Option A) → Items → Option (List A)
-each read no_items = Some []
-each read (item value items) = option_and_then (λ first. option_map (λ others. first ∷ others) (each read items)) (read value)
+-- what is read of the items, where each of them is such a value
+abbrev pub readings : {A : Type 0} → (Data → Option A) → Items → Option (List A)
+readings read no_items = Some []
+readings read (item value items) = option_and_then (λ first. option_map (λ others. first ∷ others) (readings read items)) (read value)
 
 -- a list of such values
 abbrev pub list_of : {A : Type 0} → (Data → Option A) → Data → Option (List A)
-list_of read value = option_and_then (each read) (as_array value)
+list_of read value = option_and_then (readings read) (as_array value)

@@ -1,8 +1,12 @@
+pub mod Limits
 pub mod Json
 pub mod FileText
 pub mod Fields
+pub mod Refusals
+pub mod Outer
+pub mod Ignored
 pub mod Section
+pub mod Sources
 pub mod Record
 pub mod MapFile
 pub mod Seen
-pub mod Marks

@@ -1,12 +1,12 @@
 -- What callers see of a map file.
-use Rattle.std.specs.Prelude.{◌≡◌, ℕ, List, length, map, option_map, string_bytes}
+use Rattle.std.specs.Prelude.{◌≡◌, ℕ, length, map, option_map, string_bytes}
 use Rattle.std.specs.List.{All}
 use Rattle.smap_mappings.specs.Within.{IsOriginWithin, IsWithin}
 use Rattle.smap_index.specs.Parts.{joined}
 use Rattle.smap_index.specs.declared.answer.Answer.{Answer}
 use Rattle.smap_index.specs.declared.answer.Answer.TheVariants.{Nothing, Unmapped, Found}
-use Rattle.smap_index.specs.declared.part.Part.{Part}
-use Rattle.smap_record.specs.Record.{MapRecord, source_of}
+use Rattle.smap_record.specs.Record.{MapRecord}
+use Rattle.smap_record.specs.Sources.{source_of}
 use Rattle.smap_record.specs.declared.map_file.MapFile.TheInside.{Inside}
 
 -- what it states, and the interval of its checkpoints
@@ -36,7 +36,3 @@ unfoldable pub IsAnswerWithin : ℕ → ℕ → Answer → Type 0
 IsAnswerWithin sources names Nothing = Unit {0}
 IsAnswerWithin sources names (Unmapped column) = Unit {0}
 IsAnswerWithin sources names (Found column origin) = IsOriginWithin sources names origin
-
--- the part that a text is by itself: it begins at the start
-abbrev pub whole_part : List ℕ → Part
-whole_part text = record { line = 0; column = 0; text = text; source_base = 0; name_base = 0 }

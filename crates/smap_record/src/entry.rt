@@ -1,7 +1,8 @@
+//! A source of a map.
 use smap_resolve::SourceName;
 
 /// A source of a map (ECMA-426, Source map format).
-#[derive(Debug, PartialEq, Eq, Drop)]
+#[derive(Drop)]
 pub struct SourceEntry {
     /// What it is called, where the map says so.
     pub name: Option<SourceName>,

@@ -1,21 +1,13 @@
-//! The fields of a map's object that are read.
+//! The fields of a section's map.
 ghost use Rattle.std.specs.Prelude.{◌≡◌, ℕ, List, false, bytes_eq, option_map};
 ghost use Rattle.serde_json.specs.Data.{object};
 ghost use Rattle.serde_json.specs.Find.{get_member};
 ghost use Rattle.serde_json.specs.View.{members_view, view};
-ghost use Rattle.smap_record.specs.Fields.{fields_of, outer_of};
+ghost use Rattle.smap_record.specs.Fields.{fields_of};
 ghost use Rattle.smap_record.specs.Json.{field, not_null};
-ghost use Rattle.smap_record.specs.Seen.{fields_seen, outer_seen};
+ghost use Rattle.smap_record.specs.Seen.{fields_seen};
 
 use serde_json::{Map, Value};
-
-/// What stands, where it is not null, at the keys that are read of the outer object alone.
-#[derive(Drop)]
-pub struct OuterFields {
-    pub version: Option<Value>,
-    pub sections: Option<Value>,
-    pub file: Option<Value>,
-}
 
 /// What stands, where it is not null, at the keys that are read of each section's map.
 #[derive(Drop)]
@@ -26,20 +18,6 @@ pub struct Fields {
     pub ignored: Option<Value>,
     pub root: Option<Value>,
     pub mappings: Option<Value>,
-}
-
-impl OuterFields {
-    /// Moves the fields out of an object, which keeps those of a section's map.
-    pub fn take(members: &mut Map<String, Value>) -> OuterFields
-        ensures taken { outer_seen result ≡ outer_of (object (members_view members.old.entries)) }
-        ensures others { fields_of (object (members_view members.new.entries)) ≡ fields_of (object (members_view members.old.entries)) }
-    {
-        OuterFields {
-            version: take(members, "version"),
-            sections: take(members, "sections"),
-            file: take(members, "file"),
-        }
-    }
 }
 
 impl Fields {
@@ -66,8 +44,8 @@ impl Fields {
 }
 
 /// Moves out what stands at a key, where it is not null. The other keys keep theirs.
-fn take(members: &mut Map<String, Value>, key: &str) -> Option<Value>
-    ensures taken { option_map view result ≡ field key.now (object (members_view members.old.entries)) }
+pub fn take(members: &mut Map<String, Value>, key: &str) -> Option<Value>
+    ensures value { option_map view result ≡ field key.now (object (members_view members.old.entries)) }
     ensures others { (other : List ℕ) → bytes_eq other key.now ≡ false
         → get_member other (members_view members.new.entries) ≡ get_member other (members_view members.old.entries) }
 {
@@ -77,6 +55,7 @@ fn take(members: &mut Map<String, Value>, key: &str) -> Option<Value>
     }
 }
 
+// A value, where it is not null.
 fn not_null(value: Value) -> Option<Value>
     ensures { option_map view result ≡ not_null (view value) }
 {

@@ -1,8 +1,9 @@
 //! From the bytes of a map file to its JSON value.
-ghost use Rattle.std.specs.Prelude.{◌≡◌, ◌⊎◌, Some, None, IfOk, IfErr};
+ghost use Rattle.std.specs.Prelude.{◌≡◌, Some, is_none};
 ghost use Rattle.serde_json.specs.View.{view};
 ghost use Rattle.smap_record.specs.FileText.{json_text, value_of_file, without_guard_line, without_mark};
-ghost use Rattle.smap_record.specs.declared.refusal.MapRefusal.TheVariants.{Memory, NotJson};
+ghost use Rattle.smap_record.specs.Refusals.{Gives, refused_if};
+ghost use Rattle.smap_record.specs.declared.refusal.MapRefusal.TheVariants.{NotJson};
 
 use crate::refusal::MapRefusal;
 use serde_json::Value;
@@ -10,8 +11,8 @@ use std::alloc::Global;
 
 /// The JSON value of a file.
 pub fn file_value(alloc: Global, bytes: &[u8]) -> Result<Value, MapRefusal>
-    ensures value { IfOk result (λ value. value_of_file bytes.now ≡ Some (view value)) }
-    ensures refused { IfErr result (λ refusal. (refusal ≡ Memory) ⊎ ((refusal ≡ NotJson) × (value_of_file bytes.now ≡ None))) }
+    ensures { Gives (λ value. Some (view value)) result
+        (refused_if NotJson (is_none (value_of_file bytes.now))) (value_of_file bytes.now) }
 {
     match Value::from_slice(alloc, json_text(bytes)) {
         Ok(value) => Ok(value),
@@ -20,13 +21,14 @@ pub fn file_value(alloc: Global, bytes: &[u8]) -> Result<Value, MapRefusal>
     }
 }
 
-/// What stands behind a byte order mark and a guard line.
+// What stands behind a byte order mark and a guard line.
 fn json_text(bytes: &[u8]) -> &[u8]
     ensures { result.now ≡ json_text bytes.now }
 {
     without_guard_line(without_mark(bytes))
 }
 
+// The bytes behind a byte order mark, where one stands there.
 fn without_mark(bytes: &[u8]) -> &[u8]
     ensures { result.now ≡ without_mark bytes.now }
 {
@@ -37,6 +39,7 @@ fn without_mark(bytes: &[u8]) -> &[u8]
     }
 }
 
+// The bytes behind a guard line, where one stands there.
 fn without_guard_line(bytes: &[u8]) -> &[u8]
     ensures { result.now ≡ without_guard_line bytes.now }
 {

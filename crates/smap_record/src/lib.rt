@@ -1,14 +1,23 @@
-//! The map files of ECMA-426 (Source map format): what the JSON text of a map states, and why one is refused. The
-//! definitions of it stand in `specs/`; `record_of` there says what the bytes of a file give.
+//! The map files of ECMA-426 (Source map format): what the JSON text of a map states, and why one is refused. Lines,
+//! columns and indices count from 0, columns in UTF-16 code units.
+//!
+//! ```text
+//! let map = MapFile::read(alloc, bytes, None, 1)?;
+//! if let Answer::Found { origin, .. } = map.look_up(line, column, &mut meter) {
+//!     let source = map.source(origin.source);
+//! }
+//! ```
 #![tactic(auto)]
 
 mod entries;
 mod entry;
 mod fields;
 mod file_text;
+mod ignored;
+mod index;
 mod json;
 mod map_file;
-mod marks;
+mod outer;
 mod refusal;
 mod section;
 
@@ -20,11 +29,8 @@ pub use smap_mappings::{Fault, FaultKind, Mapping, Meter, Origin};
 pub use smap_resolve::SourceName;
 pub use url::Url;
 
-/// How many bytes a map file has at most.
-pub const MOST_FILE_BYTES: usize = 67108864;
+/// How many bytes a map file has at most, which is as many as a mappings text.
+pub const MOST_FILE_BYTES: usize = smap_mappings::MOST_BYTES;
 
 /// How many sources a map lists at most, and how many names.
 pub const MOST_ENTRIES: usize = 33554432;
-
-#[cfg(test)]
-mod tests;

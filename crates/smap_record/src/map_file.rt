@@ -1,27 +1,29 @@
-ghost use Rattle.std.specs.Prelude.{◌≡◌, ◌≢◌, ◌<◌, ◌⊎◌, [], ◌∷◌, string_bytes, Some, ◌+◌, ◌-◌, ◌≤◌, None, Ok, Err, length, slice_get, option_map, IfOk, IfErr};
+//! A map file that was read, and the look-ups in it.
+ghost use Rattle.std.specs.Prelude.{◌≡◌, ◌<◌, ◌⊎◌, ◌+◌, ◌-◌, ◌≤◌, ◌^◌, ℕ, None, Ok, Err, length, slice_get, option_copied, option_map, IfOk, IfErr};
 ghost use Rattle.std.specs.List.{All};
 ghost use Rattle.smap_mappings.specs.Meter.{HasRoom};
 ghost use Rattle.smap_mappings.specs.Order.{IsInOrder};
 ghost use Rattle.smap_mappings.specs.Within.{IsWithin};
 ghost use Rattle.smap_index.specs.Parts.{joined};
-ghost use Rattle.smap_index.specs.Marks.{marks, used_lines_in, binary_digits};
-ghost use Rattle.serde_json.specs.View.{view};
-ghost use Rattle.smap_record.specs.MapFile.{IsAnswerWithin, whole_part};
-ghost use Rattle.smap_record.specs.Record.{answer_of_map, file_in, first_refusal, is_three, outer_refusals, record_of, source_of};
-ghost use Rattle.smap_record.specs.Seen.{outer_seen};
-ghost use Rattle.smap_record.specs.declared.refusal.MapRefusal.TheVariants as refusals;
-ghost use Rattle.smap_record.specs.declared.TheConstants.{MOST_FILE_BYTES};
+ghost use Rattle.smap_index.specs.Marks.{marks, used_lines_in};
+ghost use Rattle.smap_record.specs.Limits.{most_file_bytes};
+ghost use Rattle.smap_record.specs.MapFile.{IsAnswerWithin};
+ghost use Rattle.smap_record.specs.Record.{answer_of_map, record_of};
+ghost use Rattle.smap_record.specs.Sources.{source_of};
+ghost use Rattle.smap_record.specs.declared.refusal.MapRefusal.TheVariants.{TooLarge, Memory};
 
 use crate::MOST_FILE_BYTES;
+use crate::entries::entries;
 use crate::entry::SourceEntry;
-use crate::fields::{Fields, OuterFields};
+use crate::fields::Fields;
 use crate::file_text::file_value;
-use crate::json::{object, text};
+use crate::index::build_index;
+use crate::json::object;
+use crate::outer::{OuterFields, read_outer};
 use crate::refusal::MapRefusal;
-use crate::section::read_section;
-use serde_json::Value;
-use smap_index::{Answer, BuildRefusal, Index, Part};
-use smap_mappings::{Mapping, Meter, PackedText};
+use crate::section::{SectionPlace, read_section};
+use smap_index::{Answer, Index};
+use smap_mappings::{Mapping, Meter};
 use std::alloc::{AllocError, Global};
 use std::marker::Model;
 use url::Url;
@@ -47,10 +49,9 @@ impl Model for MapFile {
 }
 
 impl MapFile {
-    /// Reads the bytes of a map file (ECMA-426, Source map format). Its index has a checkpoint at the segments of
-    /// number 0, `k`, 2`k` and so on of each line of a section; any `k` but 1 is refused so far, after all else. Each
-    /// source keeps the text that the map gives: no base is taken yet, and `sourceRoot` is not used. After a refusal
-    /// nothing is kept.
+    /// Reads the bytes of a map file (ECMA-426, Source map format) that stands at this URL. Its index has a checkpoint
+    /// at the segments of number 0, `k`, 2`k` and so on of each line of a section; any `k` but 1 is refused so far,
+    /// after all else. No base is taken yet. After a refusal nothing is kept.
     pub fn read(
         alloc: Global,
         bytes: &[u8],
@@ -58,9 +59,11 @@ impl MapFile {
         k: u32,
     ) -> Result<MapFile, MapRefusal>
         requires no_base { base ≡ None }
-        ensures too_large { MOST_FILE_BYTES < length bytes.now → result ≡ Err refusals.TooLarge }
-        ensures stated { IfOk result (λ map. (record_of bytes.now k ≡ Ok map.stated) × (map.k ≡ k)) }
-        ensures refused { IfErr result (λ refusal. (refusal ≡ refusals.Memory) ⊎ (record_of bytes.now k ≡ Err refusal)) }
+        ensures too_large { most_file_bytes < length bytes.now → result ≡ Err TooLarge }
+        ensures stated { IfOk result
+            (λ map. (record_of bytes.now (option_copied base.entry) k ≡ Ok map.stated) × (map.k ≡ k)) }
+        ensures refused { IfErr result (λ refusal. (refusal ≡ Memory)
+            ⊎ (record_of bytes.now (option_copied base.entry) k ≡ Err refusal)) }
     {
         let _no_base = base;
         if bytes.len() > MOST_FILE_BYTES {
@@ -70,11 +73,12 @@ impl MapFile {
             return Err(MapRefusal::NotObject);
         };
         let file = read_outer(OuterFields::take(&mut members))?;
-        let section = read_section(alloc, Fields::of(members))?;
+        let section = read_section(alloc, SectionPlace::regular(), Fields::of(members))?;
         let index = build_index(alloc, section.text, k)?;
+        let sources = entries(alloc, section.texts, section.contents, &section.ignored)?;
         Ok(MapFile {
             index,
-            sources: section.sources,
+            sources,
             names: section.names,
             file,
             sections: 1,
@@ -151,14 +155,14 @@ impl MapFile {
     }
 
     /// Looks a generated position up, from 0 and in UTF-16 code units: the last mapping on the line whose column is
-    /// not after the asked one answers, and of equal columns the last. It compares at most as many checkpoints as
-    /// their number has binary digits, and decodes fewer than `k` segments; the meter has room for both. The call
-    /// takes no memory.
+    /// not after the asked one answers, and of equal columns the last. Of fewer than 2 ^ b checkpoints it compares at
+    /// most b, and it decodes fewer than `k` segments; the meter has room for both. The call takes no memory.
     pub fn look_up(&self, line: u32, column: u32, meter: &mut Meter) -> Answer
         requires room { HasRoom meter.old }
         ensures answer { result ≡ answer_of_map self.now.stated line column }
         ensures within { IsAnswerWithin (length self.now.stated.sources) (length self.now.stated.names) result }
-        ensures compared { meter.new.comparisons ≤ meter.old.comparisons + binary_digits (length (marks self.now.stated.parts self.now.k)) }
+        ensures compared { (b : ℕ) → length (marks self.now.stated.parts self.now.k) < 2 ^ b
+            → meter.new.comparisons ≤ meter.old.comparisons + b }
         ensures decoded { meter.new.segments ≤ meter.old.segments + (self.now.k - 1) }
         ensures onward { (meter.old.comparisons ≤ meter.new.comparisons) × (meter.old.segments ≤ meter.new.segments) }
     {
@@ -173,70 +177,4 @@ impl MapFile {
     {
         self.index.decode_all(alloc)
     }
-}
-
-/// The generated file's name, where the outer object has one.
-fn read_outer(outer: OuterFields) -> Result<Option<String>, MapRefusal>
-    ensures accepted { IfOk result (λ _. first_refusal (outer_refusals (outer_seen outer)) ≡ None) }
-    ensures file { IfOk result (λ file. file_in (outer_seen outer).file ≡ Some (option_map string_bytes file)) }
-    ensures refused { IfErr result (λ refusal. first_refusal (outer_refusals (outer_seen outer)) ≡ Some refusal) }
-{
-    if !is_three(&outer.version) {
-        return Err(MapRefusal::Version);
-    }
-    if outer.sections.is_some() {
-        return Err(MapRefusal::Sections);
-    }
-    read_file(outer.file)
-}
-
-fn read_file(field: Option<Value>) -> Result<Option<String>, MapRefusal>
-    ensures read { IfOk result (λ file. file_in (option_map view field) ≡ Some (option_map string_bytes file)) }
-    ensures refused { IfErr result (λ refusal. (refusal ≡ refusals.FileOrRoot) × (file_in (option_map view field) ≡ None)) }
-{
-    let Some(value) = field else {
-        return Ok(None);
-    };
-    match text(value) {
-        Some(file) => Ok(Some(file)),
-        None => Err(MapRefusal::FileOrRoot),
-    }
-}
-
-fn is_three(field: &Option<Value>) -> bool
-    ensures { result ≡ is_three (option_map view field.now) }
-{
-    match field {
-        Some(version) => version.as_u64() == Some(3),
-        None => false,
-    }
-}
-
-/// The index of a text that is the one part of a map.
-fn build_index(alloc: Global, text: PackedText, k: u32) -> Result<Index, MapRefusal>
-    ensures built { IfOk result (λ index. (index.parts ≡ whole_part text ∷ []) × (index.k ≡ k)) }
-    ensures interval { IfOk result (λ _. k ≡ 1) }
-    ensures refused { IfErr result (λ refusal. (refusal ≡ refusals.Memory)
-        ⊎ ((refusal ≡ refusals.Build BuildRefusal.Interval) × (k ≢ 1))) }
-{
-    match Index::build(alloc, whole(alloc, text)?, k) {
-        Ok(index) => Ok(index),
-        Err(BuildRefusal::Memory) => Err(MapRefusal::Memory),
-        Err(refusal) => Err(MapRefusal::Build(refusal)),
-    }
-}
-
-/// A text as the one part of a map: it begins at the start.
-fn whole(alloc: Global, text: PackedText) -> Result<Vec<Part>, AllocError>
-    ensures { IfOk result (λ parts. parts.items ≡ whole_part text ∷ []) }
-{
-    let mut parts = Vec::with_capacity(alloc, 1)?;
-    parts.push(Part {
-        line: 0,
-        column: 0,
-        text,
-        source_base: 0,
-        name_base: 0,
-    })?;
-    Ok(parts)
 }

@@ -1,3 +1,4 @@
+//! Why a map file is refused.
 ghost use Rattle.std.specs.Prelude.{◌≡◌};
 ghost use Rattle.smap_record.specs.declared.refusal.MapRefusal.TheVariants.{Memory};
 
@@ -10,7 +11,8 @@ use thiserror::Error;
 /// limits are this project's own). The first cause that holds is told: they are asked in this order, save that `file`
 /// is asked before `sources`, and that want of memory may stand in place of what would come later. A key at null
 /// counts as absent. Section numbers count from 0. The numbers from M1 on are the refusals' own; M6, M7 and M16 are
-/// not in use yet.
+/// not in use yet. The texts that are derived here are for Rust callers: the program prints lines of its own, with the
+/// refusal's number and its parts.
 #[derive(Clone, Copy, Debug, PartialEq, Eq, Error)]
 pub enum MapRefusal {
     /// M1: it has more than 67,108,864 bytes.

@@ -1,93 +1,134 @@
 //! The map of one section: its sources, its names and its mappings.
-ghost use Rattle.std.specs.Prelude.{◌≡◌, ◌≤◌, ◌⊎◌, [], ◌∷◌, List, ℕ, Some, None, true, false, is_none, length, map, option_map, string_bytes, unwrap_or, IfOk, IfErr};
+ghost use Rattle.std.specs.Prelude.{◌≡◌, ◌≤◌, ◌+◌, [], ◌∷◌, ℕ, Some, length, map, option_map, string_bytes, unwrap_or, IfOk};
 ghost use Rattle.std.specs.List.{All};
 ghost use Rattle.serde_json.specs.View.{view};
-ghost use Rattle.smap_mappings.specs.Faults.{first_fault};
 ghost use Rattle.smap_mappings.specs.Mappings.{mappings_of};
 ghost use Rattle.smap_mappings.specs.Within.{IsWithin};
-ghost use Rattle.smap_record.specs.Marks.{AreMarks};
-ghost use Rattle.smap_record.specs.Record.{first_refusal, source_of, whole};
-ghost use Rattle.smap_record.specs.Section.{contents_in, ignored_in, is_no_list, mappings_in, names_in, refused_if, root_in, section_names, section_refusals, section_sources, sources_in, text_of};
-ghost use Rattle.smap_record.specs.Seen.{fields_seen, texts_seen};
-ghost use Rattle.smap_record.specs.declared.refusal.MapRefusal.TheVariants as refusals;
-ghost use Rattle.smap_record.specs.declared.TheConstants.{MOST_ENTRIES};
+ghost use Rattle.smap_record.specs.Ignored.{ignored_flags};
+ghost use Rattle.smap_record.specs.Limits.{most_entries};
+ghost use Rattle.smap_record.specs.Record.{regular_place};
+ghost use Rattle.smap_record.specs.Refusals.{Gives, first_refusal};
+ghost use Rattle.smap_record.specs.Section.{Section, contents_in, contents_refusal, ignored_in, ignored_refusal, mappings_in, mappings_refusal, names_in, names_refusal, root_refusal, section_refusals, sources_in, sources_refusal, text_refusal};
+ghost use Rattle.smap_record.specs.Seen.{fields_seen, section_seen, stated_section, texts_seen};
 
 use crate::MOST_ENTRIES;
-use crate::entries::entries;
-use crate::entry::SourceEntry;
 use crate::fields::Fields;
+use crate::ignored::{ignored_flags, none_ignored};
 use crate::json::{nullable_texts, texts};
-use crate::marks::{marks, no_marks};
 use crate::refusal::MapRefusal;
 use serde_json::Value;
 use smap_mappings::{PackedText, TextRefusal};
 use std::alloc::Global;
 
-/// What the map of a section gives.
+/// The number of a section, from 0, where it begins, and how many sources and names the sections before it have.
+#[derive(Clone, Copy)]
+pub struct SectionPlace {
+    pub number: u64,
+    pub line: u32,
+    pub column: u32,
+    pub source_base: u32,
+    pub name_base: u32,
+}
+
+impl SectionPlace {
+    /// The place of the one section of a regular map.
+    pub fn regular() -> SectionPlace
+        ensures { result ≡ regular_place }
+    {
+        SectionPlace {
+            number: 0,
+            line: 0,
+            column: 0,
+            source_base: 0,
+            name_base: 0,
+        }
+    }
+}
+
+/// What the map of a section states: its sources' texts and contents by place, and which of them are to be passed
+/// over, its names and its mappings.
 #[derive(Drop)]
 pub struct SectionMap {
-    pub sources: Vec<SourceEntry>,
+    pub texts: Vec<Option<String>>,
+    pub contents: Vec<Option<String>>,
+    pub ignored: Vec<bool>,
     pub names: Vec<String>,
     pub text: PackedText,
 }
 
-/// Reads the fields of the one section of a regular map.
-pub fn read_section(alloc: Global, fields: Fields) -> Result<SectionMap, MapRefusal>
-    ensures accepted { IfOk result (λ _. first_refusal (section_refusals (whole (fields_seen fields))) ≡ None) }
-    ensures sources { IfOk result (λ map_read. map source_of map_read.sources.items ≡ section_sources (whole (fields_seen fields))) }
-    ensures names { IfOk result (λ map_read. map string_bytes map_read.names.items ≡ section_names (whole (fields_seen fields))) }
-    ensures text { IfOk result (λ map_read. map_read.text ≡ text_of (whole (fields_seen fields))) }
-    ensures within { IfOk result (λ map_read. All (IsWithin (length map_read.sources.items) (length map_read.names.items)) (mappings_of map_read.text)) }
-    ensures refused { IfErr result (λ refusal. (refusal ≡ refusals.Memory) ⊎ (first_refusal (section_refusals (whole (fields_seen fields))) ≡ Some refusal)) }
+/// Reads the fields of the section at a place.
+pub fn read_section(
+    alloc: Global,
+    place: SectionPlace,
+    fields: Fields,
+) -> Result<SectionMap, MapRefusal>
+    requires sources_before { place.source_base ≤ most_entries }
+    requires names_before { place.name_base ≤ most_entries }
+    ensures statement { let section : Section = record { place = place; fields = fields_seen fields }
+        in Gives section_seen result (first_refusal (section_refusals section)) (stated_section section) }
+    ensures within { IfOk result
+        (λ section. All (IsWithin (length section.texts.items) (length section.names.items)) (mappings_of section.text)) }
 {
-    let sources = read_sources(alloc, fields.sources)?;
-    let names = read_names(alloc, fields.names)?;
+    let texts = read_sources(alloc, place.source_base, fields.sources)?;
+    let names = read_names(alloc, place.name_base, fields.names)?;
     let contents = read_contents(alloc, fields.contents)?;
-    let marks = read_marks(alloc, fields.ignored, sources.len())?;
+    let ignored = read_ignored(alloc, fields.ignored, texts.len())?;
     check_root(fields.root)?;
-    let text = read_mappings(fields.mappings, sources.len() as u32, names.len() as u32)?;
-    let sources = entries(alloc, sources, contents, &marks)?;
+    let text = read_mappings(
+        place.number,
+        fields.mappings,
+        texts.len() as u32,
+        names.len() as u32,
+    )?;
     Ok(SectionMap {
-        sources,
+        texts,
+        contents,
+        ignored,
         names,
         text,
     })
 }
 
-fn read_sources(alloc: Global, field: Option<Value>) -> Result<Vec<Option<String>>, MapRefusal>
-    ensures read { IfOk result (λ sources. sources_in (option_map view field) ≡ Some (texts_seen sources.items)) }
-    ensures bound { IfOk result (λ sources. length sources.items ≤ MOST_ENTRIES) }
-    ensures refused { IfErr result (λ refusal. (refusal ≡ refusals.Memory)
-        ⊎ ((refusal ≡ refusals.Sources) × (is_no_list 0 (sources_in (option_map view field)) ≡ true))) }
+// The sources, where this many stand before them.
+fn read_sources(
+    alloc: Global,
+    before: u32,
+    field: Option<Value>,
+) -> Result<Vec<Option<String>>, MapRefusal>
+    requires { before ≤ most_entries }
+    ensures statement { Gives (λ texts. Some (texts_seen texts.items)) result
+        (sources_refusal before (option_map view field)) (sources_in (option_map view field)) }
+    ensures few { IfOk result (λ texts. before + length texts.items ≤ most_entries) }
 {
     let Some(value) = field else {
         return Err(MapRefusal::Sources);
     };
     match nullable_texts(alloc, value)? {
-        Some(sources) if sources.len() <= MOST_ENTRIES => Ok(sources),
+        Some(texts) if texts.len() <= MOST_ENTRIES - before as usize => Ok(texts),
         _ => Err(MapRefusal::Sources),
     }
 }
 
-fn read_names(alloc: Global, field: Option<Value>) -> Result<Vec<String>, MapRefusal>
-    ensures read { IfOk result (λ names. names_in (option_map view field) ≡ Some (map string_bytes names.items)) }
-    ensures bound { IfOk result (λ names. length names.items ≤ MOST_ENTRIES) }
-    ensures refused { IfErr result (λ refusal. (refusal ≡ refusals.Memory)
-        ⊎ ((refusal ≡ refusals.Names) × (is_no_list 0 (names_in (option_map view field)) ≡ true))) }
+// The names, where this many stand before them.
+fn read_names(alloc: Global, before: u32, field: Option<Value>) -> Result<Vec<String>, MapRefusal>
+    requires { before ≤ most_entries }
+    ensures statement { Gives (λ names. Some (map string_bytes names.items)) result
+        (names_refusal before (option_map view field)) (names_in (option_map view field)) }
+    ensures few { IfOk result (λ names. before + length names.items ≤ most_entries) }
 {
     let Some(value) = field else {
         return Ok(Vec::new(alloc));
     };
     match texts(alloc, value)? {
-        Some(names) if names.len() <= MOST_ENTRIES => Ok(names),
+        Some(names) if names.len() <= MOST_ENTRIES - before as usize => Ok(names),
         _ => Err(MapRefusal::Names),
     }
 }
 
+// The texts of the sources.
 fn read_contents(alloc: Global, field: Option<Value>) -> Result<Vec<Option<String>>, MapRefusal>
-    ensures read { IfOk result (λ contents. contents_in (option_map view field) ≡ Some (texts_seen contents.items)) }
-    ensures refused { IfErr result (λ refusal. (refusal ≡ refusals.Memory)
-        ⊎ ((refusal ≡ refusals.SourcesContent) × (contents_in (option_map view field) ≡ None))) }
+    ensures { Gives (λ contents. Some (texts_seen contents.items)) result
+        (contents_refusal (option_map view field)) (contents_in (option_map view field)) }
 {
     let Some(value) = field else {
         return Ok(Vec::new(alloc));
@@ -98,23 +139,28 @@ fn read_contents(alloc: Global, field: Option<Value>) -> Result<Vec<Option<Strin
     }
 }
 
-fn read_marks(alloc: Global, field: Option<Value>, sources: usize) -> Result<Vec<bool>, MapRefusal>
-    ensures read { IfOk result (λ marks. (indices : List ℕ) × (ignored_in sources (option_map view field) ≡ Some indices) × AreMarks sources marks.items indices) }
-    ensures refused { IfErr result (λ refusal. (refusal ≡ refusals.Memory)
-        ⊎ ((refusal ≡ refusals.IgnoreList) × (ignored_in sources (option_map view field) ≡ None))) }
+// Which of the sources are to be passed over.
+fn read_ignored(
+    alloc: Global,
+    field: Option<Value>,
+    sources: usize,
+) -> Result<Vec<bool>, MapRefusal>
+    ensures { Gives (λ flags. Some flags.items) result
+        (ignored_refusal sources (option_map view field))
+        (option_map (ignored_flags sources) (ignored_in sources (option_map view field))) }
 {
     let Some(value) = field else {
-        return Ok(no_marks(alloc, sources)?);
+        return Ok(none_ignored(alloc, sources)?);
     };
-    match marks(alloc, &value, sources)? {
-        Some(marks) => Ok(marks),
+    match ignored_flags(alloc, &value, sources)? {
+        Some(flags) => Ok(flags),
         None => Err(MapRefusal::IgnoreList),
     }
 }
 
+// Sees that `sourceRoot` is a text, where it is there.
 fn check_root(field: Option<Value>) -> Result<(), MapRefusal>
-    ensures read { IfOk result (λ _. is_none (root_in (option_map view field)) ≡ false) }
-    ensures refused { IfErr result (λ refusal. (refusal ≡ refusals.FileOrRoot) × (is_none (root_in (option_map view field)) ≡ true)) }
+    ensures { Gives (λ root. root) result (root_refusal (option_map view field)) tt }
 {
     match field {
         None | Some(Value::String(_)) => Ok(()),
@@ -122,12 +168,17 @@ fn check_root(field: Option<Value>) -> Result<(), MapRefusal>
     }
 }
 
-fn read_mappings(field: Option<Value>, sources: u32, names: u32) -> Result<PackedText, MapRefusal>
-    ensures read { IfOk result (λ text. mappings_in (option_map view field) ≡ Some text) }
-    ensures clean { IfOk result (λ text. first_fault text sources names ≡ None) }
+// The mappings of the section with this number, where it has this many sources and names.
+fn read_mappings(
+    number: u64,
+    field: Option<Value>,
+    sources: u32,
+    names: u32,
+) -> Result<PackedText, MapRefusal>
+    ensures statement { let text = mappings_in (option_map view field) in Gives (λ packed. Some packed) result
+        (first_refusal (mappings_refusal (option_map view field) ∷ text_refusal number (unwrap_or text []) sources names ∷ []))
+        text }
     ensures within { IfOk result (λ text. All (IsWithin sources names) (mappings_of text)) }
-    ensures refused { IfErr result (λ refusal. first_refusal (refused_if refusals.Mappings (is_none (mappings_in (option_map view field)))
-        ∷ option_map (refusals.Text 0) (first_fault (unwrap_or (mappings_in (option_map view field)) []) sources names) ∷ []) ≡ Some refusal) }
 {
     let Some(Value::String(text)) = field else {
         return Err(MapRefusal::Mappings);
@@ -135,6 +186,6 @@ fn read_mappings(field: Option<Value>, sources: u32, names: u32) -> Result<Packe
     match PackedText::check(text, sources, names) {
         Ok(packed) => Ok(packed),
         Err((TextRefusal::TextTooLong, _)) => Err(MapRefusal::Mappings),
-        Err((TextRefusal::Fault(fault), _)) => Err(MapRefusal::Text(0, fault)),
+        Err((TextRefusal::Fault(fault), _)) => Err(MapRefusal::Text(number, fault)),
     }
 }

@@ -1,0 +1,10 @@
+-- The code's constants are the limits of the definitions.
+use Rattle.std.proofs.Common.{◌≡◌, refl}
+use Rattle.smap_record.specs.Limits.{most_file_bytes, most_entries}
+use Rattle.smap_record.specs.declared.TheConstants.{MOST_FILE_BYTES, MOST_ENTRIES}
+
+pub file_bytes : MOST_FILE_BYTES ≡ most_file_bytes
+file_bytes = refl
+
+pub entries : MOST_ENTRIES ≡ most_entries
+entries = refl

@@ -1,0 +1,19 @@
+-- Refusals in the order in which they are asked, and what a call that reads a part of a map file gives.
+use Rattle.std.specs.Prelude.{◌≡◌, ◌⊎◌, List, [], ◌∷◌, Option, Some, None, Bool, Result, Ok, Err, if◌then◌else◌}
+use Rattle.smap_record.specs.declared.refusal.MapRefusal.{MapRefusal}
+use Rattle.smap_record.specs.declared.refusal.MapRefusal.TheVariants.{Memory}
+
+-- a refusal, where it holds
+abbrev pub refused_if : MapRefusal → Bool → Option MapRefusal
+refused_if refusal holds = if holds then Some refusal else None
+
+-- of some refusals, each there where it holds, the first
+abbrev pub first_refusal : List (Option MapRefusal) → Option MapRefusal
+first_refusal [] = None
+first_refusal (Some refusal ∷ others) = Some refusal
+first_refusal (None ∷ others) = first_refusal others
+
+-- a value that is seen as what is stated, where there is no refusal; else that refusal, or want of memory
+abbrev pub Gives : {X Y : Type 0} → (X → Y) → Result X MapRefusal → Option MapRefusal → Y → Type 0
+Gives seen (Ok value) refusal stated = (refusal ≡ None) × (seen value ≡ stated)
+Gives seen (Err given) refusal stated = (given ≡ Memory) ⊎ (refusal ≡ Some given)
