@@ -7,5 +7,4 @@ pub mod IgnoredLaws
 pub mod LimitLaws
 pub mod RecordLaws
 pub mod RefusalLaws
-pub mod SectionLaws
 pub mod WithinLaws
