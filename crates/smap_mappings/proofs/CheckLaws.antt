@@ -4,6 +4,7 @@ use Rattle.std.specs.Int.{from_bool}
 use Rattle.std.specs.List.{AllByRecursion, list_any}
 use Rattle.std.proofs.lemmas.Bool.{and_from, and_parts, cond-true, cond-false, or_left, or_right, or_from, cases_eq}
 use Rattle.std.proofs.lemmas.List.{append-nil, append_assoc, length-map, drop_all, take_all}
+use Rattle.smap_mappings.specs.Limits.{most_indices}
 use Rattle.smap_mappings.specs.Pieces.{Piece, pieces_of}
 use Rattle.smap_mappings.specs.Mappings.{Move, move_of, moves_of, values_on}
 use Rattle.smap_mappings.specs.Accepted.{are_accepted_behind, is_accepted, IsAccepted}
@@ -57,12 +58,12 @@ module _ (sources names : ℕ) where
       let parts = fault_or_none (segment_fault sources names before piece) piece _ none in
       ap (λ front. first_fault_after sources names front (drop j pieces)) (sym (append_assoc before (move_of piece ∷ []) (take j (map move_of pieces)))) ∙ none_later (before ++ move_of piece ∷ []) pieces j parts.1
 
-widest_all : (sources names : ℕ) (before moves : List Move) → are_accepted_behind sources names before moves ≡ true → are_accepted_behind 2147483648 2147483648 before moves ≡ true
+widest_all : (sources names : ℕ) (before moves : List Move) → are_accepted_behind sources names before moves ≡ true → are_accepted_behind most_indices most_indices before moves ≡ true
 widest_all sources names before [] all = refl
 widest_all sources names before (move ∷ moves) all =
     let parts = and_parts _ _ all in and_from _ _ (accepted_widest sources names before move parts.0) (widest_all sources names (before ++ move ∷ []) moves parts.1)
 
-pub widest : (text : List ℕ) (sources names : ℕ) → IsAccepted text sources names → IsAccepted text 2147483648 2147483648
+pub widest : (text : List ℕ) (sources names : ℕ) → IsAccepted text sources names → IsAccepted text most_indices most_indices
 unfolding is_accepted
 widest text sources names accepted = widest_all sources names [] (moves_of text) accepted
 

@@ -1,11 +1,12 @@
 -- The numbers of a clean segment, one after another as the code reads them.
-use Rattle.std.proofs.Common.{◌≡◌, ℕ, ◌+◌, ◌-◌, ◌/◌, ◌<◌, ◌≤◌, suc, zero, Bool, true, false, not, ◌||◌, cond, List, [], ◌∷◌, length, get_or, take, drop, Result, Ok, Err, refl, sym, ap, subst, ◌∙◌, arith, length-drop, length-take-le, get_or-take, ltb-true, ne_eqb, add-one}
+use Rattle.std.proofs.Common.{◌≡◌, ℕ, ◌+◌, ◌-◌, ◌/◌, ◌<◌, suc, zero, Bool, true, false, not, ◌||◌, cond, List, [], ◌∷◌, length, get_or, take, drop, Result, Ok, Err, refl, sym, ap, subst, ◌∙◌, arith, length-drop, length-take-le, get_or-take, ltb-true, ne_eqb, add-one}
 use Rattle.std.specs.Prelude.{ℤ, slice_range}
 use Rattle.std.proofs.lemmas.List.{drop_more, drop-drop}
 use Rattle.std.specs.List.{list_any, prefix_len}
 use Rattle.std.proofs.lemmas.Bool.{cond-false}
 use Rattle.std.proofs.Math.Bool.{or_assoc}
-use Rattle.smap_mappings.specs.Vlq.{is_digit, is_continuing, is_ending, is_one_number, unsigned_of, signed_number, is_too_long, is_too_large, is_negative_zero, number_at}
+use Rattle.smap_mappings.specs.Limits.{limit}
+use Rattle.smap_mappings.specs.Vlq.{is_digit, is_continuing, is_ending, unsigned_of, signed_number, is_too_long, is_too_large, is_negative_zero, number_at}
 use Rattle.smap_mappings.specs.Segment.{cuts_of}
 use Rattle.smap_mappings.specs.Faults.{is_unended}
 use Rattle.smap_mappings.specs.Reading.{front_at}
@@ -96,7 +97,7 @@ pub record IsTested (digits : List ℕ) (large zero : Bool) : Type 0 where
   pub zero_is : is_negative_zero digits ≡ zero
 
 large_not_zero : (digits : List ℕ) → is_too_large digits ≡ true → is_negative_zero digits ≡ false
-large_not_zero digits large = ne_eqb (unsigned_of digits) 1 (λ one. let past = ltb-true 2147483647 (unsigned_of digits / 2) large in absurd (omega arith))
+large_not_zero digits large = ne_eqb (unsigned_of digits) 1 (λ one. let past = ltb-true limit (unsigned_of digits / 2) large in absurd (omega arith))
 
 module _ (read : ℤ × ℕ) where
   abbrev answer : Bool → Bool → Bool → Result (ℤ × ℕ) VlqFault

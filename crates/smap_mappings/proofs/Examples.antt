@@ -38,13 +38,13 @@ minus_sixteen_is_hB : number_of (codes "hB") ≡ Some (negsuc 15)
 unfolding number_of unsigned_of digit_of
 minus_sixteen_is_hB = refl
 
-greatest : number_of (codes "+/////D") ≡ Some (pos 2147483647)
+greatest_number : number_of (codes "+/////D") ≡ Some (pos 2147483647)
 unfolding number_of unsigned_of digit_of
-greatest = refl
+greatest_number = refl
 
-least : number_of (codes "//////D") ≡ Some (negsuc 2147483646)
+least_number : number_of (codes "//////D") ≡ Some (negsuc 2147483646)
 unfolding number_of unsigned_of digit_of
-least = refl
+least_number = refl
 
 longer_zero : number_of (codes "gA") ≡ Some (pos 0)
 unfolding number_of unsigned_of digit_of

@@ -8,6 +8,7 @@ use Rattle.std.proofs.Common.{to_z, of_z, w32}
 use Rattle.std.proofs.lemmas.Int.{ints, to_z_pos}
 use Rattle.std.proofs.Math.Nat.{mul-le-mul_right}
 use Rattle.std.proofs.lemmas.List.Sums.{prefix_len-drop_yes, prefix_len-drop_no, prefix_len-drop_all, prefix_len-le-length}
+use Rattle.smap_mappings.specs.Limits.{limit}
 use Rattle.smap_mappings.specs.Base64.{digit_of}
 use Rattle.smap_mappings.specs.Vlq.{digit_value, is_digit, is_continuing, digit_sum, unsigned_of, signed_number, number_at}
 use Rattle.smap_mappings.specs.Reading.{front_at, checked_number, number_with_end, long_fault}
@@ -16,23 +17,23 @@ use Rattle.smap_mappings.specs.declared.vlq.VlqFault.TheVariants.{BadDigit, Unen
 
 -- ---- the number of an unsigned value
 
-pub checked_too_large : (u : ℕ) → 2147483647 < u / 2 → checked_number u ≡ Err TooLarge
+pub checked_too_large : (u : ℕ) → limit < u / 2 → checked_number u ≡ Err TooLarge
 unfolding checked_number
-checked_too_large u large = cond-true _ _ _ (lt-ltb 2147483647 (u / 2) large)
+checked_too_large u large = cond-true _ _ _ (lt-ltb limit (u / 2) large)
 
 pub checked_negative_zero : (u : ℕ) → u ≡ 1 → checked_number u ≡ Err NegativeZero
 unfolding checked_number
 checked_negative_zero u is_one = rw is_one refl
 
-pub checked_signed : (u : ℕ) → u / 2 ≤ 2147483647 → (u ≡ 1 → ⊥) → checked_number u ≡ Ok (signed_number u)
+pub checked_signed : (u : ℕ) → u / 2 ≤ limit → (u ≡ 1 → ⊥) → checked_number u ≡ Ok (signed_number u)
 unfolding checked_number
-checked_signed u small not_one = cond-false _ _ _ (le-ltb 2147483647 (u / 2) small) ∙ cond-false _ _ _ (ne_eqb u 1 not_one)
+checked_signed u small not_one = cond-false _ _ _ (le-ltb limit (u / 2) small) ∙ cond-false _ _ _ (ne_eqb u 1 not_one)
 
 -- the code's numbers as the definition has them
-pub signed_even : (u : ℕ) → u / 2 ≤ 2147483647 → u % 2 ≡ 0 → to_z w32 (u / 2) ≡ signed_number u
+pub signed_even : (u : ℕ) → u / 2 ≤ limit → u % 2 ≡ 0 → to_z w32 (u / 2) ≡ signed_number u
 signed_even u small even = to_z_pos w32 (u / 2) (omega arith) ∙ sym (cond-true _ _ _ (eq-eqb (u % 2) 0 even))
 
-pub signed_odd : (u : ℕ) → u / 2 ≤ 2147483647 → (u % 2 ≡ 0 → ⊥) → to_z w32 (of_z w32 (pos 0 -ℤ to_z w32 (u / 2))) ≡ signed_number u
+pub signed_odd : (u : ℕ) → u / 2 ≤ limit → (u % 2 ≡ 0 → ⊥) → to_z w32 (of_z w32 (pos 0 -ℤ to_z w32 (u / 2))) ≡ signed_number u
 signed_odd u small odd =
     let plain : to_z w32 (of_z w32 (pos 0 -ℤ to_z w32 (u / 2))) ≡ neg_ℤ (pos (u / 2)) = omega (arith, ints) in
     plain ∙ sym (cond-false _ _ _ (ne_eqb (u % 2) 0 odd))

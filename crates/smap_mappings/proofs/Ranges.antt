@@ -5,11 +5,12 @@ use Rattle.std.specs.Int.Signed.{non_neg}
 use Rattle.std.specs.Prelude.{ℤ, pos, negsuc, unsigned_abs}
 use Rattle.std.proofs.lemmas.Bool.{and_parts, not-true}
 use Rattle.std.proofs.lemmas.Int.{to_z_pos}
+use Rattle.smap_mappings.specs.Limits.{limit}
 use Rattle.smap_mappings.specs.Mappings.{RunningValues, natural}
 use Rattle.smap_mappings.specs.Accepted.{is_in_range, are_in_range}
 
-pub in_range_natural : (z : ℤ) → is_in_range z ≡ true → (z ≡ pos (natural z)) × (natural z ≤ 2147483647)
-in_range_natural (pos n) is = (refl, ltb-false 2147483647 n (not-true _ (and_parts _ _ is).1))
+pub in_range_natural : (z : ℤ) → is_in_range z ≡ true → (z ≡ pos (natural z)) × (natural z ≤ limit)
+in_range_natural (pos n) is = (refl, ltb-false limit n (not-true _ (and_parts _ _ is).1))
 in_range_natural (negsuc n) is = absurd (cc)
 
 pub cast_is : (z : ℤ) → is_in_range z ≡ true → pos (unsigned_abs (to_z w64 (of_z w64 z))) ≡ z

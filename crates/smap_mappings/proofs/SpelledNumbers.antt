@@ -1,5 +1,5 @@
 -- What is read at a place is what the bytes there spell, and the other way round.
-use Rattle.std.proofs.Common.{◌≡◌, ℕ, ◌+◌, ◌-◌, ◌/◌, ◌<◌, ◌≤◌, suc, zero, Bool, true, false, not, cond, eqb, ltb, leb, List, [], ◌∷◌, length, get_or, take, drop, Option, Some, None, Result, Ok, Err, refl, sym, ap, ◌∙◌, arith, length-drop, length-take-le, get_or-drop, get_or-take, ltb-true, ltb-false, lt-ltb, le-leb, leb-true, leb-false, is_some, eq-eqb}
+use Rattle.std.proofs.Common.{◌≡◌, ℕ, ◌+◌, ◌-◌, ◌<◌, ◌≤◌, suc, zero, Bool, true, false, not, cond, eqb, List, [], ◌∷◌, length, get_or, take, drop, Option, Some, None, Result, Ok, Err, refl, sym, ap, ◌∙◌, arith, length-drop, length-take-le, get_or-drop, get_or-take, ltb-true, ltb-false, lt-ltb, leb-true, leb-false, is_some, eq-eqb}
 use Rattle.std.specs.Prelude.{ℤ, slice_range}
 use Rattle.std.proofs.lemmas.Bool.{eqb-false, cond-true, and_from, and_parts, and_right, not-true, not-false, false_from_ne_true, both_ways, not_from_false}
 use Rattle.std.proofs.lemmas.Option.{cond_some}

@@ -1,14 +1,12 @@
 -- A segment's bytes without a bad digit, whose last digit ends a number, are numbers one after another.
-use Rattle.std.proofs.Common.{◌≡◌, ℕ, ◌+◌, ◌-◌, ◌/◌, ◌<◌, ◌≤◌, suc, zero, Bool, true, false, not, ◌||◌, cond, eqb, List, [], ◌∷◌, length, get_or, take, drop, Option, Some, None, refl, sym, ap, subst, ◌∙◌, arith, one-add, take-append-drop, length-drop, length-take-le, ⊎_elim, unwrap_or}
-use Rattle.std.specs.Prelude.{ℤ, slice_range}
-use Rattle.std.proofs.lemmas.List.{drop_more, drop-drop}
+use Rattle.std.proofs.Common.{◌≡◌, ℕ, ◌<◌, suc, Bool, true, false, not, ◌||◌, cond, eqb, List, [], ◌∷◌, length, take, drop, Option, Some, None, refl, sym, ap, subst, ◌∙◌, arith, one-add, take-append-drop, ⊎_elim, unwrap_or}
+use Rattle.std.specs.Prelude.{ℤ}
 use Rattle.std.specs.List.{onto_first, prefix_len, list_any, AllByRecursion}
-use Rattle.std.proofs.lemmas.Bool.{cond-true, cond-false, cases_Bool, both_ways, and_from, and_parts, or_parts, or_from, not-true, not-false, not_from_true, not_from_false, ltb-false, leb-true, le-leb, le-ltb, lt-ltb, or_left}
+use Rattle.std.proofs.lemmas.Bool.{cond-true, cond-false, cases_Bool, both_ways, and_from, and_parts, or_parts, or_from, not-true, not-false, not_from_true, not_from_false}
 use Rattle.std.proofs.lemmas.Option.{cond_some}
 use Rattle.smap_mappings.specs.Vlq.{is_digit, is_continuing, is_ending, unsigned_of, signed_number, is_one_number, number_of, is_too_long, is_too_large, is_negative_zero}
 use Rattle.smap_mappings.specs.Segment.{cuts_of, list_with_front, numbers_of, fields_of, has_known_length}
 use Rattle.smap_mappings.specs.Faults.{has_bad_digit, is_unended, numbers_fault, spelling_fault}
-use Rattle.smap_mappings.specs.Reading.{front_at}
 use Rattle.smap_mappings.specs.Spelling.{IsClean}
 use Rattle.smap_mappings.specs.declared.fault.FaultKind.{FaultKind}
 use Rattle.smap_mappings.specs.declared.fault.FaultKind.TheVariants.{BadDigit, Unended, TooLong, TooLarge, NegativeZero, FieldCount}

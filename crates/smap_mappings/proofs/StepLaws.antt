@@ -11,7 +11,7 @@ use Rattle.smap_mappings.specs.Faults.{spelling_fault, move_fault, first_kind, s
 use Rattle.smap_mappings.specs.State.{values_at, IsAfter}
 use Rattle.smap_mappings.specs.Reading.{is_inside, piece_at, known_fields, fields_in, origin_fields, name_fields, move_in, IsSegmentAt}
 use Rattle.smap_mappings.specs.Advance.{values_behind, sums_fault, IsBehind}
-use Rattle.smap_mappings.specs.Step.{fault_from, fault_at, IsStep, name_of, origin_of, mapping_in}
+use Rattle.smap_mappings.specs.Step.{fault_from, fault_at, IsStep, name_behind, origin_behind, mapping_in}
 use Rattle.smap_mappings.specs.declared.cursor.Cursor.{Cursor}
 use Rattle.smap_mappings.specs.declared.fault.FaultKind.{FaultKind}
 use Rattle.smap_mappings.specs.declared.segment.Segment.{Segment}
@@ -64,11 +64,11 @@ mapping_at_place before (m ∷ moves) (suc j) move is =
     mapping_at_place (before ++ m ∷ []) moves j move is ∙ ap (λ ms. Some (mapping_after ms move)) (append_assoc before (m ∷ []) (take j moves))
 
 origin_named : (column source line original_column : ℤ) (name : Option ℤ) (cursor : Cursor) → origin_in (column ∷ source ∷ line ∷ original_column ∷ name_fields name) (values_at cursor)
-    ≡ Some (record { source = cursor.source; line = cursor.original_line; column = cursor.original_column; name = name_of name cursor })
+    ≡ Some (record { source = cursor.source; line = cursor.original_line; column = cursor.original_column; name = name_behind name cursor })
 origin_named column source line original_column None cursor = refl
 origin_named column source line original_column (Some name) cursor = refl
 
-origin_same : (column : ℤ) (origin : Option OriginFields) (cursor : Cursor) → origin_in (column ∷ origin_fields origin) (values_at cursor) ≡ origin_of origin cursor
+origin_same : (column : ℤ) (origin : Option OriginFields) (cursor : Cursor) → origin_in (column ∷ origin_fields origin) (values_at cursor) ≡ origin_behind origin cursor
 origin_same column None cursor = refl
 origin_same column (Some o) cursor = origin_named column o.source o.line o.column o.name cursor
 

@@ -4,6 +4,7 @@ use Rattle.std.specs.Prelude.{ℤ, pos, int_lt}
 use Rattle.std.specs.List.{list_any}
 use Rattle.std.proofs.lemmas.Bool.{cond-true, cond-false, and_from, and_parts, or_right, or_parts, or_from, not-true, not_from_false, cases_Bool, and_left}
 use Rattle.std.proofs.lemmas.Int.{ints}
+use Rattle.smap_mappings.specs.Limits.{most_indices}
 use Rattle.smap_mappings.specs.Segment.{has_known_length, has_origin, has_name}
 use Rattle.smap_mappings.specs.Mappings.{Move, RunningValues, difference, natural, values_on}
 use Rattle.smap_mappings.specs.Accepted.{is_in_range, are_in_range, is_accepted_behind, is_below_zero, is_past_limit}
@@ -134,11 +135,11 @@ module _ (sources names : ℕ) (before : List Move) (move : Move) where
         name = neither (has_name move.fields) _ b.1;
       })
 
-below_most : (z : ℤ) → is_in_range z ≡ true → int_lt z (pos 2147483648) ≡ true
-below_most z ranged = let n = in_range_natural z ranged in ap (λ x. int_lt x (pos 2147483648)) n.0 ∙ lt-ltb _ _ (omega (arith, n.1))
+below_most : (z : ℤ) → is_in_range z ≡ true → int_lt z (pos most_indices) ≡ true
+below_most z ranged = let n = in_range_natural z ranged in ap (λ x. int_lt x (pos most_indices)) n.0 ∙ lt-ltb _ _ (omega (arith, n.1))
 
 -- a value in range is below the greatest number of sources and names, so what is accepted for some is for those
-pub accepted_widest : (sources names : ℕ) (before : List Move) (move : Move) → is_accepted_behind sources names before move ≡ true → is_accepted_behind 2147483648 2147483648 before move ≡ true
+pub accepted_widest : (sources names : ℕ) (before : List Move) (move : Move) → is_accepted_behind sources names before move ≡ true → is_accepted_behind most_indices most_indices before move ≡ true
 unfolding is_accepted_behind
 accepted_widest sources names before move is =
     let values = values_on move.line (before ++ move ∷ []) in

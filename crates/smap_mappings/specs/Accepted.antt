@@ -8,15 +8,19 @@ use Rattle.smap_mappings.specs.Mappings.{Move, RunningValues, moves_of, has_segm
 
 -- ---- the range of a running value, from 0 to the limit
 
+-- the value is negative
 abbrev pub is_below_zero : ℤ → Bool
 is_below_zero value = int_lt value (pos 0)
 
+-- the value is past the limit
 abbrev pub is_past_limit : ℤ → Bool
 is_past_limit value = int_lt (pos limit) value
 
+-- the value is from 0 to the limit
 abbrev pub is_in_range : ℤ → Bool
 is_in_range value = not (is_below_zero value) && not (is_past_limit value)
 
+-- each of the five values is from 0 to the limit
 abbrev pub are_in_range : RunningValues → Bool
 are_in_range values =
     is_in_range values.column && is_in_range values.source && is_in_range values.original_line && is_in_range values.original_column && is_in_range values.name
@@ -38,11 +42,13 @@ unfoldable pub is_accepted_behind : ℕ → ℕ → List Move → Move → Bool
 is_accepted_behind sources names before move =
     is_allowed sources names (has_segment_on move.line before) move (values_on move.line (before ++ move ∷ []))
 
+-- each of these segments may stand where it does, after those before
 abbrev pub are_accepted_behind : ℕ → ℕ → List Move → List Move → Bool
 are_accepted_behind sources names before [] = true
 are_accepted_behind sources names before (move ∷ moves) =
     is_accepted_behind sources names before move && are_accepted_behind sources names (before ++ move ∷ []) moves
 
+-- each segment of the text may stand where it does
 unfoldable pub is_accepted : List ℕ → ℕ → ℕ → Bool
 is_accepted text sources names = are_accepted_behind sources names [] (moves_of text)
 

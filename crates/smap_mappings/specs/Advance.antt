@@ -20,6 +20,7 @@ values_behind values move = record {
   name = values.name +ℤ difference 4 move;
 }
 
+-- the sums as running values
 abbrev pub values_in : Sums → RunningValues
 values_in sums = record {
   column = sums.column;

@@ -14,6 +14,7 @@ use Rattle.smap_mappings.specs.declared.fault.FaultKind.TheVariants.{BadDigit, U
 
 -- ---- how a segment is spelled
 
+-- one of the bytes is no digit
 abbrev pub has_bad_digit : List ℕ → Bool
 has_bad_digit bytes = list_any (λ byte. not (is_digit byte)) bytes
 
@@ -32,6 +33,7 @@ numbers_fault numbers =
     else (if not (has_known_length numbers) then Some FieldCount
     else None)))
 
+-- the least kind that holds of how a segment is spelled
 unfoldable pub spelling_fault : List ℕ → Option FaultKind
 spelling_fault bytes =
     if has_bad_digit bytes then Some BadDigit
@@ -40,10 +42,12 @@ spelling_fault bytes =
 
 -- ---- what a segment does to the running values
 
+-- one of the five values is negative
 abbrev pub has_value_below_zero : RunningValues → Bool
 has_value_below_zero values =
     is_below_zero values.column || is_below_zero values.source || is_below_zero values.original_line || is_below_zero values.original_column || is_below_zero values.name
 
+-- one of the five values is past the limit
 abbrev pub has_value_past_limit : RunningValues → Bool
 has_value_past_limit values =
     is_past_limit values.column || is_past_limit values.source || is_past_limit values.original_line || is_past_limit values.original_column || is_past_limit values.name
@@ -59,12 +63,14 @@ values_fault sources names falls fields values =
     else (if has_name fields && not (int_lt values.name (pos names)) then Some NameIndex
     else None))))
 
+-- the least kind that holds of the values after a segment that stands after these
 unfoldable pub move_fault : ℕ → ℕ → List Move → Move → Option FaultKind
 move_fault sources names before move =
     values_fault sources names (has_segment_on move.line before && is_below_zero (difference 0 move)) move.fields (values_on move.line (before ++ move ∷ []))
 
 -- ---- the first fault
 
+-- the first kind, where there is one, and else the other
 abbrev pub first_kind : Option FaultKind → Option FaultKind → Option FaultKind
 first_kind None other = other
 first_kind (Some kind) other = Some kind
@@ -73,10 +79,12 @@ first_kind (Some kind) other = Some kind
 abbrev pub segment_fault : ℕ → ℕ → List Move → Piece → Option FaultKind
 segment_fault sources names before piece = first_kind (spelling_fault piece.bytes) (move_fault sources names before (move_of piece))
 
+-- the piece with this kind of fault, and where it has none, the others' fault
 abbrev pub fault_or : Option FaultKind → Piece → Option Fault → Option Fault
 fault_or None piece others = others
 fault_or (Some kind) piece others = Some (record { byte = piece.place; line = piece.line; kind = kind })
 
+-- the first faulty segment of these pieces, which stand after those before
 abbrev pub first_fault_after : ℕ → ℕ → List Move → List Piece → Option Fault
 first_fault_after sources names before [] = None
 first_fault_after sources names before (piece ∷ pieces) =

@@ -1,4 +1,4 @@
--- The limits of this project's profile. ECMA-426 sets none of them but that an index, a line or a column fits 32 bits.
+-- The limits of this project's profile of ECMA-426, which are its own.
 use Rattle.std.specs.Prelude.{ℕ, ◌+◌}
 
 -- the greatest line, column or index, and the greatest magnitude of a difference

@@ -16,6 +16,7 @@ pub record Move : Type 0 where
 abbrev pub move_of : Piece → Move
 move_of piece = record { line = piece.line; fields = unwrap_or (fields_of piece.bytes) [] }
 
+-- the lines and fields of a text's segments, in order
 unfoldable pub moves_of : List ℕ → List Move
 moves_of text = map move_of (pieces_of text)
 
@@ -27,10 +28,12 @@ has_segment_on line moves = list_any (λ move. move.line == line) moves
 abbrev pub difference : ℕ → Move → ℤ
 difference i move = if i == 0 || has_origin move.fields then unwrap_or (slice_get move.fields i) (pos 0) else pos 0
 
+-- the sum of field i over these segments
 abbrev pub total : ℕ → List Move → ℤ
 total i [] = pos 0
 total i (move ∷ moves) = difference i move +ℤ total i moves
 
+-- the value of each field so far
 pub record RunningValues : Type 0 where
   pub column : ℤ
   pub source : ℤ
@@ -53,6 +56,7 @@ abbrev pub natural : ℤ → ℕ
 natural (pos n) = n
 natural (negsuc n) = 0
 
+-- the name index of a segment with these fields, if it has one
 abbrev pub name_in : List ℤ → RunningValues → Option ℕ
 name_in fields values = if has_name fields then Some (natural values.name) else None
 
@@ -69,6 +73,7 @@ mapping_after before move =
     let values = values_on move.line (before ++ move ∷ []) in
     record { line = move.line; column = natural values.column; origin = origin_in move.fields values }
 
+-- the mappings of these segments, which stand after those before
 abbrev pub mappings_after : List Move → List Move → List Mapping
 mappings_after before [] = []
 mappings_after before (move ∷ moves) = mapping_after before move ∷ mappings_after (before ++ move ∷ []) moves

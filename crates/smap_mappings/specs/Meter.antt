@@ -1,6 +1,7 @@
--- What a meter has counted.
+-- What a meter has counted, which is this project's own.
 use Rattle.std.specs.Prelude.{ℕ, ◌-◌, ◌^◌, ◌≤◌}
 
+-- how many checkpoints were compared, and how many segments decoded
 pub record MeterCounts : Type 0 where
   pub comparisons : ℕ
   pub segments : ℕ

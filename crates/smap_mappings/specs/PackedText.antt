@@ -1,4 +1,4 @@
--- What every packed text meets.
+-- What every checked text meets, which stays packed (ECMA-426, Mappings structure).
 use Rattle.std.specs.Prelude.{◌≡◌, ℕ, ◌≤◌, List, length}
 use Rattle.smap_mappings.specs.Limits.{most_indices, most_text_bytes}
 use Rattle.smap_mappings.specs.Accepted.{IsAccepted}

@@ -23,9 +23,11 @@ abbrev pub parts_from : ℕ → List (List ℕ) → List (ℕ × List ℕ)
 parts_from place [] = []
 parts_from place (part ∷ parts) = (place, part) ∷ parts_from (place + length part + 1) parts
 
+-- a part of a line, given with its place, as a piece on that line
 abbrev pub piece_on : ℕ → ℕ × List ℕ → Piece
 piece_on line part = record { line = line; place = part.0; bytes = part.1 }
 
+-- the part has a byte
 abbrev pub is_nonempty : ℕ × List ℕ → Bool
 is_nonempty (place, []) = false
 is_nonempty (place, byte ∷ bytes) = true
@@ -44,5 +46,6 @@ pieces_of_lines line place (bytes ∷ lines) = pieces_on line place bytes ++ pie
 unfoldable pub pieces_from : ℕ → ℕ → List ℕ → List Piece
 pieces_from line place text = pieces_of_lines line place (slice_split is_line_end text)
 
+-- the segments of a text
 unfoldable pub pieces_of : List ℕ → List Piece
 pieces_of text = pieces_from 0 0 text

@@ -24,6 +24,7 @@ checked_number u =
     else (if u == 1 then Err NegativeZero
     else Ok (signed_number u))
 
+-- a number that was read, with the place behind it
 abbrev pub number_with_end : ℕ → Result ℤ VlqFault → Result (ℤ × ℕ) VlqFault
 number_with_end end (Ok n) = Ok (n, end)
 number_with_end end (Err fault) = Err fault
@@ -51,6 +52,7 @@ piece_at text place = take_while is_inside (drop place text)
 abbrev pub fields_at : List ℕ → ℕ → Option (List ℤ)
 fields_at text place = fields_of (piece_at text place)
 
+-- these fields, and none where the bytes spell no fields
 abbrev pub known_fields : List ℕ → ℕ → List ℤ
 known_fields text place = unwrap_or (fields_at text place) []
 
@@ -66,10 +68,12 @@ HasNoField text place = IfSome (fields_at text place) (λ fields. fields ≡ [])
 
 -- ---- a segment
 
+-- the fifth field, where it is there
 abbrev pub name_fields : Option ℤ → List ℤ
 name_fields None = []
 name_fields (Some name) = name ∷ []
 
+-- the fields behind the first
 abbrev pub origin_fields : Option OriginFields → List ℤ
 origin_fields None = []
 origin_fields (Some origin) = origin.source ∷ origin.line ∷ origin.column ∷ name_fields origin.name
@@ -78,6 +82,7 @@ origin_fields (Some origin) = origin.source ∷ origin.line ∷ origin.column �
 abbrev pub fields_in : Segment → List ℤ
 fields_in segment = segment.column ∷ origin_fields segment.origin
 
+-- the line and the fields of a segment on this line
 abbrev pub move_in : ℕ → Segment → Move
 move_in line segment = record { line = line; fields = fields_in segment }
 

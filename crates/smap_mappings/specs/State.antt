@@ -1,4 +1,4 @@
--- A state between two segments of a text: a place, and all running values there.
+-- A state between two segments of a text: a place, and all running values there (ECMA-426, Mappings structure).
 use Rattle.std.specs.Prelude.{◌≡◌, ℕ, ◌+◌, ◌<◌, ◌≤◌, List, Some, length, take, drop, slice_get, pos}
 use Rattle.std.specs.List.{AllByRecursion}
 use Rattle.smap_mappings.specs.Pieces.{pieces_of, pieces_from}
@@ -6,6 +6,7 @@ use Rattle.smap_mappings.specs.Mappings.{Move, RunningValues, moves_of, values_o
 use Rattle.smap_mappings.specs.declared.cursor.Cursor.{Cursor}
 use Rattle.smap_mappings.specs.declared.mapping.Mapping.{Mapping}
 
+-- the running values of a state
 abbrev pub values_at : Cursor → RunningValues
 values_at cursor = record {
   column = pos cursor.column;

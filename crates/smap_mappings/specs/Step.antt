@@ -27,14 +27,16 @@ pub record IsStep (text : List ℕ) (j sources names : ℕ) (mapping : Mapping) 
   pub fields : List ℤ
   pub taken : take (j + 1) (moves_of text) ≡ take j (moves_of text) ++ record { line = after.line; fields = fields } ∷ []
 
-abbrev pub name_of : Option ℤ → Cursor → Option ℕ
-name_of None cursor = None
-name_of (Some name) cursor = Some cursor.name
+-- the state's name index, for a segment that has a name
+abbrev pub name_behind : Option ℤ → Cursor → Option ℕ
+name_behind None cursor = None
+name_behind (Some name) cursor = Some cursor.name
 
-abbrev pub origin_of : Option OriginFields → Cursor → Option Origin
-origin_of None cursor = None
-origin_of (Some origin) cursor = Some (record { source = cursor.source; line = cursor.original_line; column = cursor.original_column; name = name_of origin.name cursor })
+-- the state's origin, for a segment that has one
+abbrev pub origin_behind : Option OriginFields → Cursor → Option Origin
+origin_behind None cursor = None
+origin_behind (Some origin) cursor = Some (record { source = cursor.source; line = cursor.original_line; column = cursor.original_column; name = name_behind origin.name cursor })
 
 -- the mapping of a segment, from the state behind it
 abbrev pub mapping_in : Segment → Cursor → Mapping
-mapping_in segment cursor = record { line = cursor.line; column = cursor.column; origin = origin_of segment.origin cursor }
+mapping_in segment cursor = record { line = cursor.line; column = cursor.column; origin = origin_behind segment.origin cursor }

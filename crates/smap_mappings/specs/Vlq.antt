@@ -13,13 +13,15 @@ use Rattle.smap_mappings.specs.declared.vlq.VlqFault.TheVariants.{BadDigit, Unen
 abbrev pub digit_value : ℕ → ℕ
 digit_value byte = unwrap_or (digit_of byte) 0
 
+-- the byte is one of the alphabet
 abbrev pub is_digit : ℕ → Bool
 is_digit byte = is_some (digit_of byte)
 
--- a digit of 32 or more says that another digit follows, and a digit below 32 ends the number
+-- a digit of 32 or more says that another digit follows
 abbrev pub is_continuing : ℕ → Bool
 is_continuing byte = is_digit byte && nat_le 32 (digit_value byte)
 
+-- a digit below 32 ends the number
 abbrev pub is_ending : ℕ → Bool
 is_ending byte = is_digit byte && nat_lt (digit_value byte) 32
 
@@ -40,16 +42,21 @@ digit_sum i (byte ∷ bytes) = digit_value byte % 32 * 32 ^ i + digit_sum (i + 1
 unfoldable pub unsigned_of : List ℕ → ℕ
 unsigned_of bytes = digit_sum 0 bytes
 
+-- the number of an unsigned value, whose lowest bit is the sign
 abbrev pub signed_number : ℕ → ℤ
 signed_number u = if u % 2 == 0 then pos (u / 2) else neg_ℤ (pos (u / 2))
 
--- what this project's profile refuses
+-- ---- what this project's profile refuses
+
+-- there are more than seven digits
 abbrev pub is_too_long : List ℕ → Bool
 is_too_long digits = nat_lt most_digits (length digits)
 
+-- the magnitude is past 2147483647
 abbrev pub is_too_large : List ℕ → Bool
 is_too_large digits = nat_lt limit (unsigned_of digits / 2)
 
+-- the number is zero, and its sign says negative
 abbrev pub is_negative_zero : List ℕ → Bool
 is_negative_zero digits = unsigned_of digits == 1
 

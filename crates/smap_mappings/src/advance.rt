@@ -30,7 +30,9 @@ pub fn advance(
     names: u32,
 ) -> Result<Cursor, FaultKind>
     ensures ok { IfOk result (λ after. IsBehind cursor.now segment.now end sources names after) }
-    ensures err { IfErr result (λ kind. sums_fault sources names segment.now (values_behind (values_at cursor.now) (move_in cursor.now.line segment.now)) ≡ Some kind) }
+    ensures err { IfErr result (λ kind.
+        sums_fault sources names segment.now
+        (values_behind (values_at cursor.now) (move_in cursor.now.line segment.now)) ≡ Some kind) }
 {
     let sums = sums_after(cursor, segment);
     match sums.fault(segment, sources, names) {
@@ -49,7 +51,8 @@ pub fn advance(
 
 #[inline(always)]
 fn sums_after(cursor: &Cursor, segment: &Segment) -> Sums
-    ensures { values_in result ≡ values_behind (values_at cursor.now) (move_in cursor.now.line segment.now) }
+    ensures { values_in result
+        ≡ values_behind (values_at cursor.now) (move_in cursor.now.line segment.now) }
 {
     let column = added(cursor.column, segment.column);
     match segment.origin {

@@ -18,7 +18,9 @@ pub struct TextCounts {
 // The counts of a text, or its first faulty segment for this many sources and names.
 pub fn check_segments(bytes: &[u8], sources: u32, names: u32) -> Result<TextCounts, Fault>
     requires { length bytes.now ≤ most_text_bytes }
-    ensures fault { MatchResult result (λ _. first_fault bytes.now sources names ≡ None) (λ fault. first_fault bytes.now sources names ≡ Some fault) }
+    ensures fault { MatchResult result
+        (λ _. first_fault bytes.now sources names ≡ None)
+        (λ fault. first_fault bytes.now sources names ≡ Some fault) }
     ensures segments { IfOk result (λ counts. counts.segments ≡ segments_of bytes.now) }
     ensures used_lines { IfOk result (λ counts. counts.used_lines ≡ used_lines_of bytes.now) }
 {

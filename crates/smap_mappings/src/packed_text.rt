@@ -62,12 +62,15 @@ impl PackedText {
         sources: u32,
         names: u32,
     ) -> Result<PackedText, (TextRefusal, String)>
-        ensures accepted { IsOk result ↔ ((length (string_bytes text) ≤ most_text_bytes) × IsAccepted (string_bytes text) sources names) }
+        ensures accepted { IsOk result ↔ ((length (string_bytes text) ≤ most_text_bytes)
+            × IsAccepted (string_bytes text) sources names) }
         ensures inside { IfOk result (λ packed. packed ≡ string_bytes text) }
         ensures clean { OnOk result (first_fault (string_bytes text) sources names ≡ None) }
         ensures within { OnOk result (All (IsWithin sources names) (mappings_of (string_bytes text))) }
-        ensures too_long { IfErr result (λ e. (e.0 ≡ TextRefusal.TextTooLong) ↔ (most_text_bytes < length (string_bytes text))) }
-        ensures faulty { IfErr result (λ e. (fault : Fault) → e.0 ≡ TextRefusal.Fault fault → first_fault (string_bytes text) sources names ≡ Some fault) }
+        ensures too_long { IfErr result (λ e.
+            (e.0 ≡ TextRefusal.TextTooLong) ↔ (most_text_bytes < length (string_bytes text))) }
+        ensures faulty { IfErr result (λ e. (fault : Fault) → e.0 ≡ TextRefusal.Fault fault
+            → first_fault (string_bytes text) sources names ≡ Some fault) }
         ensures returned { IfErr result (λ e. e.1 ≡ text) }
     {
         if text.len() > MOST_BYTES {
@@ -114,9 +117,13 @@ impl PackedText {
     pub fn next(&self, state: &State, meter: &mut Meter) -> Option<(Mapping, State)>
         requires state { IsBetween self.now state.now }
         requires room { meter.old.segments < u64.MAX }
-        ensures some { IfSome result (λ r. (j : ℕ) → IsAfter self.now j state.now → IsNext self.now j r.0 r.1) }
-        ensures none { IfNone result ((j : ℕ) → IsAfter self.now j state.now → j ≡ segments_of self.now) }
-        ensures counted { meter.new ≡ (if is_some result then record meter.old { segments = meter.old.segments + 1 } else meter.old) }
+        ensures some { IfSome result (λ r. (j : ℕ) →
+            IsAfter self.now j state.now → IsNext self.now j r.0 r.1) }
+        ensures none { IfNone result ((j : ℕ) →
+            IsAfter self.now j state.now → j ≡ segments_of self.now) }
+        ensures counted { meter.new ≡ (if is_some result
+            then record meter.old { segments = meter.old.segments + 1 }
+            else meter.old) }
     {
         match next_segment(self.text.as_bytes(), &state.cursor()) {
             Some((mapping, behind)) => {
@@ -153,9 +160,12 @@ fn decode_segments(alloc: Global, bytes: &[u8], expected: usize) -> Result<Vec<M
 fn next_segment(bytes: &[u8], cursor: &Cursor) -> Option<(Mapping, Cursor)>
     requires packed { IsPacked bytes.now }
     requires state { IsBetween bytes.now cursor.now }
-    ensures ahead { IfSome result (λ r. (cursor.now.place < r.1.place) × (r.1.place ≤ length bytes.now)) }
-    ensures some { IfSome result (λ r. (j : ℕ) → IsAfter bytes.now j cursor.now → IsNext bytes.now j r.0 r.1) }
-    ensures none { IfNone result ((j : ℕ) → IsAfter bytes.now j cursor.now → j ≡ segments_of bytes.now) }
+    ensures ahead { IfSome result (λ r.
+        (cursor.now.place < r.1.place) × (r.1.place ≤ length bytes.now)) }
+    ensures some { IfSome result (λ r. (j : ℕ) →
+        IsAfter bytes.now j cursor.now → IsNext bytes.now j r.0 r.1) }
+    ensures none { IfNone result ((j : ℕ) →
+        IsAfter bytes.now j cursor.now → j ≡ segments_of bytes.now) }
 {
     let at = skip_separators(bytes, cursor);
     if at.place == bytes.len() {

@@ -57,8 +57,10 @@ pub fn step(
 ) -> Result<(Mapping, Cursor), FaultKind>
     requires within { cursor.now.place < length bytes.now }
     requires inside { is_inside (slice_index bytes.now cursor.now.place) ≡ true }
-    ensures ahead { IfOk result (λ r. (cursor.now.place < r.1.place) × (r.1.place ≤ length bytes.now) × (r.1.line ≡ cursor.now.line)) }
-    ensures ok { IfOk result (λ r. (j : ℕ) → IsAfter bytes.now j cursor.now → IsStep bytes.now j sources names r.0 r.1) }
+    ensures ahead { IfOk result (λ r. (cursor.now.place < r.1.place)
+        × (r.1.place ≤ length bytes.now) × (r.1.line ≡ cursor.now.line)) }
+    ensures ok { IfOk result (λ r. (j : ℕ) → IsAfter bytes.now j cursor.now
+        → IsStep bytes.now j sources names r.0 r.1) }
     ensures err { IfErr result (λ kind. (j : ℕ) → IsAfter bytes.now j cursor.now
         → fault_from bytes.now sources names j ≡ Some (fault_at cursor.now kind)) }
 {

@@ -34,7 +34,7 @@ pub fn read_vlq(bytes: &[u8], place: usize) -> Result<(i32, usize), VlqFault>
     scan_number(bytes, place)
 }
 
-// The same in one pass, with one way out for each fault.
+// The loop of `read_vlq`, whose other clause follows from this one.
 #[inline(always)]
 fn scan_number(bytes: &[u8], place: usize) -> Result<(i32, usize), VlqFault>
     requires { place ≤ length bytes.now }

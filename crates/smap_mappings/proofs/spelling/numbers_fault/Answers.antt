@@ -1,8 +1,8 @@
-use Rattle.std.proofs.Common.{◌≡◌, ◌||◌, false, sym, ◌∙◌, ap, subst, arith, length, drop, Ok, Err, refl}
+use Rattle.std.proofs.Common.{◌≡◌, ◌||◌, false, sym, ◌∙◌, ap, subst, arith, length, drop, Err}
 use Rattle.std.specs.List.{list_any}
 use Rattle.std.proofs.Math.Bool.{or-false}
 use Rattle.std.proofs.lemmas.Bool.{cond-true, or_left, or_right}
-use Rattle.smap_mappings.specs.Vlq.{is_too_long, is_too_large, is_negative_zero, number_at}
+use Rattle.smap_mappings.specs.Vlq.{is_too_long, is_too_large, is_negative_zero}
 use Rattle.smap_mappings.specs.Segment.{cuts_of}
 use Rattle.smap_mappings.specs.Spelling.{IsClean}
 use Rattle.smap_mappings.specs.declared.vlq.VlqFault.TheVariants.{TooLong, TooLarge, NegativeZero}

@@ -1,5 +1,6 @@
 use Rattle.std.proofs.Common.{◌≤◌, length, ap, sym, subst, ◌∙◌, arith, refl}
 use Rattle.std.specs.Prelude.{string_bytes}
+use Rattle.smap_mappings.specs.Limits.{most_text_bytes}
 use Rattle.smap_mappings.specs.Accepted.{IsAccepted}
 use Rattle.smap_mappings.specs.Faults.{first_fault}
 use Rattle.smap_mappings.specs.Counts.{segments_of, used_lines_of}
@@ -8,7 +9,7 @@ use Rattle.smap_mappings.proofs.WithinLaws.{mappings_within}
 use Rattle.smap_mappings.proofs.packed_text.PackedText.check.Goals as goal
 use Rattle.smap_mappings.proofs.packed_text.PackedText.check.Goals.{In-Ok, After-as_bytes}
 
-short : (c : After-as_bytes) → length (string_bytes c.args.text) ≤ 67108864
+short : (c : After-as_bytes) → length (string_bytes c.args.text) ≤ most_text_bytes
 short c = omega (arith, c.len.ensures)
 
 accepted : (c : In-Ok) → IsAccepted (string_bytes c.args.text) c.args.sources c.args.names

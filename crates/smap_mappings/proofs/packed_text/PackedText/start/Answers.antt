@@ -1,4 +1,5 @@
 use Rattle.std.proofs.Common.{subst}
+use Rattle.smap_mappings.specs.Limits.{most_indices}
 use Rattle.smap_mappings.specs.Mappings.{mappings_of}
 use Rattle.smap_mappings.specs.Order.{IsInOrder}
 use Rattle.smap_mappings.proofs.CheckLaws.{after_none}
@@ -9,4 +10,4 @@ pub returns-clause-before_all : goal.returns-clause-before_all
 returns-clause-before_all c = rw c.new.ensures (after_none c.args.self.now)
 
 pub returns-clause-ordered : goal.returns-clause-ordered
-returns-clause-ordered c = subst (λ text. IsInOrder (mappings_of text)) c.self.view_is (mappings_in_order _ 2147483648 2147483648 c.self.invariant.packed.accepted)
+returns-clause-ordered c = subst (λ text. IsInOrder (mappings_of text)) c.self.view_is (mappings_in_order _ most_indices most_indices c.self.invariant.packed.accepted)
