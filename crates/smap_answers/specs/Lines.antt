@@ -49,9 +49,9 @@ found_line source line column name = line_from (
     ∷ name_pieces name)
 
 -- what prints of a name
-abbrev pub name_text : Option (List ℕ) → List ℕ
-name_text None = []
-name_text (Some name) = codes " name " ++ shown name
+abbrev pub name_suffix : Option (List ℕ) → List ℕ
+name_suffix None = []
+name_suffix (Some name) = codes " name " ++ shown name
 
 -- what prints of whether a source is ignored
 abbrev pub ignored_text : Bool → List ℕ
@@ -61,7 +61,7 @@ ignored_text ignored = if ignored then codes " ignored" else []
 abbrev pub place_line : (source : List ℕ) (line column : ℕ) (name : Option (List ℕ)) (ignored : Bool) → List ℕ
 place_line source line column name ignored = line_from (
     source ∷ codes ":" ∷ decimal (line + 1) ∷ codes ":" ∷ decimal (column + 1)
-    ∷ name_text name ∷ ignored_text ignored ∷ [])
+    ∷ name_suffix name ∷ ignored_text ignored ∷ [])
 
 -- how many sections, sources and names a map has
 abbrev pub lists_text : MapCounts → List ℕ

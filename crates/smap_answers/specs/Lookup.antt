@@ -18,16 +18,16 @@ abbrev pub source_text : Option StatedSource → ℕ → List ℕ
 source_text (Some source) i = name_or_index source.name i
 source_text None i = name_or_index None i
 
-abbrev pub is_ignored : Option StatedSource → Bool
-is_ignored (Some source) = source.ignored
-is_ignored None = false
+abbrev pub is_passed_over : Option StatedSource → Bool
+is_passed_over (Some source) = source.ignored
+is_passed_over None = false
 
 -- the line for a place in a source
 abbrev pub origin_line : MapRecord → Origin → List ℕ
 origin_line stated origin =
     let source = slice_get stated.sources origin.source in
     place_line (source_text source origin.source) origin.line origin.column
-    (option_and_then (slice_get stated.names) origin.name) (is_ignored source)
+    (option_and_then (slice_get stated.names) origin.name) (is_passed_over source)
 
 -- the line for an answer
 abbrev pub map_answer_line : MapRecord → Answer → List ℕ

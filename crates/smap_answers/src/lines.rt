@@ -2,7 +2,7 @@
 ghost use Rattle.std.specs.Prelude.{◌≡◌, ◌+◌, option_map, string_bytes, IfOk};
 ghost use Rattle.smap_answers.specs.Lines.{counts_line, fault_text, file_failed_line, found_line};
 ghost use Rattle.smap_answers.specs.Lines.{ignored_text, kind_text, lists_text, map_refused_line};
-ghost use Rattle.smap_answers.specs.Lines.{mappings_text, name_text, place_line, refused_line, shown};
+ghost use Rattle.smap_answers.specs.Lines.{mappings_text, name_suffix, place_line, refused_line, shown};
 ghost use Rattle.smap_answers.specs.Lines.{shown_byte};
 
 use smap_mappings::{Fault, FaultKind};
@@ -66,14 +66,14 @@ pub fn place_line(
         ≡ place_line source.now line column (option_map (λ name. name.now) name.entry) ignored) }
 {
     let (line, column) = place_from_one(line, column);
-    let name = name_text(alloc, name)?;
+    let name = name_suffix(alloc, name)?;
     let ignored = ignored_text(ignored);
     format!(in alloc; "{source}:{line}:{column}{name}{ignored}\n")
 }
 
 // What prints of a name.
-fn name_text(alloc: Global, name: Option<&str>) -> Result<String, AllocError>
-    ensures { IfOk result (λ text. string_bytes text ≡ name_text (option_map (λ name. name.now) name.entry)) }
+fn name_suffix(alloc: Global, name: Option<&str>) -> Result<String, AllocError>
+    ensures { IfOk result (λ text. string_bytes text ≡ name_suffix (option_map (λ name. name.now) name.entry)) }
 {
     match name {
         Some(name) => {

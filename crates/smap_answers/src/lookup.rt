@@ -2,7 +2,7 @@
 ghost use Rattle.std.specs.Prelude.{◌≡◌, option_and_then, option_map, slice_get, string_bytes, None, IfOk};
 ghost use Rattle.smap_record.specs.Record.{record_of};
 ghost use Rattle.smap_record.specs.Sources.{source_of};
-ghost use Rattle.smap_answers.specs.Lookup.{is_ignored, lookup_line, origin_line, source_text};
+ghost use Rattle.smap_answers.specs.Lookup.{is_passed_over, lookup_line, origin_line, source_text};
 ghost use Rattle.smap_answers.specs.Map.{map_result};
 ghost use Rattle.smap_answers.specs.Outcome.{telling_of};
 ghost use Rattle.smap_answers.specs.Run.{interval};
@@ -56,7 +56,7 @@ fn origin_line(alloc: Global, map: &MapFile, origin: &Origin) -> Result<String, 
         origin.line,
         origin.column,
         name,
-        is_ignored(entry),
+        is_passed_over(entry),
     )
 }
 
@@ -77,8 +77,8 @@ fn source_text(alloc: Global, entry: Option<&SourceEntry>, index: u32) -> Result
 }
 
 // Whether the map says to pass over a source.
-fn is_ignored(entry: Option<&SourceEntry>) -> bool
-    ensures { result ≡ is_ignored (option_map (λ entry. source_of entry.now) entry.entry) }
+fn is_passed_over(entry: Option<&SourceEntry>) -> bool
+    ensures { result ≡ is_passed_over (option_map (λ entry. source_of entry.now) entry.entry) }
 {
     match entry {
         Some(entry) => entry.ignored,
