@@ -100,28 +100,28 @@ large_not_zero : (digits : List ℕ) → is_too_large digits ≡ true → is_neg
 large_not_zero digits large = ne_eqb (unsigned_of digits) 1 (λ one. let past = ltb-true limit (unsigned_of digits / 2) large in absurd (omega arith))
 
 module _ (read : ℤ × ℕ) where
-  abbrev answer : Bool → Bool → Bool → Result (ℤ × ℕ) VlqFault
-  answer a b d = cond a (Err TooLong) (cond b (Err TooLarge) (cond d (Err NegativeZero) (Ok read)))
+  abbrev outcome : Bool → Bool → Bool → Result (ℤ × ℕ) VlqFault
+  outcome a b d = cond a (Err TooLong) (cond b (Err TooLarge) (cond d (Err NegativeZero) (Ok read)))
 
-  if_too_long : (a b d : Bool) → answer a b d ≡ Err TooLong → a ≡ true
+  if_too_long : (a b d : Bool) → outcome a b d ≡ Err TooLong → a ≡ true
   if_too_long true b d is = refl
   if_too_long false true d is = absurd (cc)
   if_too_long false false true is = absurd (cc)
   if_too_long false false false is = absurd (cc)
 
-  if_too_large : (a b d : Bool) → answer a b d ≡ Err TooLarge → (a ≡ false) × (b ≡ true)
+  if_too_large : (a b d : Bool) → outcome a b d ≡ Err TooLarge → (a ≡ false) × (b ≡ true)
   if_too_large true b d is = absurd (cc)
   if_too_large false true d is = (refl, refl)
   if_too_large false false true is = absurd (cc)
   if_too_large false false false is = absurd (cc)
 
-  if_negative_zero : (a b d : Bool) → answer a b d ≡ Err NegativeZero → (a ≡ false) × (b ≡ false) × (d ≡ true)
+  if_negative_zero : (a b d : Bool) → outcome a b d ≡ Err NegativeZero → (a ≡ false) × (b ≡ false) × (d ≡ true)
   if_negative_zero true b d is = absurd (cc)
   if_negative_zero false true d is = absurd (cc)
   if_negative_zero false false true is = (refl, refl, refl)
   if_negative_zero false false false is = absurd (cc)
 
-  if_none : (a b d : Bool) → (answer a b d ≡ Err TooLong → ⊥) → (answer a b d ≡ Err TooLarge → ⊥) → (answer a b d ≡ Err NegativeZero → ⊥) → (a ≡ false) × (b ≡ false) × (d ≡ false)
+  if_none : (a b d : Bool) → (outcome a b d ≡ Err TooLong → ⊥) → (outcome a b d ≡ Err TooLarge → ⊥) → (outcome a b d ≡ Err NegativeZero → ⊥) → (a ≡ false) × (b ≡ false) × (d ≡ false)
   if_none true b d not_long not_large not_zero = absurd (not_long refl)
   if_none false true d not_long not_large not_zero = absurd (not_large refl)
   if_none false false true not_long not_large not_zero = absurd (not_zero refl)

@@ -77,12 +77,12 @@ impl PackedText {
             return Err((TextRefusal::TextTooLong, text));
         }
         match check_segments(text.as_bytes(), sources, names) {
-            Err(fault) => Err((TextRefusal::Fault(fault), text)),
             Ok(counts) => Ok(PackedText {
                 text,
                 segments: counts.segments,
                 used_lines: counts.used_lines,
             }),
+            Err(fault) => Err((TextRefusal::Fault(fault), text)),
         }
     }
 
