@@ -17,7 +17,7 @@ TICKS = os.sysconf("SC_CLK_TCK")
 
 
 def processes():
-    """Returns each process's parent, and the processor seconds that it has taken."""
+    """Returns each process's parent, the time at which it began, and the processor seconds that it has taken."""
     found = {}
     for name in os.listdir("/proc"):
         if name.isdigit():
@@ -26,7 +26,7 @@ def processes():
                     fields = it.read().rpartition(")")[2].split()
             except OSError:
                 continue
-            found[int(name)] = int(fields[1]), (int(fields[11]) + int(fields[12])) / TICKS
+            found[int(name)] = int(fields[1]), fields[19], (int(fields[11]) + int(fields[12])) / TICKS
     return found
 
 
@@ -58,26 +58,25 @@ class Watch(threading.Thread):
     def __init__(self, top):
         super().__init__(daemon=True)
         self.top, self.ended = top, threading.Event()
-        self.seconds, self.taken, self.checks = {}, {}, {}
+        self.seconds, self.taken = {}, {}
 
     def run(self):
         last = time.monotonic()
         while not self.ended.wait(1):
             now = time.monotonic()
             found = processes()
-            for process in found:
-                if process not in self.checks and is_below(process, self.top, found):
-                    self.checks[process] = check_of(process)
-            running = {self.checks[it] for it in found if self.checks.get(it)}
+            running = set()
+            for process, (_, begun, taken) in found.items():
+                check = is_below(process, self.top, found) and check_of(process)
+                if check:
+                    running.add(check)
+                    self.taken[process, begun] = check[0], taken
             for check in running:
                 self.seconds[check] = self.seconds.get(check, 0) + now - last
-            for it in found:
-                if self.checks.get(it):
-                    self.taken[it] = found[it][1]
             last = now
 
     def processor_seconds(self, crate):
-        return sum(taken for it, taken in self.taken.items() if self.checks[it][0] == crate)
+        return sum(taken for name, taken in self.taken.values() if name == crate)
 
 
 def main():

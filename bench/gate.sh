@@ -6,8 +6,8 @@
 #   taskset -c 0,1 bench/gate.sh                                       on two of them
 #   bench/gate.sh ./smap lookup examples/preset-react.js.map 65 80     another command in place of the gate
 #
-# It needs Linux, git, bash, python3 and the command `rt` of the Rattle kit on the PATH, some 10 GB of room for
-# temporary files (TMPDIR), and a machine on which nothing else runs. The status is that of the command.
+# It needs Linux, git, bash, python3, the command `rt` of the Rattle kit on the PATH, a few GB for temporary files
+# (TMPDIR), and a machine on which nothing else runs. The status is that of the command.
 set -eu
 
 root=$(CDPATH='' cd -- "$(dirname -- "$(readlink -f -- "$0")")/.." && pwd)
