@@ -4,13 +4,14 @@ use Rattle.std.specs.Int.{from_bool}
 use Rattle.std.specs.List.{AllByRecursion, list_any}
 use Rattle.std.proofs.lemmas.Bool.{and_from, and_parts, cond-true, cond-false, or_left, or_right, or_from, cases_eq}
 use Rattle.std.proofs.lemmas.List.{append-nil, append_assoc, length-map, drop_all, take_all}
+use Rattle.smap_mappings.specs.Limits.{most_indices}
 use Rattle.smap_mappings.specs.Pieces.{Piece, pieces_of}
 use Rattle.smap_mappings.specs.Mappings.{Move, move_of, moves_of, values_on}
-use Rattle.smap_mappings.specs.Accepted.{all_accepted, is_accepted, IsAccepted}
-use Rattle.smap_mappings.specs.Faults.{spelling_fault, move_fault, first_of, segment_fault, fault_or, first_fault_after, first_fault}
+use Rattle.smap_mappings.specs.Accepted.{are_accepted_behind, is_accepted, IsAccepted}
+use Rattle.smap_mappings.specs.Faults.{spelling_fault, move_fault, first_kind, segment_fault, fault_or, first_fault_after, first_fault}
 use Rattle.smap_mappings.specs.Counts.{new_lines, used_lines_of, segments_of}
 use Rattle.smap_mappings.specs.State.{IsAfter}
-use Rattle.smap_mappings.specs.Step.{fault_from, Steps}
+use Rattle.smap_mappings.specs.Step.{fault_from, IsStep}
 use Rattle.smap_mappings.proofs.Checking.{ChecksUpTo}
 use Rattle.smap_mappings.specs.declared.cursor.Cursor.{Cursor}
 use Rattle.smap_mappings.specs.declared.cursor.TheConstants.Cursor.{START}
@@ -28,20 +29,20 @@ fault_or_none : (first : Option FaultKind) (piece : Piece) (others : Option Faul
 fault_or_none None piece others is = (refl, is)
 fault_or_none (Some kind) piece others is = absurd (cc)
 
-first_of_none : (a b : Option FaultKind) → first_of a b ≡ None → (a ≡ None) × (b ≡ None)
+first_of_none : (a b : Option FaultKind) → first_kind a b ≡ None → (a ≡ None) × (b ≡ None)
 first_of_none None b is = (refl, is)
 first_of_none (Some kind) b is = absurd (cc)
 
 module _ (sources names : ℕ) where
-  accepted_no_fault : (before : List Move) (pieces : List Piece) → all_accepted sources names before (map move_of pieces) ≡ true → first_fault_after sources names before pieces ≡ None
+  accepted_no_fault : (before : List Move) (pieces : List Piece) → are_accepted_behind sources names before (map move_of pieces) ≡ true → first_fault_after sources names before pieces ≡ None
   accepted_no_fault before [] all = refl
   accepted_no_fault before (piece ∷ pieces) all =
       let parts = and_parts _ _ all in
       let move = move_of piece in
-      (λ i. fault_or (first_of (known_spelled piece.bytes (accepts_known sources names before move parts.0) i) (accepts_none sources names before move parts.0 i)) piece (first_fault_after sources names (before ++ move ∷ []) pieces))
+      (λ i. fault_or (first_kind (known_spelled piece.bytes (accepts_known sources names before move parts.0) i) (accepts_none sources names before move parts.0 i)) piece (first_fault_after sources names (before ++ move ∷ []) pieces))
       ∙ accepted_no_fault (before ++ move ∷ []) pieces parts.1
 
-  no_fault_accepted : (before : List Move) (pieces : List Piece) → first_fault_after sources names before pieces ≡ None → all_accepted sources names before (map move_of pieces) ≡ true
+  no_fault_accepted : (before : List Move) (pieces : List Piece) → first_fault_after sources names before pieces ≡ None → are_accepted_behind sources names before (map move_of pieces) ≡ true
   no_fault_accepted before [] none = refl
   no_fault_accepted before (piece ∷ pieces) none =
       let move = move_of piece in
@@ -57,12 +58,12 @@ module _ (sources names : ℕ) where
       let parts = fault_or_none (segment_fault sources names before piece) piece _ none in
       ap (λ front. first_fault_after sources names front (drop j pieces)) (sym (append_assoc before (move_of piece ∷ []) (take j (map move_of pieces)))) ∙ none_later (before ++ move_of piece ∷ []) pieces j parts.1
 
-widest_all : (sources names : ℕ) (before moves : List Move) → all_accepted sources names before moves ≡ true → all_accepted 2147483648 2147483648 before moves ≡ true
+widest_all : (sources names : ℕ) (before moves : List Move) → are_accepted_behind sources names before moves ≡ true → are_accepted_behind most_indices most_indices before moves ≡ true
 widest_all sources names before [] all = refl
 widest_all sources names before (move ∷ moves) all =
     let parts = and_parts _ _ all in and_from _ _ (accepted_widest sources names before move parts.0) (widest_all sources names (before ++ move ∷ []) moves parts.1)
 
-pub widest : (text : List ℕ) (sources names : ℕ) → IsAccepted text sources names → IsAccepted text 2147483648 2147483648
+pub widest : (text : List ℕ) (sources names : ℕ) → IsAccepted text sources names → IsAccepted text most_indices most_indices
 unfolding is_accepted
 widest text sources names accepted = widest_all sources names [] (moves_of text) accepted
 
@@ -154,7 +155,7 @@ pub from_bool_most : (b : Bool) → from_bool b ≤ 1
 from_bool_most true = omega arith
 from_bool_most false = omega arith
 
-pub checks_more : (text : List ℕ) (sources names : ℕ) (cursor next after : Cursor) (mapping : Mapping) (segments used_lines new : ℕ) → ChecksUpTo text sources names cursor segments used_lines → Steps text segments sources names mapping after → after.line ≡ next.line → cursor.place ≤ next.place → next.place < after.place
+pub checks_more : (text : List ℕ) (sources names : ℕ) (cursor next after : Cursor) (mapping : Mapping) (segments used_lines new : ℕ) → ChecksUpTo text sources names cursor segments used_lines → IsStep text segments sources names mapping after → after.line ≡ next.line → cursor.place ≤ next.place → next.place < after.place
     → ◌≡◌ {A = ℕ} (cond (list_any (λ (m : Move). eqb m.line next.line) (take segments (moves_of text))) 0 1) new → new ≤ 1 → ChecksUpTo text sources names after (segments + 1) (used_lines + new)
 checks_more text sources names cursor next after mapping segments used_lines new checks steps line_is onward ahead new_is one =
     let front = take segments (moves_of text) in

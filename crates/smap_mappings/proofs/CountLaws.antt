@@ -3,10 +3,10 @@ use Rattle.std.proofs.Common.{◌≡◌, ℕ, ◌+◌, ◌*◌, ◌≤◌, suc, 
 use Rattle.std.specs.List.{slice_split, onto_first, slice_get}
 use Rattle.std.proofs.lemmas.Bool.{cases_Bool, cond-true, cond-false}
 use Rattle.std.proofs.lemmas.List.{length-map, take_all}
-use Rattle.smap_mappings.specs.Pieces.{is_nonempty, is_comma, ends_line, placed_from, piece_on, pieces_on, pieces_of_lines, pieces_from, pieces_of}
+use Rattle.smap_mappings.specs.Pieces.{is_nonempty, is_comma, is_line_end, parts_from, piece_on, pieces_on, pieces_of_lines, pieces_from, pieces_of}
 use Rattle.smap_mappings.specs.Mappings.{Move, move_of, moves_of, mappings_after, mappings_of}
 use Rattle.smap_mappings.specs.Counts.{segments_of}
-use Rattle.smap_mappings.specs.Step.{IsNext}
+use Rattle.smap_mappings.specs.State.{IsNext}
 use Rattle.smap_mappings.proofs.Checking.{DecodesUpTo}
 use Rattle.smap_mappings.specs.declared.cursor.Cursor.{Cursor}
 use Rattle.smap_mappings.specs.declared.cursor.TheConstants.Cursor.{START}
@@ -34,7 +34,7 @@ spread-split p (x ∷ xs) =
     (λ no_cut. ap spread (cond-false _ _ _ no_cut) ∙ spread-onto_first x (slice_split p xs) (length xs) more)
     (cases_Bool (p x))
 
-few_nonempty : (place : ℕ) (parts : List (List ℕ)) → 2 * length (filter is_nonempty (placed_from place parts)) ≤ spread parts
+few_nonempty : (place : ℕ) (parts : List (List ℕ)) → 2 * length (filter is_nonempty (parts_from place parts)) ≤ spread parts
 unfolding spread
 few_nonempty place [] = omega arith
 few_nonempty place ([] ∷ parts) = let more = few_nonempty (place + 0 + 1) parts in omega (arith, more)
@@ -43,7 +43,7 @@ few_nonempty place ((b ∷ bytes) ∷ parts) = let more = few_nonempty (place + 
 few_on_line : (line place : ℕ) (bytes : List ℕ) → 2 * length (pieces_on line place bytes) ≤ suc (length bytes)
 unfolding pieces_on
 few_on_line line place bytes =
-    omega (arith, few_nonempty place (slice_split is_comma bytes), spread-split is_comma bytes, length-map (filter is_nonempty (placed_from place (slice_split is_comma bytes))) (piece_on line))
+    omega (arith, few_nonempty place (slice_split is_comma bytes), spread-split is_comma bytes, length-map (filter is_nonempty (parts_from place (slice_split is_comma bytes))) (piece_on line))
 
 few_on_lines : (line place : ℕ) (lines : List (List ℕ)) → 2 * length (pieces_of_lines line place lines) ≤ spread lines
 unfolding spread
@@ -54,7 +54,7 @@ few_on_lines line place (bytes ∷ lines) =
 
 pub few_segments : (text : List ℕ) → 2 * segments_of text ≤ length text + 1
 unfolding pieces_of pieces_from
-few_segments text = omega (arith, few_on_lines 0 0 (slice_split ends_line text), spread-split ends_line text)
+few_segments text = omega (arith, few_on_lines 0 0 (slice_split is_line_end text), spread-split is_line_end text)
 
 -- ---- as many mappings as segments
 

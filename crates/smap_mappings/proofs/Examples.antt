@@ -2,12 +2,13 @@
 use Rattle.std.proofs.Common.{◌≡◌, ℕ, List, [], ◌∷◌, Bool, true, false, Some, None, Ok, Err, Option, Result, refl, codes}
 use Rattle.std.specs.Prelude.{ℤ, pos, negsuc}
 use Rattle.smap_mappings.specs.Base64.{digit_of}
-use Rattle.smap_mappings.specs.Vlq.{number_of, number_at, checked_number, unsigned_of}
+use Rattle.smap_mappings.specs.Vlq.{number_of, number_at, unsigned_of}
 use Rattle.smap_mappings.specs.Segment.{fields_of}
 use Rattle.smap_mappings.specs.Pieces.{pieces_of, pieces_from, pieces_on}
 use Rattle.smap_mappings.specs.Mappings.{mappings_of, mapping_after, moves_of, values_on}
-use Rattle.smap_mappings.specs.Accepted.{is_accepted, accepts}
+use Rattle.smap_mappings.specs.Accepted.{is_accepted, is_accepted_behind}
 use Rattle.smap_mappings.specs.Faults.{first_fault, spelling_fault, move_fault}
+use Rattle.smap_mappings.specs.Reading.{checked_number}
 use Rattle.smap_mappings.specs.declared.fault.Fault.{Fault}
 use Rattle.smap_mappings.specs.declared.fault.FaultKind.{FaultKind}
 use Rattle.smap_mappings.specs.declared.fault.FaultKind.TheVariants as kinds
@@ -37,13 +38,13 @@ minus_sixteen_is_hB : number_of (codes "hB") ≡ Some (negsuc 15)
 unfolding number_of unsigned_of digit_of
 minus_sixteen_is_hB = refl
 
-greatest : number_of (codes "+/////D") ≡ Some (pos 2147483647)
+greatest_number : number_of (codes "+/////D") ≡ Some (pos 2147483647)
 unfolding number_of unsigned_of digit_of
-greatest = refl
+greatest_number = refl
 
-least : number_of (codes "//////D") ≡ Some (negsuc 2147483646)
+least_number : number_of (codes "//////D") ≡ Some (negsuc 2147483646)
 unfolding number_of unsigned_of digit_of
-least = refl
+least_number = refl
 
 longer_zero : number_of (codes "gA") ≡ Some (pos 0)
 unfolding number_of unsigned_of digit_of
@@ -95,15 +96,15 @@ verdicts [] = []
 verdicts (text ∷ texts) = is_accepted text 2147483648 2147483648 ∷ verdicts texts
 
 accepted : verdicts (codes "AAAA,CAAC;AACA" ∷ [] ∷ codes "+/////D" ∷ codes "A,A,A" ∷ codes "ACAAC;AAAAA" ∷ codes ";,,;AAAA" ∷ []) ≡ true ∷ true ∷ true ∷ true ∷ true ∷ true ∷ []
-unfolding is_accepted accepts values_on moves_of pieces_of pieces_from pieces_on fields_of number_of unsigned_of digit_of
+unfolding is_accepted is_accepted_behind values_on moves_of pieces_of pieces_from pieces_on fields_of number_of unsigned_of digit_of
 accepted = refl
 
 refused : verdicts (codes "+/////D,C" ∷ codes "ggggggE" ∷ codes "B" ∷ codes "Ag" ∷ codes "AA" ∷ codes "A!A" ∷ codes "CAAA,DAAA" ∷ codes "DAAA" ∷ []) ≡ false ∷ false ∷ false ∷ false ∷ false ∷ false ∷ false ∷ false ∷ []
-unfolding is_accepted accepts values_on moves_of pieces_of pieces_from pieces_on fields_of number_of unsigned_of digit_of
+unfolding is_accepted is_accepted_behind values_on moves_of pieces_of pieces_from pieces_on fields_of number_of unsigned_of digit_of
 refused = refl
 
 one_source_one_name : is_accepted (codes "ACAAC") 1 2 ≡ false
-unfolding is_accepted accepts values_on moves_of pieces_of pieces_from pieces_on fields_of number_of unsigned_of digit_of
+unfolding is_accepted is_accepted_behind values_on moves_of pieces_of pieces_from pieces_on fields_of number_of unsigned_of digit_of
 one_source_one_name = refl
 
 -- ---- first faults

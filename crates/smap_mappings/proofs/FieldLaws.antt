@@ -10,10 +10,9 @@ use Rattle.std.proofs.lemmas.Option.{cond_some}
 use Rattle.std.proofs.lemmas.List.{drop-drop, take_at, nil_from_length}
 use Rattle.std.proofs.lemmas.List.Sums.{take_while-cons}
 use Rattle.smap_mappings.specs.Base64.{digit_of}
-use Rattle.smap_mappings.specs.Vlq.{is_digit, continues, ends, is_one_number, number_of, Spells}
-use Rattle.smap_mappings.specs.Segment.{has_known_length, cuts_of, with_front, numbers_of, fields_of}
-use Rattle.smap_mappings.specs.Pieces.{is_inside, piece_at}
-use Rattle.smap_mappings.specs.Reading.{fields_at, known_fields, HasNoField, ReadsField, ReadsSegment}
+use Rattle.smap_mappings.specs.Vlq.{is_digit, is_continuing, is_ending, is_one_number, number_of, Spells}
+use Rattle.smap_mappings.specs.Segment.{has_known_length, cuts_of, list_with_front, numbers_of, fields_of}
+use Rattle.smap_mappings.specs.Reading.{is_inside, piece_at, fields_at, known_fields, HasNoField, IsFieldAt, IsSegmentAt}
 use Rattle.smap_mappings.proofs.SpelledNumbers.{ends_stops, digit_from_is_digit, one_number_nonempty}
 
 -- ---- a digit is no separator
@@ -26,7 +25,7 @@ pub digit_is_inside : (byte : ℕ) → is_digit byte ≡ true → is_inside byte
 unfolding digit_of
 digit_is_inside byte is = not_from_false _ (or_from _ _ (no_digit_at 59 refl byte is) (no_digit_at 44 refl byte is))
 
-continues_not_ends : (byte : ℕ) → continues byte ≡ true → ends byte ≡ false
+continues_not_ends : (byte : ℕ) → is_continuing byte ≡ true → is_ending byte ≡ false
 continues_not_ends byte is = false_from_ne_true _ (λ e. absurd (both_ways _ (ends_stops byte e) is))
 
 -- ---- a number before other bytes
@@ -50,9 +49,9 @@ pub spells_one : (bytes : List ℕ) (n : ℤ) → Spells bytes n → is_one_numb
 unfolding number_of
 spells_one bytes n spells = (and_parts _ _ (and_parts _ _ (and_parts _ _ (cond_some _ _ _ spells).0).0).0).0
 
-pub fields-spelled : (number more : List ℕ) (n : ℤ) → Spells number n → fields_of (number ++ more) ≡ with_front (Some n) (fields_of more)
+pub fields-spelled : (number more : List ℕ) (n : ℤ) → Spells number n → fields_of (number ++ more) ≡ list_with_front (Some n) (fields_of more)
 unfolding fields_of
-fields-spelled number more n spells = ap numbers_of (cuts-one_number number more (spells_one number n spells)) ∙ ap (λ first. with_front first (numbers_of (cuts_of more))) spells
+fields-spelled number more n spells = ap numbers_of (cuts-one_number number more (spells_one number n spells)) ∙ ap (λ first. list_with_front first (numbers_of (cuts_of more))) spells
 
 -- ---- the first number of some fields
 
@@ -65,25 +64,26 @@ pub record FirstCut (bytes : List ℕ) : Type 0 where
   pub joins : bytes ≡ cut ++ more
 
 pub first_cut : (b : ℕ) (bytes : List ℕ) → FirstCut (b ∷ bytes)
-first_cut b [] = record { cut = b ∷ []; cuts = []; more = []; is = ⊎_elim (λ yes. cond-true _ _ _ yes) (λ no. cond-false _ _ _ no) (cases_Bool (ends b)); joins = refl }
+first_cut b [] = record { cut = b ∷ []; cuts = []; more = []; is = ⊎_elim (λ yes. cond-true _ _ _ yes) (λ no. cond-false _ _ _ no) (cases_Bool (is_ending b)); joins = refl }
 first_cut b (c ∷ bytes) =
     let rest = first_cut c bytes in
     ⊎_elim
     (λ yes. record { cut = b ∷ []; cuts = cuts_of (c ∷ bytes); more = c ∷ bytes; is = cond-true _ _ _ yes; joins = refl })
     (λ no. record { cut = b ∷ rest.cut; cuts = rest.cuts; more = rest.more; is = cond-false _ _ _ no ∙ ap (onto_first b) rest.is; joins = ap (λ bs. b ∷ bs) rest.joins })
-    (cases_Bool (ends b))
+    (cases_Bool (is_ending b))
 
-with_front_some : (first : Option ℤ) (others : Option (List ℤ)) (fields : List ℤ) → with_front first others ≡ Some fields → (n : ℤ) × (first ≡ Some n)
-with_front_some None others fields is = absurd (cc)
-with_front_some (Some n) others fields is = (n, refl)
+pub with_front_parts : (first : Option ℤ) (others : Option (List ℤ)) (ns : List ℤ) → list_with_front first others ≡ Some ns → (n : ℤ) × (ms : List ℤ) × (first ≡ Some n) × (others ≡ Some ms) × (ns ≡ n ∷ ms)
+with_front_parts None others ns is = absurd (cc)
+with_front_parts (Some n) None ns is = absurd (cc)
+with_front_parts (Some n) (Some ms) ns is = (n, ms, refl, refl, sym (let e : n ∷ ms ≡ ns = cc in e))
 
 -- bytes that spell fields, and aren't none, begin with a number
 pub first_number : (b : ℕ) (bytes : List ℕ) (fields : List ℤ) → fields_of (b ∷ bytes) ≡ Some fields → (number : List ℕ) × (n : ℤ) × (more : List ℕ) × Spells number n × (b ∷ bytes ≡ number ++ more)
 unfolding fields_of
 first_number b bytes fields is =
     let first = first_cut b bytes in
-    let n = with_front_some _ _ fields (sym (ap numbers_of first.is) ∙ is) in
-    (first.cut, n.0, first.more, n.1, first.joins)
+    let front = with_front_parts _ _ fields (sym (ap numbers_of first.is) ∙ is) in
+    (first.cut, front.0, first.more, front.2, first.joins)
 
 pub no_bytes_no_fields : fields_of [] ≡ Some []
 unfolding fields_of
@@ -92,7 +92,7 @@ no_bytes_no_fields = refl
 -- ---- at a place of a text
 
 -- a number that is spelled at a place is the first field of the bytes there
-pub reads_field : (text : List ℕ) (place next : ℕ) (n : ℤ) → next ≤ length text → Spells (slice_range text place next) n → ReadsField text place n next
+pub reads_field : (text : List ℕ) (place next : ℕ) (n : ℤ) → next ≤ length text → Spells (slice_range text place next) n → IsFieldAt text place n next
 reads_field text place next n inside spells =
     let number = slice_range text place next in
     let rest = drop place text in
@@ -143,7 +143,7 @@ unfolding fields_of
 some_field [] some = absurd (some refl)
 some_field (b ∷ bytes) some = let first = first_cut b bytes in front_cases (number_of first.cut) (numbers_of first.cuts) (ap numbers_of first.is)
   where
-    front_cases : (first : Option ℤ) (others : Option (List ℤ)) → fields_of (b ∷ bytes) ≡ with_front first others → (fields_of (b ∷ bytes) ≡ None) ⊎ ((n : ℤ) × (ns : List ℤ) × (fields_of (b ∷ bytes) ≡ Some (n ∷ ns)))
+    front_cases : (first : Option ℤ) (others : Option (List ℤ)) → fields_of (b ∷ bytes) ≡ list_with_front first others → (fields_of (b ∷ bytes) ≡ None) ⊎ ((n : ℤ) × (ns : List ℤ) × (fields_of (b ∷ bytes) ≡ Some (n ∷ ns)))
     front_cases None others is = inl is
     front_cases (Some n) None is = inl is
     front_cases (Some n) (Some ns) is = inr (n, ns, is)
@@ -155,41 +155,41 @@ six_is_unknown : (n : ℕ) → (eqb (suc (suc (suc (suc (suc (suc n)))))) 1 || e
 six_is_unknown n = grind (arith, nat_tests)
 
 module _ (text : List ℕ) where
-  pub one_field : (place p1 : ℕ) (a : ℤ) → ReadsField text place a p1 → length (piece_at text p1) ≡ 0 → ReadsSegment text place (record { column = a; origin = None }) p1
-  one_field place p1 a r1 end = record { fields = r1.fields ∙ ap (with_front (Some a)) (at_segment_end text p1 end); ends = omega (arith, r1.ends); inside = r1.inside }
+  pub one_field : (place p1 : ℕ) (a : ℤ) → IsFieldAt text place a p1 → length (piece_at text p1) ≡ 0 → IsSegmentAt text place (record { column = a; origin = None }) p1
+  one_field place p1 a r1 end = record { fields = r1.fields ∙ ap (list_with_front (Some a)) (at_segment_end text p1 end); ends = omega (arith, r1.ends); inside = r1.inside }
 
-  pub four_fields : (place p1 p2 p3 p4 : ℕ) (a b c d : ℤ) → ReadsField text place a p1 → ReadsField text p1 b p2 → ReadsField text p2 c p3 → ReadsField text p3 d p4 → length (piece_at text p4) ≡ 0
-      → ReadsSegment text place (record { column = a; origin = Some (record { source = b; line = c; column = d; name = None }) }) p4
+  pub four_fields : (place p1 p2 p3 p4 : ℕ) (a b c d : ℤ) → IsFieldAt text place a p1 → IsFieldAt text p1 b p2 → IsFieldAt text p2 c p3 → IsFieldAt text p3 d p4 → length (piece_at text p4) ≡ 0
+      → IsSegmentAt text place (record { column = a; origin = Some (record { source = b; line = c; column = d; name = None }) }) p4
   four_fields place p1 p2 p3 p4 a b c d r1 r2 r3 r4 end = record {
-    fields = r1.fields ∙ ap (with_front (Some a)) (r2.fields ∙ ap (with_front (Some b)) (r3.fields ∙ ap (with_front (Some c)) (r4.fields ∙ ap (with_front (Some d)) (at_segment_end text p4 end))));
+    fields = r1.fields ∙ ap (list_with_front (Some a)) (r2.fields ∙ ap (list_with_front (Some b)) (r3.fields ∙ ap (list_with_front (Some c)) (r4.fields ∙ ap (list_with_front (Some d)) (at_segment_end text p4 end))));
     ends = omega (arith, r1.ends, r2.ends, r3.ends, r4.ends);
     inside = r4.inside;
   }
 
-  pub five_fields : (place p1 p2 p3 p4 p5 : ℕ) (a b c d e : ℤ) → ReadsField text place a p1 → ReadsField text p1 b p2 → ReadsField text p2 c p3 → ReadsField text p3 d p4 → ReadsField text p4 e p5 → length (piece_at text p5) ≡ 0
-      → ReadsSegment text place (record { column = a; origin = Some (record { source = b; line = c; column = d; name = Some e }) }) p5
+  pub five_fields : (place p1 p2 p3 p4 p5 : ℕ) (a b c d e : ℤ) → IsFieldAt text place a p1 → IsFieldAt text p1 b p2 → IsFieldAt text p2 c p3 → IsFieldAt text p3 d p4 → IsFieldAt text p4 e p5 → length (piece_at text p5) ≡ 0
+      → IsSegmentAt text place (record { column = a; origin = Some (record { source = b; line = c; column = d; name = Some e }) }) p5
   five_fields place p1 p2 p3 p4 p5 a b c d e r1 r2 r3 r4 r5 end = record {
-    fields = r1.fields ∙ ap (with_front (Some a)) (r2.fields ∙ ap (with_front (Some b)) (r3.fields ∙ ap (with_front (Some c)) (r4.fields ∙ ap (with_front (Some d)) (r5.fields ∙ ap (with_front (Some e)) (at_segment_end text p5 end)))));
+    fields = r1.fields ∙ ap (list_with_front (Some a)) (r2.fields ∙ ap (list_with_front (Some b)) (r3.fields ∙ ap (list_with_front (Some c)) (r4.fields ∙ ap (list_with_front (Some d)) (r5.fields ∙ ap (list_with_front (Some e)) (at_segment_end text p5 end)))));
     ends = omega (arith, r1.ends, r2.ends, r3.ends, r4.ends, r5.ends);
     inside = r5.inside;
   }
 
   -- and where it isn't one, four or five
-  pub not_two : (place p1 : ℕ) (a : ℤ) → ReadsField text place a p1 → (length (piece_at text p1) ≡ 0 → ⊥) → HasNoField text p1 → has_known_length (known_fields text place) ≡ false
-  not_two place p1 a r1 some none = ap (λ o. has_known_length (unwrap_or o [])) (r1.fields ∙ ap (with_front (Some a)) (no_fields_at text p1 some none))
+  pub not_two : (place p1 : ℕ) (a : ℤ) → IsFieldAt text place a p1 → (length (piece_at text p1) ≡ 0 → ⊥) → HasNoField text p1 → has_known_length (known_fields text place) ≡ false
+  not_two place p1 a r1 some none = ap (λ o. has_known_length (unwrap_or o [])) (r1.fields ∙ ap (list_with_front (Some a)) (no_fields_at text p1 some none))
 
-  pub not_five : (place p1 p2 p3 p4 : ℕ) (a b c d : ℤ) → ReadsField text place a p1 → ReadsField text p1 b p2 → ReadsField text p2 c p3 → ReadsField text p3 d p4 → (length (piece_at text p4) ≡ 0 → ⊥) → HasNoField text p4 → has_known_length (known_fields text place) ≡ false
+  pub not_five : (place p1 p2 p3 p4 : ℕ) (a b c d : ℤ) → IsFieldAt text place a p1 → IsFieldAt text p1 b p2 → IsFieldAt text p2 c p3 → IsFieldAt text p3 d p4 → (length (piece_at text p4) ≡ 0 → ⊥) → HasNoField text p4 → has_known_length (known_fields text place) ≡ false
   not_five place p1 p2 p3 p4 a b c d r1 r2 r3 r4 some none =
       ap (λ o. has_known_length (unwrap_or o []))
-      (r1.fields ∙ ap (with_front (Some a)) (r2.fields ∙ ap (with_front (Some b)) (r3.fields ∙ ap (with_front (Some c)) (r4.fields ∙ ap (with_front (Some d)) (no_fields_at text p4 some none)))))
+      (r1.fields ∙ ap (list_with_front (Some a)) (r2.fields ∙ ap (list_with_front (Some b)) (r3.fields ∙ ap (list_with_front (Some c)) (r4.fields ∙ ap (list_with_front (Some d)) (no_fields_at text p4 some none)))))
 
-  pub not_six : (place p1 p2 p3 p4 p5 : ℕ) (a b c d e : ℤ) → ReadsField text place a p1 → ReadsField text p1 b p2 → ReadsField text p2 c p3 → ReadsField text p3 d p4 → ReadsField text p4 e p5 → (length (piece_at text p5) ≡ 0 → ⊥) → has_known_length (known_fields text place) ≡ false
+  pub not_six : (place p1 p2 p3 p4 p5 : ℕ) (a b c d e : ℤ) → IsFieldAt text place a p1 → IsFieldAt text p1 b p2 → IsFieldAt text p2 c p3 → IsFieldAt text p3 d p4 → IsFieldAt text p4 e p5 → (length (piece_at text p5) ≡ 0 → ⊥) → has_known_length (known_fields text place) ≡ false
   not_six place p1 p2 p3 p4 p5 a b c d e r1 r2 r3 r4 r5 some =
-      let all : fields_at text place ≡ with_front (Some a) (with_front (Some b) (with_front (Some c) (with_front (Some d) (with_front (Some e) (fields_at text p5))))) =
-      r1.fields ∙ ap (with_front (Some a)) (r2.fields ∙ ap (with_front (Some b)) (r3.fields ∙ ap (with_front (Some c)) (r4.fields ∙ ap (with_front (Some d)) r5.fields))) in
+      let all : fields_at text place ≡ list_with_front (Some a) (list_with_front (Some b) (list_with_front (Some c) (list_with_front (Some d) (list_with_front (Some e) (fields_at text p5))))) =
+      r1.fields ∙ ap (list_with_front (Some a)) (r2.fields ∙ ap (list_with_front (Some b)) (r3.fields ∙ ap (list_with_front (Some c)) (r4.fields ∙ ap (list_with_front (Some d)) r5.fields))) in
       ⊎_elim
-      (λ is. ap (λ o. has_known_length (unwrap_or o [])) (all ∙ ap (λ o. with_front (Some a) (with_front (Some b) (with_front (Some c) (with_front (Some d) (with_front (Some e) o))))) is))
-      (λ found. ap (λ o. has_known_length (unwrap_or o [])) (all ∙ ap (λ o. with_front (Some a) (with_front (Some b) (with_front (Some c) (with_front (Some d) (with_front (Some e) o))))) found.2)
+      (λ is. ap (λ o. has_known_length (unwrap_or o [])) (all ∙ ap (λ o. list_with_front (Some a) (list_with_front (Some b) (list_with_front (Some c) (list_with_front (Some d) (list_with_front (Some e) o))))) is))
+      (λ found. ap (λ o. has_known_length (unwrap_or o [])) (all ∙ ap (λ o. list_with_front (Some a) (list_with_front (Some b) (list_with_front (Some c) (list_with_front (Some d) (list_with_front (Some e) o))))) found.2)
       ∙ six_is_unknown (length found.1))
       (some_field (piece_at text p5) some)
 
@@ -197,7 +197,7 @@ module _ (text : List ℕ) where
 
 -- a number was read
 pub field_read : (text : List ℕ) (place : ℕ) (read : Result (ℤ × ℕ) VlqFault) → ((n : ℤ) (next : ℕ) → (read ≡ Ok (n, next)) ↔ ((next ≤ length text) × Spells (slice_range text place next) n))
-    → IfSome (result_ok read) (λ r. ReadsField text place r.0 r.1)
+    → IfSome (result_ok read) (λ r. IsFieldAt text place r.0 r.1)
 field_read text place (Ok r) spelled = let is = (spelled r.0 r.1).0 refl in reads_field text place r.1 r.0 is.0 is.1
 field_read text place (Err fault) spelled = tt
 

@@ -1,8 +1,10 @@
+pub mod SameLimits
 pub mod Digits
 pub mod Numbers
 pub mod SpelledNumbers
 pub mod PieceLaws
 pub mod FieldLaws
+pub mod JoinLaws
 pub mod MoveLaws
 pub mod Ranges
 pub mod ValueFaultLaws
@@ -13,4 +15,5 @@ pub mod CountLaws
 pub mod OrderLaws
 pub mod WithinLaws
 pub mod SpellingFaultLaws
+pub mod CleanNumbers
 pub mod Examples

@@ -4,27 +4,28 @@ use Rattle.std.specs.Prelude.{ℤ, pos, ◌+ℤ◌, unwrap_or}
 use Rattle.std.specs.List.{AllByRecursion, slice_get, list_any}
 use Rattle.std.proofs.lemmas.Bool.{cond-true, cond-false, cases_Bool, or_parts}
 use Rattle.std.proofs.lemmas.Int.{ints}
+use Rattle.smap_mappings.specs.Mappings.{Move, RunningValues, difference, total, values_on}
 use Rattle.smap_mappings.specs.Reading.{move_in}
+use Rattle.smap_mappings.specs.Advance.{values_behind}
 use Rattle.smap_mappings.specs.declared.segment.Segment.{Segment}
 use Rattle.smap_mappings.specs.declared.segment.OriginFields.{OriginFields}
-use Rattle.smap_mappings.specs.Mappings.{Move, RunningValues, field, total, values_on, moved}
 
-total-push : (i : ℕ) (moves : List Move) (move : Move) → total i (moves ++ move ∷ []) ≡ total i moves +ℤ field i move
+total-push : (i : ℕ) (moves : List Move) (move : Move) → total i (moves ++ move ∷ []) ≡ total i moves +ℤ difference i move
 total-push i [] move = omega (arith, ints)
 total-push i (m ∷ moves) move = let more = total-push i moves move in omega (arith, ints)
 
 -- a segment with an origin adds each of its fields, and 0 to the name where it has none
-pub moved_with_origin : (values : RunningValues) (line : ℕ) (segment : Segment) (origin : OriginFields) → segment.origin ≡ Some origin
-    → moved values (move_in line segment) ≡ record {
+pub values_behind_origin : (values : RunningValues) (line : ℕ) (segment : Segment) (origin : OriginFields) → segment.origin ≡ Some origin
+    → values_behind values (move_in line segment) ≡ record {
       column = values.column +ℤ segment.column;
       source = values.source +ℤ origin.source;
       original_line = values.original_line +ℤ origin.line;
       original_column = values.original_column +ℤ origin.column;
       name = values.name +ℤ unwrap_or origin.name (pos 0);
     }
-moved_with_origin values line segment origin is = ap (λ o. moved values (move_in line (record { column = segment.column; origin = o }))) is ∙ by_name origin.name
+values_behind_origin values line segment origin is = ap (λ o. values_behind values (move_in line (record { column = segment.column; origin = o }))) is ∙ by_name origin.name
   where
-    by_name : (name : Option ℤ) → moved values (move_in line (record { column = segment.column; origin = Some (record { source = origin.source; line = origin.line; column = origin.column; name = name }) })) ≡ record {
+    by_name : (name : Option ℤ) → values_behind values (move_in line (record { column = segment.column; origin = Some (record { source = origin.source; line = origin.line; column = origin.column; name = name }) })) ≡ record {
       column = values.column +ℤ segment.column;
       source = values.source +ℤ origin.source;
       original_line = values.original_line +ℤ origin.line;
@@ -41,7 +42,7 @@ filter-push p (m ∷ moves) move is = ⊎_elim
     (λ no. cond-false _ _ _ no ∙ filter-push p moves move is ∙ ap (λ ms. ms ++ move ∷ []) (sym (cond-false _ _ _ no)))
     (cases_Bool (p m))
 
-pub values-push : (before : List Move) (move : Move) → values_on move.line (before ++ move ∷ []) ≡ moved (values_on move.line before) move
+pub values-push : (before : List Move) (move : Move) → values_on move.line (before ++ move ∷ []) ≡ values_behind (values_on move.line before) move
 unfolding values_on
 values-push before move =
     let on_line = filter-push (λ m. eqb m.line move.line) before move (eq-eqb _ _ refl) in

@@ -4,9 +4,9 @@ use Rattle.std.specs.Prelude.{ℤ, pos, negsuc, ◌+ℤ◌, int_lt}
 use Rattle.std.specs.List.{list_any, slice_split}
 use Rattle.std.proofs.lemmas.Bool.{and_parts, or_cases, or_left, or_right, not-true, both_ways, cases_order}
 use Rattle.std.proofs.lemmas.Int.{ints}
-use Rattle.smap_mappings.specs.Pieces.{Piece, is_nonempty, is_comma, ends_line, placed_from, piece_on, pieces_on, pieces_of_lines, pieces_from, pieces_of}
-use Rattle.smap_mappings.specs.Mappings.{Move, RunningValues, move_of, moves_of, field, natural, values_on, mapping_after, mappings_after, mappings_of}
-use Rattle.smap_mappings.specs.Accepted.{accepts, all_accepted, is_accepted, IsAccepted}
+use Rattle.smap_mappings.specs.Pieces.{Piece, is_nonempty, is_comma, is_line_end, parts_from, piece_on, pieces_on, pieces_of_lines, pieces_from, pieces_of}
+use Rattle.smap_mappings.specs.Mappings.{Move, RunningValues, move_of, moves_of, difference, natural, values_on, mapping_after, mappings_after, mappings_of}
+use Rattle.smap_mappings.specs.Accepted.{is_accepted_behind, are_accepted_behind, is_accepted, IsAccepted}
 use Rattle.smap_mappings.specs.Order.{IsAtOrBefore, IsInOrder}
 use Rattle.smap_mappings.proofs.MoveLaws.{values-push}
 use Rattle.smap_mappings.proofs.Ranges.{in_range_natural, each_in_range}
@@ -28,12 +28,12 @@ lines_rise : (line place : ℕ) (lines : List (List ℕ)) → LinesRise line (ma
 unfolding pieces_on
 lines_rise line place [] = tt
 lines_rise line place (bytes ∷ lines) =
-    on_one_line line (filter is_nonempty (placed_from place (slice_split is_comma bytes))) (pieces_of_lines (line + 1) (place + length bytes + 1) lines)
+    on_one_line line (filter is_nonempty (parts_from place (slice_split is_comma bytes))) (pieces_of_lines (line + 1) (place + length bytes + 1) lines)
     (rises_from_before line (line + 1) _ (omega arith) (lines_rise (line + 1) (place + length bytes + 1) lines))
 
 pub moves_rise : (text : List ℕ) → LinesRise 0 (moves_of text)
 unfolding moves_of pieces_of pieces_from
-moves_rise text = lines_rise 0 0 (slice_split ends_line text)
+moves_rise text = lines_rise 0 0 (slice_split is_line_end text)
 
 -- the last segment so far stands on its own line
 pub any_last : (before : List Move) (move : Move) (line : ℕ) → move.line ≡ line → list_any (λ (earlier : Move). eqb earlier.line line) (before ++ move ∷ []) ≡ true
@@ -45,8 +45,8 @@ columns_rise x y (pos k) m n x_is y_is sum onward = omega (arith, ints)
 columns_rise x y (negsuc k) m n x_is y_is sum onward = absurd (cc)
 
 module _ (sources names : ℕ) where
-  next_in_order : (before : List Move) (a b : Move) → a.line ≤ b.line → accepts sources names before a ≡ true → accepts sources names (before ++ a ∷ []) b ≡ true → IsAtOrBefore (mapping_after before a) (mapping_after (before ++ a ∷ []) b)
-  unfolding accepts mapping_after
+  next_in_order : (before : List Move) (a b : Move) → a.line ≤ b.line → is_accepted_behind sources names before a ≡ true → is_accepted_behind sources names (before ++ a ∷ []) b ≡ true → IsAtOrBefore (mapping_after before a) (mapping_after (before ++ a ∷ []) b)
+  unfolding is_accepted_behind mapping_after
   next_in_order before a b rises accepts_a accepts_b =
       ⊎_elim
       (λ (same : a.line ≡ b.line).
@@ -57,19 +57,19 @@ module _ (sources names : ℕ) where
       let column_b = in_range_natural (values_on b.line (front ++ b ∷ [])).column range_b in
       let pushed = ap (λ (v : RunningValues). v.column) (values-push front b) in
       let from_a : (values_on b.line front).column ≡ (values_on a.line front).column = ap (λ line. (values_on line front).column) (sym same) in
-      let onward : int_lt (field 0 b) (pos 0) ≡ false = ⊎_elim
+      let onward : int_lt (difference 0 b) (pos 0) ≡ false = ⊎_elim
       (λ none. absurd (both_ways _ (not-true _ none) (any_last before a b.line same)))
       (λ rising. not-true _ rising)
       (or_cases _ _ (and_parts _ _ accepts_b).1) in
       inr (
         same,
-        columns_rise (values_on a.line front).column (values_on b.line (front ++ b ∷ [])).column (field 0 b) (natural (values_on a.line front).column) (natural (values_on b.line (front ++ b ∷ [])).column)
-            column_a.0 column_b.0 (pushed ∙ ap (λ z. z +ℤ field 0 b) from_a) onward,
+        columns_rise (values_on a.line front).column (values_on b.line (front ++ b ∷ [])).column (difference 0 b) (natural (values_on a.line front).column) (natural (values_on b.line (front ++ b ∷ [])).column)
+            column_a.0 column_b.0 (pushed ∙ ap (λ z. z +ℤ difference 0 b) from_a) onward,
       ))
       (λ other. ⊎_elim (λ before. inl before) (λ after. absurd (omega arith)) other)
       (cases_order a.line b.line)
 
-  in_order : (before moves : List Move) (line : ℕ) → LinesRise line moves → all_accepted sources names before moves ≡ true → IsInOrder (mappings_after before moves)
+  in_order : (before moves : List Move) (line : ℕ) → LinesRise line moves → are_accepted_behind sources names before moves ≡ true → IsInOrder (mappings_after before moves)
   in_order before [] line rise all = tt
   in_order before (a ∷ []) line rise all = tt
   in_order before (a ∷ b ∷ moves) line rise all =

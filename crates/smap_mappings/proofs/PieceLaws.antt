@@ -6,7 +6,8 @@ use Rattle.std.proofs.lemmas.Bool.{cond-true, cond-false, both_ways, or_cases, c
 use Rattle.std.proofs.lemmas.List.{append-nil, drop_more, drop_all, drop-drop}
 use Rattle.std.proofs.lemmas.List.Folds.{length-prefix_len}
 use Rattle.std.proofs.lemmas.List.Sums.{take_while-cons}
-use Rattle.smap_mappings.specs.Pieces.{ends_line, is_comma, is_inside, is_nonempty, placed_from, piece_on, pieces_on, pieces_of_lines, pieces_from, piece_at}
+use Rattle.smap_mappings.specs.Pieces.{is_line_end, is_comma, is_nonempty, parts_from, piece_on, pieces_on, pieces_of_lines, pieces_from}
+use Rattle.smap_mappings.specs.Reading.{is_inside, piece_at}
 
 -- ---- splits
 
@@ -43,7 +44,7 @@ on_comma line place bytes = let e : place + 0 ≡ place = omega arith in rw e re
 pub pieces_after_comma : (line place : ℕ) (text : List ℕ) → pieces_from line place (44 ∷ text) ≡ pieces_from line (place + 1) text
 unfolding pieces_from
 pieces_after_comma line place text =
-    let parts = first_part ends_line text in
+    let parts = first_part is_line_end text in
     let e : place + suc (length parts.0) + 1 ≡ place + 1 + length parts.0 + 1 = omega arith in
     ap (λ lines. pieces_of_lines line place (onto_first 44 lines)) parts.2
     ∙ (λ i. on_comma line place parts.0 i ++ pieces_of_lines (line + 1) (e i) parts.1)
@@ -56,26 +57,26 @@ unfolding pieces_on
 on_segment line place x front bytes parts none is =
     let joined = split-append is_comma (x ∷ front) bytes [] parts none is ∙ ap (λ w. w ∷ parts) (append-nil (x ∷ front)) in
     let e : place + suc (length front) + 0 ≡ place + suc (length front) = omega arith in
-    let passed : filter is_nonempty (placed_from (place + suc (length front)) ([] ∷ parts)) ≡ filter is_nonempty (placed_from (place + suc (length front) + 1) parts) = rw e refl in
-    ap (λ ps. map (piece_on line) (filter is_nonempty (placed_from place ps))) joined
+    let passed : filter is_nonempty (parts_from (place + suc (length front)) ([] ∷ parts)) ≡ filter is_nonempty (parts_from (place + suc (length front) + 1) parts) = rw e refl in
+    ap (λ ps. map (piece_on line) (filter is_nonempty (parts_from place ps))) joined
     ∙ ap (λ ps. piece_on line (place, x ∷ front) ∷ map (piece_on line) ps) (sym passed)
-    ∙ ap (λ ps. piece_on line (place, x ∷ front) ∷ map (piece_on line) (filter is_nonempty (placed_from (place + suc (length front)) ps))) (sym is)
+    ∙ ap (λ ps. piece_on line (place, x ∷ front) ∷ map (piece_on line) (filter is_nonempty (parts_from (place + suc (length front)) ps))) (sym is)
 
 -- bytes inside a segment are neither `;` nor `,`
-inside_tests : (bytes : List ℕ) → AllByRecursion (λ x. is_inside x ≡ true) bytes → AllByRecursion (λ x. ends_line x ≡ false) bytes × AllByRecursion (λ x. is_comma x ≡ false) bytes
+inside_tests : (bytes : List ℕ) → AllByRecursion (λ x. is_inside x ≡ true) bytes → AllByRecursion (λ x. is_line_end x ≡ false) bytes × AllByRecursion (λ x. is_comma x ≡ false) bytes
 inside_tests [] inside = (tt, tt)
 inside_tests (x ∷ bytes) inside =
-    let neither = or_parts (ends_line x) (is_comma x) (not-true _ inside.0) in
+    let neither = or_parts (is_line_end x) (is_comma x) (not-true _ inside.0) in
     let rest = inside_tests bytes inside.1 in
     ((neither.0, rest.0), (neither.1, rest.1))
 
-pub pieces_at_run : (line place : ℕ) (x : ℕ) (front text line_bytes : List ℕ) (lines parts : List (List ℕ)) → AllByRecursion (λ x. is_inside x ≡ true) (x ∷ front) → slice_split ends_line text ≡ line_bytes ∷ lines → slice_split is_comma line_bytes ≡ [] ∷ parts
+pub pieces_at_run : (line place : ℕ) (x : ℕ) (front text line_bytes : List ℕ) (lines parts : List (List ℕ)) → AllByRecursion (λ x. is_inside x ≡ true) (x ∷ front) → slice_split is_line_end text ≡ line_bytes ∷ lines → slice_split is_comma line_bytes ≡ [] ∷ parts
     → pieces_from line place ((x ∷ front) ++ text) ≡ piece_on line (place, x ∷ front) ∷ pieces_from line (place + length (x ∷ front)) text
 unfolding pieces_from
 pieces_at_run line place x front text line_bytes lines parts inside is first =
     let run = inside_tests (x ∷ front) inside in
     let more : place + length ((x ∷ front) ++ line_bytes) + 1 ≡ place + length (x ∷ front) + length line_bytes + 1 = omega (arith, length-append (x ∷ front) line_bytes) in
-    ap (pieces_of_lines line place) (split-append ends_line (x ∷ front) text line_bytes lines run.0 is)
+    ap (pieces_of_lines line place) (split-append is_line_end (x ∷ front) text line_bytes lines run.0 is)
     ∙ (λ i. on_segment line place x front line_bytes parts run.1 first i ++ pieces_of_lines (line + 1) (more i) lines)
     ∙ ap (λ ls. piece_on line (place, x ∷ front) ∷ pieces_of_lines line (place + length (x ∷ front)) ls) (sym is)
 
@@ -95,7 +96,7 @@ pub record AfterRun (text : List ℕ) : Type 0 where
   pub line_bytes : List ℕ
   pub lines : List (List ℕ)
   pub parts : List (List ℕ)
-  pub splits : slice_split ends_line text ≡ line_bytes ∷ lines
+  pub splits : slice_split is_line_end text ≡ line_bytes ∷ lines
   pub first : slice_split is_comma line_bytes ≡ [] ∷ parts
 
 after_run : (text : List ℕ) → AfterRun (drop (prefix_len is_inside text) text)
@@ -106,25 +107,25 @@ after_run (x ∷ text) =
     (λ no. subst (λ n. AfterRun (drop n (x ∷ text))) (sym (cond-false (is_inside x) (1 + prefix_len is_inside text) 0 no)) (at_separator x text (not-false _ no)))
     (cases_Bool (is_inside x))
   where
-    at_separator : (x : ℕ) (text : List ℕ) → (ends_line x || is_comma x) ≡ true → AfterRun (x ∷ text)
+    at_separator : (x : ℕ) (text : List ℕ) → (is_line_end x || is_comma x) ≡ true → AfterRun (x ∷ text)
     at_separator x text is =
-        let rest = first_part ends_line text in
+        let rest = first_part is_line_end text in
         ⊎_elim
-        (λ yes. record { line_bytes = []; lines = slice_split ends_line text; parts = []; splits = cond-true _ _ _ yes; first = refl })
+        (λ yes. record { line_bytes = []; lines = slice_split is_line_end text; parts = []; splits = cond-true _ _ _ yes; first = refl })
         (λ no. record {
           line_bytes = x ∷ rest.0;
           lines = rest.1;
           parts = slice_split is_comma rest.0;
           splits = cond-false _ _ _ no ∙ ap (onto_first x) rest.2;
-          first = cond-true _ _ _ (⊎_elim (λ yes. absurd (both_ways _ no yes)) (λ comma. comma) (or_cases (ends_line x) (is_comma x) is));
+          first = cond-true _ _ _ (⊎_elim (λ yes. absurd (both_ways _ no yes)) (λ comma. comma) (or_cases (is_line_end x) (is_comma x) is));
         })
-        (cases_Bool (ends_line x))
+        (cases_Bool (is_line_end x))
 
 module _ (text : List ℕ) (line place : ℕ) (within : place < length text) where
   rest_is : drop place text ≡ get_or text place 0 ∷ drop (place + 1) text
   rest_is = drop_more text place 0 within
 
-  pub pieces_at_line_end : ends_line (get_or text place 0) ≡ true → pieces_from line place (drop place text) ≡ pieces_from (line + 1) (place + 1) (drop (place + 1) text)
+  pub pieces_at_line_end : is_line_end (get_or text place 0) ≡ true → pieces_from line place (drop place text) ≡ pieces_from (line + 1) (place + 1) (drop (place + 1) text)
   pieces_at_line_end is =
       ap (pieces_from line place) (rest_is ∙ ap (λ x. x ∷ drop (place + 1) text) (eqb-true _ _ is)) ∙ pieces_after_line line place (drop (place + 1) text)
 

@@ -5,20 +5,21 @@ use Rattle.std.specs.Int.Signed.{non_neg}
 use Rattle.std.specs.Prelude.{ℤ, pos, negsuc, unsigned_abs}
 use Rattle.std.proofs.lemmas.Bool.{and_parts, not-true}
 use Rattle.std.proofs.lemmas.Int.{to_z_pos}
-use Rattle.smap_mappings.specs.Accepted.{in_range, all_in_range}
+use Rattle.smap_mappings.specs.Limits.{limit}
 use Rattle.smap_mappings.specs.Mappings.{RunningValues, natural}
+use Rattle.smap_mappings.specs.Accepted.{is_in_range, are_in_range}
 
-pub in_range_natural : (z : ℤ) → in_range z ≡ true → (z ≡ pos (natural z)) × (natural z ≤ 2147483647)
-in_range_natural (pos n) is = (refl, ltb-false 2147483647 n (not-true _ (and_parts _ _ is).1))
+pub in_range_natural : (z : ℤ) → is_in_range z ≡ true → (z ≡ pos (natural z)) × (natural z ≤ limit)
+in_range_natural (pos n) is = (refl, ltb-false limit n (not-true _ (and_parts _ _ is).1))
 in_range_natural (negsuc n) is = absurd (cc)
 
-pub cast_is : (z : ℤ) → in_range z ≡ true → pos (unsigned_abs (to_z w64 (of_z w64 z))) ≡ z
+pub cast_is : (z : ℤ) → is_in_range z ≡ true → pos (unsigned_abs (to_z w64 (of_z w64 z))) ≡ z
 cast_is z is =
     let n = in_range_natural z is in
     let fits : natural z < 9223372036854775808 = omega (arith, n.1) in
     ap (λ x. pos (unsigned_abs (to_z w64 (of_z w64 x)))) n.0 ∙ ap (λ x. pos (unsigned_abs x)) (to_z_pos w64 (natural z) fits) ∙ sym n.0
 
-pub cast_fits : (z : ℤ) → in_range z ≡ true → T (non_neg (to_z w64 (of_z w64 z))) × Fits w32 (unsigned_abs (to_z w64 (of_z w64 z)))
+pub cast_fits : (z : ℤ) → is_in_range z ≡ true → T (non_neg (to_z w64 (of_z w64 z))) × Fits w32 (unsigned_abs (to_z w64 (of_z w64 z)))
 cast_fits z is =
     let n = in_range_natural z is in
     let below : natural z < 9223372036854775808 = omega (arith, n.1) in
@@ -27,13 +28,13 @@ cast_fits z is =
 
 -- the five values of some that are all in range
 pub record InRange (values : RunningValues) : Type 0 where
-  pub column : in_range values.column ≡ true
-  pub source : in_range values.source ≡ true
-  pub original_line : in_range values.original_line ≡ true
-  pub original_column : in_range values.original_column ≡ true
-  pub name : in_range values.name ≡ true
+  pub column : is_in_range values.column ≡ true
+  pub source : is_in_range values.source ≡ true
+  pub original_line : is_in_range values.original_line ≡ true
+  pub original_column : is_in_range values.original_column ≡ true
+  pub name : is_in_range values.name ≡ true
 
-pub each_in_range : (values : RunningValues) → all_in_range values ≡ true → InRange values
+pub each_in_range : (values : RunningValues) → are_in_range values ≡ true → InRange values
 each_in_range values is =
     let a = and_parts _ _ is in
     let b = and_parts _ _ a.0 in

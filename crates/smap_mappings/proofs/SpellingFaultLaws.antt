@@ -1,37 +1,36 @@
 -- A segment's bytes without a bad digit, whose last digit ends a number, are numbers one after another.
-use Rattle.std.proofs.Common.{◌≡◌, ℕ, ◌+◌, ◌-◌, ◌/◌, ◌<◌, ◌≤◌, suc, zero, Bool, true, false, not, ◌||◌, cond, eqb, List, [], ◌∷◌, length, get_or, take, drop, Option, Some, None, refl, sym, ap, subst, ◌∙◌, arith, one-add, take-append-drop, length-drop, length-take-le, ⊎_elim, unwrap_or}
-use Rattle.std.specs.Prelude.{ℤ, slice_range}
-use Rattle.std.proofs.lemmas.List.{drop_more, drop-drop}
+use Rattle.std.proofs.Common.{◌≡◌, ℕ, ◌<◌, suc, Bool, true, false, not, ◌||◌, cond, eqb, List, [], ◌∷◌, length, take, drop, Option, Some, None, refl, sym, ap, subst, ◌∙◌, arith, one-add, take-append-drop, ⊎_elim, unwrap_or}
+use Rattle.std.specs.Prelude.{ℤ}
 use Rattle.std.specs.List.{onto_first, prefix_len, list_any, AllByRecursion}
-use Rattle.std.proofs.lemmas.Bool.{cond-true, cond-false, cases_Bool, both_ways, and_from, and_parts, or_parts, or_from, not-true, not-false, not_from_true, not_from_false, ltb-false, leb-true, le-leb, le-ltb, lt-ltb, or_left}
+use Rattle.std.proofs.lemmas.Bool.{cond-true, cond-false, cases_Bool, both_ways, and_from, and_parts, or_parts, or_from, not-true, not-false, not_from_true, not_from_false}
 use Rattle.std.proofs.lemmas.Option.{cond_some}
-use Rattle.smap_mappings.specs.Vlq.{is_digit, continues, ends, unsigned_of, signed, is_one_number, number_of}
-use Rattle.smap_mappings.specs.Segment.{cuts_of, with_front, numbers_of, fields_of, has_known_length}
-use Rattle.smap_mappings.specs.Spelling.{IsClean, front_at}
-use Rattle.smap_mappings.specs.Faults.{has_bad_digit, is_unended, is_too_long, is_too_large, is_negative_zero, numbers_fault, spelling_fault}
+use Rattle.smap_mappings.specs.Vlq.{is_digit, is_continuing, is_ending, unsigned_of, signed_number, is_one_number, number_of, is_too_long, is_too_large, is_negative_zero}
+use Rattle.smap_mappings.specs.Segment.{cuts_of, list_with_front, numbers_of, fields_of, has_known_length}
+use Rattle.smap_mappings.specs.Faults.{has_bad_digit, is_unended, numbers_fault, spelling_fault}
+use Rattle.smap_mappings.specs.Spelling.{IsClean}
 use Rattle.smap_mappings.specs.declared.fault.FaultKind.{FaultKind}
 use Rattle.smap_mappings.specs.declared.fault.FaultKind.TheVariants.{BadDigit, Unended, TooLong, TooLarge, NegativeZero, FieldCount}
 use Rattle.smap_mappings.proofs.SpelledNumbers.{ends_stops, ends_is_digit, ends_from_stops}
-use Rattle.smap_mappings.proofs.FieldLaws.{cuts-one_number, first_cut}
+use Rattle.smap_mappings.proofs.FieldLaws.{cuts-one_number, first_cut, with_front_parts}
 
 -- ---- the first number of clean bytes
 
 pub record CleanFront (bytes : List ℕ) : Type 0 where
-  pub inside : prefix_len continues bytes < length bytes
-  pub one : is_one_number (take (suc (prefix_len continues bytes)) bytes) ≡ true
-  pub rest : IsClean (drop (suc (prefix_len continues bytes)) bytes)
+  pub inside : prefix_len is_continuing bytes < length bytes
+  pub one : is_one_number (take (suc (prefix_len is_continuing bytes)) bytes) ≡ true
+  pub rest : IsClean (drop (suc (prefix_len is_continuing bytes)) bytes)
 
 is_digit_of_clean : (b : ℕ) (bytes : List ℕ) → IsClean (b ∷ bytes) → is_digit b ≡ true
 is_digit_of_clean b bytes clean = not-false _ (or_parts _ _ clean.digits).0
 
 -- a digit that continues stands before another
-front_at_one : (b : ℕ) (bytes : List ℕ) (n : ℕ) → n ≡ 0 → ends b ≡ true → IsClean bytes → (n < length (b ∷ bytes)) × (is_one_number (take (suc n) (b ∷ bytes)) ≡ true) × IsClean (drop (suc n) (b ∷ bytes))
+front_at_one : (b : ℕ) (bytes : List ℕ) (n : ℕ) → n ≡ 0 → is_ending b ≡ true → IsClean bytes → (n < length (b ∷ bytes)) × (is_one_number (take (suc n) (b ∷ bytes)) ≡ true) × IsClean (drop (suc n) (b ∷ bytes))
 front_at_one b bytes n zero_is is clean = subst (λ k. (k < length (b ∷ bytes)) × (is_one_number (take (suc k) (b ∷ bytes)) ≡ true) × IsClean (drop (suc k) (b ∷ bytes))) (sym zero_is) (omega arith, is, clean)
 
 pub clean_front : (b : ℕ) (bytes : List ℕ) → IsClean (b ∷ bytes) → CleanFront (b ∷ bytes)
 clean_front b [] clean =
-    let stops : continues b ≡ false = clean.ended in
-    let front : prefix_len continues (b ∷ []) ≡ 0 = cond-false _ _ _ stops in
+    let stops : is_continuing b ≡ false = clean.ended in
+    let front : prefix_len is_continuing (b ∷ []) ≡ 0 = cond-false _ _ _ stops in
     let here = front_at_one b [] _ front (ends_from_stops b (is_digit_of_clean b [] clean) stops) (record { digits = refl; ended = refl }) in
     record { inside = here.0; one = here.1; rest = here.2 }
 clean_front b (c ∷ bytes) clean =
@@ -39,22 +38,22 @@ clean_front b (c ∷ bytes) clean =
     ⊎_elim
     (λ on.
     let more : CleanFront (c ∷ bytes) = clean_front c bytes rest in
-    let front : prefix_len continues (b ∷ c ∷ bytes) ≡ suc (prefix_len continues (c ∷ bytes)) = cond-true _ _ _ on ∙ one-add (prefix_len continues (c ∷ bytes)) in
+    let front : prefix_len is_continuing (b ∷ c ∷ bytes) ≡ suc (prefix_len is_continuing (c ∷ bytes)) = cond-true _ _ _ on ∙ one-add (prefix_len is_continuing (c ∷ bytes)) in
     record {
       inside = omega (arith, front, more.inside);
       one = ap (λ n. is_one_number (take (suc n) (b ∷ c ∷ bytes))) front ∙ and_from _ _ on more.one;
       rest = subst (λ n. IsClean (drop (suc n) (b ∷ c ∷ bytes))) (sym front) more.rest;
     })
     (λ stops.
-    let front : prefix_len continues (b ∷ c ∷ bytes) ≡ 0 = cond-false _ _ _ stops in
+    let front : prefix_len is_continuing (b ∷ c ∷ bytes) ≡ 0 = cond-false _ _ _ stops in
     let here = front_at_one b (c ∷ bytes) _ front (ends_from_stops b (is_digit_of_clean b (c ∷ bytes) clean) stops) rest in
     record { inside = here.0; one = here.1; rest = here.2 })
-    (cases_Bool (continues b))
+    (cases_Bool (is_continuing b))
 
 -- the numbers of clean bytes: the first, and those of the bytes behind it
-pub clean_cuts : (bytes : List ℕ) → CleanFront bytes → cuts_of bytes ≡ take (suc (prefix_len continues bytes)) bytes ∷ cuts_of (drop (suc (prefix_len continues bytes)) bytes)
+pub clean_cuts : (bytes : List ℕ) → CleanFront bytes → cuts_of bytes ≡ take (suc (prefix_len is_continuing bytes)) bytes ∷ cuts_of (drop (suc (prefix_len is_continuing bytes)) bytes)
 clean_cuts bytes front =
-    let n = suc (prefix_len continues bytes) in
+    let n = suc (prefix_len is_continuing bytes) in
     ap cuts_of (sym (take-append-drop n bytes)) ∙ cuts-one_number (take n bytes) (drop n bytes) front.one
 
 -- ---- clean bytes and numbers
@@ -63,17 +62,17 @@ abbrev pub AllOne : List (List ℕ) → Type 0
 AllOne numbers = AllByRecursion (λ number. is_one_number number ≡ true) numbers
 
 -- a digit before a number that is longer than nothing is a longer number
-longer_number : (b : ℕ) (number : List ℕ) → continues b ≡ true → is_one_number number ≡ true → is_one_number (b ∷ number) ≡ true
+longer_number : (b : ℕ) (number : List ℕ) → is_continuing b ≡ true → is_one_number number ≡ true → is_one_number (b ∷ number) ≡ true
 longer_number b [] on one = absurd (cc)
 longer_number b (c ∷ number) on one = and_from _ _ on one
 
-continues_from_not_ends : (b : ℕ) → is_digit b ≡ true → ends b ≡ false → continues b ≡ true
-continues_from_not_ends b is not_last = ⊎_elim (λ on. on) (λ stops. absurd (both_ways _ not_last (ends_from_stops b is stops))) (cases_Bool (continues b))
+continues_from_not_ends : (b : ℕ) → is_digit b ≡ true → is_ending b ≡ false → is_continuing b ≡ true
+continues_from_not_ends b is not_last = ⊎_elim (λ on. on) (λ stops. absurd (both_ways _ not_last (ends_from_stops b is stops))) (cases_Bool (is_continuing b))
 
 pub clean_all_one : (bytes : List ℕ) → IsClean bytes → AllOne (cuts_of bytes)
 clean_all_one [] clean = tt
 clean_all_one (b ∷ []) clean =
-    let last : ends b ≡ true = ends_from_stops b (is_digit_of_clean b [] clean) clean.ended in
+    let last : is_ending b ≡ true = ends_from_stops b (is_digit_of_clean b [] clean) clean.ended in
     subst AllOne (sym (cond-true _ _ _ last)) (last, tt)
 clean_all_one (b ∷ c ∷ bytes) clean =
     let more = clean_all_one (c ∷ bytes) (record { digits = (or_parts _ _ clean.digits).1; ended = clean.ended }) in
@@ -83,10 +82,10 @@ clean_all_one (b ∷ c ∷ bytes) clean =
     (λ no.
     let ones : AllOne (first.cut ∷ first.cuts) = subst AllOne first.is more in
     subst AllOne (sym (cond-false _ _ _ no ∙ ap (onto_first b) first.is)) (longer_number b first.cut (continues_from_not_ends b (is_digit_of_clean b (c ∷ bytes) clean) no) ones.0, ones.1))
-    (cases_Bool (ends b))
+    (cases_Bool (is_ending b))
 
 -- the digit before a number that is one with it
-shorter_number : (b : ℕ) (number : List ℕ) → ends b ≡ false → is_one_number (b ∷ number) ≡ true → (continues b ≡ true) × (is_one_number number ≡ true)
+shorter_number : (b : ℕ) (number : List ℕ) → is_ending b ≡ false → is_one_number (b ∷ number) ≡ true → (is_continuing b ≡ true) × (is_one_number number ≡ true)
 shorter_number b [] not_last one = absurd (both_ways _ not_last one)
 shorter_number b (c ∷ number) not_last one = and_parts _ _ one
 
@@ -99,7 +98,7 @@ all_one_clean (b ∷ []) all =
     ⊎_elim
     (λ yes. record { digits = clean_from b [] (ends_is_digit b yes) refl; ended = ends_stops b yes })
     (λ no. absurd (both_ways _ no (let ones : AllOne ((b ∷ []) ∷ []) = subst AllOne (cond-false _ _ _ no) all in ones.0)))
-    (cases_Bool (ends b))
+    (cases_Bool (is_ending b))
 all_one_clean (b ∷ c ∷ bytes) all =
     let first = first_cut c bytes in
     ⊎_elim
@@ -112,7 +111,7 @@ all_one_clean (b ∷ c ∷ bytes) all =
     let parts = shorter_number b first.cut no ones.0 in
     let more = all_one_clean (c ∷ bytes) (subst AllOne (sym first.is) (parts.1, ones.1)) in
     record { digits = clean_from b (c ∷ bytes) (and_parts _ _ parts.0).0 more.digits; ended = more.ended })
-    (cases_Bool (ends b))
+    (cases_Bool (is_ending b))
 
 -- ---- numbers with no fault have values
 
@@ -121,10 +120,10 @@ pub record NoNumberFault (numbers : List (List ℕ)) : Type 0 where
   pub small : list_any is_too_large numbers ≡ false
   pub not_zero : list_any is_negative_zero numbers ≡ false
 
-number_value : (number : List ℕ) → is_one_number number ≡ true → is_too_long number ≡ false → is_too_large number ≡ false → is_negative_zero number ≡ false → number_of number ≡ Some (signed (unsigned_of number))
+number_value : (number : List ℕ) → is_one_number number ≡ true → is_too_long number ≡ false → is_too_large number ≡ false → is_negative_zero number ≡ false → number_of number ≡ Some (signed_number (unsigned_of number))
 unfolding number_of
 number_value number one short small not_zero =
-    cond-true _ _ _ (and_from _ _ (and_from _ _ (and_from _ _ one (le-leb _ 7 (ltb-false 7 (length number) short))) (le-leb _ 2147483647 (ltb-false 2147483647 (unsigned_of number / 2) small))) (not_from_false _ not_zero))
+    cond-true _ _ _ (and_from _ _ (and_from _ _ (and_from _ _ one (not_from_false _ short)) (not_from_false _ small)) (not_from_false _ not_zero))
 
 value_number : (number : List ℕ) (n : ℤ) → number_of number ≡ Some n → ((is_one_number number ≡ true) × (is_too_long number ≡ false)) × ((is_too_large number ≡ false) × (is_negative_zero number ≡ false))
 unfolding number_of
@@ -132,7 +131,7 @@ value_number number n is =
     let a = and_parts _ _ (cond_some _ _ _ is).0 in
     let b = and_parts _ _ a.0 in
     let c = and_parts _ _ b.0 in
-    ((c.0, le-ltb 7 (length number) (leb-true (length number) 7 c.1)), (le-ltb 2147483647 (unsigned_of number / 2) (leb-true (unsigned_of number / 2) 2147483647 b.1), not-true _ a.1))
+    ((c.0, not-true _ c.1), (not-true _ b.1, not-true _ a.1))
 
 pub numbers_value : (numbers : List (List ℕ)) → AllOne numbers → NoNumberFault numbers → (ns : List ℤ) × (numbers_of numbers ≡ Some ns) × (length ns ≡ length numbers)
 numbers_value [] all none = ([], refl, refl)
@@ -142,12 +141,7 @@ numbers_value (number ∷ numbers) all none =
     let not_zero = or_parts _ _ none.not_zero in
     let more = numbers_value numbers all.1 (record { short = short.1; small = small.1; not_zero = not_zero.1 }) in
     let here = number_value number all.0 short.0 small.0 not_zero.0 in
-    (signed (unsigned_of number) ∷ more.0, (λ i. with_front (here i) (more.1 i)), ap suc more.2)
-
-with_front_parts : (first : Option ℤ) (others : Option (List ℤ)) (ns : List ℤ) → with_front first others ≡ Some ns → (n : ℤ) × (ms : List ℤ) × (first ≡ Some n) × (others ≡ Some ms) × (ns ≡ n ∷ ms)
-with_front_parts None others ns is = absurd (cc)
-with_front_parts (Some n) None ns is = absurd (cc)
-with_front_parts (Some n) (Some ms) ns is = (n, ms, refl, refl, sym (let e : n ∷ ms ≡ ns = cc in e))
+    (signed_number (unsigned_of number) ∷ more.0, (λ i. list_with_front (here i) (more.1 i)), ap suc more.2)
 
 pub value_numbers : (numbers : List (List ℕ)) (ns : List ℤ) → numbers_of numbers ≡ Some ns → AllOne numbers × NoNumberFault numbers × (length ns ≡ length numbers)
 value_numbers [] ns is = (tt, record { short = refl; small = refl; not_zero = refl }, ap length (let e : ns ≡ [] = cc in e))
@@ -189,56 +183,3 @@ known_spelled bytes known = at_fields (numbers_of (cuts_of bytes)) refl
         let clean = all_one_clean bytes parts.0 in
         let count : not (has_known_length (cuts_of bytes)) ≡ false = not_from_true _ (same_length (cuts_of bytes) ns (sym parts.2) ∙ ap (λ o. has_known_length (unwrap_or o [])) (sym is) ∙ known) in
         cond-false _ _ _ clean.digits ∙ cond-false _ _ _ clean.ended ∙ cond-false _ _ _ parts.1.short ∙ cond-false _ _ _ parts.1.small ∙ cond-false _ _ _ parts.1.not_zero ∙ cond-false _ _ _ count
-
--- ---- what the code's loops ask
-
--- the last byte decides whether the segment is ended
-pub unended_last : (bytes : List ℕ) (n : ℕ) → length bytes ≡ suc n → is_unended bytes ≡ continues (get_or bytes n 0)
-unended_last [] n is = absurd (cc)
-unended_last (b ∷ []) n is = let is_zero : 0 ≡ n = omega arith in ap (λ i. continues (get_or (b ∷ []) i 0)) is_zero
-unended_last (b ∷ c ∷ bytes) zero is = absurd (omega arith)
-unended_last (b ∷ c ∷ bytes) (suc n) is = unended_last (c ∷ bytes) n (omega arith)
-
--- the number that begins at a place of a clean segment
-pub record NumberAt (segment : List ℕ) (place : ℕ) : Type 0 where
-  pub inside : place + front_at segment place < length segment
-  pub cuts : cuts_of (drop place segment) ≡ slice_range segment place (place + front_at segment place + 1) ∷ cuts_of (drop (place + front_at segment place + 1) segment)
-  pub counted : length (slice_range segment place (place + front_at segment place + 1)) ≡ front_at segment place + 1
-  pub rest : IsClean (drop (place + front_at segment place + 1) segment)
-
-pub number_at_place : (segment : List ℕ) (place : ℕ) → place < length segment → IsClean (drop place segment) → NumberAt segment place
-number_at_place segment place within clean =
-    let is = drop_more segment place 0 within in
-    let front : CleanFront (drop place segment) = subst CleanFront (sym is) (clean_front (get_or segment place 0) (drop (place + 1) segment) (subst IsClean is clean)) in
-    let n = front_at segment place in
-    let next : place + suc n ≡ place + n + 1 = omega arith in
-    let behind : drop (suc n) (drop place segment) ≡ drop (place + n + 1) segment = drop-drop (suc n) place segment ∙ ap (λ i. drop i segment) next in
-    let long : place + n + 1 - place ≡ suc n = omega arith in
-    let cut : take (suc n) (drop place segment) ≡ slice_range segment place (place + n + 1) = ap (λ k. take k (drop place segment)) (sym long) in
-    record {
-      inside = omega (arith, front.inside, length-drop place segment);
-      cuts = clean_cuts (drop place segment) front ∙ (λ i. cut i ∷ cuts_of (behind i));
-      counted = length-take-le (place + n + 1 - place) (drop place segment) (omega (arith, front.inside)) ∙ (omega arith);
-      rest = subst IsClean behind front.rest;
-    }
-
-module _ (segment : List ℕ) (place : ℕ) (number : NumberAt segment place) where
-  -- a test of the numbers from the place on is a test of the first and of the others
-  pub any_number : (p : List ℕ → Bool) → list_any p (cuts_of (drop place segment)) ≡ (p (slice_range segment place (place + front_at segment place + 1)) || list_any p (cuts_of (drop (place + front_at segment place + 1) segment)))
-  any_number p = ap (list_any p) number.cuts
-
-  pub long_first : 7 < front_at segment place + 1 → list_any is_too_long (cuts_of (drop place segment)) ≡ true
-  long_first long = any_number is_too_long ∙ or_left _ _ (lt-ltb 7 (length (slice_range segment place (place + front_at segment place + 1))) (omega (arith, number.counted)))
-
-  pub long_next : front_at segment place + 1 ≤ 7 → list_any is_too_long (cuts_of (drop place segment)) ≡ list_any is_too_long (cuts_of (drop (place + front_at segment place + 1) segment))
-  long_next short = any_number is_too_long ∙ ap (λ b. b || list_any is_too_long (cuts_of (drop (place + front_at segment place + 1) segment))) (le-ltb 7 (length (slice_range segment place (place + front_at segment place + 1))) (omega (arith, number.counted)))
-
-  -- where no number is too long, this one isn't, and the others aren't
-  pub short_number : list_any is_too_long (cuts_of (drop place segment)) ≡ false → front_at segment place + 1 ≤ 7
-  short_number none = let parts = or_parts _ _ (sym (any_number is_too_long) ∙ none) in omega (arith, number.counted, ltb-false 7 (length (slice_range segment place (place + front_at segment place + 1))) parts.0)
-
-  pub short_others : list_any is_too_long (cuts_of (drop place segment)) ≡ false → list_any is_too_long (cuts_of (drop (place + front_at segment place + 1) segment)) ≡ false
-  short_others none = (or_parts _ _ (sym (any_number is_too_long) ∙ none)).1
-
-  pub count_numbers : length (cuts_of (drop place segment)) ≡ suc (length (cuts_of (drop (place + front_at segment place + 1) segment)))
-  count_numbers = ap length number.cuts

@@ -4,14 +4,14 @@ use Rattle.std.proofs.Common.{◌≡◌, ℕ, ◌+◌, ◌<◌, ◌≤◌, suc, 
 use Rattle.std.specs.Prelude.{ℤ, pos}
 use Rattle.std.specs.List.{AllByRecursion, slice_get}
 use Rattle.std.proofs.lemmas.List.{drop-map, append-nil, append_assoc}
-use Rattle.smap_mappings.specs.Pieces.{ends_line, is_comma, is_inside, piece_on, piece_at, pieces_from, pieces_of}
-use Rattle.smap_mappings.specs.Mappings.{Move, RunningValues, move_of, moves_of, values_on, moved, natural, origin_in, mapping_after, mappings_after, mappings_of}
 use Rattle.smap_mappings.specs.Segment.{has_known_length}
-use Rattle.smap_mappings.specs.Reading.{known_fields, fields_in, origin_fields, name_fields, move_in, ReadsSegment}
+use Rattle.smap_mappings.specs.Pieces.{is_line_end, is_comma, piece_on, pieces_from, pieces_of}
+use Rattle.smap_mappings.specs.Mappings.{Move, RunningValues, move_of, moves_of, values_on, natural, origin_in, mapping_after, mappings_after, mappings_of}
+use Rattle.smap_mappings.specs.Faults.{spelling_fault, move_fault, first_kind, segment_fault, fault_or, first_fault_after}
 use Rattle.smap_mappings.specs.State.{values_at, IsAfter}
-use Rattle.smap_mappings.specs.Advance.{sums_fault, Advances}
-use Rattle.smap_mappings.specs.Faults.{spelling_fault, move_fault, first_of, segment_fault, fault_or, first_fault_after}
-use Rattle.smap_mappings.specs.Step.{fault_from, fault_at, Steps, name_of, origin_of, mapping_in}
+use Rattle.smap_mappings.specs.Reading.{is_inside, piece_at, known_fields, fields_in, origin_fields, name_fields, move_in, IsSegmentAt}
+use Rattle.smap_mappings.specs.Advance.{values_behind, sums_fault, IsBehind}
+use Rattle.smap_mappings.specs.Step.{fault_from, fault_at, IsStep, name_behind, origin_behind, mapping_in}
 use Rattle.smap_mappings.specs.declared.cursor.Cursor.{Cursor}
 use Rattle.smap_mappings.specs.declared.fault.FaultKind.{FaultKind}
 use Rattle.smap_mappings.specs.declared.segment.Segment.{Segment}
@@ -64,11 +64,11 @@ mapping_at_place before (m ∷ moves) (suc j) move is =
     mapping_at_place (before ++ m ∷ []) moves j move is ∙ ap (λ ms. Some (mapping_after ms move)) (append_assoc before (m ∷ []) (take j moves))
 
 origin_named : (column source line original_column : ℤ) (name : Option ℤ) (cursor : Cursor) → origin_in (column ∷ source ∷ line ∷ original_column ∷ name_fields name) (values_at cursor)
-    ≡ Some (record { source = cursor.source; line = cursor.original_line; column = cursor.original_column; name = name_of name cursor })
+    ≡ Some (record { source = cursor.source; line = cursor.original_line; column = cursor.original_column; name = name_behind name cursor })
 origin_named column source line original_column None cursor = refl
 origin_named column source line original_column (Some name) cursor = refl
 
-origin_same : (column : ℤ) (origin : Option OriginFields) (cursor : Cursor) → origin_in (column ∷ origin_fields origin) (values_at cursor) ≡ origin_of origin cursor
+origin_same : (column : ℤ) (origin : Option OriginFields) (cursor : Cursor) → origin_in (column ∷ origin_fields origin) (values_at cursor) ≡ origin_behind origin cursor
 origin_same column None cursor = refl
 origin_same column (Some o) cursor = origin_named column o.source o.line o.column o.name cursor
 
@@ -84,35 +84,35 @@ all_push : {X : Type 0} (P : X → Type 0) (xs : List X) (x : X) → AllByRecurs
 all_push P [] x all here = (here, tt)
 all_push P (y ∷ xs) x all here = (all.0, all_push P xs x all.1 here)
 
-module _ (text : List ℕ) (j : ℕ) (cursor : Cursor) (segment : Segment) (end : ℕ) (after : IsAfter text j cursor) (within : cursor.place < length text) (inside : is_inside (get_or text cursor.place 0) ≡ true) (reads : ReadsSegment text cursor.place segment end) where
+module _ (text : List ℕ) (j : ℕ) (cursor : Cursor) (segment : Segment) (end : ℕ) (after : IsAfter text j cursor) (within : cursor.place < length text) (inside : is_inside (get_or text cursor.place 0) ≡ true) (reads : IsSegmentAt text cursor.place segment end) where
   read_move : AtSegment text j cursor (move_in cursor.line segment)
   read_move =
       let move_is : record { line = cursor.line; fields = known_fields text cursor.place } ≡ move_in cursor.line segment = ap (λ fields. record { line = cursor.line; fields = unwrap_or fields [] }) reads.fields in
       subst (AtSegment text j cursor) move_is (at_segment text j cursor after within inside)
 
   -- the running values behind the segment
-  values_behind : values_on cursor.line (take j (moves_of text) ++ move_in cursor.line segment ∷ []) ≡ moved (values_at cursor) (move_in cursor.line segment)
-  values_behind = values-push (take j (moves_of text)) (move_in cursor.line segment) ∙ ap (λ values. moved values (move_in cursor.line segment)) (sym after.values)
+  values_after_read : values_on cursor.line (take j (moves_of text) ++ move_in cursor.line segment ∷ []) ≡ values_behind (values_at cursor) (move_in cursor.line segment)
+  values_after_read = values-push (take j (moves_of text)) (move_in cursor.line segment) ∙ ap (λ values. values_behind values (move_in cursor.line segment)) (sym after.values)
 
   -- its spelling has no fault, and the fault of its values is that of the sums
-  read_fault : (sources names : ℕ) → segment_fault sources names (take j (moves_of text)) (piece_on cursor.line (cursor.place, piece_at text cursor.place)) ≡ sums_fault sources names segment (moved (values_at cursor) (move_in cursor.line segment))
+  read_fault : (sources names : ℕ) → segment_fault sources names (take j (moves_of text)) (piece_on cursor.line (cursor.place, piece_at text cursor.place)) ≡ sums_fault sources names segment (values_behind (values_at cursor) (move_in cursor.line segment))
   read_fault sources names =
       let before = take j (moves_of text) in
       let bytes = piece_at text cursor.place in
       let known : has_known_length (known_fields text cursor.place) ≡ true = ap (λ fields. has_known_length (unwrap_or fields [])) reads.fields ∙ known_count segment.column segment.origin in
-      ap (λ first. first_of first (move_fault sources names before (record { line = cursor.line; fields = known_fields text cursor.place }))) (known_spelled bytes known)
+      ap (λ first. first_kind first (move_fault sources names before (record { line = cursor.line; fields = known_fields text cursor.place }))) (known_spelled bytes known)
       ∙ ap (λ fields. move_fault sources names before (record { line = cursor.line; fields = unwrap_or fields [] })) reads.fields
       ∙ move_fault_is sources names cursor.line before segment
-      ∙ ap (sums_fault sources names segment) values_behind
+      ∙ ap (sums_fault sources names segment) values_after_read
 
   -- a segment whose values have no fault leads to its mapping and to the state behind it
-  pub steps_to : (sources names : ℕ) (next : Cursor) → Advances cursor segment end sources names next → Steps text j sources names (mapping_in segment next) next
+  pub steps_to : (sources names : ℕ) (next : Cursor) → IsBehind cursor segment end sources names next → IsStep text j sources names (mapping_in segment next) next
   unfolding mappings_of mapping_after
   steps_to sources names next advances =
       let before = take j (moves_of text) in
       let move = move_in cursor.line segment in
       let seg = read_move in
-      let same : values_on cursor.line (before ++ move ∷ []) ≡ values_at next = values_behind ∙ sym advances.values in
+      let same : values_on cursor.line (before ++ move ∷ []) ≡ values_at next = values_after_read ∙ sym advances.values in
       let place_is : next.place ≡ cursor.place + length (piece_at text cursor.place) = advances.place ∙ reads.ends in
       let none = read_fault sources names ∙ ap (sums_fault sources names segment) (sym advances.values) ∙ advances.allowed in
       record {
@@ -139,7 +139,7 @@ module _ (text : List ℕ) (j : ℕ) (cursor : Cursor) (segment : Segment) (end 
       }
 
   -- and one whose values have a fault has that
-  pub faulty_values : (sources names : ℕ) (kind : FaultKind) → sums_fault sources names segment (moved (values_at cursor) (move_in cursor.line segment)) ≡ Some kind → fault_from text sources names j ≡ Some (fault_at cursor kind)
+  pub faulty_values : (sources names : ℕ) (kind : FaultKind) → sums_fault sources names segment (values_behind (values_at cursor) (move_in cursor.line segment)) ≡ Some kind → fault_from text sources names j ≡ Some (fault_at cursor kind)
   faulty_values sources names kind is =
       fault_from_here text j sources names cursor (at_segment text j cursor after within inside)
       ∙ ap (λ first. fault_or first (piece_on cursor.line (cursor.place, piece_at text cursor.place)) (fault_from text sources names (suc j))) (read_fault sources names ∙ is)
@@ -149,11 +149,11 @@ pub faulty_spelling : (text : List ℕ) (j : ℕ) (cursor : Cursor) (sources nam
 faulty_spelling text j cursor sources names kind after within inside is =
     let piece = piece_on cursor.line (cursor.place, piece_at text cursor.place) in
     fault_from_here text j sources names cursor (at_segment text j cursor after within inside)
-    ∙ ap (λ first. fault_or (first_of first (move_fault sources names (take j (moves_of text)) (move_of piece))) piece (fault_from text sources names (suc j))) is
+    ∙ ap (λ first. fault_or (first_kind first (move_fault sources names (take j (moves_of text)) (move_of piece))) piece (fault_from text sources names (suc j))) is
 
 -- ---- over separators
 
-pub skips_line_end : (text : List ℕ) (j : ℕ) (cursor next : Cursor) → IsAfter text j cursor → cursor.place < length text → ends_line (get_or text cursor.place 0) ≡ true → next ≡ record cursor { line = cursor.line + 1; column = 0; place = cursor.place + 1 } → IsAfter text j next
+pub skips_line_end : (text : List ℕ) (j : ℕ) (cursor next : Cursor) → IsAfter text j cursor → cursor.place < length text → is_line_end (get_or text cursor.place 0) ≡ true → next ≡ record cursor { line = cursor.line + 1; column = 0; place = cursor.place + 1 } → IsAfter text j next
 skips_line_end text j cursor next after within is next_is = subst (IsAfter text j) (sym next_is) (record {
   count = after.count;
   inside = omega arith;

@@ -4,10 +4,11 @@ use Rattle.std.specs.Prelude.{ℤ, pos, int_lt}
 use Rattle.std.specs.List.{list_any}
 use Rattle.std.proofs.lemmas.Bool.{cond-true, cond-false, and_from, and_parts, or_right, or_parts, or_from, not-true, not_from_false, cases_Bool, and_left}
 use Rattle.std.proofs.lemmas.Int.{ints}
+use Rattle.smap_mappings.specs.Limits.{most_indices}
 use Rattle.smap_mappings.specs.Segment.{has_known_length, has_origin, has_name}
-use Rattle.smap_mappings.specs.Mappings.{Move, RunningValues, field, natural, values_on}
-use Rattle.smap_mappings.specs.Accepted.{in_range, all_in_range, accepts}
-use Rattle.smap_mappings.specs.Faults.{is_below, is_past, any_below, any_past, values_fault, move_fault}
+use Rattle.smap_mappings.specs.Mappings.{Move, RunningValues, difference, natural, values_on}
+use Rattle.smap_mappings.specs.Accepted.{is_in_range, are_in_range, is_accepted_behind, is_below_zero, is_past_limit}
+use Rattle.smap_mappings.specs.Faults.{has_value_below_zero, has_value_past_limit, values_fault, move_fault}
 use Rattle.smap_mappings.specs.Reading.{fields_in, move_in}
 use Rattle.smap_mappings.specs.Advance.{sums_fault}
 use Rattle.smap_mappings.specs.declared.fault.FaultKind.{FaultKind}
@@ -23,7 +24,7 @@ none_from_test false kind o is = (refl, is)
 -- ---- in range, or below or past it
 
 -- values of which none is below 0 and none past the limit are in range, and the other way round
-pub in_range_from : (values : RunningValues) → any_below values ≡ false → any_past values ≡ false → InRange values
+pub in_range_from : (values : RunningValues) → has_value_below_zero values ≡ false → has_value_past_limit values ≡ false → InRange values
 in_range_from values below past =
     let b1 = or_parts _ _ below in
     let b2 = or_parts _ _ b1.0 in
@@ -41,28 +42,28 @@ in_range_from values below past =
       name = and_from _ _ (not_from_false _ b1.1) (not_from_false _ p1.1);
     }
 
-all_from_each : (values : RunningValues) → InRange values → all_in_range values ≡ true
+all_from_each : (values : RunningValues) → InRange values → are_in_range values ≡ true
 all_from_each values each = and_from _ _ (and_from _ _ (and_from _ _ (and_from _ _ each.column each.source) each.original_line) each.original_column) each.name
 
-not_below : (z : ℤ) → in_range z ≡ true → is_below z ≡ false
+not_below : (z : ℤ) → is_in_range z ≡ true → is_below_zero z ≡ false
 not_below z is = not-true _ (and_parts _ _ is).0
 
-not_past : (z : ℤ) → in_range z ≡ true → is_past z ≡ false
+not_past : (z : ℤ) → is_in_range z ≡ true → is_past_limit z ≡ false
 not_past z is = not-true _ (and_parts _ _ is).1
 
-none_below : (values : RunningValues) → InRange values → any_below values ≡ false
+none_below : (values : RunningValues) → InRange values → has_value_below_zero values ≡ false
 none_below values each =
     or_from _ _ (or_from _ _ (or_from _ _ (or_from _ _ (not_below values.column each.column) (not_below values.source each.source)) (not_below values.original_line each.original_line)) (not_below values.original_column each.original_column)) (not_below values.name each.name)
 
-none_past : (values : RunningValues) → InRange values → any_past values ≡ false
+none_past : (values : RunningValues) → InRange values → has_value_past_limit values ≡ false
 none_past values each =
     or_from _ _ (or_from _ _ (or_from _ _ (or_from _ _ (not_past values.column each.column) (not_past values.source each.source)) (not_past values.original_line each.original_line)) (not_past values.original_column each.original_column)) (not_past values.name each.name)
 
 -- ---- the parts of no fault
 
 pub record NoFault (sources names : ℕ) (falls : Bool) (fields : List ℤ) (values : RunningValues) : Type 0 where
-  pub below : any_below values ≡ false
-  pub past : any_past values ≡ false
+  pub below : has_value_below_zero values ≡ false
+  pub past : has_value_past_limit values ≡ false
   pub rises : falls ≡ false
   pub source : (has_origin fields && not (int_lt values.source (pos sources))) ≡ false
   pub name : (has_name fields && not (int_lt values.name (pos names))) ≡ false
@@ -104,21 +105,21 @@ both_not true false is = refl
 both_not false q is = refl
 
 module _ (sources names : ℕ) (before : List Move) (move : Move) where
-  pub accepts_from : has_known_length move.fields ≡ true → move_fault sources names before move ≡ None → accepts sources names before move ≡ true
-  unfolding accepts move_fault
+  pub accepts_from : has_known_length move.fields ≡ true → move_fault sources names before move ≡ None → is_accepted_behind sources names before move ≡ true
+  unfolding is_accepted_behind move_fault
   accepts_from known none =
       let values = values_on move.line (before ++ move ∷ []) in
       let earlier = list_any (λ (e : Move). eqb e.line move.line) before in
-      let parts = no_fault_parts sources names (earlier && is_below (field 0 move)) move.fields values none in
+      let parts = no_fault_parts sources names (earlier && is_below_zero (difference 0 move)) move.fields values none in
       and_from _ _ (and_from _ _ (and_from _ _ (and_from _ _ known (all_from_each values (in_range_from values parts.below parts.past))) (either (has_origin move.fields) _ parts.source)) (either (has_name move.fields) _ parts.name))
-      (not_both earlier (is_below (field 0 move)) parts.rises)
+      (not_both earlier (is_below_zero (difference 0 move)) parts.rises)
 
-  pub accepts_known : accepts sources names before move ≡ true → has_known_length move.fields ≡ true
-  unfolding accepts
+  pub accepts_known : is_accepted_behind sources names before move ≡ true → has_known_length move.fields ≡ true
+  unfolding is_accepted_behind
   accepts_known is = (and_parts _ _ (and_parts _ _ (and_parts _ _ (and_parts _ _ is).0).0).0).0
 
-  pub accepts_none : accepts sources names before move ≡ true → move_fault sources names before move ≡ None
-  unfolding accepts move_fault
+  pub accepts_none : is_accepted_behind sources names before move ≡ true → move_fault sources names before move ≡ None
+  unfolding is_accepted_behind move_fault
   accepts_none is =
       let values = values_on move.line (before ++ move ∷ []) in
       let earlier = list_any (λ (e : Move). eqb e.line move.line) before in
@@ -126,20 +127,20 @@ module _ (sources names : ℕ) (before : List Move) (move : Move) where
       let b = and_parts _ _ a.0 in
       let c = and_parts _ _ b.0 in
       let each = each_in_range values (and_parts _ _ c.0).1 in
-      no_fault_from sources names (earlier && is_below (field 0 move)) move.fields values (record {
+      no_fault_from sources names (earlier && is_below_zero (difference 0 move)) move.fields values (record {
         below = none_below values each;
         past = none_past values each;
-        rises = both_not earlier (is_below (field 0 move)) a.1;
+        rises = both_not earlier (is_below_zero (difference 0 move)) a.1;
         source = neither (has_origin move.fields) _ c.1;
         name = neither (has_name move.fields) _ b.1;
       })
 
-below_most : (z : ℤ) → in_range z ≡ true → int_lt z (pos 2147483648) ≡ true
-below_most z ranged = let n = in_range_natural z ranged in ap (λ x. int_lt x (pos 2147483648)) n.0 ∙ lt-ltb _ _ (omega (arith, n.1))
+below_most : (z : ℤ) → is_in_range z ≡ true → int_lt z (pos most_indices) ≡ true
+below_most z ranged = let n = in_range_natural z ranged in ap (λ x. int_lt x (pos most_indices)) n.0 ∙ lt-ltb _ _ (omega (arith, n.1))
 
 -- a value in range is below the greatest number of sources and names, so what is accepted for some is for those
-pub accepted_widest : (sources names : ℕ) (before : List Move) (move : Move) → accepts sources names before move ≡ true → accepts 2147483648 2147483648 before move ≡ true
-unfolding accepts
+pub accepted_widest : (sources names : ℕ) (before : List Move) (move : Move) → is_accepted_behind sources names before move ≡ true → is_accepted_behind most_indices most_indices before move ≡ true
+unfolding is_accepted_behind
 accepted_widest sources names before move is =
     let values = values_on move.line (before ++ move ∷ []) in
     let a = and_parts _ _ is in
@@ -152,7 +153,7 @@ accepted_widest sources names before move is =
 -- ---- the fault that the code looks for
 
 -- the first segment of a line starts from column 0, so its column is below 0 where its first field is
-first_rises : (line : ℕ) (before : List Move) (segment : Segment) → list_any (λ (earlier : Move). eqb earlier.line line) before ≡ false → in_range (values_on line (before ++ move_in line segment ∷ [])).column ≡ true → is_below segment.column ≡ false
+first_rises : (line : ℕ) (before : List Move) (segment : Segment) → list_any (λ (earlier : Move). eqb earlier.line line) before ≡ false → is_in_range (values_on line (before ++ move_in line segment ∷ [])).column ≡ true → is_below_zero segment.column ≡ false
 first_rises line before segment none ranged =
     let pushed = ap (λ (v : RunningValues). v.column) (values-push before (move_in line segment)) in
     let from_zero = column_of_none line before none in
@@ -170,11 +171,11 @@ move_fault_is sources names line before segment =
     (λ not_below. ⊎_elim
     (λ past. cond-false _ _ _ not_below ∙ cond-true _ _ _ past ∙ sym (cond-false _ _ _ not_below ∙ cond-true _ _ _ past))
     (λ not_past. ap (λ falls. values_fault sources names falls (fields_in segment) values) (falls_same (in_range_from values not_below not_past).column))
-    (cases_Bool (any_past values)))
-    (cases_Bool (any_below values))
+    (cases_Bool (has_value_past_limit values)))
+    (cases_Bool (has_value_below_zero values))
   where
-    falls_same : in_range (values_on line (before ++ move_in line segment ∷ [])).column ≡ true → (list_any (λ (earlier : Move). eqb earlier.line line) before && is_below segment.column) ≡ is_below segment.column
+    falls_same : is_in_range (values_on line (before ++ move_in line segment ∷ [])).column ≡ true → (list_any (λ (earlier : Move). eqb earlier.line line) before && is_below_zero segment.column) ≡ is_below_zero segment.column
     falls_same ranged = ⊎_elim
-        (λ some. ap (λ b. b && is_below segment.column) some)
+        (λ some. ap (λ b. b && is_below_zero segment.column) some)
         (λ none. and_left _ _ none ∙ sym (first_rises line before segment none ranged))
         (cases_Bool (list_any (λ (earlier : Move). eqb earlier.line line) before))

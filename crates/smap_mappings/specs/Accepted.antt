@@ -1,41 +1,56 @@
 -- Which texts are accepted, for a number of sources and a number of names (ECMA-426, Mappings structure). Three
 -- rules are this project's own: the column may not fall on a line, no running value may pass 2147483647, and one
 -- faulty segment refuses the whole text.
-use Rattle.std.specs.Prelude.{ℕ, List, [], ◌∷◌, ◌++◌, Bool, true, IsTrue, ◌&&◌, ◌||◌, not, ◌==◌, ℤ, pos, int_lt}
-use Rattle.std.specs.List.{list_any}
+use Rattle.std.specs.Prelude.{ℕ, List, [], ◌∷◌, ◌++◌, Bool, true, IsTrue, ◌&&◌, ◌||◌, not, ℤ, pos, int_lt}
+use Rattle.smap_mappings.specs.Limits.{limit}
 use Rattle.smap_mappings.specs.Segment.{has_known_length, has_origin, has_name}
-use Rattle.smap_mappings.specs.Mappings.{Move, RunningValues, moves_of, field, values_on}
-use Rattle.smap_mappings.specs.declared.TheConstants.{LIMIT}
+use Rattle.smap_mappings.specs.Mappings.{Move, RunningValues, moves_of, has_segment_on, difference, values_on}
 
--- from 0 to the limit, 2147483647
-abbrev pub in_range : ℤ → Bool
-in_range z = not (int_lt z (pos 0)) && not (int_lt (pos LIMIT) z)
+-- ---- the range of a running value, from 0 to the limit
 
-abbrev pub all_in_range : RunningValues → Bool
-all_in_range values =
-    in_range values.column && in_range values.source && in_range values.original_line && in_range values.original_column && in_range values.name
+-- the value is negative
+abbrev pub is_below_zero : ℤ → Bool
+is_below_zero value = int_lt value (pos 0)
+
+-- the value is past the limit
+abbrev pub is_past_limit : ℤ → Bool
+is_past_limit value = int_lt (pos limit) value
+
+-- the value is from 0 to the limit
+abbrev pub is_in_range : ℤ → Bool
+is_in_range value = not (is_below_zero value) && not (is_past_limit value)
+
+-- each of the five values is from 0 to the limit
+abbrev pub are_in_range : RunningValues → Bool
+are_in_range values =
+    is_in_range values.column && is_in_range values.source && is_in_range values.original_line && is_in_range values.original_column && is_in_range values.name
+
+-- ---- segment after segment
 
 -- whether a segment of this line and these fields may leave these values: its source and its name are among those
 -- that there are, and its column doesn't fall where an earlier segment stands on its line
-abbrev pub allows : ℕ → ℕ → Bool → Move → RunningValues → Bool
-allows sources names has_earlier move values =
+abbrev pub is_allowed : ℕ → ℕ → Bool → Move → RunningValues → Bool
+is_allowed sources names has_earlier move values =
     has_known_length move.fields
-    && all_in_range values
+    && are_in_range values
     && (not (has_origin move.fields) || int_lt values.source (pos sources))
     && (not (has_name move.fields) || int_lt values.name (pos names))
-    && (not has_earlier || not (int_lt (field 0 move) (pos 0)))
+    && (not has_earlier || not (is_below_zero (difference 0 move)))
 
 -- whether a segment may stand after these: it has one, four or five fields, and each running value after it is in range
-unfoldable pub accepts : ℕ → ℕ → List Move → Move → Bool
-accepts sources names before move =
-    allows sources names (list_any (λ earlier. earlier.line == move.line) before) move (values_on move.line (before ++ move ∷ []))
+unfoldable pub is_accepted_behind : ℕ → ℕ → List Move → Move → Bool
+is_accepted_behind sources names before move =
+    is_allowed sources names (has_segment_on move.line before) move (values_on move.line (before ++ move ∷ []))
 
-abbrev pub all_accepted : ℕ → ℕ → List Move → List Move → Bool
-all_accepted sources names before [] = true
-all_accepted sources names before (move ∷ moves) = accepts sources names before move && all_accepted sources names (before ++ move ∷ []) moves
+-- each of these segments may stand where it does, after those before
+abbrev pub are_accepted_behind : ℕ → ℕ → List Move → List Move → Bool
+are_accepted_behind sources names before [] = true
+are_accepted_behind sources names before (move ∷ moves) =
+    is_accepted_behind sources names before move && are_accepted_behind sources names (before ++ move ∷ []) moves
 
+-- each segment of the text may stand where it does
 unfoldable pub is_accepted : List ℕ → ℕ → ℕ → Bool
-is_accepted text sources names = all_accepted sources names [] (moves_of text)
+is_accepted text sources names = are_accepted_behind sources names [] (moves_of text)
 
 -- the text is accepted for this number of sources and of names
 abbrev pub IsAccepted : List ℕ → ℕ → ℕ → Type 0

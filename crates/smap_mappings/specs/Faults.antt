@@ -1,37 +1,28 @@
 -- The first faulty segment of a text, and the least kind of fault that holds of it (ECMA-426, Mappings structure).
 -- This project's own are: the column that may not fall, the limit 2147483647, the order of the kinds, and that one
--- faulty segment refuses the whole text. The rules for numbers stand in `Vlq`.
-use Rattle.std.specs.Prelude.{ℕ, ◌/◌, List, [], ◌∷◌, ◌++◌, Option, Some, None, Bool, false, ◌&&◌, ◌||◌, not, ◌==◌, nat_lt, if◌then◌else◌, length, ℤ, pos, int_lt}
+-- faulty segment refuses the whole text. The rules for numbers stand in `Vlq`, the range of values in `Accepted`.
+use Rattle.std.specs.Prelude.{ℕ, List, [], ◌∷◌, ◌++◌, Option, Some, None, Bool, false, ◌&&◌, ◌||◌, not, if◌then◌else◌, ℤ, pos, int_lt}
 use Rattle.std.specs.List.{list_any}
-use Rattle.smap_mappings.specs.Vlq.{is_digit, continues, unsigned_of}
+use Rattle.smap_mappings.specs.Vlq.{is_digit, is_continuing, is_too_long, is_too_large, is_negative_zero}
 use Rattle.smap_mappings.specs.Segment.{cuts_of, has_known_length, has_origin, has_name}
 use Rattle.smap_mappings.specs.Pieces.{Piece, pieces_of}
-use Rattle.smap_mappings.specs.Mappings.{Move, RunningValues, move_of, field, values_on}
+use Rattle.smap_mappings.specs.Mappings.{Move, RunningValues, move_of, has_segment_on, difference, values_on}
+use Rattle.smap_mappings.specs.Accepted.{is_below_zero, is_past_limit}
 use Rattle.smap_mappings.specs.declared.fault.Fault.{Fault}
 use Rattle.smap_mappings.specs.declared.fault.FaultKind.{FaultKind}
 use Rattle.smap_mappings.specs.declared.fault.FaultKind.TheVariants.{BadDigit, Unended, TooLong, TooLarge, NegativeZero, FieldCount, Negative, PastLimit, ColumnFalls, SourceIndex, NameIndex}
-use Rattle.smap_mappings.specs.declared.TheConstants.{LIMIT}
-use Rattle.smap_mappings.specs.declared.vlq.TheConstants.{MOST_DIGITS}
 
 -- ---- how a segment is spelled
 
+-- one of the bytes is no digit
 abbrev pub has_bad_digit : List ℕ → Bool
 has_bad_digit bytes = list_any (λ byte. not (is_digit byte)) bytes
 
 -- the last byte says that another digit follows
 abbrev pub is_unended : List ℕ → Bool
 is_unended [] = false
-is_unended (byte ∷ []) = continues byte
+is_unended (byte ∷ []) = is_continuing byte
 is_unended (byte ∷ next ∷ bytes) = is_unended (next ∷ bytes)
-
-abbrev pub is_too_long : List ℕ → Bool
-is_too_long number = nat_lt MOST_DIGITS (length number)
-
-abbrev pub is_too_large : List ℕ → Bool
-is_too_large number = nat_lt LIMIT (unsigned_of number / 2)
-
-abbrev pub is_negative_zero : List ℕ → Bool
-is_negative_zero number = unsigned_of number == 1
 
 -- the least kind that holds of the segment's numbers, its bytes cut after each digit that ends one
 abbrev pub numbers_fault : List (List ℕ) → Option FaultKind
@@ -42,6 +33,7 @@ numbers_fault numbers =
     else (if not (has_known_length numbers) then Some FieldCount
     else None)))
 
+-- the least kind that holds of how a segment is spelled
 unfoldable pub spelling_fault : List ℕ → Option FaultKind
 spelling_fault bytes =
     if has_bad_digit bytes then Some BadDigit
@@ -50,47 +42,49 @@ spelling_fault bytes =
 
 -- ---- what a segment does to the running values
 
-abbrev pub is_below : ℤ → Bool
-is_below value = int_lt value (pos 0)
+-- one of the five values is negative
+abbrev pub has_value_below_zero : RunningValues → Bool
+has_value_below_zero values =
+    is_below_zero values.column || is_below_zero values.source || is_below_zero values.original_line || is_below_zero values.original_column || is_below_zero values.name
 
-abbrev pub is_past : ℤ → Bool
-is_past value = int_lt (pos LIMIT) value
-
-abbrev pub any_below : RunningValues → Bool
-any_below values = is_below values.column || is_below values.source || is_below values.original_line || is_below values.original_column || is_below values.name
-
-abbrev pub any_past : RunningValues → Bool
-any_past values = is_past values.column || is_past values.source || is_past values.original_line || is_past values.original_column || is_past values.name
+-- one of the five values is past the limit
+abbrev pub has_value_past_limit : RunningValues → Bool
+has_value_past_limit values =
+    is_past_limit values.column || is_past_limit values.source || is_past_limit values.original_line || is_past_limit values.original_column || is_past_limit values.name
 
 -- the least kind that holds of the values that a segment with these fields leaves; its column falls where its first
 -- field is negative, and an earlier segment stands on its line
 abbrev pub values_fault : ℕ → ℕ → Bool → List ℤ → RunningValues → Option FaultKind
 values_fault sources names falls fields values =
-    if any_below values then Some Negative
-    else (if any_past values then Some PastLimit
+    if has_value_below_zero values then Some Negative
+    else (if has_value_past_limit values then Some PastLimit
     else (if falls then Some ColumnFalls
     else (if has_origin fields && not (int_lt values.source (pos sources)) then Some SourceIndex
     else (if has_name fields && not (int_lt values.name (pos names)) then Some NameIndex
     else None))))
 
+-- the least kind that holds of the values after a segment that stands after these
 unfoldable pub move_fault : ℕ → ℕ → List Move → Move → Option FaultKind
 move_fault sources names before move =
-    values_fault sources names (list_any (λ earlier. earlier.line == move.line) before && is_below (field 0 move)) move.fields (values_on move.line (before ++ move ∷ []))
+    values_fault sources names (has_segment_on move.line before && is_below_zero (difference 0 move)) move.fields (values_on move.line (before ++ move ∷ []))
 
 -- ---- the first fault
 
-abbrev pub first_of : Option FaultKind → Option FaultKind → Option FaultKind
-first_of None other = other
-first_of (Some kind) other = Some kind
+-- the first kind, where there is one, and else the other
+abbrev pub first_kind : Option FaultKind → Option FaultKind → Option FaultKind
+first_kind None other = other
+first_kind (Some kind) other = Some kind
 
 -- the least kind that holds of a segment that stands after these
 abbrev pub segment_fault : ℕ → ℕ → List Move → Piece → Option FaultKind
-segment_fault sources names before piece = first_of (spelling_fault piece.bytes) (move_fault sources names before (move_of piece))
+segment_fault sources names before piece = first_kind (spelling_fault piece.bytes) (move_fault sources names before (move_of piece))
 
+-- the piece with this kind of fault, and where it has none, the others' fault
 abbrev pub fault_or : Option FaultKind → Piece → Option Fault → Option Fault
 fault_or None piece others = others
 fault_or (Some kind) piece others = Some (record { byte = piece.place; line = piece.line; kind = kind })
 
+-- the first faulty segment of these pieces, which stand after those before
 abbrev pub first_fault_after : ℕ → ℕ → List Move → List Piece → Option Fault
 first_fault_after sources names before [] = None
 first_fault_after sources names before (piece ∷ pieces) =

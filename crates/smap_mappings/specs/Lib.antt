@@ -1,17 +1,19 @@
+pub mod Limits
 pub mod Base64
 pub mod Vlq
 pub mod Segment
 pub mod Pieces
 pub mod Mappings
 pub mod Accepted
-pub mod Reading
-pub mod State
-pub mod Advance
-pub mod Step
-pub mod Meter
-pub mod PackedText
+pub mod Faults
 pub mod Counts
 pub mod Order
-pub mod Faults
-pub mod Spelling
 pub mod Within
+pub mod State
+pub mod PackedText
+pub mod Meter
+-- of private contracts only
+pub mod Reading
+pub mod Spelling
+pub mod Advance
+pub mod Step

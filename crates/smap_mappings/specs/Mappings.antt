@@ -1,6 +1,7 @@
 -- What the segments of a text say (ECMA-426, Mappings structure): each field is a difference from the field's
 -- value before. The generated column starts from 0 on each line, the other four run over the whole text from 0.
-use Rattle.std.specs.Prelude.{ℕ, List, [], ◌∷◌, ◌++◌, Option, Some, None, ◌==◌, ◌||◌, if◌then◌else◌, map, filter, unwrap_or, slice_get, ℤ, pos, negsuc, ◌+ℤ◌}
+use Rattle.std.specs.Prelude.{ℕ, List, [], ◌∷◌, ◌++◌, Bool, Option, Some, None, ◌==◌, ◌||◌, if◌then◌else◌, map, filter, unwrap_or, slice_get, ℤ, pos, negsuc, ◌+ℤ◌}
+use Rattle.std.specs.List.{list_any}
 use Rattle.smap_mappings.specs.Segment.{fields_of, has_origin, has_name}
 use Rattle.smap_mappings.specs.Pieces.{Piece, pieces_of}
 use Rattle.smap_mappings.specs.declared.mapping.Mapping.{Mapping}
@@ -15,17 +16,24 @@ pub record Move : Type 0 where
 abbrev pub move_of : Piece → Move
 move_of piece = record { line = piece.line; fields = unwrap_or (fields_of piece.bytes) [] }
 
+-- the lines and fields of a text's segments, in order
 unfoldable pub moves_of : List ℕ → List Move
 moves_of text = map move_of (pieces_of text)
 
--- field i, from 0, and 0 where the segment has none; fields behind the first count only where they give an origin
-abbrev pub field : ℕ → Move → ℤ
-field i move = if i == 0 || has_origin move.fields then unwrap_or (slice_get move.fields i) (pos 0) else pos 0
+-- one of these segments stands on this line
+abbrev pub has_segment_on : ℕ → List Move → Bool
+has_segment_on line moves = list_any (λ move. move.line == line) moves
 
+-- field i, from 0, and 0 where the segment has none; fields behind the first count only where they give an origin
+abbrev pub difference : ℕ → Move → ℤ
+difference i move = if i == 0 || has_origin move.fields then unwrap_or (slice_get move.fields i) (pos 0) else pos 0
+
+-- the sum of field i over these segments
 abbrev pub total : ℕ → List Move → ℤ
 total i [] = pos 0
-total i (move ∷ moves) = field i move +ℤ total i moves
+total i (move ∷ moves) = difference i move +ℤ total i moves
 
+-- the value of each field so far
 pub record RunningValues : Type 0 where
   pub column : ℤ
   pub source : ℤ
@@ -43,21 +51,12 @@ values_on line moves = record {
   name = total 4 moves;
 }
 
--- the values after a segment with this move, on its line
-abbrev pub moved : RunningValues → Move → RunningValues
-moved values move = record {
-  column = values.column +ℤ field 0 move;
-  source = values.source +ℤ field 1 move;
-  original_line = values.original_line +ℤ field 2 move;
-  original_column = values.original_column +ℤ field 3 move;
-  name = values.name +ℤ field 4 move;
-}
-
 -- a running value as an index, a line or a column; in an accepted text none is below 0
 abbrev pub natural : ℤ → ℕ
 natural (pos n) = n
 natural (negsuc n) = 0
 
+-- the name index of a segment with these fields, if it has one
 abbrev pub name_in : List ℤ → RunningValues → Option ℕ
 name_in fields values = if has_name fields then Some (natural values.name) else None
 
@@ -74,6 +73,7 @@ mapping_after before move =
     let values = values_on move.line (before ++ move ∷ []) in
     record { line = move.line; column = natural values.column; origin = origin_in move.fields values }
 
+-- the mappings of these segments, which stand after those before
 abbrev pub mappings_after : List Move → List Move → List Mapping
 mappings_after before [] = []
 mappings_after before (move ∷ moves) = mapping_after before move ∷ mappings_after (before ++ move ∷ []) moves

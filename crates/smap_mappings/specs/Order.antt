@@ -1,4 +1,5 @@
--- The order of mappings: by generated line, then by generated column. Equal positions may stand side by side.
+-- The order of mappings (ECMA-426, Mappings structure): by generated line, then by generated column. Equal positions
+-- may stand side by side.
 use Rattle.std.specs.Prelude.{◌≡◌, ◌<◌, ◌≤◌, ◌⊎◌, List, [], ◌∷◌}
 use Rattle.smap_mappings.specs.declared.mapping.Mapping.{Mapping}
 

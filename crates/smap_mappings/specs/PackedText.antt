@@ -1,19 +1,12 @@
--- What every packed text meets.
+-- What every checked text meets, which stays packed (ECMA-426, Mappings structure).
 use Rattle.std.specs.Prelude.{◌≡◌, ℕ, ◌≤◌, List, length}
+use Rattle.smap_mappings.specs.Limits.{most_indices, most_text_bytes}
 use Rattle.smap_mappings.specs.Accepted.{IsAccepted}
 use Rattle.smap_mappings.specs.Counts.{segments_of, used_lines_of}
 
--- how many bytes a text has at most, which is 64 MiB
-abbrev pub most_bytes : ℕ
-most_bytes = 67108864
-
--- how many indices there are, from 0 to the limit
-abbrev pub most_indices : ℕ
-most_indices = 2147483648
-
 -- it is no longer than a text may be, and accepted for as many sources and names as indices can name
 pub record IsPacked (text : List ℕ) : Type 0 where
-  pub short : length text ≤ most_bytes
+  pub short : length text ≤ most_text_bytes
   pub accepted : IsAccepted text most_indices most_indices
 
 -- and these are its counts

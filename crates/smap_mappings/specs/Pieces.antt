@@ -1,8 +1,8 @@
 -- The segments of a mappings text, as pieces of its bytes (ECMA-426, Mappings structure): the text is split at
 -- `;` into generated lines, each line at `,`, and the nonempty pieces are the segments. A line may be empty. That
 -- an empty piece beside a `,` is skipped is this project's own, lenient rule.
-use Rattle.std.specs.Prelude.{ℕ, ◌+◌, List, [], ◌∷◌, ◌++◌, Bool, true, false, ◌||◌, not, ◌==◌, length, map, filter, drop}
-use Rattle.std.specs.List.{slice_split, take_while}
+use Rattle.std.specs.Prelude.{ℕ, ◌+◌, List, [], ◌∷◌, ◌++◌, Bool, true, false, ◌==◌, length, map, filter}
+use Rattle.std.specs.List.{slice_split}
 
 -- a segment's bytes, the generated line on which it stands, from 0, and the place of its first byte in the text
 pub record Piece : Type 0 where
@@ -10,24 +10,24 @@ pub record Piece : Type 0 where
   pub place : ℕ
   pub bytes : List ℕ
 
--- `;` and `,`
-abbrev pub ends_line : ℕ → Bool
-ends_line byte = byte == 59
+-- a `;`
+abbrev pub is_line_end : ℕ → Bool
+is_line_end byte = byte == 59
 
+-- a `,`
 abbrev pub is_comma : ℕ → Bool
 is_comma byte = byte == 44
 
-abbrev pub is_inside : ℕ → Bool
-is_inside byte = not (ends_line byte || is_comma byte)
-
 -- parts of a text that stand one after another with one byte between them, each with its place
-abbrev pub placed_from : ℕ → List (List ℕ) → List (ℕ × List ℕ)
-placed_from place [] = []
-placed_from place (part ∷ parts) = (place, part) ∷ placed_from (place + length part + 1) parts
+abbrev pub parts_from : ℕ → List (List ℕ) → List (ℕ × List ℕ)
+parts_from place [] = []
+parts_from place (part ∷ parts) = (place, part) ∷ parts_from (place + length part + 1) parts
 
+-- a part of a line, given with its place, as a piece on that line
 abbrev pub piece_on : ℕ → ℕ × List ℕ → Piece
 piece_on line part = record { line = line; place = part.0; bytes = part.1 }
 
+-- the part has a byte
 abbrev pub is_nonempty : ℕ × List ℕ → Bool
 is_nonempty (place, []) = false
 is_nonempty (place, byte ∷ bytes) = true
@@ -35,7 +35,7 @@ is_nonempty (place, byte ∷ bytes) = true
 -- the segments of one line, which begins at this place
 unfoldable pub pieces_on : ℕ → ℕ → List ℕ → List Piece
 pieces_on line place bytes =
-    map (piece_on line) (filter is_nonempty (placed_from place (slice_split is_comma bytes)))
+    map (piece_on line) (filter is_nonempty (parts_from place (slice_split is_comma bytes)))
 
 -- the segments of these lines, the first of which has this number and begins at this place
 abbrev pub pieces_of_lines : ℕ → ℕ → List (List ℕ) → List Piece
@@ -44,11 +44,8 @@ pieces_of_lines line place (bytes ∷ lines) = pieces_on line place bytes ++ pie
 
 -- the segments of a text, or of the rest of a text that begins on this line and at this place
 unfoldable pub pieces_from : ℕ → ℕ → List ℕ → List Piece
-pieces_from line place text = pieces_of_lines line place (slice_split ends_line text)
+pieces_from line place text = pieces_of_lines line place (slice_split is_line_end text)
 
+-- the segments of a text
 unfoldable pub pieces_of : List ℕ → List Piece
 pieces_of text = pieces_from 0 0 text
-
--- the bytes from a place on up to the next `;`, the next `,` or the end of the text
-abbrev pub piece_at : List ℕ → ℕ → List ℕ
-piece_at text place = take_while is_inside (drop place text)

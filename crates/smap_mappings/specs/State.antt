@@ -1,10 +1,12 @@
--- A state between two segments of a text: a place, and all running values there.
-use Rattle.std.specs.Prelude.{◌≡◌, ℕ, ◌≤◌, List, length, take, drop, pos}
+-- A state between two segments of a text: a place, and all running values there (ECMA-426, Mappings structure).
+use Rattle.std.specs.Prelude.{◌≡◌, ℕ, ◌+◌, ◌<◌, ◌≤◌, List, Some, length, take, drop, slice_get, pos}
 use Rattle.std.specs.List.{AllByRecursion}
 use Rattle.smap_mappings.specs.Pieces.{pieces_of, pieces_from}
-use Rattle.smap_mappings.specs.Mappings.{Move, RunningValues, moves_of, values_on}
+use Rattle.smap_mappings.specs.Mappings.{Move, RunningValues, moves_of, values_on, mappings_of}
 use Rattle.smap_mappings.specs.declared.cursor.Cursor.{Cursor}
+use Rattle.smap_mappings.specs.declared.mapping.Mapping.{Mapping}
 
+-- the running values of a state
 abbrev pub values_at : Cursor → RunningValues
 values_at cursor = record {
   column = pos cursor.column;
@@ -27,3 +29,9 @@ pub record IsAfter (text : List ℕ) (j : ℕ) (cursor : Cursor) : Type 0 where
 -- the state after some number of segments
 abbrev pub IsBetween : List ℕ → Cursor → Type 0
 IsBetween text cursor = (j : ℕ) × IsAfter text j cursor
+
+-- segment j is there, its mapping is this one, and this is the state behind it
+pub record IsNext (text : List ℕ) (j : ℕ) (mapping : Mapping) (after : Cursor) : Type 0 where
+  pub more : j < length (pieces_of text)
+  pub mapping_is : slice_get (mappings_of text) j ≡ Some mapping
+  pub behind : IsAfter text (j + 1) after

@@ -1,9 +1,9 @@
--- One segment more: what a step from a state gives.
-use Rattle.std.specs.Prelude.{◌≡◌, ℕ, ℤ, ◌+◌, ◌<◌, List, [], ◌∷◌, ◌++◌, Option, Some, None, length, take, drop, slice_get}
+-- Of private contracts only: what a step from a state gives, one segment more.
+use Rattle.std.specs.Prelude.{◌≡◌, ℕ, ℤ, ◌+◌, List, [], ◌∷◌, ◌++◌, Option, Some, None, take, drop}
 use Rattle.smap_mappings.specs.Pieces.{pieces_of}
-use Rattle.smap_mappings.specs.Mappings.{moves_of, mappings_of}
+use Rattle.smap_mappings.specs.Mappings.{moves_of}
 use Rattle.smap_mappings.specs.Faults.{first_fault_after}
-use Rattle.smap_mappings.specs.State.{IsAfter}
+use Rattle.smap_mappings.specs.State.{IsNext}
 use Rattle.smap_mappings.specs.declared.cursor.Cursor.{Cursor}
 use Rattle.smap_mappings.specs.declared.fault.Fault.{Fault}
 use Rattle.smap_mappings.specs.declared.fault.FaultKind.{FaultKind}
@@ -20,27 +20,23 @@ fault_from text sources names j = first_fault_after sources names (take j (moves
 abbrev pub fault_at : Cursor → FaultKind → Fault
 fault_at cursor kind = record { byte = cursor.place; line = cursor.line; kind = kind }
 
--- segment j is there, its mapping is this one, and this is the state behind it
-pub record IsNext (text : List ℕ) (j : ℕ) (mapping : Mapping) (after : Cursor) : Type 0 where
-  pub more : j < length (pieces_of text)
-  pub mapping_is : slice_get (mappings_of text) j ≡ Some mapping
-  pub behind : IsAfter text (j + 1) after
-
 -- segment j has no fault, and stands on the line of the state behind it
-pub record Steps (text : List ℕ) (j sources names : ℕ) (mapping : Mapping) (after : Cursor) : Type 0 where
+pub record IsStep (text : List ℕ) (j sources names : ℕ) (mapping : Mapping) (after : Cursor) : Type 0 where
   pub passes : fault_from text sources names j ≡ fault_from text sources names (j + 1)
   pub next : IsNext text j mapping after
   pub fields : List ℤ
   pub taken : take (j + 1) (moves_of text) ≡ take j (moves_of text) ++ record { line = after.line; fields = fields } ∷ []
 
-abbrev pub name_of : Option ℤ → Cursor → Option ℕ
-name_of None cursor = None
-name_of (Some name) cursor = Some cursor.name
+-- the state's name index, for a segment that has a name
+abbrev pub name_behind : Option ℤ → Cursor → Option ℕ
+name_behind None cursor = None
+name_behind (Some name) cursor = Some cursor.name
 
-abbrev pub origin_of : Option OriginFields → Cursor → Option Origin
-origin_of None cursor = None
-origin_of (Some origin) cursor = Some (record { source = cursor.source; line = cursor.original_line; column = cursor.original_column; name = name_of origin.name cursor })
+-- the state's origin, for a segment that has one
+abbrev pub origin_behind : Option OriginFields → Cursor → Option Origin
+origin_behind None cursor = None
+origin_behind (Some origin) cursor = Some (record { source = cursor.source; line = cursor.original_line; column = cursor.original_column; name = name_behind origin.name cursor })
 
 -- the mapping of a segment, from the state behind it
 abbrev pub mapping_in : Segment → Cursor → Mapping
-mapping_in segment cursor = record { line = cursor.line; column = cursor.column; origin = origin_of segment.origin cursor }
+mapping_in segment cursor = record { line = cursor.line; column = cursor.column; origin = origin_behind segment.origin cursor }

@@ -1,13 +1,13 @@
+//! A state that goes on behind a segment.
 ghost use Rattle.std.specs.Prelude.{◌≡◌, IfOk, IfErr, Some, pos, ◌+ℤ◌};
-ghost use Rattle.smap_mappings.specs.Faults.{any_below, any_past};
-ghost use Rattle.smap_mappings.specs.Mappings.{moved};
-ghost use Rattle.smap_mappings.specs.Reading.{move_in};
+ghost use Rattle.smap_mappings.specs.Faults.{has_value_below_zero, has_value_past_limit};
 ghost use Rattle.smap_mappings.specs.State.{values_at};
-ghost use Rattle.smap_mappings.specs.Advance.{values_in, sums_fault, Advances};
+ghost use Rattle.smap_mappings.specs.Reading.{move_in};
+ghost use Rattle.smap_mappings.specs.Advance.{values_behind, values_in, sums_fault, IsBehind};
 
-use crate::LIMIT;
 use crate::cursor::Cursor;
 use crate::fault::FaultKind;
+use crate::limits::LIMIT;
 use crate::segment::Segment;
 
 // The running values after a segment, before it is known that they are in range.
@@ -20,7 +20,7 @@ struct Sums {
     name: i64,
 }
 
-/// The state behind a segment that ends before the place `end`, or the first kind of fault of the running values.
+// The state behind a segment that ends before the place `end`, or the first kind of fault of the running values.
 #[inline(always)]
 pub fn advance(
     cursor: &Cursor,
@@ -29,8 +29,10 @@ pub fn advance(
     sources: u32,
     names: u32,
 ) -> Result<Cursor, FaultKind>
-    ensures ok { IfOk result (λ after. Advances cursor.now segment.now end sources names after) }
-    ensures err { IfErr result (λ kind. sums_fault sources names segment.now (moved (values_at cursor.now) (move_in cursor.now.line segment.now)) ≡ Some kind) }
+    ensures ok { IfOk result (λ after. IsBehind cursor.now segment.now end sources names after) }
+    ensures err { IfErr result (λ kind.
+        sums_fault sources names segment.now
+        (values_behind (values_at cursor.now) (move_in cursor.now.line segment.now)) ≡ Some kind) }
 {
     let sums = sums_after(cursor, segment);
     match sums.fault(segment, sources, names) {
@@ -49,7 +51,8 @@ pub fn advance(
 
 #[inline(always)]
 fn sums_after(cursor: &Cursor, segment: &Segment) -> Sums
-    ensures { values_in result ≡ moved (values_at cursor.now) (move_in cursor.now.line segment.now) }
+    ensures { values_in result
+        ≡ values_behind (values_at cursor.now) (move_in cursor.now.line segment.now) }
 {
     let column = added(cursor.column, segment.column);
     match segment.origin {
@@ -79,8 +82,8 @@ fn added(value: u32, difference: i32) -> i64
 
 impl Sums {
     #[inline(always)]
-    fn any_below(&self) -> bool
-        ensures { result ≡ any_below (values_in self.now) }
+    fn has_value_below_zero(&self) -> bool
+        ensures { result ≡ has_value_below_zero (values_in self.now) }
     {
         // Each test is cheap and seldom holds, so none is skipped.
         (self.column < 0)
@@ -91,8 +94,8 @@ impl Sums {
     }
 
     #[inline(always)]
-    fn any_past(&self) -> bool
-        ensures { result ≡ any_past (values_in self.now) }
+    fn has_value_past_limit(&self) -> bool
+        ensures { result ≡ has_value_past_limit (values_in self.now) }
     {
         let limit = i64::from(LIMIT);
         (self.column > limit)
@@ -107,10 +110,10 @@ impl Sums {
     fn fault(&self, segment: &Segment, sources: u32, names: u32) -> Option<FaultKind>
         ensures { result ≡ sums_fault sources names segment.now (values_in self.now) }
     {
-        if self.any_below() {
+        if self.has_value_below_zero() {
             return Some(FaultKind::Negative);
         }
-        if self.any_past() {
+        if self.has_value_past_limit() {
             return Some(FaultKind::PastLimit);
         }
         // The first segment of a line starts from column 0, so where its first field is negative its column is too.

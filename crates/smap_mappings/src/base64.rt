@@ -1,3 +1,4 @@
+//! Base64 digits (ECMA-426, Base64 VLQ).
 ghost use Rattle.std.specs.Prelude.{◌≡◌};
 ghost use Rattle.smap_mappings.specs.Base64.{digit_of};
 
@@ -19,7 +20,7 @@ const DIGITS: [u8; 256] = [
     64, 64, 64, 64, 64, 64, 64, 64, 64, 64, 64, 64, 64, 64,
 ];
 
-/// The value of a Base64 digit, 0 to 63, and `None` for any other byte (ECMA-426, Base64 VLQ).
+// The value of a Base64 digit, 0 to 63, and `None` for any other byte (ECMA-426, Base64 VLQ).
 pub fn digit(byte: u8) -> Option<u8>
     ensures { result ≡ digit_of byte }
 {

@@ -1,23 +1,26 @@
+//! The pass over a whole text that finds its first fault, or counts it.
 ghost use Rattle.std.specs.Prelude.{◌≡◌, ◌≤◌, ◌==◌, ◌||◌, not, None, Some, length, IfOk, MatchResult};
-ghost use Rattle.smap_mappings.specs.Counts.{segments_of, used_lines_of};
+ghost use Rattle.smap_mappings.specs.Limits.{most_text_bytes};
 ghost use Rattle.smap_mappings.specs.Faults.{first_fault};
-ghost use Rattle.smap_mappings.specs.PackedText.{most_bytes};
+ghost use Rattle.smap_mappings.specs.Counts.{segments_of, used_lines_of};
 
 use crate::cursor::Cursor;
 use crate::fault::Fault;
 use crate::step::{skip_separators, step};
 
-/// How many segments a text has, and how many of its lines hold one.
+// How many segments a text has, and how many of its lines hold one.
 #[derive(Clone, Copy)]
-pub struct Counts {
+pub struct TextCounts {
     pub segments: u64,
     pub used_lines: u64,
 }
 
-/// The counts of a text, or its first faulty segment for this many sources and names.
-pub fn check_segments(bytes: &[u8], sources: u32, names: u32) -> Result<Counts, Fault>
-    requires { length bytes.now ≤ most_bytes }
-    ensures fault { MatchResult result (λ _. first_fault bytes.now sources names ≡ None) (λ fault. first_fault bytes.now sources names ≡ Some fault) }
+// The counts of a text, or its first faulty segment for this many sources and names.
+pub fn check_segments(bytes: &[u8], sources: u32, names: u32) -> Result<TextCounts, Fault>
+    requires { length bytes.now ≤ most_text_bytes }
+    ensures fault { MatchResult result
+        (λ _. first_fault bytes.now sources names ≡ None)
+        (λ fault. first_fault bytes.now sources names ≡ Some fault) }
     ensures segments { IfOk result (λ counts. counts.segments ≡ segments_of bytes.now) }
     ensures used_lines { IfOk result (λ counts. counts.used_lines ≡ used_lines_of bytes.now) }
 {
@@ -27,7 +30,7 @@ pub fn check_segments(bytes: &[u8], sources: u32, names: u32) -> Result<Counts, 
     loop {
         let next = skip_separators(bytes, &at);
         if next.place == bytes.len() {
-            return Ok(Counts {
+            return Ok(TextCounts {
                 segments,
                 used_lines,
             });

@@ -1,6 +1,8 @@
-/// A place between two segments of a text, in bytes from 0, the generated line at that place, from 0, and the
-/// running values there: the generated column is that on this line.
-#[derive(Clone, Copy, Debug, PartialEq, Eq)]
+//! A place in a text with all running values there.
+
+// A place between two segments of a text, in bytes from 0, the generated line at that place, from 0, and the
+// running values there: the generated column is that on this line.
+#[derive(Clone, Copy)]
 pub struct Cursor {
     pub place: usize,
     pub line: u32,
@@ -12,7 +14,7 @@ pub struct Cursor {
 }
 
 impl Cursor {
-    /// The state before the first segment.
+    // The state before the first segment.
     pub const START: Cursor = Cursor {
         place: 0,
         line: 0,

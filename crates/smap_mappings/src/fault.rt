@@ -1,3 +1,5 @@
+//! What is wrong with a text.
+
 /// What is wrong with a segment, in the order in which the kinds are asked: the least that holds is told. A kind from
 /// `FieldCount` on is asked only where every number is spelled right, one from `Negative` on only where the number of
 /// fields is right.

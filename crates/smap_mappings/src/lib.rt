@@ -1,4 +1,14 @@
 //! The `mappings` text of a source map (ECMA-426): checked once, and then read segment by segment where it stands.
+//!
+//! ```
+//! let packed = PackedText::check(text, sources, names)?;
+//! let mut meter = Meter::new(alloc);
+//! let mut state = packed.start();
+//! while let Some((mapping, behind)) = packed.next(&state, &mut meter) {
+//!     // a mapping of line, column and origin
+//!     state = behind;
+//! }
+//! ```
 #![tactic(auto)]
 
 mod advance;
@@ -6,26 +16,21 @@ mod base64;
 mod check;
 mod cursor;
 mod fault;
+pub mod laws;
+mod limits;
 mod mapping;
 mod meter;
+mod packed_text;
 mod segment;
 mod spelling;
 mod state;
 mod step;
-mod text;
 mod vlq;
 
 pub use fault::{Fault, FaultKind};
+pub use limits::{LIMIT, MOST_BYTES, MOST_INDICES};
 pub use mapping::{Mapping, Origin};
 pub use meter::Meter;
+pub use packed_text::{PackedText, TextRefusal};
 pub use state::State;
-pub use text::{MOST_BYTES, PackedText, TextRefusal};
 pub use vlq::{VlqFault, read_vlq};
-
-/// The greatest line, column or index, and the greatest magnitude of a difference.
-pub const LIMIT: u32 = 2147483647;
-
-#[cfg(test)]
-mod tests;
-#[cfg(test)]
-mod vectors;

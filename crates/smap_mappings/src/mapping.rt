@@ -1,3 +1,5 @@
+//! A mapping and its origin.
+
 /// Where a mapping comes from (ECMA-426, Mappings structure). Source index, line, column and name index count
 /// from 0. Columns count in UTF-16 code units.
 #[derive(Clone, Copy, Debug, PartialEq, Eq)]

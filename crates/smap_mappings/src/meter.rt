@@ -1,23 +1,24 @@
+//! What look-ups have cost so far.
 ghost use Rattle.std.specs.Prelude.{◌≡◌, ◌+◌, ◌<◌, ◌↔◌, IsTrue};
 
 use std::alloc::Global;
 use std::marker::Model;
 
-/// How much a meter's counts have to leave free, so that one look-up has room.
+// How much a meter's counts have to leave free, so that one look-up has room.
 const ROOM: u64 = 8192;
 
 /// Counts the steps of look-ups: how many checkpoints they compared, and how many segments they decoded. A meter is
 /// made with an allocator, though it takes no memory, so that a call that is given none can't make a second one.
-#[derive(Debug, Drop)]
+#[derive(Drop)]
 pub struct Meter {
     comparisons: u64,
     segments: u64,
 }
 
 impl Model for Meter {
-    ghost use Rattle.smap_mappings.specs.Meter.{Counts};
+    ghost use Rattle.smap_mappings.specs.Meter.{MeterCounts};
 
-    ghost Value = { Counts };
+    ghost Value = { MeterCounts };
 
     ghost view = { λ m. record { comparisons = m.comparisons; segments = m.segments } };
 }
@@ -57,7 +58,7 @@ impl Meter {
         self.comparisons += 1;
     }
 
-    /// Counts one decoded segment.
+    // Counts one decoded segment.
     pub(crate) fn count_segment(&mut self)
         requires { self.old.segments < u64.MAX }
         ensures { self.new ≡ record self.old { segments = self.old.segments + 1 } }
@@ -72,6 +73,3 @@ impl Meter {
         self.comparisons <= u64::MAX - ROOM && self.segments <= u64::MAX - ROOM
     }
 }
-
-#[cfg(test)]
-mod tests;

@@ -1,18 +1,18 @@
+//! A segment's fields, as they are read.
 ghost use Rattle.std.specs.Prelude.{◌≡◌, ◌<◌, ◌≤◌, ◌↔◌, length, slice_index, IfSome, IfNone, IsTrue, false};
-ghost use Rattle.smap_mappings.specs.Pieces.{is_inside, piece_at};
 ghost use Rattle.smap_mappings.specs.Segment.{has_known_length};
-ghost use Rattle.smap_mappings.specs.Reading.{ReadsField, HasNoField, ReadsSegment, fields_at, known_fields};
+ghost use Rattle.smap_mappings.specs.Reading.{is_inside, piece_at, IsFieldAt, HasNoField, IsSegmentAt, fields_at, known_fields};
 
 use crate::vlq::read_vlq;
 
-/// The differences that a segment states (ECMA-426, Mappings structure).
+// The differences that a segment states (ECMA-426, Mappings structure).
 #[derive(Clone, Copy)]
 pub struct Segment {
     pub column: i32,
     pub origin: Option<OriginFields>,
 }
 
-/// The fields of a segment behind its first.
+// The fields of a segment behind its first.
 #[derive(Clone, Copy)]
 pub struct OriginFields {
     pub source: i32,
@@ -21,7 +21,7 @@ pub struct OriginFields {
     pub name: Option<i32>,
 }
 
-/// Whether a byte is neither `;` nor `,`.
+// Whether a byte is neither `;` nor `,`.
 #[inline(always)]
 pub fn is_inside(byte: u8) -> bool
     ensures { result ≡ is_inside byte }
@@ -40,18 +40,18 @@ fn is_at_end(bytes: &[u8], place: usize) -> bool
 #[inline(always)]
 fn read_field(bytes: &[u8], place: usize) -> Option<(i32, usize)>
     requires { place ≤ length bytes.now }
-    ensures some { IfSome result (λ read. ReadsField bytes.now place read.0 read.1) }
+    ensures some { IfSome result (λ read. IsFieldAt bytes.now place read.0 read.1) }
     ensures none { IfNone result (HasNoField bytes.now place) }
 {
     read_vlq(bytes, place).ok()
 }
 
-/// The segment that begins at a place, and the place behind it; `None` where its bytes spell no fields, or not one,
-/// four or five.
+// The segment that begins at a place, and the place behind it; `None` where its bytes spell no fields, or not one,
+// four or five.
 #[inline(always)]
 pub fn read_segment(bytes: &[u8], place: usize) -> Option<(Segment, usize)>
     requires { place ≤ length bytes.now }
-    ensures some { IfSome result (λ read. ReadsSegment bytes.now place read.0 read.1) }
+    ensures some { IfSome result (λ read. IsSegmentAt bytes.now place read.0 read.1) }
     ensures none { IfNone result (has_known_length (known_fields bytes.now place) ≡ false) }
 {
     let (column, place) = read_field(bytes, place)?;

@@ -1,17 +1,17 @@
-ghost use Rattle.std.specs.Prelude.{◌≡◌, ◌+◌, ◌<◌, ◌≤◌, false, length, slice_range};
-ghost use Rattle.std.specs.List.{list_any};
-ghost use Rattle.smap_mappings.specs.Vlq.{continues, unsigned_of};
+//! Why a segment that can't be read is refused for how it is spelled.
+ghost use Rattle.std.specs.Prelude.{◌≡◌, ◌+◌, ◌<◌, length};
+ghost use Rattle.smap_mappings.specs.Vlq.{is_continuing};
 ghost use Rattle.smap_mappings.specs.Segment.{cuts_of};
-ghost use Rattle.smap_mappings.specs.Faults.{has_bad_digit, is_unended, is_too_long, numbers_fault, spelling_fault};
-ghost use Rattle.smap_mappings.specs.Spelling.{IsClean, front_at};
+ghost use Rattle.smap_mappings.specs.Faults.{has_bad_digit, is_unended, numbers_fault, spelling_fault};
+ghost use Rattle.smap_mappings.specs.Reading.{front_at};
+ghost use Rattle.smap_mappings.specs.Spelling.{IsClean};
 
-use crate::LIMIT;
 use crate::base64::digit;
 use crate::fault::FaultKind;
-use crate::vlq::MOST_DIGITS;
+use crate::vlq::{VlqFault, read_vlq};
 
-/// The least kind of fault that holds of how a segment is spelled, and of how many numbers it has. It is asked only
-/// where the segment could not be read, so each question is a pass of its own.
+// The least kind of fault that holds of how a segment is spelled, and of how many numbers it has. It is asked only
+// where the segment could not be read, so each question is a pass of its own.
 pub fn spelling_fault(segment: &[u8]) -> Option<FaultKind>
     ensures { result ≡ spelling_fault segment.now }
 {
@@ -21,10 +21,7 @@ pub fn spelling_fault(segment: &[u8]) -> Option<FaultKind>
     if is_unended(segment) {
         return Some(FaultKind::Unended);
     }
-    if has_long_number(segment) {
-        return Some(FaultKind::TooLong);
-    }
-    short_numbers_fault(segment)
+    numbers_fault(segment)
 }
 
 fn has_bad_digit(segment: &[u8]) -> bool
@@ -39,11 +36,11 @@ fn is_unended(segment: &[u8]) -> bool
     if segment.is_empty() {
         return false;
     }
-    continues(segment[segment.len() - 1])
+    is_continuing(segment[segment.len() - 1])
 }
 
-fn continues(byte: u8) -> bool
-    ensures { result ≡ continues byte }
+fn is_continuing(byte: u8) -> bool
+    ensures { result ≡ is_continuing byte }
 {
     match digit(byte) {
         Some(value) => value >= 32,
@@ -57,61 +54,35 @@ fn number_end(segment: &[u8], place: usize) -> usize
     ensures { result ≡ place + front_at segment.now place + 1 }
 {
     let mut end = place;
-    while continues(segment[end]) {
+    while is_continuing(segment[end]) {
         end += 1;
     }
     end + 1
 }
 
-fn has_long_number(segment: &[u8]) -> bool
+// The least kind that holds of the numbers of a segment, each of which has an end.
+fn numbers_fault(segment: &[u8]) -> Option<FaultKind>
     requires { IsClean segment.now }
-    ensures { result ≡ list_any is_too_long (cuts_of segment.now) }
-{
-    let mut place = 0;
-    while place < segment.len() {
-        let end = number_end(segment, place);
-        if end - place > MOST_DIGITS {
-            return true;
-        }
-        place = end;
-    }
-    false
-}
-
-// What the digits between two places count for, of which there are at most seven.
-fn unsigned_between(segment: &[u8], place: usize, end: usize) -> u64
-    requires ordered { place ≤ end }
-    requires inside { end ≤ length segment.now }
-    requires short { end ≤ place + MOST_DIGITS }
-    ensures { result ≡ unsigned_of (slice_range segment.now place end) }
-{
-    let mut unsigned: u64 = 0;
-    let mut scale: u64 = 1;
-    for byte in &segment[place..end] {
-        unsigned += u64::from(digit(*byte).unwrap_or(0) % 32) * scale;
-        scale *= 32;
-    }
-    unsigned
-}
-
-// The least kind that holds where no number is too long.
-fn short_numbers_fault(segment: &[u8]) -> Option<FaultKind>
-    requires clean { IsClean segment.now }
-    requires short { list_any is_too_long (cuts_of segment.now) ≡ false }
     ensures { result ≡ numbers_fault (cuts_of segment.now) }
 {
     let mut place = 0;
     let mut count = 0usize;
+    let mut has_too_large = false;
     let mut has_negative_zero = false;
     while place < segment.len() {
-        let end = number_end(segment, place);
-        let unsigned = unsigned_between(segment, place, end);
-        if unsigned / 2 > u64::from(LIMIT) {
-            return Some(FaultKind::TooLarge);
+        if let Err(fault) = read_vlq(segment, place) {
+            match fault {
+                VlqFault::TooLong => return Some(FaultKind::TooLong),
+                VlqFault::TooLarge => has_too_large = true,
+                VlqFault::NegativeZero => has_negative_zero = true,
+                _ => {}
+            }
         }
-        has_negative_zero = has_negative_zero | (unsigned == 1);
-        place = end;
+        place = number_end(segment, place);
         count += 1;
+    }
+    if has_too_large {
+        return Some(FaultKind::TooLarge);
     }
     if has_negative_zero {
         return Some(FaultKind::NegativeZero);

@@ -1,3 +1,4 @@
+//! A state between two segments, as callers keep it.
 use crate::cursor::Cursor;
 use std::marker::Model;
 

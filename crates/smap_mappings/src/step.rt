@@ -1,11 +1,11 @@
+//! From a state to the next: over separators, and over one segment.
 ghost use Rattle.std.specs.Prelude.{◌≡◌, ◌+◌, ◌<◌, ◌≤◌, ℕ, Some, false, true, length, slice_index, IfOk, IfErr};
-ghost use Rattle.smap_mappings.specs.PackedText.{most_bytes};
-ghost use Rattle.smap_mappings.specs.Pieces.{is_inside, piece_at};
+ghost use Rattle.smap_mappings.specs.Limits.{most_text_bytes};
 ghost use Rattle.smap_mappings.specs.Segment.{has_known_length};
-ghost use Rattle.smap_mappings.specs.Reading.{known_fields};
 ghost use Rattle.smap_mappings.specs.Faults.{spelling_fault};
 ghost use Rattle.smap_mappings.specs.State.{IsAfter};
-ghost use Rattle.smap_mappings.specs.Step.{Steps, fault_at, fault_from, mapping_in};
+ghost use Rattle.smap_mappings.specs.Reading.{is_inside, piece_at, known_fields};
+ghost use Rattle.smap_mappings.specs.Step.{IsStep, fault_at, fault_from, mapping_in};
 
 use crate::advance::advance;
 use crate::cursor::Cursor;
@@ -14,12 +14,12 @@ use crate::mapping::{Mapping, Origin};
 use crate::segment::{Segment, is_inside, read_segment};
 use crate::spelling::spelling_fault;
 
-/// The state at the next segment, or at the end of the text where there is none.
+// The state at the next segment, or at the end of the text where there is none.
 #[inline(always)]
 pub fn skip_separators(bytes: &[u8], cursor: &Cursor) -> Cursor
     requires inside { cursor.now.place ≤ length bytes.now }
     requires line_within { cursor.now.line ≤ cursor.now.place }
-    requires short { length bytes.now ≤ most_bytes }
+    requires short { length bytes.now ≤ most_text_bytes }
     ensures inside { result.place ≤ length bytes.now }
     ensures line_within { result.line ≤ result.place }
     ensures onward { cursor.now.place ≤ result.place }
@@ -46,8 +46,8 @@ pub fn skip_separators(bytes: &[u8], cursor: &Cursor) -> Cursor
     at
 }
 
-/// Reads the segment at the state's place: its mapping and the state behind it, or the least kind of fault that holds
-/// of it.
+// Reads the segment at the state's place: its mapping and the state behind it, or the least kind of fault that holds
+// of it.
 #[inline(always)]
 pub fn step(
     bytes: &[u8],
@@ -57,8 +57,10 @@ pub fn step(
 ) -> Result<(Mapping, Cursor), FaultKind>
     requires within { cursor.now.place < length bytes.now }
     requires inside { is_inside (slice_index bytes.now cursor.now.place) ≡ true }
-    ensures ahead { IfOk result (λ r. (cursor.now.place < r.1.place) × (r.1.place ≤ length bytes.now) × (r.1.line ≡ cursor.now.line)) }
-    ensures ok { IfOk result (λ r. (j : ℕ) → IsAfter bytes.now j cursor.now → Steps bytes.now j sources names r.0 r.1) }
+    ensures ahead { IfOk result (λ r. (cursor.now.place < r.1.place)
+        × (r.1.place ≤ length bytes.now) × (r.1.line ≡ cursor.now.line)) }
+    ensures ok { IfOk result (λ r. (j : ℕ) → IsAfter bytes.now j cursor.now
+        → IsStep bytes.now j sources names r.0 r.1) }
     ensures err { IfErr result (λ kind. (j : ℕ) → IsAfter bytes.now j cursor.now
         → fault_from bytes.now sources names j ≡ Some (fault_at cursor.now kind)) }
 {

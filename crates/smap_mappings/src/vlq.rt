@@ -1,8 +1,10 @@
+//! Base64 VLQ numbers, as they are read (ECMA-426, Base64 VLQ).
 ghost use Rattle.std.specs.Prelude.{◌≡◌, ◌≤◌, ◌↔◌, ℤ, ℕ, Ok, length, slice_range};
-ghost use Rattle.smap_mappings.specs.Vlq.{Spells, number_at, checked_number, long_fault};
+ghost use Rattle.smap_mappings.specs.Vlq.{Spells, number_at};
+ghost use Rattle.smap_mappings.specs.Reading.{checked_number, long_fault};
 
-use crate::LIMIT;
 use crate::base64::digit;
+use crate::limits::{LIMIT, MOST_DIGITS};
 
 /// Why no number begins at a place (ECMA-426, Base64 VLQ, in this project's profile).
 #[derive(Clone, Copy, Debug, PartialEq, Eq)]
@@ -19,9 +21,6 @@ pub enum VlqFault {
     NegativeZero,
 }
 
-/// How many digits a number has at most.
-pub const MOST_DIGITS: usize = 7;
-
 /// The number that begins at a place, counted in bytes from 0, and the place after it (ECMA-426, Base64 VLQ).
 /// A fault is the first that holds of: every byte up to the end says that another digit follows, a bad digit,
 /// too many digits, too large, negative zero.
@@ -35,6 +34,7 @@ pub fn read_vlq(bytes: &[u8], place: usize) -> Result<(i32, usize), VlqFault>
     scan_number(bytes, place)
 }
 
+// The loop of `read_vlq`, whose other clause follows from this one.
 #[inline(always)]
 fn scan_number(bytes: &[u8], place: usize) -> Result<(i32, usize), VlqFault>
     requires { place ≤ length bytes.now }
@@ -51,7 +51,7 @@ fn scan_number(bytes: &[u8], place: usize) -> Result<(i32, usize), VlqFault>
         };
         unsigned += u64::from(value % 32) * scale;
         if value < 32 {
-            return Ok((signed(unsigned)?, end + 1));
+            return Ok((checked_number(unsigned)?, end + 1));
         }
         scale *= 32;
     }
@@ -60,7 +60,7 @@ fn scan_number(bytes: &[u8], place: usize) -> Result<(i32, usize), VlqFault>
 
 // The number of an unsigned value, whose lowest bit is the sign.
 #[inline(always)]
-fn signed(unsigned: u64) -> Result<i32, VlqFault>
+fn checked_number(unsigned: u64) -> Result<i32, VlqFault>
     ensures { result ≡ checked_number unsigned }
 {
     let magnitude = unsigned / 2;

@@ -1,8 +1,8 @@
 use Rattle.std.proofs.Common.{◌≡◌, None, ap, sym, refl, ◌∙◌}
-use Rattle.smap_mappings.specs.Advance.{values_in, sums_fault}
-use Rattle.smap_mappings.specs.Faults.{is_below}
 use Rattle.smap_mappings.specs.Mappings.{RunningValues}
+use Rattle.smap_mappings.specs.Accepted.{is_below_zero}
 use Rattle.smap_mappings.specs.Reading.{fields_in}
+use Rattle.smap_mappings.specs.Advance.{values_in, sums_fault}
 use Rattle.smap_mappings.proofs.Ranges.{InRange, cast_is, cast_fits}
 use Rattle.smap_mappings.proofs.ValueFaultLaws.{no_fault_parts, in_range_from}
 use Rattle.smap_mappings.proofs.advance.advance.Goals as goal
@@ -11,7 +11,7 @@ use Rattle.smap_mappings.proofs.advance.advance.Goals.{In-None}
 -- sums with no fault are in range
 ranges : (c : In-None) → InRange (values_in c.sums_after-sums.result)
 ranges c =
-    let parts = no_fault_parts c.args.sources c.args.names (is_below c.args.segment.now.column) (fields_in c.args.segment.now) (values_in c.sums_after-sums.result) (sym c.in-None.ensures) in
+    let parts = no_fault_parts c.args.sources c.args.names (is_below_zero c.args.segment.now.column) (fields_in c.args.segment.now) (values_in c.sums_after-sums.result) (sym c.in-None.ensures) in
     in_range_from (values_in c.sums_after-sums.result) parts.below parts.past
 
 pub overflow_cast-result : goal.overflow_cast-result

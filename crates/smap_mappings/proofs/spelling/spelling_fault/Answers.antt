@@ -11,10 +11,6 @@ pub returns-then-is_unended : goal.returns-then-is_unended
 unfolding spelling_fault
 returns-then-is_unended c = sym (cond-false _ _ _ (sym c.if-has_bad_digit.ensures) ∙ cond-true _ _ _ (sym c.if-is_unended.ensures))
 
-pub returns-then-has_long_number : goal.returns-then-has_long_number
-unfolding spelling_fault
-returns-then-has_long_number c = sym (cond-false _ _ _ (sym c.if-has_bad_digit.ensures) ∙ cond-false _ _ _ (sym c.if-is_unended.ensures) ∙ cond-true _ _ _ (sym c.if-has_long_number.ensures))
-
 pub returns : goal.returns
 unfolding spelling_fault
-returns c = sym (cond-false _ _ _ (sym c.if-has_bad_digit.ensures) ∙ cond-false _ _ _ (sym c.if-is_unended.ensures) ∙ sym c.short_numbers_fault.ensures)
+returns c = sym (cond-false _ _ _ (sym c.if-has_bad_digit.ensures) ∙ cond-false _ _ _ (sym c.if-is_unended.ensures) ∙ sym c.numbers_fault.ensures)

@@ -1,7 +1,7 @@
 use Rattle.std.proofs.Common.{sym, ◌∙◌, ap}
 use Rattle.std.proofs.lemmas.Bool.{both_ways}
-use Rattle.smap_mappings.specs.Pieces.{piece_at}
 use Rattle.smap_mappings.specs.Faults.{spelling_fault}
+use Rattle.smap_mappings.specs.Reading.{piece_at}
 use Rattle.smap_mappings.proofs.PieceLaws.{piece_is_slice}
 use Rattle.smap_mappings.proofs.SpellingFaultLaws.{spelled_known}
 use Rattle.smap_mappings.proofs.step.unread_fault.Goals as goal

@@ -1,0 +1,178 @@
+//! A text that was checked: its segments are given one by one, or all at once.
+ghost use Rattle.std.specs.Prelude.{◌≡◌, ◌+◌, ◌*◌, ◌<◌, ◌≤◌, ◌↔◌, ℕ, Some, IsOk, IfOk, IfErr, IfNone, IfSome, None, OnOk, is_some, if◌then◌else◌, length, string_bytes};
+ghost use Rattle.std.specs.List.{All};
+ghost use Rattle.smap_mappings.specs.Limits.{most_text_bytes};
+ghost use Rattle.smap_mappings.specs.Mappings.{mappings_of};
+ghost use Rattle.smap_mappings.specs.Accepted.{IsAccepted};
+ghost use Rattle.smap_mappings.specs.Faults.{first_fault};
+ghost use Rattle.smap_mappings.specs.Counts.{segments_of, used_lines_of};
+ghost use Rattle.smap_mappings.specs.Order.{IsInOrder};
+ghost use Rattle.smap_mappings.specs.Within.{IsWithin};
+ghost use Rattle.smap_mappings.specs.State.{IsAfter, IsBetween, IsNext};
+ghost use Rattle.smap_mappings.specs.PackedText.{IsPacked};
+
+use crate::check::check_segments;
+use crate::cursor::Cursor;
+use crate::fault::Fault;
+use crate::limits::{MOST_BYTES, MOST_INDICES};
+use crate::mapping::Mapping;
+use crate::meter::Meter;
+use crate::state::State;
+use crate::step::{skip_separators, step};
+use std::alloc::{AllocError, Global};
+use std::marker::Model;
+
+/// Why a text is refused.
+#[derive(Clone, Copy, Debug, PartialEq, Eq)]
+pub enum TextRefusal {
+    /// It has more than 67,108,864 bytes.
+    TextTooLong,
+    /// A segment of it is faulty: the first such.
+    Fault(Fault),
+}
+
+/// A `mappings` text (ECMA-426, Mappings structure) that was checked, and stays packed. Contracts see it as the
+/// bytes of its text.
+#[derive(Drop)]
+pub struct PackedText {
+    text: String,
+    segments: u64,
+    used_lines: u64,
+}
+
+impl Model for PackedText {
+    //! A text that was checked: its segments are given one by one, or all at once.
+    ghost use Rattle.std.specs.Prelude.{ℕ, List, string_bytes};
+    ghost use Rattle.smap_mappings.specs.PackedText.{IsPackedWith};
+
+    ghost Value = { List ℕ };
+
+    ghost view = { λ p. string_bytes p.text };
+
+    ghost invariant = { λ p. IsPackedWith (string_bytes p.text) p.segments p.used_lines };
+}
+
+impl PackedText {
+    /// Takes a text in which each source index is below `sources` and each name index below `names`: these are how
+    /// many sources and names the map lists. A text that is too long is refused as `TextTooLong`, whatever faults it
+    /// has. Otherwise the refusal is the first fault. A refusal hands the text back as it was. The call takes no
+    /// memory.
+    pub fn check(
+        text: String,
+        sources: u32,
+        names: u32,
+    ) -> Result<PackedText, (TextRefusal, String)>
+        ensures accepted { IsOk result ↔ ((length (string_bytes text) ≤ most_text_bytes)
+            × IsAccepted (string_bytes text) sources names) }
+        ensures inside { IfOk result (λ packed. packed ≡ string_bytes text) }
+        ensures clean { OnOk result (first_fault (string_bytes text) sources names ≡ None) }
+        ensures within { OnOk result (All (IsWithin sources names) (mappings_of (string_bytes text))) }
+        ensures too_long { IfErr result (λ e.
+            (e.0 ≡ TextRefusal.TextTooLong) ↔ (most_text_bytes < length (string_bytes text))) }
+        ensures faulty { IfErr result (λ e. (fault : Fault) → e.0 ≡ TextRefusal.Fault fault
+            → first_fault (string_bytes text) sources names ≡ Some fault) }
+        ensures returned { IfErr result (λ e. e.1 ≡ text) }
+    {
+        if text.len() > MOST_BYTES {
+            return Err((TextRefusal::TextTooLong, text));
+        }
+        match check_segments(text.as_bytes(), sources, names) {
+            Ok(counts) => Ok(PackedText {
+                text,
+                segments: counts.segments,
+                used_lines: counts.used_lines,
+            }),
+            Err(fault) => Err((TextRefusal::Fault(fault), text)),
+        }
+    }
+
+    /// How many segments the text has.
+    pub fn segments(&self) -> u64
+        ensures count { result ≡ segments_of self.now }
+        ensures bound { 2 * result ≤ length self.now + 1 }
+    {
+        self.segments
+    }
+
+    /// How many lines of the text hold a segment.
+    pub fn used_lines(&self) -> u64
+        ensures { result ≡ used_lines_of self.now }
+    {
+        self.used_lines
+    }
+
+    /// The state before the first segment.
+    pub fn start(&self) -> State
+        ensures before_all { IsAfter self.now 0 result }
+        ensures packed { IsPacked self.now }
+        ensures ordered { IsInOrder (mappings_of self.now) }
+    {
+        let _text = &self.text;
+        State::new(Cursor::START)
+    }
+
+    /// The mapping of the next segment and the state behind it, or `None` at the end of the text. The caller gives a
+    /// state of this text, and a meter whose count of segments leaves room for one more. A segment that is given adds
+    /// one to that count, and the end adds nothing. The call takes no memory.
+    pub fn next(&self, state: &State, meter: &mut Meter) -> Option<(Mapping, State)>
+        requires state { IsBetween self.now state.now }
+        requires room { meter.old.segments < u64.MAX }
+        ensures some { IfSome result (λ r. (j : ℕ) →
+            IsAfter self.now j state.now → IsNext self.now j r.0 r.1) }
+        ensures none { IfNone result ((j : ℕ) →
+            IsAfter self.now j state.now → j ≡ segments_of self.now) }
+        ensures counted { meter.new ≡ (if is_some result
+            then record meter.old { segments = meter.old.segments + 1 }
+            else meter.old) }
+    {
+        match next_segment(self.text.as_bytes(), &state.cursor()) {
+            Some((mapping, behind)) => {
+                meter.count_segment();
+                Some((mapping, State::new(behind)))
+            }
+            None => None,
+        }
+    }
+
+    /// The mappings of the text, in order.
+    pub fn decode(&self, alloc: Global) -> Result<Vec<Mapping>, AllocError>
+        ensures { IfOk result (λ list. list.items ≡ mappings_of self.now) }
+    {
+        decode_segments(alloc, self.text.as_bytes(), self.segments as usize)
+    }
+}
+
+// The mappings of a checked text, which are expected to be this many.
+fn decode_segments(alloc: Global, bytes: &[u8], expected: usize) -> Result<Vec<Mapping>, AllocError>
+    requires { IsPacked bytes.now }
+    ensures { IfOk result (λ list. list.items ≡ mappings_of bytes.now) }
+{
+    let mut list = Vec::with_capacity(alloc, expected)?;
+    let mut at = Cursor::START;
+    while let Some((mapping, behind)) = next_segment(bytes, &at) {
+        list.push(mapping)?;
+        at = behind;
+    }
+    Ok(list)
+}
+
+// The mapping of the next segment of a checked text and the state behind it, or `None` at the end.
+fn next_segment(bytes: &[u8], cursor: &Cursor) -> Option<(Mapping, Cursor)>
+    requires packed { IsPacked bytes.now }
+    requires state { IsBetween bytes.now cursor.now }
+    ensures ahead { IfSome result (λ r.
+        (cursor.now.place < r.1.place) × (r.1.place ≤ length bytes.now)) }
+    ensures some { IfSome result (λ r. (j : ℕ) →
+        IsAfter bytes.now j cursor.now → IsNext bytes.now j r.0 r.1) }
+    ensures none { IfNone result ((j : ℕ) →
+        IsAfter bytes.now j cursor.now → j ≡ segments_of bytes.now) }
+{
+    let at = skip_separators(bytes, cursor);
+    if at.place == bytes.len() {
+        return None;
+    }
+    match step(bytes, &at, MOST_INDICES, MOST_INDICES) {
+        Ok(next) => Some(next),
+        Err(_) => unreachable!("no segment of a checked text is faulty"),
+    }
+}
