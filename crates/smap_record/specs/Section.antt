@@ -4,7 +4,7 @@ use Rattle.std.specs.Prelude.{ℕ, ◌+◌, List, [], ◌∷◌, Option, Some, N
 use Rattle.serde_json.specs.Data.{Data}
 use Rattle.serde_json.specs.Find.{as_str}
 use Rattle.smap_mappings.specs.Faults.{first_fault}
-use Rattle.smap_mappings.specs.PackedText.{most_bytes}
+use Rattle.smap_mappings.specs.Limits.{most_text_bytes}
 use Rattle.smap_index.specs.declared.part.Part.{Part}
 use Rattle.smap_record.specs.Fields.{Fields}
 use Rattle.smap_record.specs.Json.{or_absent, number_below, text_or_null, list_of}
@@ -39,7 +39,7 @@ root_in root = or_absent None (λ text. option_map Some (as_str text)) root
 -- the mappings text, where it is no longer than one may be
 abbrev pub mappings_in : Option Data → Option (List ℕ)
 mappings_in mappings =
-    option_and_then (λ text. if nat_lt most_bytes (length text) then None else Some text)
+    option_and_then (λ text. if nat_lt most_text_bytes (length text) then None else Some text)
     (option_and_then as_str mappings)
 
 -- ---- a section
