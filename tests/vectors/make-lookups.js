@@ -2,7 +2,7 @@
 // Writes the vectors for `smap lookup`, which are all of one map, that of examples/. README.md beside
 // this file says what they are.
 //
-//   node make-lookups.js       writes src/run/vectors/ of smap_cli and prints the counts
+//   node make-lookups.js       writes src/vectors/ of smap_tests and prints the counts
 //
 // Nothing here is made from smap's own code or output.
 'use strict';
@@ -125,7 +125,7 @@ for (const [kind, places] of Object.entries(ASKED)) {
   }
 }
 
-const folder = path.join(__dirname, '..', '..', 'crates', 'smap_cli', 'src', 'run', 'vectors');
+const folder = path.join(__dirname, '..', '..', 'crates', 'smap_tests', 'src', 'vectors');
 fs.mkdirSync(folder, { recursive: true });
 
 function writeConstant(file, what, constant) {

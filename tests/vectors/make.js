@@ -1,7 +1,7 @@
 #!/usr/bin/env node
 // Writes the vectors for `smap raw`. README.md beside this file says what they are.
 //
-//   node make.js               writes src/run/vectors/ of smap_cli and prints the counts
+//   node make.js               writes src/vectors/ of smap_tests and prints the counts
 //   node make.js check FILE    says whether the mappings text in FILE is accepted
 //
 // Nothing here is made from smap's own code or output.
@@ -436,6 +436,8 @@ makeAnswers();
 const answers = rows.length;
 makeRefusals();
 
+const FOLDER = path.join(__dirname, '..', '..', 'crates', 'smap_tests', 'src', 'vectors');
+
 // One constant a file: a row a line, as it stands.
 function writeRows(file, name, what, some) {
   const list = some.map(({ row }) => row);
@@ -447,29 +449,29 @@ function writeRows(file, name, what, some) {
     `pub const ${name}: &str = r#"\n${list.join('\n')}\n"#;`,
     '',
   ].join('\n');
-  const folder = path.join(__dirname, '..', '..', 'crates', 'smap_cli', 'src', 'run', 'vectors');
-  fs.mkdirSync(folder, { recursive: true });
-  fs.writeFileSync(path.join(folder, file), text);
+  fs.mkdirSync(FOLDER, { recursive: true });
+  fs.writeFileSync(path.join(FOLDER, file), text);
 }
 
-// The mappings of each text that has an answer, all numbers from 0.
+// The counts and the mappings of each text that has an answer, all numbers from 0.
 function writeMappings() {
   const list = [...new Set(rows.slice(0, answers).map(({ text }) => text))].map((text) => {
     const lines = linesOf(text);
     const words = lines.flatMap((line, number) => line.map((segment) => [number, ...segment].join(',')));
-    return `${text}|${words.join(' ')}`;
+    const used = lines.filter((line) => line.length > 0).length;
+    return `${text}|${words.length}|${used}|${words.join(' ')}`;
   });
   const text = [
-    '//! Texts with their mappings: the text, |, and the mappings with a blank between two. A mapping is its line,',
-    '//! column, source, original line, original column and name, as far as it has them, from 0.',
+    '//! Texts with their mappings: the text, how many mappings it has, how many lines that hold one, and the',
+    '//! mappings with a blank between two; | between two of these. A mapping is its line, column, source, original',
+    '//! line, original column and name, as far as it has them, from 0.',
     '//! Written by `tests/vectors/make.js`.',
     '',
     `pub const MAPPINGS: &str = r#"\n${list.join('\n')}\n"#;`,
     '',
   ].join('\n');
-  const folder = path.join(__dirname, '..', '..', 'crates', 'smap_mappings', 'src', 'vectors');
-  fs.mkdirSync(folder, { recursive: true });
-  fs.writeFileSync(path.join(folder, 'mappings.rt'), text);
+  fs.mkdirSync(FOLDER, { recursive: true });
+  fs.writeFileSync(path.join(FOLDER, 'mappings.rt'), text);
 }
 
 writeRows('answers.rt', 'ANSWERS', 'Answers', rows.slice(0, answers));

@@ -1,0 +1,29 @@
+//! The tests of the libraries and of the program's answers that need only public calls. There is nothing here to call.
+#![tactic(auto)]
+
+#[cfg(test)]
+mod devices;
+#[cfg(test)]
+mod files;
+#[cfg(test)]
+mod indexes;
+#[cfg(test)]
+mod loading;
+#[cfg(test)]
+mod maps;
+#[cfg(test)]
+mod numbers;
+#[cfg(test)]
+mod raw;
+#[cfg(test)]
+mod rows;
+#[cfg(test)]
+mod running;
+#[cfg(test)]
+mod shown;
+#[cfg(test)]
+mod texts;
+#[cfg(test)]
+mod transfer;
+#[cfg(test)]
+mod vectors;

@@ -1,0 +1,52 @@
+//! Loading the files that a command names.
+use crate::rows::assert_same;
+use crate::shown::push_number;
+use smap_answers::{Command, load_files};
+use std::alloc::AllocError;
+use std::test::Fail;
+
+// Each file that the command names with how many bytes are loaded of it, or what is told in its place, with its
+// status.
+fn loaded(rt: &HostRuntime, command: &Command) -> Result<String, AllocError> {
+    let mut text = String::new(rt.alloc());
+    match load_files(rt, command) {
+        Ok(files) => {
+            for file in &files {
+                text.push_str(&file.path)?;
+                push_number(&mut text, rt.alloc(), " ", file.bytes.len() as u64)?;
+            }
+        }
+        Err(outcome) => {
+            text.push_str(outcome.text())?;
+            push_number(&mut text, rt.alloc(), "", u64::from(outcome.status()))?;
+        }
+    }
+    Ok(text)
+}
+
+// Paths, and what comes of each.
+const PATHS: &[(&str, &str)] = &[
+    ("/dev/null", "/dev/null 0"),
+    // A file without end is read to one byte more than a map file may have, which shows that it is too large.
+    ("/dev/zero", "/dev/zero 67108865"),
+    ("no/such\nfile", "device: read no/such?file\n3"),
+    // A folder opens, and can't be read.
+    ("/", "device: read /\n3"),
+];
+
+#[test]
+fn files_are_loaded_or_named(rt: HostRuntime) -> Result<(), Fail> {
+    for (path, wanted) in PATHS {
+        let path = String::from_str(rt.alloc(), path)?;
+        let left = loaded(&rt, &Command::Check { path })?;
+        assert_same(&rt, wanted, &left, wanted);
+    }
+    Ok(())
+}
+
+#[test]
+fn raw_has_no_file(rt: HostRuntime) -> Result<(), Fail> {
+    let command = Command::Raw { line: 0, column: 0 };
+    assert_same(&rt, "raw", &loaded(&rt, &command)?, "");
+    Ok(())
+}

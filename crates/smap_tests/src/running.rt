@@ -1,0 +1,111 @@
+//! Running a command over devices in memory, and all that a run leaves as one text.
+ghost use Rattle.std.specs.Prelude.{◌≡◌, ◌∷◌, [], map};
+ghost use Rattle.smap_answers.specs.Files.{path_of, paths_of};
+
+use crate::shown::push_number;
+use smap_answers::{Command, Loaded, run};
+use smap_io::{MemorySink, MemorySource};
+use std::alloc::{AllocError, Global};
+
+/// How many bytes a call of a device moves at most, and the call that fails, from 1, or 0 for none.
+#[derive(Clone, Copy)]
+pub struct Device(pub usize, pub u64);
+
+/// A device that never fails.
+pub const SOUND: Device = Device(8_192, 0);
+
+/// The input, the output and the error stream of a run.
+#[derive(Clone, Copy)]
+pub struct Devices(pub Device, pub Device, pub Device);
+
+/// Devices of which none ever fails.
+pub const ALL_SOUND: Devices = Devices(SOUND, SOUND, SOUND);
+
+// The status, and what stands on the output and on the error stream, with `|` between two.
+fn run_over(
+    alloc: Global,
+    command: &Command,
+    files: &[Loaded],
+    input: &[u8],
+    devices: Devices,
+) -> Result<String, AllocError>
+    requires loaded { map path_of files.now ≡ paths_of command.now }
+{
+    let Devices(Device(reads, read_fails), Device(writes, write_fails), Device(tells, tell_fails)) =
+        devices;
+    if reads == 0 || writes == 0 || tells == 0 {
+        return String::from_str(alloc, "a device that moves nothing");
+    }
+    let mut input = MemorySource::new(input.to_vec(alloc)?, reads, read_fails);
+    let mut output = MemorySink::new(Vec::with_capacity(alloc, 200)?, writes, write_fails);
+    let mut errors = MemorySink::new(Vec::with_capacity(alloc, 200)?, tells, tell_fails);
+    let status = run(alloc, command, files, &mut input, &mut output, &mut errors);
+    let mut text = String::new(alloc);
+    push_number(&mut text, alloc, "", u64::from(status))?;
+    text.push('|')?;
+    text.push_str(&String::from_utf8_lossy(alloc, output.bytes())?)?;
+    text.push('|')?;
+    text.push_str(&String::from_utf8_lossy(alloc, errors.bytes())?)?;
+    Ok(text)
+}
+
+/// What `raw` leaves. The line and the column count from 1.
+pub fn run_raw(
+    alloc: Global,
+    text: &[u8],
+    line: u32,
+    column: u32,
+    devices: Devices,
+) -> Result<String, AllocError> {
+    let command = Command::Raw {
+        line: line.saturating_sub(1),
+        column: column.saturating_sub(1),
+    };
+    run_over(alloc, &command, &[], text, devices)
+}
+
+// What a command leaves that names this one file.
+fn run_on_file(
+    alloc: Global,
+    command: &Command,
+    path: &str,
+    bytes: &[u8],
+    devices: Devices,
+) -> Result<String, AllocError>
+    requires its_path { paths_of command.now ≡ path.now ∷ [] }
+{
+    let file = Loaded {
+        path: String::from_str(alloc, path)?,
+        bytes: bytes.to_vec(alloc)?,
+    };
+    run_over(alloc, command, &[file], b"", devices)
+}
+
+/// What `check` leaves.
+pub fn run_check(
+    alloc: Global,
+    path: &str,
+    bytes: &[u8],
+    devices: Devices,
+) -> Result<String, AllocError> {
+    let command = Command::Check {
+        path: String::from_str(alloc, path)?,
+    };
+    run_on_file(alloc, &command, path, bytes, devices)
+}
+
+/// What `lookup` leaves in a map at `m.map`. The line and the column count from 1.
+pub fn run_lookup(
+    alloc: Global,
+    map: &str,
+    line: u32,
+    column: u32,
+    devices: Devices,
+) -> Result<String, AllocError> {
+    let command = Command::Lookup {
+        path: String::from_str(alloc, "m.map")?,
+        line: line.saturating_sub(1),
+        column: column.saturating_sub(1),
+    };
+    run_on_file(alloc, &command, "m.map", map.as_bytes(), devices)
+}

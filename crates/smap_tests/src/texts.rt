@@ -1,0 +1,122 @@
+//! Mappings texts: what is refused, and what the accepted ones hold.
+use crate::indexes::{held, index_of};
+use crate::rows::{assert_same, halves};
+use crate::shown::{held_text, push_number};
+use crate::vectors::mappings::MAPPINGS;
+use smap_mappings::{Meter, PackedText, TextRefusal};
+use std::alloc::{AllocError, Global};
+use std::test::Fail;
+
+// Texts with one source and one name, and why each is refused: the kind, the byte and the line, from 0.
+const FAULTS: &[(&str, &str)] = &[
+    ("B!AA", "BadDigit 0 0"),
+    ("gggggggAg", "Unended 0 0"),
+    ("ggggggEB", "TooLarge 0 0"),
+    ("BA", "NegativeZero 0 0"),
+    ("AAAA,DAAA", "Negative 5 0"),
+    ("ACAAC", "SourceIndex 0 0"),
+    ("AAAAC", "NameIndex 0 0"),
+    ("A,DAAA,B", "Negative 2 0"),
+    (";,,;AAAA,B", "NegativeZero 9 2"),
+];
+
+fn refusal_text(alloc: Global, refusal: TextRefusal) -> Result<String, AllocError> {
+    match refusal {
+        TextRefusal::TextTooLong => String::from_str(alloc, "TextTooLong"),
+        TextRefusal::Fault(fault) => {
+            let mut text = format!(in alloc; "{:?}", fault.kind)?;
+            push_number(&mut text, alloc, " ", fault.byte)?;
+            push_number(&mut text, alloc, " ", u64::from(fault.line))?;
+            Ok(text)
+        }
+    }
+}
+
+// Why a text with one source and one name is refused.
+fn fault_text(alloc: Global, text: &str) -> Result<String, AllocError> {
+    match PackedText::check(String::from_str(alloc, text)?, 1, 1) {
+        Ok(_) => String::from_str(alloc, "accepted"),
+        Err((refusal, _)) => refusal_text(alloc, refusal),
+    }
+}
+
+#[test]
+fn each_fault_is_told(rt: HostRuntime) -> Result<(), Fail> {
+    for (text, wanted) in FAULTS {
+        assert_same(&rt, text, &fault_text(rt.alloc(), text)?, wanted);
+    }
+    Ok(())
+}
+
+// What comes of a text of so many commas: whether it is accepted, or how long the text is that is handed back.
+fn commas(alloc: Global, count: usize) -> Result<String, AllocError> {
+    match PackedText::check(",".repeat(alloc, count)?, 0, 0) {
+        Ok(_) => String::from_str(alloc, "accepted"),
+        Err((refusal, returned)) => {
+            let mut text = refusal_text(alloc, refusal)?;
+            push_number(&mut text, alloc, " ", returned.len() as u64)?;
+            Ok(text)
+        }
+    }
+}
+
+#[test]
+fn the_longest_text_and_one_that_is_too_long(rt: HostRuntime) -> Result<(), Fail> {
+    assert_same(&rt, "most", &commas(rt.alloc(), 67_108_864)?, "accepted");
+    assert_same(
+        &rt,
+        "one more",
+        &commas(rt.alloc(), 67_108_865)?,
+        "TextTooLong 67108865",
+    );
+    Ok(())
+}
+
+/// The text, checked for as many sources and names as indices can name.
+pub fn packed(alloc: Global, text: &str) -> Result<PackedText, Fail> {
+    match PackedText::check(String::from_str(alloc, text)?, 2147483648, 2147483648) {
+        Ok(packed) => Ok(packed),
+        Err(_) => Err(Fail::new("the text is refused")),
+    }
+}
+
+// The counts and the mappings of a text, all at once.
+fn decoded(alloc: Global, packed: &PackedText) -> Result<String, AllocError> {
+    held_text(
+        alloc,
+        packed.segments(),
+        packed.used_lines(),
+        &packed.decode(alloc)?,
+    )
+}
+
+// The mappings of a text, one after another, behind how many the meter has counted.
+fn walked(alloc: Global, packed: &PackedText) -> Result<String, AllocError> {
+    let mut meter = Meter::new(alloc);
+    let mut list = Vec::new(alloc);
+    let mut state = packed.start();
+    for _ in 0..=packed.segments() {
+        if !meter.has_room() {
+            break;
+        }
+        let Some((mapping, behind)) = packed.next(&state, &mut meter) else {
+            break;
+        };
+        list.push(mapping)?;
+        state = behind;
+    }
+    held_text(alloc, meter.segments(), packed.used_lines(), &list)
+}
+
+#[test]
+fn each_text_has_its_mappings(rt: HostRuntime) -> Result<(), Fail> {
+    for row in MAPPINGS.trim().lines() {
+        let (text, wanted) = halves(row);
+        let packed = packed(rt.alloc(), text)?;
+        assert_same(&rt, text, &decoded(rt.alloc(), &packed)?, wanted);
+        assert_same(&rt, text, &walked(rt.alloc(), &packed)?, wanted);
+        let index = index_of(rt.alloc(), packed)?;
+        assert_same(&rt, text, &held(rt.alloc(), &index)?, wanted);
+    }
+    Ok(())
+}
