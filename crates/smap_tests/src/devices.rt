@@ -34,11 +34,11 @@ fn reads<R: ByteSource>(alloc: Global, source: &mut R) -> Result<String, AllocEr
     Ok(trace)
 }
 
-// A write of each of these words, and a flush for each `=`.
-fn writes<W: ByteSink>(alloc: Global, sink: &mut W, words: &[&str]) -> Result<String, AllocError> {
+// A write of each of these words, which have a blank between two, and a flush for each `=`.
+fn writes<W: ByteSink>(alloc: Global, sink: &mut W, words: &str) -> Result<String, AllocError> {
     let mut trace = String::new(alloc);
-    for word in words {
-        let count = if *word == "=" {
+    for word in words.split(' ') {
+        let count = if word == "=" {
             match sink.flush() {
                 Ok(()) => Ok(0),
                 Err(fault) => Err(fault),
@@ -111,26 +111,31 @@ fn a_reader_is_asked_once_a_call(rt: HostRuntime) -> Result<(), Fail> {
     Ok(())
 }
 
-// The bytes that a writer holds before, the call that breaks off, the words, what the calls come to, and how many
-// there were.
-const WRITERS: &[(&str, u32, &[&str], &str, u32)] = &[
-    ("", 3, &["abc", "=", "cde", "cde"], "2 0 !* 2* ", 4),
-    ("full", 0, &["", "e"], "0 !* ", 2),
-    ("", 1, &["="], "!* ", 1),
-];
+// What the calls come to for a writer that holds these bytes before, and how many there were.
+fn writes_to_std(
+    alloc: Global,
+    before: &[u8],
+    interrupted_at: u32,
+    words: &str,
+) -> Result<String, AllocError> {
+    let mut writer = Scripted {
+        bytes: before.to_vec(alloc)?,
+        calls: 0,
+        interrupted_at,
+    };
+    let mut trace = writes(alloc, &mut FromStd::new(&mut writer), words)?;
+    push_number(&mut trace, alloc, "", u64::from(writer.calls))?;
+    Ok(trace)
+}
 
 #[test]
 fn a_writer_is_asked_once_a_call(rt: HostRuntime) -> Result<(), Fail> {
-    for (before, interrupted_at, words, wanted, calls) in WRITERS {
-        let mut writer = Scripted {
-            bytes: before.as_bytes().to_vec(rt.alloc())?,
-            calls: 0,
-            interrupted_at: *interrupted_at,
-        };
-        let trace = writes(rt.alloc(), &mut FromStd::new(&mut writer), words)?;
-        assert_same(&rt, before, &trace, wanted);
-        assert_eq!(rt; writer.calls, *calls);
-    }
+    let trace = writes_to_std(rt.alloc(), b"", 3, "abc = cde cde")?;
+    assert_same(&rt, "a writer", &trace, "2 0 !* 2* 4");
+    let trace = writes_to_std(rt.alloc(), b"full", 0, " e")?;
+    assert_same(&rt, "a full writer", &trace, "0 !* 2");
+    let trace = writes_to_std(rt.alloc(), b"", 1, "=")?;
+    assert_same(&rt, "an interrupted flush", &trace, "!* 1");
     Ok(())
 }
 
@@ -149,7 +154,7 @@ fn writes_to_memory(
     room: usize,
     piece: usize,
     fails_at: u64,
-    words: &[&str],
+    words: &str,
 ) -> Result<String, AllocError>
     requires { 1 ≤ piece }
 {
@@ -161,9 +166,9 @@ fn writes_to_memory(
 
 #[test]
 fn a_sink_takes_pieces_and_fails_once(rt: HostRuntime) -> Result<(), Fail> {
-    let trace = writes_to_memory(rt.alloc(), 8, 1, 2, &["ab", "=", "b", "="])?;
+    let trace = writes_to_memory(rt.alloc(), 8, 1, 2, "ab = b =")?;
     assert_same(&rt, "a sink that fails", &trace, "1 !* 1* 0* ab");
-    let trace = writes_to_memory(rt.alloc(), 2, 3, 0, &["abc", "", "c"])?;
+    let trace = writes_to_memory(rt.alloc(), 2, 3, 0, "abc  c")?;
     assert_same(&rt, "a full sink", &trace, "2 0 !* ab");
     Ok(())
 }

@@ -8,191 +8,184 @@ use std::test::Fail;
 
 const APP: &str = r#"{"version":3,"sources":["a.ts"],"mappings":"AAAA,CAAC"}"#;
 
-// Maps, and what `check` prints of each.
-const COUNTS: &[(&str, &str)] = &[
+// Maps, and what `check` leaves.
+const CHECKS: &[(&str, &str)] = &[
     (
         APP,
-        "sections 1 sources 1 names 0 segments 2 lines 1 checkpoints 2",
+        "0|ok sections 1 sources 1 names 0 segments 2 lines 1 checkpoints 2\n|",
     ),
     (
         ")]}'\n{\"version\":3,\"sources\":[\"a.ts\"],\"mappings\":\"AAAA,CAAC\"}",
-        "sections 1 sources 1 names 0 segments 2 lines 1 checkpoints 2",
+        "0|ok sections 1 sources 1 names 0 segments 2 lines 1 checkpoints 2\n|",
     ),
     (
         r#"{"version":3,"sources":[],"mappings":""}"#,
-        "sections 1 sources 0 names 0 segments 0 lines 0 checkpoints 0",
+        "0|ok sections 1 sources 0 names 0 segments 0 lines 0 checkpoints 0\n|",
     ),
     (
         r#"{"version":3,"sources":["a.ts",null,"b.ts"],"names":["f","g"],"mappings":"AAAA,CAAC;;ACAAA,CCAC,C"}"#,
-        "sections 1 sources 3 names 2 segments 5 lines 2 checkpoints 5",
+        "0|ok sections 1 sources 3 names 2 segments 5 lines 2 checkpoints 5\n|",
     ),
-];
-
-// Maps that are refused, and why.
-const REFUSED: &[(&str, &str)] = &[
-    ("", "M2 NotJson"),
-    (r#"{"version":3,"#, "M2 NotJson"),
-    (")]}'", "M2 NotJson"),
+    ("", "1||refused: m.map: M2 NotJson\n"),
+    (r#"{"version":3,"#, "1||refused: m.map: M2 NotJson\n"),
+    (")]}'", "1||refused: m.map: M2 NotJson\n"),
     // Half of a surrogate pair.
     (
         r#"{"version":3,"sources":["\ud800"],"mappings":""}"#,
-        "M2 NotJson",
+        "1||refused: m.map: M2 NotJson\n",
     ),
-    ("[]", "M3 NotObject"),
-    (r#"{"version":2}"#, "M4 Version"),
-    (r#"{"version":3,"sections":[]}"#, "M5 Sections"),
-    (r#"{"version":3}"#, "M8 Sources"),
-    (r#"{"version":3,"sources":["a.js",7]}"#, "M8 Sources"),
-    (r#"{"version":3,"sources":[],"names":[null]}"#, "M9 Names"),
+    ("[]", "1||refused: m.map: M3 NotObject\n"),
+    (r#"{"version":2}"#, "1||refused: m.map: M4 Version\n"),
+    (
+        r#"{"version":3,"sections":[]}"#,
+        "1||refused: m.map: M5 Sections\n",
+    ),
+    (r#"{"version":3}"#, "1||refused: m.map: M8 Sources\n"),
+    (
+        r#"{"version":3,"sources":["a.js",7]}"#,
+        "1||refused: m.map: M8 Sources\n",
+    ),
+    (
+        r#"{"version":3,"sources":[],"names":[null]}"#,
+        "1||refused: m.map: M9 Names\n",
+    ),
     (
         r#"{"version":3,"sources":[],"sourcesContent":{}}"#,
-        "M10 SourcesContent",
+        "1||refused: m.map: M10 SourcesContent\n",
     ),
     (
         r#"{"version":3,"sources":[],"sourcesContent":[7]}"#,
-        "M10 SourcesContent",
+        "1||refused: m.map: M10 SourcesContent\n",
     ),
     (
         r#"{"version":3,"sources":["a.js"],"ignoreList":[1],"mappings":""}"#,
-        "M11 IgnoreList",
+        "1||refused: m.map: M11 IgnoreList\n",
     ),
-    (r#"{"version":3,"file":7}"#, "M12 FileOrRoot"),
+    (
+        r#"{"version":3,"file":7}"#,
+        "1||refused: m.map: M12 FileOrRoot\n",
+    ),
     (
         r#"{"version":3,"sources":[],"sourceRoot":7}"#,
-        "M12 FileOrRoot",
+        "1||refused: m.map: M12 FileOrRoot\n",
     ),
     (
         r#"{"version":3,"sources":["a.js"],"mappings":7}"#,
-        "M13 Mappings",
+        "1||refused: m.map: M13 Mappings\n",
     ),
     (
         r#"{"version":3,"sources":["a.js"],"mappings":"ACAA"}"#,
-        "M14 Text 0 F10 SourceIndex line 1 byte 0",
+        "1||refused: m.map: M14 Text 0 F10 SourceIndex line 1 byte 0\n",
     ),
     (
         r#"{"version":3,"sources":["a.js"],"mappings":"AAAAA"}"#,
-        "M14 Text 0 F11 NameIndex line 1 byte 0",
+        "1||refused: m.map: M14 Text 0 F11 NameIndex line 1 byte 0\n",
     ),
     (
         r#"{"version":3,"sources":["a.js"],"mappings":";;CAAA,DAAA"}"#,
-        "M14 Text 0 F9 ColumnFalls line 3 byte 7",
+        "1||refused: m.map: M14 Text 0 F9 ColumnFalls line 3 byte 7\n",
     ),
 ];
 
-// Maps, a line and a column from 1, and what `lookup` prints.
+// Maps, a line and a column from 1, and what `lookup` leaves.
 const PLACES: &[(&str, u32, u32, &str)] = &[
-    (APP, 1, 6, "a.ts:1:2"),
-    (APP, 2, 1, "none"),
+    (APP, 1, 6, "0|a.ts:1:2\n|"),
+    (APP, 2, 1, "0|none\n|"),
     (
         r#"{"version":3,"sources":[],"mappings":"A"}"#,
         1,
         1,
-        "unmapped",
+        "0|unmapped\n|",
     ),
     (
         r#"{"version":3,"sources":["a.ts"],"sourcesContent":["let 😀x"],"mappings":"AAAM"}"#,
         1,
         1,
-        "a.ts:1:7",
+        "0|a.ts:1:7\n|",
     ),
     (
         r#"{"version":3,"sources":[null],"mappings":"AAAA"}"#,
         1,
         1,
-        "[0]:1:1",
+        "0|[0]:1:1\n|",
     ),
     (
         r#"{"version":3,"sources":["a.ts",null],"ignoreList":[1],"mappings":"ACEI"}"#,
         1,
         1,
-        "[1]:3:5 ignored",
+        "0|[1]:3:5 ignored\n|",
     ),
     (
         r#"{"version":3,"sources":["a.js"],"names":["f"],"ignoreList":[0],"mappings":"AAAAA"}"#,
         1,
         1,
-        "a.js:1:1 name f ignored",
+        "0|a.js:1:1 name f ignored\n|",
     ),
     (
         r#"{"version":3,"sources":["a.js"],"x_google_ignoreList":[0],"mappings":"AAAA"}"#,
         1,
         1,
-        "a.js:1:1 ignored",
+        "0|a.js:1:1 ignored\n|",
     ),
     (
         r#"{"version":3,"sources":["a.js"],"x_google_ignoreList":[0],"ignoreList":[],"mappings":"AAAA"}"#,
         1,
         1,
-        "a.js:1:1",
+        "0|a.js:1:1\n|",
     ),
     (
         r#"{"version":3,"sources":["a.js"],"x_google_ignoreList":[0],"ignoreList":null,"mappings":"AAAA"}"#,
         1,
         1,
-        "a.js:1:1 ignored",
+        "0|a.js:1:1 ignored\n|",
     ),
     // The last character before the space, the space, and the one after `~`.
     (
         r#"{"version":3,"sources":["a\u001f \u007fé\n"],"names":["\t"],"mappings":"AAAAA"}"#,
         1,
         1,
-        "a? ?é?:1:1 name ?",
+        "0|a? ?é?:1:1 name ?\n|",
     ),
+    ("[]", 1, 1, "1||refused: m.map: M3 NotObject\n"),
 ];
 
-// What a run leaves that prints this line behind `before`.
-fn leaving(alloc: Global, before: &str, line: &str, behind: &str) -> Result<String, AllocError> {
-    let mut text = String::from_str(alloc, before)?;
-    text.push_str(line)?;
-    text.push_str(behind)?;
-    Ok(text)
-}
-
 #[test]
-fn maps_are_counted(rt: HostRuntime) -> Result<(), Fail> {
-    for (map, counts) in COUNTS {
-        let wanted = leaving(rt.alloc(), "0|ok ", counts, "\n|")?;
+fn maps_are_counted_or_refused(rt: HostRuntime) -> Result<(), Fail> {
+    for (map, wanted) in CHECKS {
         let left = run_check(rt.alloc(), "m.map", map.as_bytes(), ALL_SOUND)?;
-        assert_same(&rt, map, &left, &wanted);
-    }
-    Ok(())
-}
-
-#[test]
-fn maps_are_refused(rt: HostRuntime) -> Result<(), Fail> {
-    for (map, refusal) in REFUSED {
-        let wanted = leaving(rt.alloc(), "1||refused: m.map: ", refusal, "\n")?;
-        let left = run_check(rt.alloc(), "m.map", map.as_bytes(), ALL_SOUND)?;
-        assert_same(&rt, map, &left, &wanted);
-        let left = run_lookup(rt.alloc(), map, 1, 1, ALL_SOUND)?;
-        assert_same(&rt, map, &left, &wanted);
+        assert_same(&rt, map, &left, wanted);
     }
     Ok(())
 }
 
 #[test]
 fn places_are_found(rt: HostRuntime) -> Result<(), Fail> {
-    for (map, line, column, place) in PLACES {
-        let wanted = leaving(rt.alloc(), "0|", place, "\n|")?;
+    for (map, line, column, wanted) in PLACES {
         let left = run_lookup(rt.alloc(), map, *line, *column, ALL_SOUND)?;
-        assert_same(&rt, map, &left, &wanted);
+        assert_same(&rt, map, &left, wanted);
     }
     Ok(())
+}
+
+// What `lookup` leaves for a row of the vectors, which has the line, the column and what is printed, and what it is to
+// leave.
+fn row_leaves(alloc: Global, row: &str) -> Result<(String, String), Fail> {
+    let (line, rest) = halves(row);
+    let (column, printed) = halves(rest);
+    let left = run_lookup(
+        alloc,
+        EXAMPLE_MAP,
+        line.parse()?,
+        column.parse()?,
+        ALL_SOUND,
+    )?;
+    Ok((left, ["0|", printed, "\n|"].concat(alloc)?))
 }
 
 #[test]
 fn places_of_the_example_are_found(rt: HostRuntime) -> Result<(), Fail> {
     for row in LOOKUPS.trim().lines() {
-        let (line, rest) = halves(row);
-        let (column, place) = halves(rest);
-        let wanted = leaving(rt.alloc(), "0|", place, "\n|")?;
-        let left = run_lookup(
-            rt.alloc(),
-            EXAMPLE_MAP,
-            line.parse()?,
-            column.parse()?,
-            ALL_SOUND,
-        )?;
+        let (left, wanted) = row_leaves(rt.alloc(), row)?;
         assert_same(&rt, row, &left, &wanted);
     }
     Ok(())

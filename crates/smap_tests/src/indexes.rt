@@ -75,8 +75,7 @@ fn comparisons_are_few(rt: HostRuntime) -> Result<(), Fail> {
     for column in 0..9 {
         let mut meter = Meter::new(rt.alloc());
         let _ = index.look_up(0, column, &mut meter);
-        assert!(&rt; meter.comparisons() <= 3, "at column {column}");
-        assert!(&rt; meter.segments() == 0, "at column {column}");
+        assert!(&rt; meter.comparisons() <= 3 && meter.segments() == 0);
     }
     Ok(())
 }

@@ -1,7 +1,7 @@
 //! Map files: what is read, and what the ones that no command can ask are refused for.
 use crate::rows::assert_same;
 use crate::shown::held_text;
-use smap_record::{MapFile, SourceEntry, SourceName};
+use smap_record::{MapFile, SourceEntry};
 use std::alloc::{AllocError, Global};
 use std::test::Fail;
 
@@ -11,12 +11,21 @@ const EMPTY: &str = r#"{"version":3,"sources":[],"mappings":""}"#;
 const FULL: &str =
     r#"{"version":3,"file":"o.js","sourceRoot":"src","sources":["a.ts",null,"c.ts"],"names":["f","g"],"sourcesContent":[null,"x","y","z"],"ignoreList":[1,1],"mappings":"AAAAC;ACEGD"}"#;
 
-// A source: its name, `:`, its content, and `*` where it is ignored.
-fn push_source(text: &mut String, source: &SourceEntry) -> Result<(), AllocError> {
-    text.push_str(source.name.as_ref().map(SourceName::text).unwrap_or("none"))?;
-    text.push(':')?;
-    text.push_str(source.content.as_deref().unwrap_or("none"))?;
-    text.push_str(if source.ignored { "* " } else { " " })
+fn name_text(source: &SourceEntry) -> &str {
+    match &source.name {
+        Some(name) => name.text(),
+        None => "none",
+    }
+}
+
+// A source: its name, its content, and whether it is ignored.
+fn source_text(alloc: Global, source: &SourceEntry) -> Result<String, AllocError> {
+    format!(in alloc;
+        "{} {:?} {}, ",
+        name_text(source),
+        source.content,
+        source.ignored
+    )
 }
 
 // All that a map holds: its file, sources, names and mappings.
@@ -25,7 +34,7 @@ fn entries(alloc: Global, map: &MapFile) -> Result<String, AllocError> {
     text.push_str(" | ")?;
     for i in 0..9 {
         match map.source(i) {
-            Some(source) => push_source(&mut text, source)?,
+            Some(source) => text.push_str(&source_text(alloc, source)?)?,
             None => {}
         }
     }
@@ -50,7 +59,7 @@ fn every_entry_has_its_place(rt: HostRuntime) -> Result<(), Fail> {
         &rt,
         FULL,
         &entries(rt.alloc(), &map)?,
-        "o.js | a.ts:none none:x* c.ts:y | fg------- | 2|2|0,0,0,0,0,1 1,0,1,2,3,0",
+        "o.js | a.ts None false, none Some(\"x\") true, c.ts Some(\"y\") false, | fg------- | 2|2|0,0,0,0,0,1 1,0,1,2,3,0",
     );
     Ok(())
 }

@@ -4,35 +4,32 @@ use crate::running::{ALL_SOUND, Device, Devices, SOUND, run_raw};
 use crate::vectors::answers::ANSWERS;
 use crate::vectors::refusals::REFUSALS;
 use std::alloc::{AllocError, Global};
+use std::process::Abort;
 use std::test::Fail;
 
-// A row of the vectors: the line, the column, the text, and what is printed.
-fn row_leaves(alloc: Global, row: &str) -> Result<String, Fail> {
-    let (line, row) = halves(row);
-    let (column, row) = halves(row);
-    let (text, _) = halves(row);
-    Ok(run_raw(
-        alloc,
-        text.as_bytes(),
-        line.parse()?,
-        column.parse()?,
-        ALL_SOUND,
-    )?)
-}
-
-fn wanted_of(alloc: Global, row: &str, before: &str, behind: &str) -> Result<String, AllocError> {
-    let (_, printed) = row.rsplit_once('|').unwrap_or((row, ""));
-    let mut wanted = String::from_str(alloc, before)?;
-    wanted.push_str(printed)?;
-    wanted.push_str(behind)?;
-    Ok(wanted)
+// Puts a row of the vectors to `raw`: the line, the column, the text and what is printed. What is left is that, with
+// these texts around it.
+fn assert_row(
+    rt: &impl Abort,
+    alloc: Global,
+    row: &str,
+    before: &str,
+    behind: &str,
+) -> Result<(), Fail> {
+    let (line, rest) = halves(row);
+    let (column, rest) = halves(rest);
+    let (text, printed) = halves(rest);
+    let (line, column) = (line.parse()?, column.parse()?);
+    let left = run_raw(alloc, text.as_bytes(), line, column, ALL_SOUND)?;
+    let wanted = format!(in alloc; "{before}{printed}{behind}")?;
+    assert_same(rt, row, &left, &wanted);
+    Ok(())
 }
 
 #[test]
 fn each_row_is_answered(rt: HostRuntime) -> Result<(), Fail> {
     for row in ANSWERS.trim().lines() {
-        let wanted = wanted_of(rt.alloc(), row, "0|", "\n|")?;
-        assert_same(&rt, row, &row_leaves(rt.alloc(), row)?, &wanted);
+        assert_row(&rt, rt.alloc(), row, "0|", "\n|")?;
     }
     Ok(())
 }
@@ -40,8 +37,7 @@ fn each_row_is_answered(rt: HostRuntime) -> Result<(), Fail> {
 #[test]
 fn each_row_is_refused(rt: HostRuntime) -> Result<(), Fail> {
     for row in REFUSALS.trim().lines() {
-        let wanted = wanted_of(rt.alloc(), row, "1||", "\n")?;
-        assert_same(&rt, row, &row_leaves(rt.alloc(), row)?, &wanted);
+        assert_row(&rt, rt.alloc(), row, "1||", "\n")?;
     }
     Ok(())
 }

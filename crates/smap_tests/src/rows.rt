@@ -1,4 +1,4 @@
-//! Rows of texts: what is asked, `|`, and what it comes to.
+//! Rows of texts, and the comparison of all tests: what is asked came to this text, and to no other.
 use std::process::Abort;
 
 /// What was asked came to this text, and to no other.
@@ -8,5 +8,8 @@ pub fn assert_same(rt: &impl Abort, asked: &str, got: &str, wanted: &str) {
 
 /// What stands before the first `|` of a row, and what stands behind it.
 pub fn halves(row: &str) -> (&str, &str) {
-    row.split_once('|').unwrap_or((row, ""))
+    match row.split_once('|') {
+        Some(halves) => halves,
+        None => (row, ""),
+    }
 }

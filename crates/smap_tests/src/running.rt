@@ -1,8 +1,7 @@
 //! Running a command over devices in memory, and all that a run leaves as one text.
-ghost use Rattle.std.specs.Prelude.{◌≡◌, ◌∷◌, [], map};
+ghost use Rattle.std.specs.Prelude.{◌≡◌, ◌∷◌, [], false, map, IfOk};
 ghost use Rattle.smap_answers.specs.Files.{path_of, paths_of};
 
-use crate::shown::push_number;
 use smap_answers::{Command, Loaded, run};
 use smap_io::{MemorySink, MemorySource};
 use std::alloc::{AllocError, Global};
@@ -20,6 +19,18 @@ pub struct Devices(pub Device, pub Device, pub Device);
 
 /// Devices of which none ever fails.
 pub const ALL_SOUND: Devices = Devices(SOUND, SOUND, SOUND);
+
+fn new_source(alloc: Global, bytes: &[u8], device: Device) -> Result<MemorySource, AllocError>
+    ensures { IfOk result (λ source. source.failed ≡ false) }
+{
+    Ok(MemorySource::new(bytes.to_vec(alloc)?, device.0.max(1), device.1))
+}
+
+fn new_sink(alloc: Global, device: Device) -> Result<MemorySink, AllocError>
+    ensures { IfOk result (λ sink. sink.failed ≡ false) }
+{
+    Ok(MemorySink::new(Vec::with_capacity(alloc, 200)?, device.0.max(1), device.1))
+}
 
 // The status, and what stands on the output and on the error stream, with `|` between two.
 fn run_over(
@@ -40,13 +51,18 @@ fn run_over(
     let mut output = MemorySink::new(Vec::with_capacity(alloc, 200)?, writes, write_fails);
     let mut errors = MemorySink::new(Vec::with_capacity(alloc, 200)?, tells, tell_fails);
     let status = run(alloc, command, files, &mut input, &mut output, &mut errors);
-    let mut text = String::new(alloc);
-    push_number(&mut text, alloc, "", u64::from(status))?;
-    text.push('|')?;
-    text.push_str(&String::from_utf8_lossy(alloc, output.bytes())?)?;
-    text.push('|')?;
-    text.push_str(&String::from_utf8_lossy(alloc, errors.bytes())?)?;
-    Ok(text)
+    left_text(alloc, status, output.bytes(), errors.bytes())
+}
+
+fn left_text(
+    alloc: Global,
+    status: u8,
+    output: &[u8],
+    errors: &[u8],
+) -> Result<String, AllocError> {
+    let output = String::from_utf8_lossy(alloc, output)?;
+    let errors = String::from_utf8_lossy(alloc, errors)?;
+    format!(in alloc; "{status}|{output}|{errors}")
 }
 
 /// What `raw` leaves. The line and the column count from 1.

@@ -1,11 +1,22 @@
 //! Bytes read and written whole, in pieces, up to a limit and over devices that fail.
 use crate::rows::assert_same;
-use smap_io::{ByteSink, ByteSource, MemorySink, MemorySource, read_all, write_all};
+use smap_io::{MemorySink, MemorySource, read_all, write_all};
 use std::alloc::{AllocError, Global};
 use std::test::Fail;
 
+// The bytes that are read, or `!` where a read failed, and a blank.
+fn all_text(alloc: Global, source: &mut MemorySource, most: usize) -> Result<String, AllocError> {
+    match read_all(alloc, source, most) {
+        Ok(bytes) => {
+            let bytes = String::from_utf8_lossy(alloc, &bytes)?;
+            [bytes.as_str(), " "].concat(alloc)
+        }
+        Err(_) => String::from_str(alloc, "! "),
+    }
+}
+
 // What `read_all` gives with each of these limits in turn, of a source that gives three bytes a call: the bytes, or
-// `!` where a read failed, and `*` where the source says that one has.
+// `!` where a read failed.
 fn read_in_turn(
     alloc: Global,
     bytes: &str,
@@ -15,11 +26,7 @@ fn read_in_turn(
     let mut source = MemorySource::new(bytes.as_bytes().to_vec(alloc)?, 3, fails_at);
     let mut text = String::new(alloc);
     for most in limits {
-        match read_all(alloc, &mut source, *most) {
-            Ok(bytes) => text.push_str(&String::from_utf8_lossy(alloc, &bytes)?)?,
-            Err(_) => text.push('!')?,
-        }
-        text.push_str(if source.failed() { "* " } else { " " })?;
+        text.push_str(&all_text(alloc, &mut source, *most)?)?;
     }
     Ok(text)
 }
@@ -29,12 +36,12 @@ const READS: &[(&str, u64, &[usize], &str)] = &[
     ("", 0, &[10], " "),
     ("abcdefg", 0, &[9], "abcdefg "),
     // What is past a limit is left for the next.
-    ("abcdefg", 3, &[5, 0, 9, 9], "abcde  !* fg* "),
+    ("abcdefg", 3, &[5, 0, 9, 9], "abcde  ! fg "),
     // The fourth call is the one that finds the end.
-    ("abcdefg", 1, &[9], "!* "),
-    ("abcdefg", 2, &[9], "!* "),
-    ("abcdefg", 3, &[9], "!* "),
-    ("abcdefg", 4, &[9], "!* "),
+    ("abcdefg", 1, &[9], "! "),
+    ("abcdefg", 2, &[9], "! "),
+    ("abcdefg", 3, &[9], "! "),
+    ("abcdefg", 4, &[9], "! "),
 ];
 
 #[test]
@@ -48,18 +55,18 @@ fn bytes_are_read_up_to_a_limit(rt: HostRuntime) -> Result<(), Fail> {
 
 const LINE: &str = "source 0 line 1 column 1\n";
 
-// What a sink of this room holds after `write_all` of a line, with `!` where a write failed, and `*` where the sink
-// says so.
+// What a sink of this room holds after `write_all` of a line, with `!` where a write failed.
 fn written(alloc: Global, room: usize, piece: usize, fails_at: u64) -> Result<String, AllocError> {
     if piece == 0 {
         return String::from_str(alloc, "a sink that takes nothing");
     }
     let mut sink = MemorySink::new(Vec::with_capacity(alloc, room)?, piece, fails_at);
-    let result = write_all(&mut sink, LINE.as_bytes());
-    let mut text = String::from_utf8_lossy(alloc, sink.bytes())?;
-    text.push_str(if result.is_err() { "!" } else { "" })?;
-    text.push_str(if sink.failed() { "*" } else { "" })?;
-    Ok(text)
+    let fault = match write_all(&mut sink, LINE.as_bytes()) {
+        Ok(()) => "",
+        Err(_) => "!",
+    };
+    let taken = String::from_utf8_lossy(alloc, sink.bytes())?;
+    format!(in alloc; "{taken}{fault}")
 }
 
 // The room, the piece, the call that fails, and what is left.
@@ -67,10 +74,10 @@ const WRITES: &[(usize, usize, u64, &str)] = &[
     (50, 1, 0, "source 0 line 1 column 1\n"),
     (50, 7, 0, "source 0 line 1 column 1\n"),
     (25, 8_192, 0, "source 0 line 1 column 1\n"),
-    (10, 4, 0, "source 0 l!*"),
-    (50, 10, 1, "!*"),
-    (50, 10, 2, "source 0 l!*"),
-    (50, 10, 3, "source 0 line 1 colu!*"),
+    (10, 4, 0, "source 0 l!"),
+    (50, 10, 1, "!"),
+    (50, 10, 2, "source 0 l!"),
+    (50, 10, 3, "source 0 line 1 colu!"),
     // The last write is the third, and nothing is flushed.
     (50, 10, 4, "source 0 line 1 column 1\n"),
 ];

@@ -4,3 +4,21 @@ pub mod example_map;
 pub mod lookups;
 pub mod mappings;
 pub mod refusals;
+
+use answers::ANSWERS;
+use lookups::LOOKUPS;
+use mappings::MAPPINGS;
+use refusals::REFUSALS;
+
+// A loop over no rows would pass.
+#[test]
+fn no_row_is_missing(rt: HostRuntime) {
+    for (rows, count) in [
+        (ANSWERS, 325),
+        (REFUSALS, 108),
+        (MAPPINGS, 116),
+        (LOOKUPS, 63),
+    ] {
+        assert!(&rt; rows.trim().lines().count() == count);
+    }
+}
