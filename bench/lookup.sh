@@ -10,24 +10,16 @@
 # PROGRAM times that program in place of the one of this repository.
 set -euo pipefail
 
-root=$(cd -- "$(dirname -- "$(readlink -f -- "${BASH_SOURCE[0]}")")/.." && pwd)
+# shellcheck source=timing.sh
+. "$(dirname -- "$(readlink -f -- "${BASH_SOURCE[0]}")")/timing.sh"
 real=${MAP:-/usr/share/nodejs/@babel/parser/lib/index.js.map}
 most=${BYTES:-28000000}
-runs=${RUNS:-5}
-export NODE_PATH=${NODE_PATH:-/usr/share/nodejs}
 
 if [ ! -r "$real" ]; then
     printf 'there is no map %s\n' "$real" >&2
     exit 1
 fi
-
-if [ -n "${PROGRAM:-}" ]; then
-    program=$PROGRAM
-else
-    # Builds the program where that is needed.
-    "$root/smap" --help >/dev/null
-    program=$root/crates/smap_cli/out/smap_cli
-fi
+find_program
 
 folder=$(mktemp -d)
 trap 'rm -rf -- "$folder"' EXIT
@@ -40,47 +32,12 @@ map=$folder/map
 } < <(node "$root/bench/repeat-map.js" "$real" "$most" "$map")
 bytes=$(stat -c %s -- "$map")
 
-insist() {
-    if [ "$2" != "$3" ]; then
-        printf '%s said "%s" in place of "%s"\n' "$1" "$2" "$3" >&2
-        exit 1
-    fi
-}
-
 insist 'smap check' "$("$program" check "$map")" "$counts"
 insist 'smap lookup' "$("$program" lookup "$map" "$line" "$column")" "$place"
 
-plain() { cat -- "$map" >/dev/null; }
-check() { "$program" check "$map" >/dev/null; }
-look_up() { "$program" lookup "$map" "$line" "$column" >/dev/null; }
 by_json() { by_node json -; }
 by_source_map() { by_node node "$place"; }
 by_trace_mapping() { by_node trace "$place"; }
-
-# Leaves the time that the reader took within its process in `within`.
-by_node() {
-    local said
-    said=$(node "$root/bench/read-map.js" "$1" "$map" "$line" "$column")
-    insist "$1" "${said#* }" "$2"
-    within=${said%% *}
-}
-
-# The least times of a few runs, in microseconds: of the whole process in `least`, and within it in
-# `least_within`, where the reader tells it.
-best_of() {
-    local begin took i
-    least='' least_within=''
-    for ((i = 0; i < runs; i++)); do
-        within=''
-        begin=${EPOCHREALTIME/[.,]/}
-        "$1"
-        took=$((${EPOCHREALTIME/[.,]/} - begin))
-        if [ -z "$least" ] || ((took < least)); then least=$took; fi
-        if [ -n "$within" ] && { [ -z "$least_within" ] || ((within < least_within)); }; then
-            least_within=$within
-        fi
-    done
-}
 
 # The last two columns are the times over that of a look-up by smap.
 report() {

@@ -1,10 +1,10 @@
 #!/usr/bin/env node
-// Reads a map with one of three readers, and looks one position up.
+// Reads a map with one of four readers, and looks one position up.
 //
-//   node read-map.js json|node|trace MAP LINE COLUMN
+//   node read-map.js json|node|trace|any MAP LINE COLUMN
 //
 // prints the microseconds from before the file is read until the answer is there, and the answer as
-// `smap lookup` prints it; `json` only reads the JSON, and has no answer.
+// `smap lookup` prints it; `json` only reads the JSON, and has no answer. `any` is for index maps too.
 'use strict';
 
 const fs = require('fs');
@@ -13,6 +13,12 @@ const [how, file, line, column] = process.argv.slice(2);
 
 function shown(source, originalLine, originalColumn, name) {
   return `${source}:${originalLine + 1}:${originalColumn + 1}${name ? ` name ${name}` : ''}`;
+}
+
+function traced(map) {
+  const { traceSegment } = require('@jridgewell/trace-mapping');
+  const [, source, originalLine, originalColumn, name] = traceSegment(map, line - 1, column - 1);
+  return shown(map.sources[source], originalLine, originalColumn, map.names[name]);
 }
 
 const READERS = {
@@ -30,12 +36,12 @@ const READERS = {
     };
   },
   trace() {
-    const { TraceMap, traceSegment } = require('@jridgewell/trace-mapping');
-    return (text) => {
-      const map = new TraceMap(text);
-      const [, source, originalLine, originalColumn, name] = traceSegment(map, line - 1, column - 1);
-      return shown(map.sources[source], originalLine, originalColumn, map.names[name]);
-    };
+    const { TraceMap } = require('@jridgewell/trace-mapping');
+    return (text) => traced(new TraceMap(text));
+  },
+  any() {
+    const { AnyMap } = require('@jridgewell/trace-mapping');
+    return (text) => traced(new AnyMap(text));
   },
 };
 

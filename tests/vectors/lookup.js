@@ -47,4 +47,4 @@ function spread(list, most) {
   return Array.from({ length: most }, (_, i) => list[Math.round((i * (list.length - 1)) / (most - 1))]);
 }
 
-module.exports = { linesOf, answerOf, printedLine, spread };
+module.exports = { linesOf, answerOf, isIgnored, printedLine, shownText, spread };

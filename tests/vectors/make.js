@@ -20,26 +20,7 @@ if (process.argv[2] === 'check') {
   process.exit(refusal === null ? 0 : 1);
 }
 
-// ---------------------------------------------------------------------------------------------
-// Numbers by chance, the same at each run.
-// ---------------------------------------------------------------------------------------------
-
-let seed = 20426;
-
-function chance() {
-  seed = (seed + 0x6d2b79f5) | 0;
-  let t = Math.imul(seed ^ (seed >>> 15), 1 | seed);
-  t = (t + Math.imul(t ^ (t >>> 7), 61 | t)) ^ t;
-  return ((t ^ (t >>> 14)) >>> 0) / 4294967296;
-}
-
-function below(n) {
-  return Math.floor(chance() * n);
-}
-
-function pick(list) {
-  return list[below(list.length)];
-}
+const { chance, below, pick } = require('./chance.js').chanceFrom(20426);
 
 // ---------------------------------------------------------------------------------------------
 // Answers: the decoding is that of @jridgewell/sourcemap-codec, and where a text has empty pieces,

@@ -1,5 +1,5 @@
 -- What a run tells, by what was read and what it came to.
-use Rattle.std.proofs.Common.{◌≡◌, ℕ, ◌+◌, ◌<◌, ◌≤◌, ◌⊎◌, Bool, true, false, List, [], ◌∷◌, length, get_or, map, Option, Some, None, refl, sym, subst, inl, inr}
+use Rattle.std.proofs.Common.{◌≡◌, ℕ, ◌+◌, ◌<◌, ◌≤◌, ◌⊎◌, Bool, true, false, List, [], ◌∷◌, length, get_or, map, Option, Some, None, refl, sym, subst, ◌∙◌, inl, inr}
 use Rattle.std.specs.Prelude.{IfOk, IfSome, Result, Ok, Err}
 use Rattle.std.specs.Io.KnownBytes.{IsAtEnd}
 use Rattle.std.specs.declared.alloc.AllocError.{AllocError}
@@ -7,7 +7,11 @@ use Rattle.smap_io.specs.Device.{Gives}
 use Rattle.smap_answers.specs.Lines.{input_failed_line}
 use Rattle.smap_answers.specs.Outcome.{Telling, failure, out_of_memory, telling_of, telling_or_memory}
 use Rattle.smap_answers.specs.Raw.{raw_result}
-use Rattle.smap_answers.specs.Run.{IsResult, Tells, command_result, reads_input}
+use Rattle.smap_answers.specs.Run.{IsOverflow, IsResult, Tells, command_result, reads_input}
+use Rattle.url.specs.Parts.{Parts}
+use Rattle.smap_record.specs.Record.{MapRecord}
+use Rattle.smap_record.specs.declared.refusal.MapRefusal.{MapRefusal}
+use Rattle.smap_answers.specs.Map.{IsMapAnswer, IsUrlRefusal, map_result}
 use Rattle.smap_answers.specs.Files.{first_bytes, path_of}
 use Rattle.smap_answers.specs.Streams.{SourceSeen}
 use Rattle.smap_answers.specs.declared.command.Command.{Command}
@@ -18,13 +22,21 @@ use Rattle.smap_mappings.specs.Limits.{most_text_bytes}
 
 -- an outcome is the wanted one, or memory ran out
 pub or_memory : (outcome : Result Outcome AllocError) (telling wanted : Telling) → telling ≡ telling_or_memory outcome
-    → IfOk outcome (λ o. telling_of o ≡ wanted) → (telling ≡ wanted) ⊎ (telling ≡ out_of_memory)
+    → IfOk outcome (λ o. telling_of o ≡ wanted) → (telling ≡ wanted) ⊎ ((telling ≡ out_of_memory) ⊎ ⊥)
 or_memory (Ok outcome) telling wanted told is = inl cc
-or_memory (Err error) telling wanted told is = inr told
+or_memory (Err error) telling wanted told is = inr (inl told)
+
+-- an outcome is what a map answers, or memory ran out
+pub map_or_memory : (outcome : Result Outcome AllocError) (telling : Telling) (line_of : MapRecord → List ℕ) (path : List ℕ) (found : Result MapRecord MapRefusal)
+    → telling ≡ telling_or_memory outcome → IfOk outcome (λ o. IsMapAnswer line_of path found (telling_of o))
+    → (telling ≡ map_result line_of path found) ⊎ ((telling ≡ out_of_memory) ⊎ IsUrlRefusal path found telling)
+map_or_memory (Ok outcome) telling line_of path found told (inl is) = inl cc
+map_or_memory (Ok outcome) telling line_of path found told (inr is) = inr (inr (is.0, told ∙ is.1))
+map_or_memory (Err error) telling line_of path found told is = inr (inl told)
 
 -- where the input did not fail
 pub result_of_read : (command : Command) (files : List Loaded) (input : List ℕ) (failed : Bool) (telling : Telling) → failed ≡ false
-    → (telling ≡ command_result command files input) ⊎ (telling ≡ out_of_memory) → IsResult command files input failed telling
+    → (telling ≡ command_result command files input) ⊎ ((telling ≡ out_of_memory) ⊎ IsOverflow command files telling) → IsResult command files input failed telling
 result_of_read command files input failed telling works is = subst (λ f. IsResult command files input f telling) (sym works) is
 
 -- where it did
@@ -54,7 +66,7 @@ first_is (first ∷ files) none path loaded = refl
 
 -- a command that leaves standard input alone
 pub tells_unread : (command asked : Command) (files : List Loaded) (before : SourceSeen) (telling : Telling) → command ≡ asked → reads_input asked ≡ false → before.failed ≡ false
-    → ((input : List ℕ) → (telling ≡ command_result asked files input) ⊎ (telling ≡ out_of_memory)) → Tells command files before before telling
+    → ((input : List ℕ) → (telling ≡ command_result asked files input) ⊎ ((telling ≡ out_of_memory) ⊎ IsOverflow asked files telling)) → Tells command files before before telling
 tells_unread command asked files before telling is none works told =
     let input = some_input before.left in
     subst (λ c. Tells c files before before telling) (sym is) (record {
@@ -63,3 +75,12 @@ tells_unread command asked files before telling is none works told =
       unread = λ _. refl;
       is_result = result_of_read asked files input.0 before.failed telling works (told input.0);
     })
+
+-- what is told of a map, by the path, the bytes and the base that the call was given
+pub told_of_same : (outcome : Result Outcome AllocError) (line_of : MapRecord → List ℕ) (found : List ℕ → Option Parts → Result MapRecord MapRefusal)
+    (path path2 bytes bytes2 : List ℕ) (base base2 : Option Parts) → path ≡ path2 → bytes ≡ bytes2 → base ≡ base2
+    → IfOk outcome (λ o. IsMapAnswer line_of path (found bytes base) (telling_of o)) → IfOk outcome (λ o. IsMapAnswer line_of path2 (found bytes2 base2) (telling_of o))
+told_of_same outcome line_of found path path2 bytes bytes2 base base2 same_path same_bytes same_base told =
+    subst (λ p. IfOk outcome (λ o. IsMapAnswer line_of p (found bytes2 base2) (telling_of o))) same_path
+    (subst (λ b. IfOk outcome (λ o. IsMapAnswer line_of path (found b base2) (telling_of o))) same_bytes
+    (subst (λ u. IfOk outcome (λ o. IsMapAnswer line_of path (found bytes u) (telling_of o))) same_base told))

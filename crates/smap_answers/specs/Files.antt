@@ -10,8 +10,8 @@ use Rattle.smap_answers.specs.declared.load.Loaded.{Loaded}
 -- the paths that a command names, in their order
 abbrev pub paths_of : Command → List (List ℕ)
 paths_of (Raw line column) = []
-paths_of (Check path) = string_bytes path ∷ []
-paths_of (Lookup path line column) = string_bytes path ∷ []
+paths_of (Check path base) = string_bytes path ∷ []
+paths_of (Lookup path line column base) = string_bytes path ∷ []
 
 -- the path of a file
 abbrev pub path_of : Loaded → List ℕ

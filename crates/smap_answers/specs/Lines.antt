@@ -128,5 +128,8 @@ output_failed_line = line_from (codes "device: write" ∷ [])
 abbrev pub memory_line : List ℕ
 memory_line = line_from (codes "memory" ∷ [])
 
+abbrev pub bad_base_line : List ℕ
+bad_base_line = line_from (codes "usage: bad base URL" ∷ [])
+
 abbrev pub words_not_utf8_line : List ℕ
 words_not_utf8_line = line_from (codes "error: a word of the command line is not UTF-8" ∷ [])

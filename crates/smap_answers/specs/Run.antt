@@ -1,11 +1,10 @@
 -- What a run of the program does to its streams, and the status with which it ends.
-use Rattle.std.specs.Prelude.{◌≡◌, ℕ, ◌⊎◌, Bool, true, false, List, Option, None, IfSome, string_bytes}
-use Rattle.url.specs.Parts.{Parts}
+use Rattle.std.specs.Prelude.{◌≡◌, ℕ, ◌⊎◌, Bool, true, false, List, IfSome, string_bytes}
 use Rattle.smap_answers.specs.Check.{check_line}
 use Rattle.smap_answers.specs.Files.{first_bytes}
 use Rattle.smap_answers.specs.Lines.{input_failed_line}
 use Rattle.smap_answers.specs.Lookup.{lookup_line}
-use Rattle.smap_answers.specs.Map.{map_result}
+use Rattle.smap_answers.specs.Map.{IsUrlRefusal, map_result}
 use Rattle.smap_answers.specs.Outcome.{Telling, failure, out_of_memory}
 use Rattle.smap_answers.specs.Raw.{raw_result}
 use Rattle.smap_answers.specs.Streams.{SourceSeen, Streams, Ends}
@@ -18,28 +17,31 @@ use Rattle.smap_record.specs.Record.{record_of}
 abbrev pub interval : ℕ
 interval = 1
 
--- the URL against which a command resolves the sources of its map; none so far
-abbrev pub base_of : Command → Option Parts
-base_of command = None
-
 -- what a command tells, where these are its files and these the bytes of standard input
 abbrev pub command_result : Command → List Loaded → (input : List ℕ) → Telling
 command_result (Raw line column) files input = raw_result input line column
-command_result (Check path) files input =
-    map_result (check_line interval) (string_bytes path) (record_of (first_bytes files) (base_of (Check path)) interval)
-command_result (Lookup path line column) files input =
-    map_result (lookup_line line column) (string_bytes path) (record_of (first_bytes files) (base_of (Lookup path line column)) interval)
+command_result (Check path base) files input =
+    map_result (check_line interval) (string_bytes path) (record_of (first_bytes files) base interval)
+command_result (Lookup path line column base) files input =
+    map_result (lookup_line line column) (string_bytes path) (record_of (first_bytes files) base interval)
+
+-- it is told that resolving a source of the command's map gave a URL that is too long
+abbrev pub IsOverflow : Command → List Loaded → Telling → Type 0
+IsOverflow (Raw line column) files telling = ⊥
+IsOverflow (Check path base) files telling = IsUrlRefusal (string_bytes path) (record_of (first_bytes files) base interval) telling
+IsOverflow (Lookup path line column base) files telling = IsUrlRefusal (string_bytes path) (record_of (first_bytes files) base interval) telling
 
 -- whether a command reads standard input
 abbrev pub reads_input : Command → Bool
 reads_input (Raw line column) = true
-reads_input (Check path) = false
-reads_input (Lookup path line column) = false
+reads_input (Check path base) = false
+reads_input (Lookup path line column base) = false
 
 -- what a run tells, where standard input failed in it, or did not
 abbrev pub IsResult : Command → List Loaded → List ℕ → (failed : Bool) → Telling → Type 0
 IsResult command files input true telling = telling ≡ failure input_failed_line
-IsResult command files input false telling = (telling ≡ command_result command files input) ⊎ (telling ≡ out_of_memory)
+IsResult command files input false telling =
+    (telling ≡ command_result command files input) ⊎ ((telling ≡ out_of_memory) ⊎ IsOverflow command files telling)
 
 -- what a run of a command over the files of its paths tells, where standard input is like this before and after it
 pub record Tells (command : Command) (files : List Loaded) (before after : SourceSeen) (telling : Telling) : Type 0 where

@@ -1,8 +1,8 @@
 //! Counting what a map file holds.
-ghost use Rattle.std.specs.Prelude.{◌≡◌, string_bytes, None, IfOk};
+ghost use Rattle.std.specs.Prelude.{◌≡◌, string_bytes, option_copied, IfOk};
 ghost use Rattle.smap_record.specs.Record.{record_of};
 ghost use Rattle.smap_answers.specs.Check.{check_line, counts_of};
-ghost use Rattle.smap_answers.specs.Map.{map_result};
+ghost use Rattle.smap_answers.specs.Map.{IsMapAnswer};
 ghost use Rattle.smap_answers.specs.Outcome.{telling_of};
 ghost use Rattle.smap_answers.specs.Run.{interval};
 
@@ -10,15 +10,20 @@ use crate::command::INTERVAL;
 use crate::lines::{self, MapCounts};
 use crate::outcome::Outcome;
 use crate::refusal::refuse;
-use smap_record::MapFile;
+use smap_record::{MapFile, Url};
 use std::alloc::{AllocError, Global};
 
 /// Reads the map that the bytes of the file at this path are, and counts what it holds.
-pub fn answer_check(alloc: Global, path: &str, bytes: &[u8]) -> Result<Outcome, AllocError>
-    ensures { IfOk result (λ outcome. telling_of outcome
-        ≡ map_result (check_line interval) path.now (record_of bytes.now None interval)) }
+pub fn answer_check(
+    alloc: Global,
+    path: &str,
+    bytes: &[u8],
+    base: Option<&Url>,
+) -> Result<Outcome, AllocError>
+    ensures { IfOk result (λ outcome.
+        IsMapAnswer (check_line interval) path.now (record_of bytes.now (option_copied base.entry) interval) (telling_of outcome)) }
 {
-    match MapFile::read(alloc, bytes, None, INTERVAL) {
+    match MapFile::read(alloc, bytes, base, INTERVAL) {
         Ok(map) => Ok(Outcome::Answer(check_line(alloc, &map)?)),
         Err(refusal) => refuse(alloc, path, refusal),
     }

@@ -1,5 +1,7 @@
 //! What the program is asked to do.
 
+use smap_record::Url;
+
 /// A command. Lines and columns count from 0 here, columns in UTF-16 code units.
 #[derive(Drop)]
 pub enum Command {
@@ -8,15 +10,18 @@ pub enum Command {
         line: u32,
         column: u32,
     },
-    /// Checks the source map in the file at this path.
+    /// Checks the source map in the file at this path. Its sources are resolved against the base.
     Check {
         path: String,
+        base: Option<Url>,
     },
-    /// Looks up a generated line and column in the source map in the file at this path.
+    /// Looks up a generated line and column in the source map in the file at this path. Its sources are resolved
+    /// against the base.
     Lookup {
         path: String,
         line: u32,
         column: u32,
+        base: Option<Url>,
     },
 }
 

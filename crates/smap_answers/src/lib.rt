@@ -20,6 +20,7 @@ mod running;
 mod telling;
 
 pub use command::Command;
+pub use lines::BAD_BASE;
 pub use load::{Loaded, load_files};
 pub use outcome::Outcome;
 pub use running::run;

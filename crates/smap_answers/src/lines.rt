@@ -23,6 +23,9 @@ pub const NOT_UTF8: &str = "refused: NotUtf8\n";
 /// Standard error: a word of the command line is not UTF-8.
 pub const WORDS_NOT_UTF8: &str = "error: a word of the command line is not UTF-8\n";
 
+/// Standard error: the base is no URL.
+pub const BAD_BASE: &str = "usage: bad base URL\n";
+
 /// Standard error: standard input failed.
 pub const INPUT_FAILED: &str = "device: read standard input\n";
 

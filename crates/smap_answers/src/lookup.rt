@@ -1,9 +1,9 @@
 //! Looking a position up in a map file.
-ghost use Rattle.std.specs.Prelude.{◌≡◌, option_and_then, option_map, slice_get, string_bytes, None, IfOk};
+ghost use Rattle.std.specs.Prelude.{◌≡◌, option_and_then, option_map, slice_get, string_bytes, option_copied, IfOk};
 ghost use Rattle.smap_record.specs.Record.{record_of};
 ghost use Rattle.smap_record.specs.Sources.{source_of};
 ghost use Rattle.smap_answers.specs.Lookup.{is_passed_over, lookup_line, origin_line, source_text};
-ghost use Rattle.smap_answers.specs.Map.{map_result};
+ghost use Rattle.smap_answers.specs.Map.{IsMapAnswer};
 ghost use Rattle.smap_answers.specs.Outcome.{telling_of};
 ghost use Rattle.smap_answers.specs.Run.{interval};
 
@@ -11,7 +11,7 @@ use crate::command::INTERVAL;
 use crate::lines;
 use crate::outcome::Outcome;
 use crate::refusal::refuse;
-use smap_record::{Answer, MapFile, Meter, Origin, SourceEntry};
+use smap_record::{Answer, MapFile, Meter, Origin, SourceEntry, Url};
 use std::alloc::{AllocError, Global};
 
 /// Looks up a generated line and column, both from 0, in the map that the bytes of the file at this path are.
@@ -19,13 +19,14 @@ pub fn answer_lookup(
     alloc: Global,
     path: &str,
     bytes: &[u8],
+    base: Option<&Url>,
     line: u32,
     column: u32,
 ) -> Result<Outcome, AllocError>
-    ensures { IfOk result (λ outcome. telling_of outcome
-        ≡ map_result (lookup_line line column) path.now (record_of bytes.now None interval)) }
+    ensures { IfOk result (λ outcome.
+        IsMapAnswer (lookup_line line column) path.now (record_of bytes.now (option_copied base.entry) interval) (telling_of outcome)) }
 {
-    match MapFile::read(alloc, bytes, None, INTERVAL) {
+    match MapFile::read(alloc, bytes, base, INTERVAL) {
         Ok(map) => Ok(Outcome::Answer(lookup_line(alloc, &map, line, column)?)),
         Err(refusal) => refuse(alloc, path, refusal),
     }

@@ -11,7 +11,7 @@ ghost use Rattle.smap_answers.specs.Raw.{without_last_line_end};
 use crate::command::INTERVAL;
 use crate::lines;
 use crate::outcome::Outcome;
-use smap_index::{Answer, BuildRefusal, Index, Part};
+use smap_index::{Answer, Index, Part};
 use smap_mappings::{MOST_BYTES, MOST_INDICES, Meter, PackedText, TextRefusal};
 use std::alloc::{AllocError, Global};
 
@@ -94,8 +94,8 @@ fn look_up(alloc: Global, text: PackedText, line: u32, column: u32) -> Result<An
             let mut meter = Meter::new(alloc);
             Ok(index.look_up(line, column, &mut meter))
         }
-        Err(BuildRefusal::Memory) => Err(AllocError),
-        Err(BuildRefusal::Interval) => unreachable!("there are indexes with this interval"),
+        // A checked text that begins at the start has no fault as the one part, so memory ran out.
+        Err(_) => Err(AllocError),
     }
 }
 

@@ -1,7 +1,7 @@
 //! Telling why a map file is refused.
 ghost use Rattle.std.specs.Prelude.{◌≡◌, ◌≢◌, string_bytes, IfOk};
-ghost use Rattle.smap_answers.specs.Outcome.{refusal, telling_of};
-ghost use Rattle.smap_answers.specs.Lines.{map_refused_line};
+ghost use Rattle.smap_answers.specs.Map.{refusal_result};
+ghost use Rattle.smap_answers.specs.Outcome.{telling_of};
 ghost use Rattle.smap_answers.specs.Refusal.{build_text, cause_text, parts_text, refusal_text, section_fault_text};
 ghost use Rattle.smap_record.specs.declared.refusal.MapRefusal.TheVariants.{Memory};
 
@@ -13,7 +13,7 @@ use std::alloc::{AllocError, Global};
 /// What the refusal of the map file at this path comes to. Want of memory is no refusal of the map.
 pub fn refuse(alloc: Global, path: &str, refused: MapRefusal) -> Result<Outcome, AllocError>
     ensures told { IfOk result (λ outcome.
-        telling_of outcome ≡ refusal (map_refused_line path.now (refusal_text refused))) }
+        telling_of outcome ≡ refusal_result path.now refused) }
     ensures not_memory { IfOk result (λ _. refused ≢ Memory) }
 {
     if let MapRefusal::Memory = refused {
@@ -42,6 +42,8 @@ fn cause_text(refusal: MapRefusal) -> &'static str
         MapRefusal::NotObject => "M3 NotObject",
         MapRefusal::Version => "M4 Version",
         MapRefusal::Sections => "M5 Sections",
+        MapRefusal::SectionOffset(_) => "M6 SectionOffset",
+        MapRefusal::Nested(_) => "M7 Nested",
         MapRefusal::Sources => "M8 Sources",
         MapRefusal::Names => "M9 Names",
         MapRefusal::SourcesContent => "M10 SourcesContent",
@@ -50,6 +52,7 @@ fn cause_text(refusal: MapRefusal) -> &'static str
         MapRefusal::Mappings => "M13 Mappings",
         MapRefusal::Text(_, _) => "M14 Text",
         MapRefusal::Build(_) => "M15 Build",
+        MapRefusal::Url => "M16 Url",
         MapRefusal::Memory => "M17 Memory",
     }
 }
@@ -59,8 +62,11 @@ fn parts_text(alloc: Global, refusal: MapRefusal) -> Result<String, AllocError>
     ensures { IfOk result (λ text. string_bytes text ≡ parts_text refusal) }
 {
     match refusal {
+        MapRefusal::SectionOffset(section) | MapRefusal::Nested(section) => {
+            format!(in alloc; " {section}")
+        }
         MapRefusal::Text(section, fault) => section_fault_text(alloc, section, fault),
-        MapRefusal::Build(refusal) => String::from_str(alloc, build_text(refusal)),
+        MapRefusal::Build(refusal) => build_text(alloc, refusal),
         _ => Ok(String::new(alloc)),
     }
 }
@@ -73,12 +79,15 @@ fn section_fault_text(alloc: Global, section: u64, fault: Fault) -> Result<Strin
     format!(in alloc; " {section} {fault}")
 }
 
-// Why an index is not built.
-fn build_text(refusal: BuildRefusal) -> &'static str
-    ensures { result.now ≡ build_text refusal }
+// Why an index is not built: the number and name of the cause, and the section, from 0.
+fn build_text(alloc: Global, refusal: BuildRefusal) -> Result<String, AllocError>
+    ensures { IfOk result (λ text. string_bytes text ≡ build_text refusal) }
 {
     match refusal {
-        BuildRefusal::Interval => " B1 Interval",
-        BuildRefusal::Memory => " B5 Memory",
+        BuildRefusal::Interval => String::from_str(alloc, " B1 Interval"),
+        BuildRefusal::SectionOrder(section) => format!(in alloc; " B2 SectionOrder {section}"),
+        BuildRefusal::SectionOverlap(section) => format!(in alloc; " B3 SectionOverlap {section}"),
+        BuildRefusal::PositionRange(section) => format!(in alloc; " B4 PositionRange {section}"),
+        BuildRefusal::Memory => String::from_str(alloc, " B5 Memory"),
     }
 }

@@ -57,10 +57,15 @@ fn outcome_of<R: ByteSource>(
 {
     match command {
         Command::Raw { line, column } => outcome_of_raw(alloc, *line, *column, input),
-        Command::Check { path } => or_memory(answer_check(alloc, path, &files[0].bytes)),
-        Command::Lookup { path, line, column } => {
-            or_memory(answer_lookup(alloc, path, &files[0].bytes, *line, *column))
+        Command::Check { path, base } => {
+            or_memory(answer_check(alloc, path, &files[0].bytes, base.as_ref()))
         }
+        Command::Lookup {
+            path,
+            line,
+            column,
+            base,
+        } => or_memory(answer_lookup(alloc, path, &files[0].bytes, base.as_ref(), *line, *column)),
     }
 }
 

@@ -19,8 +19,8 @@ use Rattle.clap.specs.declared.error.Error.{Error}
 use Rattle.clap.specs.declared.error.kind.ErrorKind.TheVariants.{DisplayHelp, DisplayVersion, OutOfMemory}
 use Rattle.smap_cli.specs.declared.words.Usage.{Usage}
 use Rattle.smap_cli.specs.declared.words.Usage.TheVariants.{Help, Words, Memory}
-use Rattle.smap_cli.specs.Words.{HasCommand, HasNumber, HasText, IsUsageOf, IsRefusalOf, check, lookup, number, raw, smap}
-use Rattle.smap_cli.proofs.Rows.{AreReadRows, Keeps, first_none, given_value, help_keeps, no_default_keeps, second_none, settle_keeps, value_keeps, walk_keeps}
+use Rattle.smap_cli.specs.Words.{HasCommand, HasNumber, HasText, IsBaseRefusal, IsUsageOf, IsRefusalOf, check, lookup, number, raw, smap}
+use Rattle.smap_cli.proofs.Rows.{AreReadRows, Keeps, first_none, given_value, help_keeps, long_option_keeps, no_default_keeps, second_none, settle_keeps, value_keeps, walk_keeps}
 use Rattle.smap_cli.proofs.Stops.{IsNoHelp, walk_names}
 
 -- ---- the rules of a level
@@ -78,9 +78,9 @@ at_number id = number
 abbrev at_text : Text → ValueParser
 at_text id = parser.String
 
--- the path is any text, and the other arguments are numbers
+-- the path and the base are any text, and the other arguments are numbers
 abbrev at_argument : Text → ValueParser
-at_argument id = cond (bytes_eq id (codes "PATH")) parser.String number
+at_argument id = cond (bytes_eq id (codes "PATH") || bytes_eq id (codes "URL")) parser.String number
 
 abbrev raw_shape : Shape
 raw_shape = built_leaf raw.top
@@ -110,7 +110,9 @@ check_given : (words : List Text) → level_fault check_shape [] nothing_held wo
     → HasText (rows_after check_shape.rules [] words) (codes "PATH")
 check_given words none =
     let rows = rows_after check_shape.rules [] words in
-    let level = level_gives at_text check_shape (value_keeps at_text 1 (codes "PATH") true, (help_keeps at_text, tt)) (refl, (refl, tt)) words none in
+    let level = level_gives at_text check_shape
+    (value_keeps at_text 1 (codes "PATH") true, (long_option_keeps at_text 2 (codes "URL") (codes "base"), (help_keeps at_text, tt)))
+    (refl, (refl, (refl, tt))) words none in
     let path = given_value at_text (codes "PATH") rows level.0 (path_given (is_given (codes "PATH") rows) level.1) in
     first_of_one (codes "PATH") path.0 rows path.1
   where
@@ -123,9 +125,17 @@ lookup_given : (words : List Text) → level_fault lookup_shape [] nothing_held 
     × HasNumber (rows_after lookup_shape.rules [] words) (codes "LINE") × HasNumber (rows_after lookup_shape.rules [] words) (codes "COLUMN")
 lookup_given words none =
     let rows = rows_after lookup_shape.rules [] words in
-    let level = level_gives at_argument lookup_shape
-    (value_keeps at_argument 1 (codes "PATH") true, (value_keeps at_argument 2 (codes "LINE") true, (value_keeps at_argument 3 (codes "COLUMN") true, (help_keeps at_argument, tt))))
-    (refl, (refl, (refl, (refl, tt)))) words none in
+    let level = level_gives at_argument lookup_shape (
+      value_keeps at_argument 1 (codes "PATH") true,
+      (
+        value_keeps at_argument 2 (codes "LINE") true,
+        (
+          value_keeps at_argument 3 (codes "COLUMN") true,
+          (long_option_keeps at_argument 4 (codes "URL") (codes "base"), (help_keeps at_argument, tt)),
+        ),
+      ),
+    )
+    (refl, (refl, (refl, (refl, (refl, tt))))) words none in
     let given = all_given (is_given (codes "PATH") rows) (is_given (codes "LINE") rows) (is_given (codes "COLUMN") rows) level.1 in
     let path = given_value at_argument (codes "PATH") rows level.0 given.0 in (
       first_of_one (codes "PATH") path.0 rows path.1,
@@ -216,12 +226,14 @@ failed_smap a words e usage is_smap fails is = refusal_of usage (subst (λ b. is
     ]
     refusal_of (Words text) kind is = elim kind [
       | inl memory ↦ absurd (is.1 memory)
-      | inr among ↦ (kind_of e, among, is.0)
+      | inr among ↦ inl (kind_of e, among, is.0)
     ]
     refusal_of Memory kind is = tt
 
--- where clap finds no fault in the words, only memory can run out
-pub never_refused : (words : List Text) (usage : Usage) → fault_of smap words ≡ [] → IsRefusalOf words usage → usage ≡ Memory
-never_refused words (Help text) none refused = absurd (subst (IsAmong refused.0) none refused.1)
-never_refused words (Words text) none refused = absurd (subst (IsAmong refused.0) none refused.1)
-never_refused words Memory none refused = refl
+-- where clap finds no fault in the words, but the base is refused
+pub base_refused : (words : List Text) (usage : Usage) → fault_of smap words ≡ [] → IsBaseRefusal (subcommand_of smap words) usage → IsRefusalOf words usage
+base_refused words (Help text) none (inl memory) = cc
+base_refused words (Help text) none (inr bad) = absurd bad.0
+base_refused words (Words text) none (inl memory) = cc
+base_refused words (Words text) none (inr bad) = inr (bad.0, none, bad.1)
+base_refused words Memory none refused = tt

@@ -1,4 +1,3 @@
 mod Rows
 mod Stops
 mod Asked
-mod Plain

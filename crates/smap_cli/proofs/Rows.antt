@@ -99,6 +99,18 @@ module _ (parser_at : Text → ValueParser) where
       go none = with_values_keeps id CommandLine (v ∷ vs) (without id rows)
           (accepted_values id v vs (second_none (repeat_fault again id rows) _ none)) (without_keeps id rows good)
 
+  -- an option of one value
+  pub long_option_keeps : (i : ℕ) (id long : Text) → Keeps (with_index i (filled (record (new_rule id) { long = Some long; parser = Some (parser_at id) })))
+  long_option_keeps i id long again [] rows none good = cc
+  long_option_keeps i id long again (v ∷ vs) rows none good = go (second_none _ (set_fault again a (v ∷ vs) rows) none)
+    where
+      a : Rule
+      a = with_index i (filled (record (new_rule id) { long = Some long; parser = Some (parser_at id) }))
+
+      go : set_fault again a (v ∷ vs) rows ≡ [] → AreReadRows (used a (v ∷ vs) rows)
+      go none = with_values_keeps id CommandLine (v ∷ vs) (without id rows)
+          (accepted_values id v vs (second_none (repeat_fault again id rows) _ none)) (without_keeps id rows good)
+
   pub help_keeps : Keeps (filled help_rule)
   help_keeps again values rows none good = good
 

@@ -1,9 +1,12 @@
 -- What the words of the command line ask for.
-use Rattle.std.specs.Prelude.{◌≡◌, ◌≢◌, ◌≤◌, ◌+◌, ℕ, false, true, pos, codes, Option, Some, List, []}
+use Rattle.std.specs.Prelude.{◌≡◌, ◌≢◌, ◌≤◌, ◌+◌, ℕ, false, true, pos, codes, None, Ok, Option, Some, List, []}
 use Rattle.std.specs.Prelude.{◌∷◌, ◌⊎◌, String, map, ⊤}
 use Rattle.std.specs.Str.Parse.{IsNumeral, digits_value, without_leading_plus}
 use Rattle.std.specs.String.{string_bytes}
 use Rattle.smap_mappings.specs.Limits.{limit}
+use Rattle.smap_answers.specs.Lines.{bad_base_line}
+use Rattle.url.specs.Parser.{parse_url}
+use Rattle.url.specs.Parts.{Parts}
 use Rattle.clap.specs.Faults.{fault_of}
 use Rattle.clap.specs.Kinds.{IsAmong}
 use Rattle.clap.specs.Simple.{on_top}
@@ -23,53 +26,12 @@ use Rattle.smap_cli.specs.declared.words.Usage.TheVariants.{Help, Words, Memory}
 -- the numbers are lines and columns that there can be, counted from 0
 abbrev pub IsInRange : Command → Type 0
 IsInRange (Raw line column) = (line ≤ limit) × (column ≤ limit)
-IsInRange (Check path) = ⊤
-IsInRange (Lookup path line column) = (line ≤ limit) × (column ≤ limit)
+IsInRange (Check path base) = ⊤
+IsInRange (Lookup path line column base) = (line ≤ limit) × (column ≤ limit)
 
 -- the words as text
 abbrev pub texts : {A : Type 0} → List (String A) → List Text
 texts = map (λ word. string_bytes word)
-
--- ---- plain calls
-
--- the text is the number in decimal digits, and a line or column, counted from 1, may be it
-abbrev pub IsPlaceText : Text → ℕ → Type 0
-IsPlaceText text n =
-    IsNumeral 10 text × (digits_value 10 text ≡ n) × (1 ≤ n) × (n ≤ limit + 1)
-
--- the words are the program's name, `raw`, and a line and a column in digits, counted from 1
-abbrev pub IsRawCall : List Text → ℕ → ℕ → Type 0
-IsRawCall words line column = (program first second : Text)
-    × (words ≡ program ∷ codes "raw" ∷ first ∷ second ∷ [])
-    × IsPlaceText first (line + 1) × IsPlaceText second (column + 1)
-
--- the text cannot be taken for a flag: it begins with no hyphen, or is a hyphen alone
-abbrev pub IsPathText : Text → Type 0
-IsPathText [] = ⊤
-IsPathText (first ∷ rest) = (first ≢ 45) ⊎ (rest ≡ [])
-
--- the words are the program's name, `check` and a path
-abbrev pub IsCheckCall : List Text → Text → Type 0
-IsCheckCall words path = (program : Text) × (words ≡ program ∷ codes "check" ∷ path ∷ [])
-    × IsPathText path
-
--- the words are the program's name, `lookup`, a path, and a line and a column in digits, counted
--- from 1
-abbrev pub IsLookupCall : List Text → Text → ℕ → ℕ → Type 0
-IsLookupCall words path line column = (program first second : Text)
-    × (words ≡ program ∷ codes "lookup" ∷ path ∷ first ∷ second ∷ [])
-    × IsPathText path × IsPlaceText first (line + 1) × IsPlaceText second (column + 1)
-
--- the command is `check` with this path
-abbrev pub IsCheck : Text → Command → Type 0
-IsCheck text (Check path) = string_bytes path ≡ text
-IsCheck text _ = ⊥
-
--- the command is `lookup` with this path, line and column
-abbrev pub IsLookup : Text → ℕ → ℕ → Command → Type 0
-IsLookup text line column (Lookup path l c) =
-    (string_bytes path ≡ text) × (l ≡ line) × (c ≡ column)
-IsLookup text line column _ = ⊥
 
 -- ---- the command line, as clap reads it
 
@@ -88,12 +50,16 @@ raw = with_rule (with_rule (new_app (codes "raw")) (place (codes "LINE"))) (plac
 abbrev pub path_rule : Rule
 path_rule = record (new_rule (codes "PATH")) { required = true }
 
+-- the option that is a URL, of any text
+abbrev pub base_rule : Rule
+base_rule = record (new_rule (codes "URL")) { long = Some (codes "base") }
+
 abbrev pub check : App
-check = with_rule (new_app (codes "check")) path_rule
+check = with_rule (with_rule (new_app (codes "check")) path_rule) base_rule
 
 abbrev pub lookup : App
-lookup = with_rule (with_rule (with_rule (new_app (codes "lookup")) path_rule)
-    (place (codes "LINE"))) (place (codes "COLUMN"))
+lookup = with_rule (with_rule (with_rule (with_rule (new_app (codes "lookup")) path_rule)
+    (place (codes "LINE"))) (place (codes "COLUMN"))) base_rule
 
 -- clap's command is the one described, and no argument of it holds in subcommands too
 abbrev pub IsLocalCommand : App → ClapCommand → Type 0
@@ -125,6 +91,11 @@ HasText rows name = (text : Text) × (first_of name rows ≡ Some text)
 abbrev pub GivesText : List Row → Text → Text → Type 0
 GivesText rows name text = first_of name rows ≡ Some text
 
+-- the text that clap reads for an option, where it is given, is this URL
+abbrev pub GivesUrl : Option Text → Option Parts → Type 0
+GivesUrl None base = base ≡ None
+GivesUrl (Some text) base = (url : Parts) × (parse_url None text ≡ Ok url) × (base ≡ Some url)
+
 -- the subcommand is `raw`, with its two arguments
 abbrev pub HasRaw : Option (Text × List Row) → Type 0
 HasRaw subcommand = (rows : List Row) × (subcommand ≡ Some (codes "raw", rows))
@@ -149,13 +120,14 @@ abbrev pub SubcommandAsksFor : Option (Text × List Row) → Command → Type 0
 SubcommandAsksFor subcommand (Raw line column) = (rows : List Row)
     × (subcommand ≡ Some (codes "raw", rows))
     × GivesNumber rows (codes "LINE") (line + 1) × GivesNumber rows (codes "COLUMN") (column + 1)
-SubcommandAsksFor subcommand (Check path) = (rows : List Row)
+SubcommandAsksFor subcommand (Check path base) = (rows : List Row)
     × (subcommand ≡ Some (codes "check", rows))
-    × GivesText rows (codes "PATH") (string_bytes path)
-SubcommandAsksFor subcommand (Lookup path line column) = (rows : List Row)
+    × GivesText rows (codes "PATH") (string_bytes path) × GivesUrl (first_of (codes "URL") rows) base
+SubcommandAsksFor subcommand (Lookup path line column base) = (rows : List Row)
     × (subcommand ≡ Some (codes "lookup", rows))
     × GivesText rows (codes "PATH") (string_bytes path)
     × GivesNumber rows (codes "LINE") (line + 1) × GivesNumber rows (codes "COLUMN") (column + 1)
+    × GivesUrl (first_of (codes "URL") rows) base
 
 -- clap finds no fault in the words, and the subcommand that they name asks for the command
 abbrev pub WordsAskFor : List Text → Command → Type 0
@@ -174,8 +146,25 @@ IsUsageOf kind (Help text) = IsRequest kind
 IsUsageOf kind (Words text) = (¬ (IsRequest kind)) × (kind ≢ OutOfMemory)
 IsUsageOf kind Memory = ⊤
 
--- clap finds a request for help or for the version, or another fault in the words, or memory ran out
+-- the subcommand has a text for the base
+abbrev pub HasUrl : Option (Text × List Row) → Type 0
+HasUrl subcommand = (name : Text) × (rows : List Row) × (subcommand ≡ Some (name, rows)) × HasText rows (codes "URL")
+
+-- clap finds a request for help or for the version, or another fault in the words; or it finds none, and the base is not
+-- read; or memory ran out
 abbrev pub IsRefusalOf : List Text → Usage → Type 0
 IsRefusalOf words (Help text) = (kind : ErrorKind) × IsAmong kind (fault_of smap words) × IsRequest kind
-IsRefusalOf words (Words text) = (kind : ErrorKind) × IsAmong kind (fault_of smap words) × (¬ (IsRequest kind))
+IsRefusalOf words (Words text) =
+    ((kind : ErrorKind) × IsAmong kind (fault_of smap words) × (¬ (IsRequest kind)))
+    ⊎ ((string_bytes text ≡ bad_base_line) × (fault_of smap words ≡ []) × HasUrl (subcommand_of smap words))
 IsRefusalOf words Memory = ⊤
+
+-- it is told that the base is no URL
+abbrev pub IsBadBase : Usage → Type 0
+IsBadBase (Help text) = ⊥
+IsBadBase (Words text) = string_bytes text ≡ bad_base_line
+IsBadBase Memory = ⊥
+
+-- where clap finds no fault, only the base may be refused, which the subcommand then has, or memory ran out
+abbrev pub IsBaseRefusal : Option (Text × List Row) → Usage → Type 0
+IsBaseRefusal subcommand usage = (usage ≡ Memory) ⊎ (IsBadBase usage × HasUrl subcommand)

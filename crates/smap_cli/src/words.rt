@@ -1,22 +1,24 @@
 //! The words of the command line, read into a command.
-ghost use Rattle.std.specs.Prelude.{◌≡◌, ◌≤◌, ◌+◌, ℕ, IfErr, IfOk, MatchResult, codes, false};
+ghost use Rattle.std.specs.Prelude.{◌≡◌, ◌≤◌, ◌+◌, ◌⊎◌, ℕ, IfErr, IfOk, codes, false};
 ghost use Rattle.std.specs.Prelude.{string_bytes};
-ghost use Rattle.clap.specs.Words.{Text, app_of, found_of, kind_of, rows_of, rule_of};
+ghost use Rattle.clap.specs.Words.{Text, app_of, first_of, found_of, kind_of, rows_of, rule_of};
 ghost use Rattle.clap.specs.Words.{subcommand_rows_of};
 ghost use Rattle.smap_cli.specs.Words.{GivesNumber, GivesText, HasCommand, HasNumber, HasText};
-ghost use Rattle.smap_cli.specs.Words.{IsCheck, IsCheckCall, IsInRange, IsLocalCommand, IsLookup};
-ghost use Rattle.smap_cli.specs.Words.{IsLookupCall, IsRawCall, IsRefusalOf, IsUsageOf};
+ghost use Rattle.smap_cli.specs.Words.{IsInRange, IsLocalCommand};
+ghost use Rattle.smap_cli.specs.Words.{IsRefusalOf, IsUsageOf};
 ghost use Rattle.smap_cli.specs.Words.{SubcommandAsksFor, WordsAskFor, check, lookup};
 ghost use Rattle.smap_mappings.specs.Limits.{limit};
+ghost use Rattle.smap_cli.specs.Words.{GivesUrl, IsBadBase, IsBaseRefusal, base_rule};
 ghost use Rattle.smap_cli.specs.Words.{path_rule, place, raw, smap, texts};
-ghost use Rattle.smap_answers.specs.declared.command.Command.TheVariants.{Raw};
 ghost use Rattle.smap_cli.specs.declared.words.Usage.TheVariants.{Memory};
 
 use clap::error::ErrorKind;
 use clap::{Arg, ArgMatches, Error, value_parser};
-use smap_answers::{Command, Outcome};
+use smap_answers::{BAD_BASE, Command, Outcome};
 use smap_mappings::LIMIT;
+use smap_record::Url;
 use std::alloc::{AllocError, Global};
+use url::ParseError;
 
 const VERSION: &str = "0.1.0";
 
@@ -97,20 +99,13 @@ impl Usage {
 /// The command that the words ask for, where the first word is the program's name. An `Err` has the
 /// text for the user, as clap writes it.
 pub fn parse(alloc: Global, words: Vec<String>) -> Result<Command, Usage>
-    ensures plain_raw { (line column : ℕ) → IsRawCall (texts words.items) line column
-        → MatchResult result (λ command. command ≡ Raw line column) (λ usage. usage ≡ Memory) }
-    ensures plain_check { (path : Text) → IsCheckCall (texts words.items) path
-        → MatchResult result (IsCheck path) (λ usage. usage ≡ Memory) }
-    ensures plain_lookup { (path : Text) (line column : ℕ)
-        → IsLookupCall (texts words.items) path line column
-        → MatchResult result (IsLookup path line column) (λ usage. usage ≡ Memory) }
     ensures asked { IfOk result (WordsAskFor (texts words.items)) }
     ensures in_range { IfOk result IsInRange }
     ensures refused { IfErr result (IsRefusalOf (texts words.items)) }
 {
     let smap = command_line(alloc)?;
     match smap.try_get_matches_from(words.as_slice()) {
-        Ok(matches) => Ok(command_in(alloc, &matches)?),
+        Ok(matches) => command_in(alloc, &matches),
         Err(error) => Err(usage_of(alloc, &error)),
     }
 }
@@ -139,7 +134,8 @@ fn lookup_words<'a>(alloc: Global) -> Result<clap::Command<'a>, AllocError>
         .after_help(LOOKUP_NOTES)
         .arg(map_path(alloc))?
         .arg(place(alloc, "LINE").help(LINE_HELP))?
-        .arg(place(alloc, "COLUMN").help(COLUMN_HELP))
+        .arg(place(alloc, "COLUMN").help(COLUMN_HELP))?
+        .arg(base_url(alloc))
 }
 
 // The words of `check`.
@@ -149,7 +145,8 @@ fn check_words<'a>(alloc: Global) -> Result<clap::Command<'a>, AllocError>
     clap::Command::new(alloc, "check")
         .about("Checks a source map file and prints its counts")
         .after_help(CHECK_NOTES)
-        .arg(map_path(alloc))
+        .arg(map_path(alloc))?
+        .arg(base_url(alloc))
 }
 
 // The words of `raw`.
@@ -173,6 +170,16 @@ fn map_path<'a>(alloc: Global) -> Arg<'a>
         .help("Path of the source map file")
 }
 
+// The option that is the URL against which sources are resolved.
+fn base_url<'a>(alloc: Global) -> Arg<'a>
+    ensures rule { rule_of result ≡ base_rule }
+    ensures local { result.global ≡ false }
+{
+    Arg::new(alloc, "URL")
+        .long("base")
+        .help("URL against which the names of sources are resolved")
+}
+
 // An argument that is a line or column, from 1.
 fn place<'a>(alloc: Global, name: &'a str) -> Arg<'a>
     ensures rule { rule_of result ≡ place name.entry.now }
@@ -184,14 +191,16 @@ fn place<'a>(alloc: Global, name: &'a str) -> Arg<'a>
 }
 
 // The command that the subcommand and its arguments ask for.
-fn command_in(alloc: Global, matches: &ArgMatches<'_>) -> Result<Command, AllocError>
+fn command_in(alloc: Global, matches: &ArgMatches<'_>) -> Result<Command, Usage>
     requires { HasCommand (subcommand_rows_of matches.now) }
     ensures asked { IfOk result (SubcommandAsksFor (subcommand_rows_of matches.now)) }
     ensures in_range { IfOk result IsInRange }
+    ensures refused { IfErr result (IsBaseRefusal (subcommand_rows_of matches.now)) }
 {
     if let Some(check) = matches.subcommand_matches("check") {
         return Ok(Command::Check {
             path: path_in(alloc, check)?,
+            base: base_in(alloc, check)?,
         });
     }
     if let Some(lookup) = matches.subcommand_matches("lookup") {
@@ -199,6 +208,7 @@ fn command_in(alloc: Global, matches: &ArgMatches<'_>) -> Result<Command, AllocE
             path: path_in(alloc, lookup)?,
             line: number_in(lookup, "LINE") - 1,
             column: number_in(lookup, "COLUMN") - 1,
+            base: base_in(alloc, lookup)?,
         });
     }
     let raw = matches.subcommand_matches("raw").unwrap();
@@ -215,6 +225,21 @@ fn path_in(alloc: Global, matches: &ArgMatches<'_>) -> Result<String, AllocError
         in IfOk result (λ path. GivesText rows (codes "PATH") (string_bytes path)) }
 {
     String::from_str(alloc, matches.get_str("PATH").unwrap())
+}
+
+// The URL of the option `--base`, where it is given.
+fn base_in(alloc: Global, matches: &ArgMatches<'_>) -> Result<Option<Url>, Usage>
+    ensures given { IfOk result (GivesUrl (first_of (codes "URL") (rows_of (found_of matches.now)))) }
+    ensures refused { IfErr result (λ usage. (usage ≡ Memory) ⊎ (IsBadBase usage × HasText (rows_of (found_of matches.now)) (codes "URL"))) }
+{
+    let Some(text) = matches.get_str("URL") else {
+        return Ok(None);
+    };
+    match Url::parse(alloc, text) {
+        Ok(url) => Ok(Some(url)),
+        Err(ParseError::OutOfMemory) => Err(Usage::Memory),
+        Err(_) => Err(Usage::Words(String::from_str(alloc, BAD_BASE)?)),
+    }
 }
 
 // The number of an argument.

@@ -1,5 +1,5 @@
 -- Worked examples of the definitions: each holds by computing both sides.
-use Rattle.std.proofs.Common.{◌≡◌, ℕ, List, [], ◌∷◌, ◌++◌, Some, None, refl, codes}
+use Rattle.std.proofs.Common.{◌≡◌, ℕ, List, [], ◌∷◌, Some, None, refl, codes}
 use Rattle.smap_mappings.specs.Base64.{digit_of}
 use Rattle.smap_mappings.specs.Vlq.{number_of, unsigned_of}
 use Rattle.smap_mappings.specs.Segment.{fields_of}
@@ -9,6 +9,8 @@ use Rattle.smap_mappings.specs.Mappings.{mappings_of, mapping_after, moves_of, v
 use Rattle.smap_mappings.specs.declared.mapping.Mapping.{Mapping}
 use Rattle.smap_index.specs.Answer.{answer_at_or_before}
 use Rattle.smap_index.specs.Parts.{placed, joined}
+use Rattle.smap_index.specs.Faults.{order_fault, overlap_fault, range_fault, part_fault, build_fault}
+use Rattle.smap_index.specs.declared.refusal.BuildRefusal.TheVariants.{Interval, SectionOrder, SectionOverlap, PositionRange}
 use Rattle.smap_index.specs.Marks.{mark_in, marks, used_lines_in}
 use Rattle.smap_index.specs.declared.part.Part.{Part}
 use Rattle.smap_index.specs.declared.answer.Answer.TheVariants.{Nothing, Unmapped, Found}
@@ -17,9 +19,9 @@ use Rattle.smap_index.specs.declared.answer.Answer.TheVariants.{Nothing, Unmappe
 whole : List ℕ → List Part
 whole text = record { line = 0; column = 0; text = text; source_base = 0; name_base = 0 } ∷ []
 
--- a text that begins at this column of the first line
-at_column : ℕ → List ℕ → List Part
-at_column column text = record { line = 0; column = column; text = text; source_base = 0; name_base = 0 } ∷ []
+-- a text at this offset
+at : ℕ → ℕ → List ℕ → Part
+at line column text = record { line = line; column = column; text = text; source_base = 0; name_base = 0 }
 
 unmapped_at : ℕ → ℕ → Mapping
 unmapped_at line column = record { line = line; column = column; origin = None }
@@ -38,6 +40,53 @@ two_lines = refl
 at_an_offset : joined (record { line = 2; column = 3; text = codes "AAAA,CAAC;AACA"; source_base = 5; name_base = 0 } ∷ []) ≡ mapped_at 2 3 5 0 0 ∷ mapped_at 2 4 5 0 1 ∷ mapped_at 3 0 5 1 1 ∷ []
 unfolding mapped_at placed mappings_of mapping_after moves_of values_on pieces_of pieces_from pieces_on fields_of number_of unsigned_of digit_of
 at_an_offset = refl
+
+-- an offset is no wall, and each part has its own base
+two_parts : joined (at 0 0 (codes "AAAA") ∷ record { line = 0; column = 10; text = codes "CAAA"; source_base = 1; name_base = 0 } ∷ []) ≡ mapped_at 0 0 0 0 0 ∷ mapped_at 0 11 1 0 0 ∷ []
+unfolding at mapped_at placed mappings_of mapping_after moves_of values_on pieces_of pieces_from pieces_on fields_of number_of unsigned_of digit_of
+two_parts = refl
+
+no_wall : answer_at_or_before (joined (at 0 0 (codes "AAAA") ∷ at 0 10 (codes "CAAA") ∷ [])) 0 10 ≡ Found 0 (record { source = 0; line = 0; column = 0; name = None })
+unfolding answer_at_or_before at placed mappings_of mapping_after moves_of values_on pieces_of pieces_from pieces_on fields_of number_of unsigned_of digit_of
+no_wall = refl
+
+-- of equal columns the later part's answers
+later_part_answers : answer_at_or_before (joined (at 0 0 (codes "AAAA,UAAA") ∷ at 0 10 (codes "AAEA") ∷ [])) 0 10 ≡ Found 10 (record { source = 0; line = 2; column = 0; name = None })
+unfolding answer_at_or_before at placed mappings_of mapping_after moves_of values_on pieces_of pieces_from pieces_on fields_of number_of unsigned_of digit_of
+later_part_answers = refl
+
+-- ---- faults
+
+no_fault : build_fault (at 0 0 (codes "AAAA,UAAA") ∷ at 0 10 (codes "AAAA") ∷ []) 1 ≡ None
+unfolding build_fault part_fault order_fault overlap_fault range_fault at placed mappings_of mapping_after moves_of values_on pieces_of pieces_from pieces_on fields_of number_of unsigned_of digit_of
+no_fault = refl
+
+other_interval : build_fault (at 0 10 [] ∷ at 0 0 [] ∷ []) 2 ≡ Some Interval
+unfolding build_fault at
+other_interval = refl
+
+out_of_order : build_fault (at 0 10 [] ∷ at 0 10 [] ∷ at 0 9 [] ∷ []) 1 ≡ Some (SectionOrder 2)
+unfolding build_fault part_fault order_fault at
+out_of_order = refl
+
+past_the_next : build_fault (at 0 0 (codes "AAAA,WAAA") ∷ at 0 10 (codes "AAAA") ∷ []) 1 ≡ Some (SectionOverlap 1)
+unfolding build_fault part_fault order_fault overlap_fault at placed mappings_of mapping_after moves_of values_on pieces_of pieces_from pieces_on fields_of number_of unsigned_of digit_of
+past_the_next = refl
+
+-- the order is asked of all parts first
+order_first : build_fault (at 0 0 (codes "AAAA,WAAA") ∷ at 0 10 [] ∷ at 0 9 [] ∷ []) 1 ≡ Some (SectionOrder 2)
+unfolding build_fault part_fault order_fault at
+order_first = refl
+
+-- the line at its place is 2147483648
+past_the_limit : build_fault (at 0 0 [] ∷ at 2147483647 0 (codes ";A") ∷ []) 1 ≡ Some (PositionRange 1)
+unfolding build_fault part_fault order_fault overlap_fault range_fault at placed mappings_of mapping_after moves_of values_on pieces_of pieces_from pieces_on fields_of number_of unsigned_of digit_of
+past_the_limit = refl
+
+-- also where the part holds nothing
+offset_past_the_limit : build_fault (at 0 2147483648 [] ∷ []) 1 ≡ Some (PositionRange 0)
+unfolding build_fault part_fault order_fault overlap_fault range_fault at placed mappings_of mapping_after moves_of values_on pieces_of pieces_from pieces_on fields_of number_of unsigned_of digit_of
+offset_past_the_limit = refl
 
 -- ---- answers
 
@@ -78,8 +127,8 @@ unfolding whole placed mappings_of mapping_after moves_of values_on pieces_of pi
 every_third = refl
 
 -- and each part too, also where it begins on a line of the one before
-every_second_of_two : marks (whole (codes "A,C,C") ++ at_column 10 (codes "A,C,C,C")) 2 ≡ mark_in 0 0 ∷ mark_in 0 2 ∷ mark_in 1 0 ∷ mark_in 1 2 ∷ []
-unfolding at_column whole placed mappings_of mapping_after moves_of values_on pieces_of pieces_from pieces_on fields_of number_of unsigned_of digit_of
+every_second_of_two : marks (at 0 0 (codes "A,C,C") ∷ at 0 10 (codes "A,C,C,C") ∷ []) 2 ≡ mark_in 0 0 ∷ mark_in 0 2 ∷ mark_in 1 0 ∷ mark_in 1 2 ∷ []
+unfolding at placed mappings_of mapping_after moves_of values_on pieces_of pieces_from pieces_on fields_of number_of unsigned_of digit_of
 every_second_of_two = refl
 
 two_used_lines : used_lines_in (whole (codes "A,C;;A,C,C")) ≡ 2

@@ -2,7 +2,9 @@ pub mod Halving
 pub mod ListLaws
 pub mod SearchLaws
 pub mod MarkLaws
-pub mod UnshiftedLaws
+pub mod FaultLaws
+pub mod RefusalLaws
+pub mod OrderLaws
 pub mod WalkLaws
 pub mod PartLaws
 pub mod Examples

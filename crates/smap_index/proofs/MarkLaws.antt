@@ -1,15 +1,18 @@
 -- At the interval 1 each segment has a checkpoint, so the mappings of a table are the joined list.
-use Rattle.std.proofs.Common.{◌≡◌, ℕ, ◌+◌, ◌%◌, ◌^◌, ◌<◌, ◌≤◌, List, [], ◌∷◌, ◌++◌, length, map, Some, refl, ap, sym, subst, ◌∙◌, eqb, eq-eqb, suc}
-use Rattle.std.specs.List.{AllZip, slice_get}
-use Rattle.std.proofs.Math.Nat.{mod-one}
+use Rattle.std.proofs.Common.{◌≡◌, ℕ, ◌+◌, ◌*◌, ◌/◌, ◌%◌, ◌^◌, ◌<◌, ◌≤◌, List, [], ◌∷◌, ◌++◌, length, map, false, Some, refl, ap, sym, subst, ◌∙◌, arith, eqb, eq-eqb, suc}
+use Rattle.std.specs.List.{AllZip, list_any, slice_get}
+use Rattle.std.proofs.Math.Nat.{mod-one, div-one}
 use Rattle.std.proofs.lemmas.Bool.{cond-true}
 use Rattle.std.proofs.lemmas.List.{append_assoc, length-append, length-map, map-append}
 use Rattle.smap_mappings.specs.Order.{IsInOrder}
 use Rattle.smap_mappings.specs.declared.mapping.Mapping.{Mapping}
-use Rattle.smap_index.specs.Parts.{placed, joined}
+use Rattle.smap_index.specs.Parts.{placed, joined, bytes_in}
+use Rattle.smap_index.specs.Faults.{is_mapping_past_limit}
 use Rattle.smap_index.specs.Marks.{Mark, mark_in, number_on_line, marked_segments, marks_from, marks, IsCheckpointOf, IsTableOf, used_lines_in}
 use Rattle.smap_index.specs.Search.{mappings_at}
+use Rattle.smap_index.specs.Walk.{checkpoint_in, checkpoints_from}
 use Rattle.smap_index.specs.Index.{IndexContents, IsIndexOf, IsIndex}
+use Rattle.smap_index.proofs.RefusalLaws.{faultless}
 use Rattle.smap_index.specs.declared.part.Part.{Part}
 use Rattle.smap_index.specs.declared.table.Checkpoint.{Checkpoint}
 
@@ -34,58 +37,48 @@ slice_get-behind (a ∷ front) x behind = slice_get-behind front x behind
 
 -- ---- the checkpoints of all segments
 
-checkpoint_of : Mapping → Checkpoint
-checkpoint_of mapping = record { mapping = mapping }
-
-all_checkpoints : List Part → List Checkpoint
-all_checkpoints [] = []
-all_checkpoints (part ∷ parts) = map checkpoint_of (placed part) ++ all_checkpoints parts
-
 module _ (parts : List Part) (i : ℕ) (part : Part) (part_is : slice_get parts i ≡ Some part) where
-  part_marked : (before mappings : List Mapping) → before ++ mappings ≡ placed part → AllZip (IsCheckpointOf parts) (map (mark_in i) (marked_segments 1 before mappings)) (map checkpoint_of mappings)
-  unfolding checkpoint_of
+  part_marked : (before mappings : List Mapping) → before ++ mappings ≡ placed part → AllZip (IsCheckpointOf parts) (map (mark_in i) (marked_segments 1 before mappings)) (map (checkpoint_in i) mappings)
   part_marked before [] whole = tt
   part_marked before (m ∷ mappings) whole =
       let each = eq-eqb (number_on_line before m % 1) 0 (mod-one (number_on_line before m)) in
-      let here : IsCheckpointOf parts (mark_in i (length before)) (checkpoint_of m) = record {
+      let here : IsCheckpointOf parts (mark_in i (length before)) (checkpoint_in i m) = record {
         part = part;
         part_is = part_is;
+        number_is = refl;
         mapping_is = ap (λ list. slice_get list (length before)) (sym whole) ∙ slice_get-behind before m mappings;
       } in
       let behind = marked_segments 1 (before ++ m ∷ []) mappings in
       subst
-      (λ segments. AllZip (IsCheckpointOf parts) (map (mark_in i) segments) (map checkpoint_of (m ∷ mappings)))
+      (λ segments. AllZip (IsCheckpointOf parts) (map (mark_in i) segments) (map (checkpoint_in i) (m ∷ mappings)))
       (sym (cond-true (eqb (number_on_line before m % 1) 0) (length before ∷ behind) behind each))
       (here, part_marked (before ++ m ∷ []) mappings (append_assoc before (m ∷ []) mappings ∙ whole))
 
-parts_marked : (all front parts : List Part) → front ++ parts ≡ all → AllZip (IsCheckpointOf all) (marks_from (length front) parts 1) (all_checkpoints parts)
-unfolding all_checkpoints
+parts_marked : (all front parts : List Part) → front ++ parts ≡ all → AllZip (IsCheckpointOf all) (marks_from (length front) parts 1) (checkpoints_from (length front) parts)
 parts_marked all front [] whole = tt
 parts_marked all front (part ∷ parts) whole =
     let part_is = ap (λ ps. slice_get ps (length front)) (sym whole) ∙ slice_get-behind front part parts in
     AllZip-append (IsCheckpointOf all) _ _ _ _
     (part_marked all (length front) part part_is [] (placed part) refl)
     (subst
-    (λ i. AllZip (IsCheckpointOf all) (marks_from i parts 1) (all_checkpoints parts))
+    (λ i. AllZip (IsCheckpointOf all) (marks_from i parts 1) (checkpoints_from i parts))
     (length-append front (part ∷ []))
     (parts_marked all (front ++ part ∷ []) parts (append_assoc front (part ∷ []) parts ∙ whole)))
 
-all_marked : (parts : List Part) → IsTableOf parts 1 (all_checkpoints parts)
+all_marked : (parts : List Part) → IsTableOf parts 1 (checkpoints_from 0 parts)
 all_marked parts = parts_marked parts [] parts refl
 
 -- ---- the mappings of a table
 
-mappings_of_part : (list : List Mapping) → mappings_at (map checkpoint_of list) ≡ list
-unfolding checkpoint_of
-mappings_of_part [] = refl
-mappings_of_part (m ∷ list) = ap (λ list. m ∷ list) (mappings_of_part list)
+mappings_of_part : (i : ℕ) (list : List Mapping) → mappings_at (map (checkpoint_in i) list) ≡ list
+mappings_of_part i [] = refl
+mappings_of_part i (m ∷ list) = ap (λ list. m ∷ list) (mappings_of_part i list)
 
-mappings_of_all : (parts : List Part) → mappings_at (all_checkpoints parts) ≡ joined parts
-unfolding all_checkpoints
-mappings_of_all [] = refl
-mappings_of_all (part ∷ parts) =
-    map-append (λ (c : Checkpoint). c.mapping) (map checkpoint_of (placed part)) (all_checkpoints parts)
-    ∙ (λ i. mappings_of_part (placed part) i ++ mappings_of_all parts i)
+mappings_of_all : (n : ℕ) (parts : List Part) → mappings_at (checkpoints_from n parts) ≡ joined parts
+mappings_of_all n [] = refl
+mappings_of_all n (part ∷ parts) =
+    map-append (λ (c : Checkpoint). c.mapping) (map (checkpoint_in n) (placed part)) (checkpoints_from (n + 1) parts)
+    ∙ (λ i. mappings_of_part n (placed part) i ++ mappings_of_all (n + 1) parts i)
 
 -- a mark has one mapping
 same_mapping : (parts : List Part) (mark : Mark) (a b : Checkpoint) → IsCheckpointOf parts mark a → IsCheckpointOf parts mark b → a.mapping ≡ b.mapping
@@ -103,11 +96,14 @@ same_mappings parts (mark ∷ marks) (c ∷ a) [] is_a is_b = absurd is_b
 same_mappings parts (mark ∷ marks) (c ∷ a) (d ∷ b) is_a is_b = λ i. same_mapping parts mark c d is_a.0 is_b.0 i ∷ same_mappings parts marks a b is_a.1 is_b.1 i
 
 module _ (index : IndexContents) (is : IsIndex index) where
+  at_one : index.k ≡ 1
+  at_one = (faultless index.parts index.k is.sound).interval
+
   marked_at_one : IsTableOf index.parts 1 index.checkpoints
-  marked_at_one = subst (λ k. IsTableOf index.parts k index.checkpoints) is.interval is.holds.marked
+  marked_at_one = subst (λ k. IsTableOf index.parts k index.checkpoints) at_one is.holds.marked
 
   pub table_is_joined : mappings_at index.checkpoints ≡ joined index.parts
-  table_is_joined = same_mappings index.parts (marks index.parts 1) index.checkpoints (all_checkpoints index.parts) marked_at_one (all_marked index.parts) ∙ mappings_of_all index.parts
+  table_is_joined = same_mappings index.parts (marks index.parts 1) index.checkpoints (checkpoints_from 0 index.parts) marked_at_one (all_marked index.parts) ∙ mappings_of_all 0 index.parts
 
   pub table_in_order : IsInOrder (mappings_at index.checkpoints)
   table_in_order = subst IsInOrder (sym table_is_joined) is.holds.ordered
@@ -116,34 +112,30 @@ module _ (index : IndexContents) (is : IsIndex index) where
   pub as_many : (seen : IndexContents) → index ≡ seen → length index.checkpoints ≡ length (marks seen.parts seen.k)
   as_many seen same = AllZip-length (IsCheckpointOf index.parts) (marks index.parts index.k) index.checkpoints is.holds.marked ∙ ap (λ (i : IndexContents). length (marks i.parts i.k)) same
 
+  -- and, at the interval 1, as many as segments
+  pub bounded : (seen : IndexContents) → index ≡ seen → (count : ℕ) → count ≡ length index.checkpoints → count ≤ length (joined seen.parts) / seen.k + used_lines_in seen.parts
+  bounded seen same count is =
+      let all : count ≡ length (joined index.parts) = is ∙ sym (length-map index.checkpoints (λ checkpoint. checkpoint.mapping)) ∙ ap length table_is_joined in
+      let divided : length (joined index.parts) / index.k ≡ length (joined index.parts) = ap (λ k. length (joined index.parts) / k) at_one ∙ div-one (length (joined index.parts)) in
+      let here : count ≤ length (joined index.parts) / index.k + used_lines_in index.parts = omega (arith, all, divided) in
+      subst (λ (i : IndexContents). count ≤ length (joined i.parts) / i.k + used_lines_in i.parts) same here
+
   pub compared : (seen : IndexContents) → index ≡ seen → (next count : ℕ) → ((b : ℕ) → length index.checkpoints < 2 ^ b → next ≤ count + b) → (b : ℕ) → length (marks seen.parts seen.k) < 2 ^ b → next ≤ count + b
   compared seen same next count few b below = few b (subst (λ n. n < 2 ^ b) (sym (as_many seen same)) below)
 
--- ---- a table made of all segments
+-- ---- an index that is built
 
-checkpoints_again : (table : List Checkpoint) → map checkpoint_of (mappings_at table) ≡ table
-unfolding checkpoint_of
-checkpoints_again [] = refl
-checkpoints_again (c ∷ table) = ap (λ table. c ∷ table) (checkpoints_again table)
-
-checkpoints_joined : (parts : List Part) → map checkpoint_of (joined parts) ≡ all_checkpoints parts
-unfolding all_checkpoints
-checkpoints_joined [] = refl
-checkpoints_joined (part ∷ parts) = map-append checkpoint_of (placed part) (joined parts) ∙ ap (λ rest. map checkpoint_of (placed part) ++ rest) (checkpoints_joined parts)
-
-made_of_all : (parts : List Part) (table : List Checkpoint) → mappings_at table ≡ joined parts → IsTableOf parts 1 table
-made_of_all parts table all =
-    subst (IsTableOf parts 1) (sym (sym (checkpoints_again table) ∙ ap (map checkpoint_of) all ∙ checkpoints_joined parts)) (all_marked parts)
-
-pub index_made : (given counted parts : List Part) (k : ℕ) (start table : List Checkpoint) (segments used_lines : ℕ) → given ≡ parts → counted ≡ parts → k ≡ 1 → start ≡ [] → mappings_at table ≡ mappings_at start ++ joined given → segments ≡ length table → used_lines ≡ used_lines_in counted → IsInOrder (joined given)
+pub index_made : (counted walked parts : List Part) (k : ℕ) (start table : List Checkpoint) (segments used_lines : ℕ) → counted ≡ parts → walked ≡ parts → k ≡ 1 → start ≡ [] → table ≡ start ++ checkpoints_from 0 walked → segments ≡ length (joined counted) → used_lines ≡ used_lines_in counted → 2 * segments ≤ bytes_in counted + length counted → IsInOrder (joined parts) → list_any is_mapping_past_limit (joined parts) ≡ false
     → IsIndexOf (record { parts = parts; k = k; checkpoints = table; segments = segments; used_lines = used_lines }) parts k
-index_made given counted parts k start table segments used_lines same same_counted one none marked length_is lines order =
-    let all : mappings_at table ≡ joined parts = marked ∙ (λ i. mappings_at (none i) ++ joined (same i)) in
+index_made counted walked parts k start table segments used_lines same_counted same_walked first none marked number lines few order in_range =
+    let all : table ≡ checkpoints_from 0 parts = marked ∙ (λ i. none i ++ checkpoints_from 0 (same_walked i)) in
     record {
       parts_are = refl;
       k_is = refl;
-      marked = subst (λ k. IsTableOf parts k table) (sym one) (made_of_all parts table all);
-      segments_are = length_is ∙ sym (length-map table (λ checkpoint. checkpoint.mapping)) ∙ ap length all;
+      marked = subst (λ k. IsTableOf parts k table) (sym first) (subst (IsTableOf parts 1) (sym all) (all_marked parts));
+      segments_are = number ∙ ap (λ parts. length (joined parts)) same_counted;
       used_lines_are = lines ∙ ap used_lines_in same_counted;
-      ordered = subst (λ parts. IsInOrder (joined parts)) same order;
+      few = subst (λ n. 2 * n ≤ bytes_in parts + length parts) (number ∙ ap (λ parts. length (joined parts)) same_counted) (subst (λ parts. 2 * segments ≤ bytes_in parts + length parts) same_counted few);
+      ordered = order;
+      in_range = in_range;
     }

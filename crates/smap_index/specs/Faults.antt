@@ -1,9 +1,83 @@
--- Why an index is not built. That one fault refuses all parts is this project's own.
-use Rattle.std.specs.Prelude.{ℕ, List, Option, Some, None, ◌==◌, if◌then◌else◌}
+-- Why an index is not built (ECMA-426, Index source map): the sections stand in the order of their offsets, and none
+-- reaches past the next one's offset. This project's own are: that a mapping may stand at the next offset, the limit
+-- 2147483647 for all that is placed, the order of the refusals, and that one of them refuses all parts. The numbers
+-- of parts count from 0.
+use Rattle.std.specs.Prelude.{ℕ, List, [], ◌∷◌, Option, Some, None, Bool, false, ◌&&◌, ◌||◌, ◌==◌, nat_lt, if◌then◌else◌, option_map}
+use Rattle.std.specs.List.{list_any, position_from}
+use Rattle.std.specs.Option.{option_or}
+use Rattle.smap_mappings.specs.declared.mapping.Mapping.{Mapping}
+use Rattle.smap_mappings.specs.declared.mapping.Origin.{Origin}
+use Rattle.smap_mappings.specs.Limits.{limit}
 use Rattle.smap_index.specs.declared.part.Part.{Part}
 use Rattle.smap_index.specs.declared.refusal.BuildRefusal.{BuildRefusal}
-use Rattle.smap_index.specs.declared.refusal.BuildRefusal.TheVariants.{Interval}
+use Rattle.smap_index.specs.declared.refusal.BuildRefusal.TheVariants.{Interval, SectionOrder, SectionOverlap, PositionRange}
+use Rattle.smap_index.specs.Parts.{placed}
+
+-- each part with the one after it
+abbrev pub neighbours : List Part → List (Part × Part)
+neighbours [] = []
+neighbours (part ∷ []) = []
+neighbours (part ∷ next ∷ parts) = (part, next) ∷ neighbours (next ∷ parts)
+
+-- ---- the order of the offsets
+
+-- the offset of the second stands before that of the first
+abbrev pub is_out_of_order : Part × Part → Bool
+is_out_of_order (part, next) = nat_lt next.line part.line || next.line == part.line && nat_lt next.column part.column
+
+-- the number of the first part whose offset stands before that of the part before it
+unfoldable pub order_fault : List Part → Option ℕ
+order_fault parts = position_from is_out_of_order 1 (neighbours parts)
+
+-- ---- what reaches past an offset
+
+-- the mapping stands after the part's offset
+abbrev pub is_after_offset : Part → Mapping → Bool
+is_after_offset part mapping = nat_lt part.line mapping.line || part.line == mapping.line && nat_lt part.column mapping.column
+
+-- a mapping of the first, at its place, stands after the offset of the second
+abbrev pub is_overlapping : Part × Part → Bool
+is_overlapping (part, next) = list_any (is_after_offset next) (placed part)
+
+-- the number of the first part after whose offset a mapping of the part before it stands
+unfoldable pub overlap_fault : List Part → Option ℕ
+overlap_fault parts = position_from is_overlapping 1 (neighbours parts)
+
+-- ---- what is past the limit
+
+abbrev pub is_past_limit : ℕ → Bool
+is_past_limit n = nat_lt limit n
+
+abbrev pub is_name_past_limit : Option ℕ → Bool
+is_name_past_limit None = false
+is_name_past_limit (Some name) = is_past_limit name
+
+abbrev pub is_origin_past_limit : Option Origin → Bool
+is_origin_past_limit None = false
+is_origin_past_limit (Some origin) =
+    is_past_limit origin.source || is_past_limit origin.line || is_past_limit origin.column || is_name_past_limit origin.name
+
+-- a number of the mapping is past the limit
+abbrev pub is_mapping_past_limit : Mapping → Bool
+is_mapping_past_limit mapping = is_past_limit mapping.line || is_past_limit mapping.column || is_origin_past_limit mapping.origin
+
+-- the part's offset is past the limit, or a number of a mapping of it at its place
+abbrev pub is_part_past_limit : Part → Bool
+is_part_past_limit part = is_past_limit part.line || is_past_limit part.column || list_any is_mapping_past_limit (placed part)
+
+-- the number of the first such part
+unfoldable pub range_fault : List Part → Option ℕ
+range_fault parts = position_from is_part_past_limit 0 parts
+
+-- ---- the refusal
+
+-- the first refusal of these parts, if there is one: all parts are asked for the first fault before any is for the next
+unfoldable pub part_fault : List Part → Option BuildRefusal
+part_fault parts =
+    option_or (option_map SectionOrder (order_fault parts))
+    (option_or (option_map SectionOverlap (overlap_fault parts))
+    (option_map PositionRange (range_fault parts)))
 
 -- the first refusal of these parts at the interval k, if there is one: for now the interval has to be 1
-abbrev pub build_fault : List Part → ℕ → Option BuildRefusal
-build_fault parts k = if k == 1 then None else Some Interval
+unfoldable pub build_fault : List Part → ℕ → Option BuildRefusal
+build_fault parts k = if k == 1 then part_fault parts else Some Interval

@@ -5,3 +5,4 @@ pub mod Faults
 pub mod Index
 pub mod Fields
 pub mod Search
+pub mod Walk

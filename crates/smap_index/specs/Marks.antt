@@ -36,10 +36,12 @@ marks_from i (part ∷ parts) k = map (mark_in i) (marked_segments k [] (placed 
 abbrev pub marks : List Part → ℕ → List Mark
 marks parts k = marks_from 0 parts k
 
--- the checkpoint is of this mark: its mapping is that of the mark's segment, at its place
+-- the checkpoint is of this mark: it has the number of the mark's part, and its mapping is that of the mark's segment,
+-- at its place
 pub record IsCheckpointOf (parts : List Part) (mark : Mark) (checkpoint : Checkpoint) : Type 0 where
   pub part : Part
   pub part_is : slice_get parts mark.part ≡ Some part
+  pub number_is : checkpoint.part ≡ mark.part
   pub mapping_is : slice_get (placed part) mark.segment ≡ Some checkpoint.mapping
 
 -- the table has, in order, one checkpoint for each mark and no other

@@ -1,5 +1,5 @@
 -- The parts of a map (ECMA-426, Index source map): each text's mappings at its part's offset, joined part after part.
-use Rattle.std.specs.Prelude.{◌≡◌, ◌+◌, List, [], ◌∷◌, ◌++◌, ◌==◌, if◌then◌else◌, map, option_map}
+use Rattle.std.specs.Prelude.{ℕ, ◌+◌, List, [], ◌∷◌, ◌++◌, ◌==◌, if◌then◌else◌, length, map, option_map}
 use Rattle.smap_mappings.specs.Mappings.{mappings_of}
 use Rattle.smap_mappings.specs.declared.mapping.Mapping.{Mapping}
 use Rattle.smap_mappings.specs.declared.mapping.Origin.{Origin}
@@ -26,9 +26,11 @@ abbrev pub joined : List Part → List Mapping
 joined [] = []
 joined (part ∷ parts) = placed part ++ joined parts
 
--- nothing is added to the lines, the columns and the indices of the part
-pub record IsUnshifted (part : Part) : Type 0 where
-  pub line : part.line ≡ 0
-  pub column : part.column ≡ 0
-  pub source_base : part.source_base ≡ 0
-  pub name_base : part.name_base ≡ 0
+-- how many parts a map has at most
+abbrev pub most_parts : ℕ
+most_parts = 65536
+
+-- how many bytes the texts of the parts have together
+abbrev pub bytes_in : List Part → ℕ
+bytes_in [] = 0
+bytes_in (part ∷ parts) = length part.text + bytes_in parts

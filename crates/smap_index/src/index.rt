@@ -1,21 +1,23 @@
 //! An index: the parts of a map, and the table of checkpoints from which positions are looked up in them.
 
-ghost use Rattle.std.specs.Prelude.{◌≡◌, ℕ, ◌+◌, ◌-◌, ◌^◌, ◌<◌, ◌≤◌, length, IfOk, OnOk, IsOkUnless, Err, Some, None};
-ghost use Rattle.std.specs.List.{All};
+ghost use Rattle.std.specs.Prelude.{◌≡◌, ℕ, ◌+◌, ◌-◌, ◌*◌, ◌/◌, ◌^◌, ◌<◌, ◌≤◌, length, IfOk, OnOk, IsOkUnless, Err, Some, None, false};
+ghost use Rattle.std.specs.List.{list_any};
 ghost use Rattle.smap_mappings.specs.Meter.{HasRoom};
 ghost use Rattle.smap_mappings.specs.Order.{IsInOrder};
-ghost use Rattle.smap_index.specs.Parts.{IsUnshifted, joined};
+ghost use Rattle.smap_index.specs.Parts.{most_parts, joined, bytes_in};
 ghost use Rattle.smap_index.specs.Marks.{marks, used_lines_in};
-ghost use Rattle.smap_index.specs.Faults.{build_fault};
+ghost use Rattle.smap_index.specs.Faults.{is_mapping_past_limit, build_fault};
 ghost use Rattle.smap_index.specs.Answer.{answer_at_or_before};
 
 use crate::answer::{Answer, answer_of};
 use crate::decode::decode_part;
-use crate::mark::{mark_parts, used_lines_in};
+use crate::mark::mark_parts;
+use crate::order::first_out_of_order;
 use crate::part::Part;
 use crate::refusal::BuildRefusal;
 use crate::search::last_not_after;
 use crate::table::Table;
+use crate::totals::totals_of;
 use smap_mappings::{Mapping, Meter};
 use std::alloc::{AllocError, Global};
 use std::marker::Model;
@@ -46,11 +48,10 @@ impl Index {
     ghost use Rattle.smap_index.specs.Index.{IsIndexOf};
 
     /// Builds the index of these parts, with a checkpoint at the segments of number 0, `k`, 2`k` and so on of each
-    /// line of a part. The caller gives at most one part, and that at line 0 and column 0, with bases 0. Any `k` but 1
-    /// is refused. After a refusal the parts are dropped.
+    /// line of a part. The caller gives at most 65,536 parts. Their first fault is refused, and want of memory only
+    /// where they have none. Each text is read once. After a refusal the parts are dropped.
     pub fn build(alloc: Global, parts: Vec<Part>, k: u32) -> Result<Index, BuildRefusal>
-        requires at_most_one { length parts.items ≤ 1 }
-        requires unshifted { All IsUnshifted parts.items }
+        requires few { length parts.items ≤ most_parts }
         ensures built { IfOk result (λ index. IsIndexOf index parts.items k) }
         ensures sound { OnOk result (build_fault parts.items k ≡ None) }
         ensures fault { (refusal : BuildRefusal) →
@@ -60,24 +61,35 @@ impl Index {
         if k != 1 {
             return Err(BuildRefusal::Interval);
         }
+        if let Some(i) = first_out_of_order(&parts) {
+            return Err(BuildRefusal::SectionOrder(i));
+        }
+        let totals = totals_of(&parts);
         let mut table = Table::new(alloc);
-        let Ok(()) = mark_parts(alloc, &parts, &mut table) else {
+        let has_room = table.reserve(totals.segments as usize).is_ok();
+        let walk = mark_parts(alloc, &parts, has_room, &mut table);
+        if let Some(i) = walk.overlap {
+            return Err(BuildRefusal::SectionOverlap(i));
+        }
+        if let Some(i) = walk.past_limit {
+            return Err(BuildRefusal::PositionRange(i));
+        }
+        if !walk.has_room {
             return Err(BuildRefusal::Memory);
-        };
-        let segments = table.len() as u64;
-        let used_lines = used_lines_in(&parts);
+        }
         Ok(Index {
             parts,
             table,
             k,
-            segments,
-            used_lines,
+            segments: totals.segments,
+            used_lines: totals.used_lines,
         })
     }
 
     /// Looks a generated position up, from 0 and in UTF-16 code units: the last mapping on the line whose column is
-    /// not after the asked one answers, and of equal columns the last. Of fewer than 2 ^ b checkpoints it compares at
-    /// most b, and it decodes fewer than `k` segments; the meter has room for both. The call takes no memory.
+    /// not after the asked one answers, and of equal columns the last. It may be of an earlier part than the last one
+    /// that begins before the position. Of fewer than 2 ^ b checkpoints the call compares at most b, and it decodes
+    /// fewer than `k` segments; the meter has room for both. It takes no memory.
     pub fn look_up(&self, line: u32, column: u32, meter: &mut Meter) -> Answer
         requires room { HasRoom meter.old }
         ensures answer { result ≡ answer_at_or_before (joined self.now.parts) line column }
@@ -95,14 +107,17 @@ impl Index {
 
     /// How many checkpoints the table holds.
     pub fn checkpoints(&self) -> u64
-        ensures { result ≡ length (marks self.now.parts self.now.k) }
+        ensures count { result ≡ length (marks self.now.parts self.now.k) }
+        ensures bound { let segments = length (joined self.now.parts) in
+            result ≤ segments / self.now.k + used_lines_in self.now.parts }
     {
         self.table.len() as u64
     }
 
     /// How many segments the texts hold.
     pub fn segments(&self) -> u64
-        ensures { result ≡ length (joined self.now.parts) }
+        ensures count { result ≡ length (joined self.now.parts) }
+        ensures bound { 2 * result ≤ bytes_in self.now.parts + length self.now.parts }
     {
         self.segments
     }
@@ -118,8 +133,9 @@ impl Index {
     pub fn decode_all(&self, alloc: Global) -> Result<Vec<Mapping>, AllocError>
         ensures list { IfOk result (λ list. list.items ≡ joined self.now.parts) }
         ensures ordered { IsInOrder (joined self.now.parts) }
+        ensures in_range { list_any is_mapping_past_limit (joined self.now.parts) ≡ false }
     {
-        let mut list = Vec::new(alloc);
+        let mut list = Vec::with_capacity(alloc, self.segments as usize)?;
         for part in &self.parts {
             decode_part(alloc, part, &mut list)?;
         }

@@ -15,10 +15,13 @@ mod answer;
 mod decode;
 mod index;
 mod mark;
+mod order;
 mod part;
+mod place;
 mod refusal;
 mod search;
 mod table;
+mod totals;
 
 pub use answer::Answer;
 pub use index::Index;

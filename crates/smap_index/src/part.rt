@@ -2,8 +2,9 @@
 
 use smap_mappings::PackedText;
 
-/// One section of a map (ECMA-426, Index source map): a checked text, the position at which its first line begins,
-/// and what is added to its indices.
+/// One section of a map (ECMA-426, Index source map): a checked text, its offset, which is the position at which its
+/// first line begins, and what is added to its indices. The four numbers may be any: what they make too large is
+/// refused when an index is built.
 #[derive(Drop)]
 pub struct Part {
     /// The generated line of the text's first line, from 0.

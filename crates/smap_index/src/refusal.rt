@@ -1,10 +1,17 @@
 //! Why an index is not built.
 
-/// Why an index is not built.
+/// Why an index is not built: the first of these that holds, in this order. Numbers of parts count from 0, and each is
+/// the least of its kind.
 #[derive(Clone, Copy, Debug, PartialEq, Eq)]
 pub enum BuildRefusal {
     /// B1: the interval is not 1, which is the only one so far.
     Interval,
+    /// B2: the offset of this part stands before that of the part before it.
+    SectionOrder(u64),
+    /// B3: a mapping of the part before this one stands after this one's offset.
+    SectionOverlap(u64),
+    /// B4: this part's offset, or a number of one of its mappings at its place, is past 2147483647.
+    PositionRange(u64),
     /// B5: there is not enough memory for the table.
     Memory,
 }

@@ -23,9 +23,9 @@ pub fn last_not_after(table: &Table, line: u32, column: u32, meter: &mut Meter) 
     let mut best = None;
     while low < high {
         let middle = low + (high - low) / 2;
-        let mapping = table.at(middle, meter).mapping;
-        if is_not_after(&mapping, line, column) {
-            best = Some(mapping);
+        let checkpoint = table.at(middle, meter);
+        if is_not_after(&checkpoint.mapping, line, column) {
+            best = Some(checkpoint.mapping);
             low = middle + 1;
         } else {
             high = middle;

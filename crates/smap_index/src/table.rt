@@ -6,9 +6,10 @@ use smap_mappings::{Mapping, Meter};
 use std::alloc::{AllocError, Global};
 use std::marker::Model;
 
-// A mapping from which a look-up can begin, at its place in the joined list.
+// A mapping from which a look-up can begin, at its place in the joined list, and the number of its part, from 0.
 #[derive(Clone, Copy)]
 pub struct Checkpoint {
+    pub part: u32,
     pub mapping: Mapping,
 }
 

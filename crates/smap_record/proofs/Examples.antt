@@ -11,11 +11,13 @@ use Rattle.smap_mappings.specs.Mappings.{mappings_of, mapping_after, moves_of, v
 use Rattle.smap_mappings.specs.Faults.{first_fault, spelling_fault, move_fault}
 use Rattle.smap_mappings.specs.declared.fault.FaultKind.TheVariants as kinds
 use Rattle.smap_index.specs.Answer.{answer_at_or_before}
+use Rattle.smap_index.specs.Faults.{build_fault, part_fault, order_fault, overlap_fault, range_fault}
 use Rattle.smap_index.specs.Parts.{placed}
 use Rattle.smap_index.specs.declared.answer.Answer.{Answer}
 use Rattle.smap_index.specs.declared.answer.Answer.TheVariants.{Nothing, Found}
 use Rattle.smap_index.specs.declared.part.Part.{Part}
-use Rattle.smap_index.specs.declared.refusal.BuildRefusal.TheVariants.{Interval}
+use Rattle.smap_index.specs.declared.refusal.BuildRefusal.TheVariants.{Interval, SectionOverlap}
+use Rattle.url.proofs.OnLiterals.{url_on_literals}
 use Rattle.smap_resolve.specs.SourceName.{kept, source_name}
 use Rattle.smap_record.specs.FileText.{byte_order_mark}
 use Rattle.smap_record.specs.Sources.{StatedSource}
@@ -33,7 +35,7 @@ called text = record { name = Some (kept text); content = None; ignored = false 
 
 -- what an example unfolds to compute the record of a file
 unfoldable record_on_literals : ⊤
-unfolding record_of source_name is_utf8 chars serde_json_on_literals whole called first_fault spelling_fault move_fault values_on pieces_of pieces_from pieces_on fields_of number_of unsigned_of digit_of
+unfolding record_of source_name url_on_literals is_utf8 chars serde_json_on_literals whole called build_fault part_fault order_fault overlap_fault range_fault placed mappings_of mapping_after moves_of first_fault spelling_fault move_fault values_on pieces_of pieces_from pieces_on fields_of number_of unsigned_of digit_of
 record_on_literals = tt
 
 -- the refusal of a file, where it is refused
@@ -74,7 +76,7 @@ behind_both = refl
 
 -- a source at null has no name, and a content beyond the sources is passed over
 all_fields : record_of (codes "{\"version\":3,\"file\":\"o.js\",\"sourceRoot\":\"src\",\"sources\":[\"a.ts\",null],\"names\":[\"f\"],\"sourcesContent\":[null,\"x\",\"y\"],\"ignoreList\":[1,1],\"mappings\":\"AAAAA\"}") None 1
-    ≡ Ok (record { parts = whole (codes "AAAAA"); sources = called (codes "a.ts") ∷ record { name = None; content = Some (codes "x"); ignored = true } ∷ []; names = codes "f" ∷ []; file = Some (codes "o.js") })
+    ≡ Ok (record { parts = whole (codes "AAAAA"); sources = called (codes "src/a.ts") ∷ record { name = None; content = Some (codes "x"); ignored = true } ∷ []; names = codes "f" ∷ []; file = Some (codes "o.js") })
 unfolding record_on_literals
 all_fields = refl
 
@@ -126,10 +128,48 @@ other_versions : refusals_of (codes "{}" ∷ codes "{\"version\":2}" ∷ codes "
 unfolding record_on_literals
 other_versions = refl
 
-sections_are_refused : refusals_of (codes "{\"version\":3,\"sections\":[],\"file\":7}" ∷ codes "{\"version\":3,\"sections\":7}" ∷ [])
-    ≡ Some refusals.Sections ∷ Some refusals.Sections ∷ []
+-- ---- index maps
+
+-- a part at this place with this text and these bases
+part_with : ℕ → ℕ → List ℕ → ℕ → ℕ → Part
+part_with line column text source_base name_base = record { line = line; column = column; text = text; source_base = source_base; name_base = name_base }
+
+-- sources and names are joined; nothing but `version`, `sections` and `file` is read of the outer object, and neither
+-- `version` nor `file` of a section's map
+two_sections : record_of (codes "{\"version\":3,\"file\":\"o.js\",\"sources\":7,\"sections\":[{\"offset\":{\"line\":0,\"column\":0},\"map\":{\"version\":2,\"file\":7,\"sources\":[\"a.js\"],\"names\":[\"f\"],\"mappings\":\"AAAA\"}},{\"offset\":{\"line\":0,\"column\":10},\"map\":{\"sourceRoot\":\"src\",\"sources\":[\"b.js\"],\"mappings\":\"AAAA\"}}]}") None 1
+    ≡ Ok (record { parts = part_with 0 0 (codes "AAAA") 0 0 ∷ part_with 0 10 (codes "AAAA") 1 1 ∷ []; sources = called (codes "a.js") ∷ called (codes "src/b.js") ∷ []; names = codes "f" ∷ []; file = Some (codes "o.js") })
+unfolding record_on_literals part_with
+two_sections = refl
+
+no_sections : record_of (codes "{\"version\":3,\"sections\":[]}") None 1 ≡ Ok (record { parts = []; sources = []; names = []; file = None })
 unfolding record_on_literals
-sections_are_refused = refl
+no_sections = refl
+
+-- no list; an entry without a map; one with a map that is no object
+bad_sections : refusals_of (codes "{\"version\":3,\"sections\":7}" ∷ codes "{\"version\":3,\"sections\":[{\"offset\":{\"line\":0,\"column\":0}}]}" ∷ codes "{\"version\":3,\"sections\":[{\"map\":[]}]}" ∷ [])
+    ≡ Some refusals.Sections ∷ Some refusals.Sections ∷ Some refusals.Sections ∷ []
+unfolding record_on_literals
+bad_sections = refl
+
+-- no offset; no column; a line that is no whole number; one past the limit, behind an index map
+bad_offsets : refusals_of (codes "{\"version\":3,\"sections\":[{\"map\":{}}]}" ∷ codes "{\"version\":3,\"sections\":[{\"offset\":{\"line\":0},\"map\":{}}]}" ∷ codes "{\"version\":3,\"sections\":[{\"offset\":{\"line\":1.0,\"column\":0},\"map\":{}}]}" ∷ codes "{\"version\":3,\"sections\":[{\"offset\":{\"line\":0,\"column\":0},\"map\":{\"sections\":[]}},{\"offset\":{\"line\":2147483648,\"column\":0},\"map\":{}}]}" ∷ [])
+    ≡ Some (refusals.SectionOffset 0) ∷ Some (refusals.SectionOffset 0) ∷ Some (refusals.SectionOffset 0) ∷ Some (refusals.SectionOffset 1) ∷ []
+unfolding record_on_literals
+bad_offsets = refl
+
+-- before `file`, which is asked before `sources`
+nested_maps : refusals_of (codes "{\"version\":3,\"file\":7,\"sections\":[{\"offset\":{\"line\":0,\"column\":0},\"map\":{\"sections\":[]}}]}" ∷ codes "{\"version\":3,\"file\":7,\"sections\":[{\"offset\":{\"line\":0,\"column\":0},\"map\":{\"sections\":null}}]}" ∷ codes "{\"version\":3,\"sections\":[{\"offset\":{\"line\":0,\"column\":0},\"map\":{\"sections\":null}}]}" ∷ [])
+    ≡ Some (refusals.Nested 0) ∷ Some refusals.FileOrRoot ∷ Some refusals.Sources ∷ []
+unfolding record_on_literals
+nested_maps = refl
+
+-- the fault of a later section; a section that reaches past the next one's offset
+faulty_sections : refusals_of (codes "{\"version\":3,\"sections\":[{\"offset\":{\"line\":0,\"column\":0},\"map\":{\"sources\":[],\"mappings\":\"A\"}},{\"offset\":{\"line\":1,\"column\":0},\"map\":{\"sources\":[],\"mappings\":\"AAAA\"}}]}" ∷ codes "{\"version\":3,\"sections\":[{\"offset\":{\"line\":0,\"column\":0},\"map\":{\"sources\":[],\"mappings\":\"A,W\"}},{\"offset\":{\"line\":0,\"column\":10},\"map\":{\"sources\":[],\"mappings\":\"A\"}}]}" ∷ [])
+    ≡ Some (refusals.Text 1 (record { byte = 0; line = 0; kind = kinds.SourceIndex })) ∷ Some (refusals.Build (SectionOverlap 1)) ∷ []
+unfolding record_on_literals
+faulty_sections = refl
+
+-- ---- fields of a map
 
 -- also where `mappings` is missing, which is asked later
 bad_sources : refusals_of (codes "{\"version\":3}" ∷ codes "{\"version\":3,\"sources\":null}" ∷ codes "{\"version\":3,\"sources\":[7],\"names\":7}" ∷ codes "{\"version\":3,\"sources\":\"a.js\"}" ∷ [])
@@ -163,9 +203,9 @@ answer_in (Ok stated) line column = Some (answer_of_map stated line column)
 answer_in (Err refusal) line column = None
 
 last_on_the_line : answer_in (record_of (codes "{\"version\":3,\"sources\":[\"a.ts\"],\"mappings\":\"AAAA,CAAC\"}") None 1) 0 5 ≡ Some (Found 1 (record { source = 0; line = 0; column = 1; name = None }))
-unfolding record_on_literals answer_at_or_before placed mappings_of mapping_after moves_of
+unfolding record_on_literals answer_at_or_before
 last_on_the_line = refl
 
 nothing_on_the_next_line : answer_in (record_of (codes "{\"version\":3,\"sources\":[\"a.ts\"],\"mappings\":\"AAAA,CAAC\"}") None 1) 1 0 ≡ Some Nothing
-unfolding record_on_literals answer_at_or_before placed mappings_of mapping_after moves_of
+unfolding record_on_literals answer_at_or_before
 nothing_on_the_next_line = refl

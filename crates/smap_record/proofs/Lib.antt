@@ -4,6 +4,8 @@ pub mod Examples
 pub mod FieldLaws
 pub mod FileTextLaws
 pub mod IgnoredLaws
+pub mod IndexMapLaws
+pub mod JoinedLaws
 pub mod LimitLaws
 pub mod RecordLaws
 pub mod RefusalLaws

@@ -1,35 +1,96 @@
 -- The mappings of a map file, and its answers, keep to the limit and to its sources and names.
-use Rattle.std.proofs.Common.{◌≡◌, ℕ, List, [], ◌∷◌, length, map, filter, string_bytes, Option, Some, None, refl, sym, ap, subst, ◌∙◌}
-use Rattle.std.specs.Prelude.{IfSome}
-use Rattle.std.specs.List.{All, AllByRecursion, last_or}
-use Rattle.std.proofs.lemmas.List.{append-nil, length-map}
-use Rattle.std.proofs.lemmas.List.Elements.{All-filter, recursion_from_All}
+use Rattle.std.proofs.Common.{◌≡◌, ℕ, ◌+◌, ◌≤◌, List, [], ◌∷◌, length, map, filter, string_bytes, Bool, true, false, ◌||◌, Option, Some, None, refl, sym, ap, subst, ◌∙◌, arith, ltb-false}
+use Rattle.std.specs.Prelude.{IfSome, option_map}
+use Rattle.std.specs.List.{All, AllByRecursion, last_or, list_any}
+use Rattle.std.proofs.lemmas.List.{length-map}
+use Rattle.std.proofs.lemmas.List.Elements.{All-nil, All-filter, All-weaker, All-append, All-from_recursion, recursion_from_All}
+use Rattle.std.proofs.lemmas.List.Folds.{list_any-append}
 use Rattle.smap_mappings.specs.Mappings.{mappings_of}
-use Rattle.smap_mappings.specs.Within.{IsOriginWithin, IsWithin}
+use Rattle.smap_mappings.specs.Within.{IsIndexWithin, IsOriginWithin, IsWithin}
 use Rattle.smap_mappings.specs.declared.mapping.Mapping.{Mapping}
 use Rattle.smap_mappings.specs.declared.mapping.Origin.{Origin}
 use Rattle.smap_index.specs.Answer.{is_on_line_at_or_before, answer_with, answer_of_last, answer_at_or_before}
-use Rattle.smap_index.specs.Parts.{placed, joined}
+use Rattle.smap_index.specs.Faults.{is_past_limit, is_name_past_limit, is_origin_past_limit, is_mapping_past_limit}
+use Rattle.smap_index.specs.Parts.{placed, placed_mapping, placed_origin, joined}
 use Rattle.smap_index.specs.declared.answer.Answer.{Answer}
 use Rattle.smap_index.specs.declared.part.Part.{Part}
-use Rattle.smap_index.proofs.UnshiftedLaws.{placed_unshifted}
-use Rattle.smap_record.specs.MapFile.{Map, map_seen, IsCounted, IsAnswerWithin}
-use Rattle.smap_record.specs.Record.{regular_place}
-use Rattle.smap_record.specs.Section.{part_at}
+use Rattle.smap_record.specs.MapFile.{Map, map_seen, IsCounted, IsAnswerWithin, IsPartWithin}
 use Rattle.smap_record.specs.Sources.{source_of}
 use Rattle.smap_record.specs.declared.map_file.MapFile.TheInside.{Inside}
 
--- ---- the mappings
+-- ---- the mappings of a part
 
-pub with_counts : (sources names sources' names' : ℕ) (list : List Mapping) → sources ≡ sources' → names ≡ names' → All (IsWithin sources names) list → All (IsWithin sources' names') list
+both_false : (a b : Bool) → (a || b) ≡ false → (a ≡ false) × (b ≡ false)
+both_false true b is = absurd (cc)
+both_false false b is = (refl, is)
+
+-- a part is within more sources and names, too
+pub more_within : (sources names sources' names' : ℕ) (parts : List Part) → sources ≤ sources' → names ≤ names' → All (IsPartWithin sources names) parts → All (IsPartWithin sources' names') parts
+more_within sources names sources' names' parts more_sources more_names =
+    All-weaker (IsPartWithin sources names) (IsPartWithin sources' names')
+    (λ part within. record {
+      own_sources = within.own_sources;
+      own_names = within.own_names;
+      sources_fit = omega (arith, within.sources_fit, more_sources);
+      names_fit = omega (arith, within.names_fit, more_names);
+      text = within.text;
+    })
+    parts
+
+module _ (sources names : ℕ) (part : Part) (within : IsPartWithin sources names part) where
+  name_placed : (name : Option ℕ) → IfSome name (IsIndexWithin within.own_names) → is_name_past_limit (option_map (λ n. part.name_base + n) name) ≡ false → IfSome (option_map (λ n. part.name_base + n) name) (IsIndexWithin names)
+  name_placed None own small = tt
+  name_placed (Some name) own small = record { named = omega (arith, own.named, within.names_fit); small = omega (arith, ltb-false _ _ small) }
+
+  origin_placed : (origin : Origin) → IsOriginWithin within.own_sources within.own_names origin → is_origin_past_limit (Some (placed_origin part origin)) ≡ false → IsOriginWithin sources names (placed_origin part origin)
+  origin_placed origin own small =
+      let placed_one = placed_origin part origin in
+      let all = both_false (is_past_limit placed_one.source || is_past_limit placed_one.line || is_past_limit placed_one.column) (is_name_past_limit placed_one.name) small in
+      let numbers = both_false (is_past_limit placed_one.source || is_past_limit placed_one.line) (is_past_limit placed_one.column) all.0 in
+      let source = both_false (is_past_limit placed_one.source) (is_past_limit placed_one.line) numbers.0 in
+      record {
+        source = record { named = omega (arith, own.source.named, within.sources_fit); small = omega (arith, ltb-false _ _ source.0) };
+        line = own.line;
+        column = own.column;
+        name = name_placed origin.name own.name all.1;
+      }
+
+  maybe_placed : (origin : Option Origin) → IfSome origin (IsOriginWithin within.own_sources within.own_names) → is_origin_past_limit (option_map (placed_origin part) origin) ≡ false → IfSome (option_map (placed_origin part) origin) (IsOriginWithin sources names)
+  maybe_placed None own small = tt
+  maybe_placed (Some origin) own small = origin_placed origin own small
+
+  mapping_placed : (mapping : Mapping) → IsWithin within.own_sources within.own_names mapping → is_mapping_past_limit (placed_mapping part mapping) ≡ false → IsWithin sources names (placed_mapping part mapping)
+  mapping_placed mapping own small =
+      let placed_one = placed_mapping part mapping in
+      let all = both_false (is_past_limit placed_one.line || is_past_limit placed_one.column) (is_origin_past_limit placed_one.origin) small in
+      let position = both_false (is_past_limit placed_one.line) (is_past_limit placed_one.column) all.0 in
+      record { line = omega (arith, ltb-false _ _ position.0); column = omega (arith, ltb-false _ _ position.1); origin = maybe_placed mapping.origin own.origin all.1 }
+
+  list_placed : (list : List Mapping) → AllByRecursion (IsWithin within.own_sources within.own_names) list → list_any is_mapping_past_limit (map (placed_mapping part) list) ≡ false → AllByRecursion (IsWithin sources names) (map (placed_mapping part) list)
+  list_placed [] own small = tt
+  list_placed (mapping ∷ list) own small =
+      let both = both_false (is_mapping_past_limit (placed_mapping part mapping)) (list_any is_mapping_past_limit (map (placed_mapping part) list)) small in
+      (mapping_placed mapping own.0 both.0, list_placed list own.1 both.1)
+
+  part_placed : list_any is_mapping_past_limit (placed part) ≡ false → All (IsWithin sources names) (placed part)
+  unfolding placed
+  part_placed small =
+      All-from_recursion (IsWithin sources names) (map (placed_mapping part) (mappings_of part.text))
+      (list_placed (mappings_of part.text) (recursion_from_All (IsWithin within.own_sources within.own_names) (mappings_of part.text) within.text) small)
+
+parts_placed : (sources names : ℕ) (parts : List Part) → AllByRecursion (IsPartWithin sources names) parts → list_any is_mapping_past_limit (joined parts) ≡ false → All (IsWithin sources names) (joined parts)
+parts_placed sources names [] within small = All-nil (IsWithin sources names)
+parts_placed sources names (part ∷ parts) within small =
+    let both = both_false (list_any is_mapping_past_limit (placed part)) (list_any is_mapping_past_limit (joined parts)) (sym (list_any-append is_mapping_past_limit (placed part) (joined parts)) ∙ small) in
+    All-append (IsWithin sources names) (placed part) (joined parts) (part_placed sources names part within.0 both.0) (parts_placed sources names parts within.1 both.1)
+
+-- the mappings of all parts
+pub joined_within : (sources names : ℕ) (parts : List Part) → All (IsPartWithin sources names) parts → list_any is_mapping_past_limit (joined parts) ≡ false → All (IsWithin sources names) (joined parts)
+joined_within sources names parts within small = parts_placed sources names parts (recursion_from_All (IsPartWithin sources names) parts within) small
+
+with_counts : (sources names sources' names' : ℕ) (list : List Mapping) → sources ≡ sources' → names ≡ names' → All (IsWithin sources names) list → All (IsWithin sources' names') list
 with_counts sources names sources' names' list sources_are names_are all =
     subst (λ n. All (IsWithin sources' n) list) names_are (subst (λ n. All (IsWithin n names) list) sources_are all)
-
--- the mappings of the one part of a regular map are those of its text
-pub regular_within : (sources names : ℕ) (text : List ℕ) (parts : List Part) → parts ≡ part_at regular_place text ∷ [] → All (IsWithin sources names) (mappings_of text) → All (IsWithin sources names) (joined parts)
-regular_within sources names text parts parts_are all =
-    let whole : joined parts ≡ mappings_of text = ap joined parts_are ∙ append-nil (placed (part_at regular_place text)) ∙ placed_unshifted (part_at regular_place text) (record { line = refl; column = refl; source_base = refl; name_base = refl }) in
-    subst (λ list. All (IsWithin sources names) list) (sym whole) all
 
 -- ---- the answers
 

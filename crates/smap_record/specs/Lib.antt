@@ -3,10 +3,11 @@ pub mod Json
 pub mod FileText
 pub mod Fields
 pub mod Refusals
-pub mod Outer
 pub mod Ignored
 pub mod Section
 pub mod Sources
+pub mod IndexMap
+pub mod Outer
 pub mod Record
 pub mod MapFile
 pub mod Seen

@@ -1,7 +1,7 @@
 -- What the bytes of a map file give (ECMA-426, Source map format): the first refusal, or the record of the map. This
 -- project's own are: that each fault refuses the whole file, the order of the refusals, the limits, and that a key at
--- null counts as absent. Index maps are refused so far.
-use Rattle.std.specs.Prelude.{ℕ, List, [], ◌∷◌, ◌++◌, Option, Some, None, is_none, nat_lt, if◌then◌else◌, length, map, flat_map, option_map, Result, Ok, Err}
+-- null counts as absent.
+use Rattle.std.specs.Prelude.{ℕ, List, [], ◌∷◌, ◌++◌, Option, Some, None, is_none, nat_lt, if◌then◌else◌, length, map, flat_map, option_map, unwrap_or, Result, Ok, Err}
 use Rattle.serde_json.specs.Data.{Data}
 use Rattle.serde_json.specs.Find.{as_object}
 use Rattle.url.specs.Parts.{Parts}
@@ -11,15 +11,14 @@ use Rattle.smap_index.specs.Parts.{joined}
 use Rattle.smap_index.specs.declared.answer.Answer.{Answer}
 use Rattle.smap_index.specs.declared.part.Part.{Part}
 use Rattle.smap_record.specs.FileText.{value_of_file}
-use Rattle.smap_record.specs.Fields.{Fields, fields_of}
+use Rattle.smap_record.specs.IndexMap.{sections_behind}
 use Rattle.smap_record.specs.Limits.{most_file_bytes}
-use Rattle.smap_record.specs.Outer.{outer_of, outer_refusals, generated_file}
+use Rattle.smap_record.specs.Outer.{outer_refusals, generated_file, entries_of}
 use Rattle.smap_record.specs.Refusals.{refused_if, first_refusal}
 use Rattle.smap_record.specs.Section.{Section, section_refusals, section_names, part_of}
 use Rattle.smap_record.specs.Sources.{StatedSource, section_sources}
 use Rattle.smap_record.specs.declared.refusal.MapRefusal.{MapRefusal}
 use Rattle.smap_record.specs.declared.refusal.MapRefusal.TheVariants.{TooLarge, NotJson, NotObject, Build}
-use Rattle.smap_record.specs.declared.section.SectionPlace.{SectionPlace}
 
 -- what a map file states
 pub record MapRecord : Type 0 where
@@ -28,23 +27,15 @@ pub record MapRecord : Type 0 where
   pub names : List (List ℕ)
   pub file : Option (List ℕ)
 
--- the place of the one section of a regular map: it begins at the start
-abbrev pub regular_place : SectionPlace
-regular_place = record { number = 0; line = 0; column = 0; source_base = 0; name_base = 0 }
-
--- that section, with these fields
-abbrev pub regular_section : Fields → Section
-regular_section fields = record { place = regular_place; fields = fields }
-
--- the sections of a map
+-- the sections of a map, which are none where they are not stated right
 abbrev pub sections_of : Data → List Section
-sections_of value = regular_section (fields_of value) ∷ []
+sections_of value = sections_behind [] (unwrap_or (entries_of value) [])
 
 -- the refusals of a JSON value, each where it holds, in the order in which they are asked
 abbrev pub map_refusals : Data → ℕ → List (Option MapRefusal)
 map_refusals value k =
     refused_if NotObject (is_none (as_object value))
-    ∷ outer_refusals (outer_of value)
+    ∷ outer_refusals value
     ++ flat_map section_refusals (sections_of value)
     ++ option_map Build (build_fault (map part_of (sections_of value)) k) ∷ []
 
@@ -54,7 +45,7 @@ record_in value base = record {
   parts = map part_of (sections_of value);
   sources = flat_map (section_sources base) (sections_of value);
   names = flat_map section_names (sections_of value);
-  file = generated_file (outer_of value);
+  file = generated_file value;
 }
 
 abbrev pub record_unless : Option MapRefusal → MapRecord → Result MapRecord MapRefusal

@@ -1,7 +1,9 @@
 -- Refusals in the order in which they are asked, and what a call that reads a part of a map file gives.
 use Rattle.std.specs.Prelude.{◌≡◌, ◌⊎◌, List, [], ◌∷◌, Option, Some, None, Bool, Result, Ok, Err, if◌then◌else◌}
+use Rattle.smap_resolve.specs.declared.refusal.ResolveRefusal.{ResolveRefusal}
+use Rattle.smap_resolve.specs.declared.refusal.ResolveRefusal.TheVariants as names
 use Rattle.smap_record.specs.declared.refusal.MapRefusal.{MapRefusal}
-use Rattle.smap_record.specs.declared.refusal.MapRefusal.TheVariants.{Memory}
+use Rattle.smap_record.specs.declared.refusal.MapRefusal.TheVariants.{Url, Memory}
 
 -- a refusal, where it holds
 abbrev pub refused_if : MapRefusal → Bool → Option MapRefusal
@@ -17,3 +19,8 @@ first_refusal (None ∷ others) = first_refusal others
 abbrev pub Gives : {X Y : Type 0} → (X → Y) → Result X MapRefusal → Option MapRefusal → Y → Type 0
 Gives seen (Ok value) refusal stated = (refusal ≡ None) × (seen value ≡ stated)
 Gives seen (Err given) refusal stated = (given ≡ Memory) ⊎ (refusal ≡ Some given)
+
+-- the refusal of a map of which a source gets no name
+abbrev pub name_refusal : ResolveRefusal → MapRefusal
+name_refusal names.UrlTooLong = Url
+name_refusal names.Memory = Memory

@@ -1,21 +1,28 @@
 -- What the code's own values stand for.
-use Rattle.std.specs.Prelude.{ℕ, List, Bool, Option, length, map, option_map, String, string_bytes}
+use Rattle.std.specs.Prelude.{ℕ, List, [], Option, map, flat_map, option_map, unwrap_or, String, string_bytes}
 use Rattle.std.specs.declared.alloc.Global.{Global}
+use Rattle.serde_json.specs.Data.{Data}
 use Rattle.serde_json.specs.View.{view}
+use Rattle.smap_index.specs.declared.part.Part.{Part}
 use Rattle.smap_record.specs.Fields as spec
-use Rattle.smap_record.specs.Ignored.{ignored_flags}
+use Rattle.smap_record.specs.IndexMap as entry
 use Rattle.smap_record.specs.Outer as outer
-use Rattle.smap_record.specs.Section.{Section, source_texts, contents_of, ignored_of, section_names, text_of}
+use Rattle.smap_record.specs.Section.{Section, section_names, text_of, part_of}
+use Rattle.smap_record.specs.Sources.{StatedSources, stated_sources}
+use Rattle.smap_record.specs.declared.index_map.SectionEntry.{SectionEntry}
+use Rattle.smap_record.specs.declared.joined.JoinedSections.{JoinedSections}
+use Rattle.smap_record.specs.declared.outer.Outer.{Outer}
 use Rattle.smap_record.specs.declared.outer.OuterFields.{OuterFields}
 use Rattle.smap_record.specs.declared.fields.Fields.{Fields}
 use Rattle.smap_record.specs.declared.section.SectionMap.{SectionMap}
+use Rattle.smap_record.specs.declared.section.SectionSources.{SectionSources}
 
 -- texts that are there or not
 abbrev pub texts_seen : List (Option (String Global)) → List (Option (List ℕ))
 texts_seen texts = map (option_map string_bytes) texts
 
-abbrev pub outer_seen : OuterFields → outer.OuterFields
-outer_seen fields = record {
+abbrev pub outer_fields_seen : OuterFields → outer.OuterFields
+outer_fields_seen fields = record {
   version = option_map view fields.version;
   sections = option_map view fields.sections;
   file = option_map view fields.file;
@@ -31,28 +38,57 @@ fields_seen fields = record {
   mappings = option_map view fields.mappings;
 }
 
+-- ---- the outer object
+
+abbrev pub entry_seen : SectionEntry → entry.SectionEntry
+entry_seen section = record { offset = section.offset; is_nested = section.is_nested; fields = fields_seen section.fields }
+
+abbrev pub entries_seen : List SectionEntry → List entry.SectionEntry
+entries_seen entries = map entry_seen entries
+
+-- what the outer object states
+pub record StatedOuter : Type 0 where
+  pub entries : List entry.SectionEntry
+  pub file : Option (List ℕ)
+
+abbrev pub stated_outer : Data → StatedOuter
+stated_outer value = record { entries = unwrap_or (outer.entries_of value) []; file = outer.generated_file value }
+
+abbrev pub outer_seen : Outer → StatedOuter
+outer_seen fields = record { entries = entries_seen fields.entries.items; file = option_map string_bytes fields.file }
+
+-- ---- a section
+
 -- what a section's map states
 pub record StatedSection : Type 0 where
-  pub texts : List (Option (List ℕ))
-  pub contents : List (Option (List ℕ))
-  pub ignored : List Bool
+  pub sources : StatedSources
   pub names : List (List ℕ)
   pub text : List ℕ
 
 abbrev pub stated_section : Section → StatedSection
-stated_section section = record {
-  texts = source_texts section;
-  contents = contents_of section;
-  ignored = ignored_flags (length (source_texts section)) (ignored_of section);
-  names = section_names section;
-  text = text_of section;
+stated_section section = record { sources = stated_sources section; names = section_names section; text = text_of section }
+
+abbrev pub sources_seen : SectionSources → StatedSources
+sources_seen sources = record {
+  root = option_map string_bytes sources.root;
+  texts = texts_seen sources.texts.items;
+  contents = texts_seen sources.contents.items;
+  ignored = sources.ignored.items;
 }
 
 abbrev pub section_seen : SectionMap → StatedSection
-section_seen section = record {
-  texts = texts_seen section.texts.items;
-  contents = texts_seen section.contents.items;
-  ignored = section.ignored.items;
-  names = map string_bytes section.names.items;
-  text = section.text;
-}
+section_seen section = record { sources = sources_seen section.sources; names = map string_bytes section.names.items; text = section.text }
+
+-- ---- all sections
+
+-- what the sections of a map state
+pub record StatedSections : Type 0 where
+  pub parts : List Part
+  pub sources : List StatedSources
+  pub names : List (List ℕ)
+
+abbrev pub stated_sections : List Section → StatedSections
+stated_sections sections = record { parts = map part_of sections; sources = map stated_sources sections; names = flat_map section_names sections }
+
+abbrev pub sections_seen : JoinedSections → StatedSections
+sections_seen joined = record { parts = joined.parts.items; sources = map sources_seen joined.sources.items; names = map string_bytes joined.names.items }

@@ -1,10 +1,10 @@
--- The sources of a section (ECMA-426, Source map format), as contracts compare them.
-use Rattle.std.specs.Prelude.{ℕ, List, Option, Bool, map, option_map, slice_get, string_bytes}
+-- The sources of a section (ECMA-426, Source map format and Resolving sources), as contracts compare them.
+use Rattle.std.specs.Prelude.{ℕ, List, Option, Bool, false, length, map, option_map, slice_get, string_bytes, unwrap_or}
 use Rattle.std.specs.List.{enumerate_from}
 use Rattle.std.specs.Option.{option_flatten}
 use Rattle.url.specs.Parts.{Parts}
 use Rattle.smap_resolve.specs.SourceName.{Name, name_of, source_name}
-use Rattle.smap_record.specs.Ignored.{is_ignored}
+use Rattle.smap_record.specs.Ignored.{ignored_flags}
 use Rattle.smap_record.specs.Section.{Section, source_texts, contents_of, ignored_of, root_of}
 use Rattle.smap_record.specs.declared.entry.SourceEntry.{SourceEntry}
 
@@ -18,19 +18,37 @@ pub record StatedSource : Type 0 where
 abbrev pub source_of : SourceEntry → StatedSource
 source_of entry = record { name = option_map name_of entry.name; content = option_map string_bytes entry.content; ignored = entry.ignored }
 
--- source i, from 0, with this text: its name, its content by place, and whether it stands among the ignored
-abbrev pub source_at : (List ℕ → Name) → List (Option (List ℕ)) → List ℕ → ℕ → Option (List ℕ) → StatedSource
-source_at name contents ignored i text = record {
-  name = option_map name text;
-  content = option_flatten (slice_get contents i);
-  ignored = is_ignored ignored i;
+-- what a section states of its sources: the `sourceRoot` of all, and by place the text of each, its content, and whether
+-- it is to be passed over
+pub record StatedSources : Type 0 where
+  pub root : Option (List ℕ)
+  pub texts : List (Option (List ℕ))
+  pub contents : List (Option (List ℕ))
+  pub ignored : List Bool
+
+abbrev pub stated_sources : Section → StatedSources
+stated_sources section = record {
+  root = root_of section;
+  texts = source_texts section;
+  contents = contents_of section;
+  ignored = ignored_flags (length (source_texts section)) (ignored_of section);
+}
+
+-- source i, from 0, with this text, of a map that stands at this URL
+abbrev pub source_at : Option Parts → StatedSources → ℕ → Option (List ℕ) → StatedSource
+source_at base stated i text = record {
+  name = option_map (λ t. source_name stated.root t base) text;
+  content = option_flatten (slice_get stated.contents i);
+  ignored = unwrap_or (slice_get stated.ignored i) false;
 }
 
 -- the sources with these texts
-abbrev pub sources_with : (List ℕ → Name) → List (Option (List ℕ)) → List ℕ → List (Option (List ℕ)) → List StatedSource
-sources_with name contents ignored texts = map (λ at. source_at name contents ignored at.0 at.1) (enumerate_from 0 texts)
+abbrev pub sources_with : Option Parts → StatedSources → List (Option (List ℕ)) → List StatedSource
+sources_with base stated texts = map (λ at. source_at base stated at.0 at.1) (enumerate_from 0 texts)
 
--- the sources of a section of a map that stands at this URL
+-- the sources that a section states, of a map that stands at this URL
+abbrev pub sources_stated : Option Parts → StatedSources → List StatedSource
+sources_stated base stated = sources_with base stated stated.texts
+
 abbrev pub section_sources : Option Parts → Section → List StatedSource
-section_sources base section =
-    sources_with (λ text. source_name (root_of section) text base) (contents_of section) (ignored_of section) (source_texts section)
+section_sources base section = sources_stated base (stated_sources section)

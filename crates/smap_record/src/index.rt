@@ -1,42 +1,25 @@
 //! The index of a map's mappings.
-ghost use Rattle.std.specs.Prelude.{◌≡◌, [], ◌∷◌, option_map, IfOk};
-ghost use Rattle.smap_index.specs.Faults.{build_fault};
-ghost use Rattle.smap_record.specs.Record.{regular_place};
+ghost use Rattle.std.specs.Prelude.{◌≡◌, ◌≤◌, false, length, option_map, IfOk, OnOk};
+ghost use Rattle.std.specs.List.{list_any};
+ghost use Rattle.smap_index.specs.Faults.{build_fault, is_mapping_past_limit};
+ghost use Rattle.smap_index.specs.Parts.{joined, most_parts};
 ghost use Rattle.smap_record.specs.Refusals.{Gives};
-ghost use Rattle.smap_record.specs.Section.{part_at};
 ghost use Rattle.smap_record.specs.declared.refusal.MapRefusal.TheVariants.{Build};
 
 use crate::refusal::MapRefusal;
-use crate::section::SectionPlace;
 use smap_index::{BuildRefusal, Index, Part};
-use smap_mappings::PackedText;
-use std::alloc::{AllocError, Global};
+use std::alloc::Global;
 
-/// The index of a text that is the one part of a map.
-pub fn build_index(alloc: Global, text: PackedText, k: u32) -> Result<Index, MapRefusal>
-    ensures parts { let parts = part_at regular_place text ∷ []
-        in Gives (λ index. index.parts) result (option_map Build (build_fault parts k)) parts }
+/// The index of these parts.
+pub fn build_index(alloc: Global, parts: Vec<Part>, k: u32) -> Result<Index, MapRefusal>
+    requires { length parts.items ≤ most_parts }
+    ensures parts { Gives (λ index. index.parts) result (option_map Build (build_fault parts.items k)) parts.items }
     ensures interval { IfOk result (λ index. index.k ≡ k) }
+    ensures in_range { OnOk result (list_any is_mapping_past_limit (joined parts.items) ≡ false) }
 {
-    match Index::build(alloc, regular_part(alloc, text)?, k) {
+    match Index::build(alloc, parts, k) {
         Ok(index) => Ok(index),
         Err(BuildRefusal::Memory) => Err(MapRefusal::Memory),
         Err(refusal) => Err(MapRefusal::Build(refusal)),
     }
-}
-
-// A text as the one part of a map.
-fn regular_part(alloc: Global, text: PackedText) -> Result<Vec<Part>, AllocError>
-    ensures { IfOk result (λ parts. parts.items ≡ part_at regular_place text ∷ []) }
-{
-    let place = SectionPlace::regular();
-    let mut parts = Vec::with_capacity(alloc, 1)?;
-    parts.push(Part {
-        line: place.line,
-        column: place.column,
-        text,
-        source_base: place.source_base,
-        name_base: place.name_base,
-    })?;
-    Ok(parts)
 }

@@ -9,17 +9,19 @@
 //! ```
 #![tactic(auto)]
 
-mod entries;
 mod entry;
 mod fields;
 mod file_text;
 mod ignored;
 mod index;
+mod index_map;
+mod joined;
 mod json;
 mod map_file;
 mod outer;
 mod refusal;
 mod section;
+mod sources;
 
 pub use entry::SourceEntry;
 pub use map_file::MapFile;
@@ -34,3 +36,6 @@ pub const MOST_FILE_BYTES: usize = smap_mappings::MOST_BYTES;
 
 /// How many sources a map lists at most, and how many names.
 pub const MOST_ENTRIES: usize = 33554432;
+
+/// How many sections an index map has at most, which is as many as an index has parts.
+pub const MOST_SECTIONS: usize = 65536;

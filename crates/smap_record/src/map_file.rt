@@ -1,27 +1,26 @@
 //! A map file that was read, and the look-ups in it.
-ghost use Rattle.std.specs.Prelude.{◌≡◌, ◌<◌, ◌⊎◌, ◌+◌, ◌-◌, ◌≤◌, ◌^◌, ℕ, None, Ok, Err, length, slice_get, option_copied, option_map, IfOk, IfErr};
+ghost use Rattle.std.specs.Prelude.{◌≡◌, ◌<◌, ◌⊎◌, ◌+◌, ◌-◌, ◌≤◌, ◌*◌, ◌/◌, ◌^◌, ℕ, None, Ok, Err, length, slice_get, option_copied, option_map, IsOk, IfOk, IfErr};
 ghost use Rattle.std.specs.List.{All};
 ghost use Rattle.smap_mappings.specs.Meter.{HasRoom};
 ghost use Rattle.smap_mappings.specs.Order.{IsInOrder};
 ghost use Rattle.smap_mappings.specs.Within.{IsWithin};
-ghost use Rattle.smap_index.specs.Parts.{joined};
+ghost use Rattle.smap_index.specs.Parts.{bytes_in, joined};
 ghost use Rattle.smap_index.specs.Marks.{marks, used_lines_in};
 ghost use Rattle.smap_record.specs.Limits.{most_file_bytes};
 ghost use Rattle.smap_record.specs.MapFile.{IsAnswerWithin};
 ghost use Rattle.smap_record.specs.Record.{answer_of_map, record_of};
 ghost use Rattle.smap_record.specs.Sources.{source_of};
-ghost use Rattle.smap_record.specs.declared.refusal.MapRefusal.TheVariants.{TooLarge, Memory};
+ghost use Rattle.smap_record.specs.declared.refusal.MapRefusal.TheVariants as refusals;
 
 use crate::MOST_FILE_BYTES;
-use crate::entries::entries;
 use crate::entry::SourceEntry;
-use crate::fields::Fields;
 use crate::file_text::file_value;
 use crate::index::build_index;
+use crate::joined::read_sections;
 use crate::json::object;
-use crate::outer::{OuterFields, read_outer};
+use crate::outer::read_outer;
 use crate::refusal::MapRefusal;
-use crate::section::{SectionPlace, read_section};
+use crate::sources::sources;
 use smap_index::{Answer, Index};
 use smap_mappings::{Mapping, Meter};
 use std::alloc::{AllocError, Global};
@@ -51,37 +50,38 @@ impl Model for MapFile {
 impl MapFile {
     /// Reads the bytes of a map file (ECMA-426, Source map format) that stands at this URL. Its index has a checkpoint
     /// at the segments of number 0, `k`, 2`k` and so on of each line of a section; any `k` but 1 is refused so far,
-    /// after all else. No base is taken yet. After a refusal nothing is kept.
+    /// before the sources get their names. `Url` comes after all other refusals. After a
+    /// refusal nothing is kept.
     pub fn read(
         alloc: Global,
         bytes: &[u8],
         base: Option<&Url>,
         k: u32,
     ) -> Result<MapFile, MapRefusal>
-        requires no_base { base ≡ None }
-        ensures too_large { most_file_bytes < length bytes.now → result ≡ Err TooLarge }
+        ensures too_large { most_file_bytes < length bytes.now → result ≡ Err refusals.TooLarge }
         ensures stated { IfOk result
             (λ map. (record_of bytes.now (option_copied base.entry) k ≡ Ok map.stated) × (map.k ≡ k)) }
-        ensures refused { IfErr result (λ refusal. (refusal ≡ Memory)
+        ensures refused { IfErr result (λ refusal. (refusal ≡ refusals.Memory)
+            ⊎ ((refusal ≡ refusals.Url) × IsOk (record_of bytes.now (option_copied base.entry) k))
             ⊎ (record_of bytes.now (option_copied base.entry) k ≡ Err refusal)) }
     {
-        let _no_base = base;
         if bytes.len() > MOST_FILE_BYTES {
             return Err(MapRefusal::TooLarge);
         }
-        let Some(mut members) = object(file_value(alloc, bytes)?) else {
+        let Some(members) = object(file_value(alloc, bytes)?) else {
             return Err(MapRefusal::NotObject);
         };
-        let file = read_outer(OuterFields::take(&mut members))?;
-        let section = read_section(alloc, SectionPlace::regular(), Fields::of(members))?;
-        let index = build_index(alloc, section.text, k)?;
-        let sources = entries(alloc, section.texts, section.contents, &section.ignored)?;
+        let outer = read_outer(alloc, members)?;
+        let joined = read_sections(alloc, outer.entries)?;
+        let sections = joined.parts.len() as u64;
+        let index = build_index(alloc, joined.parts, k)?;
+        let sources = sources(alloc, joined.sources, base)?;
         Ok(MapFile {
             index,
             sources,
-            names: section.names,
-            file,
-            sections: 1,
+            names: joined.names,
+            file: outer.file,
+            sections,
         })
     }
 
@@ -135,7 +135,8 @@ impl MapFile {
 
     /// How many mappings the map has.
     pub fn segments(&self) -> u64
-        ensures { result ≡ length (joined self.now.stated.parts) }
+        ensures count { result ≡ length (joined self.now.stated.parts) }
+        ensures bound { 2 * result ≤ bytes_in self.now.stated.parts + length self.now.stated.parts }
     {
         self.index.segments()
     }
@@ -149,7 +150,9 @@ impl MapFile {
 
     /// How many checkpoints the index has.
     pub fn checkpoints(&self) -> u64
-        ensures { result ≡ length (marks self.now.stated.parts self.now.k) }
+        ensures count { result ≡ length (marks self.now.stated.parts self.now.k) }
+        ensures bound { let segments = length (joined self.now.stated.parts) in
+            result ≤ segments / self.now.k + used_lines_in self.now.stated.parts }
     {
         self.index.checkpoints()
     }

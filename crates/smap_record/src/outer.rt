@@ -1,29 +1,54 @@
-//! The outer object of a map file: its version, and the name of the generated file.
-ghost use Rattle.std.specs.Prelude.{◌≡◌, option_map, string_bytes};
+//! The outer object of a map file: its version, the name of the generated file, and its sections.
+ghost use Rattle.std.specs.Prelude.{◌≡◌, ◌≤◌, length, option_map, string_bytes, IfOk};
 ghost use Rattle.serde_json.specs.Data.{object};
 ghost use Rattle.serde_json.specs.View.{members_view, view};
+ghost use Rattle.smap_index.specs.Parts.{most_parts};
 ghost use Rattle.smap_record.specs.Fields.{fields_of};
-ghost use Rattle.smap_record.specs.Outer.{file_refusal, generated_file, generated_file_in, is_three, outer_of, outer_refusals};
+ghost use Rattle.smap_record.specs.Outer.{file_refusal, generated_file_in, is_three, outer_of, outer_refusals};
 ghost use Rattle.smap_record.specs.Refusals.{Gives, first_refusal};
-ghost use Rattle.smap_record.specs.Seen.{outer_seen};
+ghost use Rattle.smap_record.specs.Seen.{outer_fields_seen, outer_seen, stated_outer};
 
-use crate::fields::take;
+use crate::fields::{Fields, take};
+use crate::index_map::{SectionEntry, read_entries};
 use crate::json::text;
 use crate::refusal::MapRefusal;
 use serde_json::{Map, Value};
+use std::alloc::Global;
 
-/// What stands, where it is not null, at the keys that are read of the outer object alone.
+/// What the outer object states: the sections of the map, and the generated file's name.
 #[derive(Drop)]
-pub struct OuterFields {
-    pub version: Option<Value>,
-    pub sections: Option<Value>,
-    pub file: Option<Value>,
+pub struct Outer {
+    pub entries: Vec<SectionEntry>,
+    pub file: Option<String>,
+}
+
+/// Reads the outer object. Of an index map's, only `version`, `sections` and `file` are read.
+pub fn read_outer(alloc: Global, mut members: Map<String, Value>) -> Result<Outer, MapRefusal>
+    ensures statement { let value = object (members_view members.entries)
+        in Gives outer_seen result (first_refusal (outer_refusals value)) (stated_outer value) }
+    ensures few { IfOk result (λ outer. length outer.entries.items ≤ most_parts) }
+{
+    let outer = OuterFields::take(&mut members);
+    if !is_three(&outer.version) {
+        return Err(MapRefusal::Version);
+    }
+    let entries = read_entries(alloc, outer.sections, Fields::of(members))?;
+    let file = generated_file(outer.file)?;
+    Ok(Outer { entries, file })
+}
+
+// What stands, where it is not null, at the keys that are read of the outer object alone.
+#[derive(Drop)]
+struct OuterFields {
+    version: Option<Value>,
+    sections: Option<Value>,
+    file: Option<Value>,
 }
 
 impl OuterFields {
-    /// Moves the fields out of an object, which keeps those of a section's map.
-    pub fn take(members: &mut Map<String, Value>) -> OuterFields
-        ensures value { outer_seen result ≡ outer_of (object (members_view members.old.entries)) }
+    // Moves the fields out of an object, which keeps those of a section's map.
+    fn take(members: &mut Map<String, Value>) -> OuterFields
+        ensures value { outer_fields_seen result ≡ outer_of (object (members_view members.old.entries)) }
         ensures others { fields_of (object (members_view members.new.entries)) ≡ fields_of (object (members_view members.old.entries)) }
     {
         OuterFields {
@@ -32,20 +57,6 @@ impl OuterFields {
             file: take(members, "file"),
         }
     }
-}
-
-/// The generated file's name, where the outer object has one.
-pub fn read_outer(outer: OuterFields) -> Result<Option<String>, MapRefusal>
-    ensures { Gives (option_map string_bytes) result
-        (first_refusal (outer_refusals (outer_seen outer))) (generated_file (outer_seen outer)) }
-{
-    if !is_three(&outer.version) {
-        return Err(MapRefusal::Version);
-    }
-    if outer.sections.is_some() {
-        return Err(MapRefusal::Sections);
-    }
-    generated_file(outer.file)
 }
 
 // The name in the field `file`.

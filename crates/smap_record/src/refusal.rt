@@ -1,17 +1,18 @@
 //! Why a map file is refused.
 ghost use Rattle.std.specs.Prelude.{◌≡◌};
 ghost use Rattle.smap_record.specs.declared.refusal.MapRefusal.TheVariants.{Memory};
+ghost use Rattle.smap_record.specs.Refusals.{name_refusal};
 
 use smap_index::BuildRefusal;
 use smap_mappings::Fault;
-use std::alloc::AllocError;
+use smap_resolve::ResolveRefusal;
+use std::alloc::{AllocError, AllocFailed};
 use thiserror::Error;
 
 /// Why a map file is refused (ECMA-426, Source map format; that every fault refuses the whole file, the order and the
 /// limits are this project's own). The first cause that holds is told: they are asked in this order, save that `file`
 /// is asked before `sources`, and that want of memory may stand in place of what would come later. A key at null
-/// counts as absent. Section numbers count from 0. The numbers from M1 on are the refusals' own; M6, M7 and M16 are
-/// not in use yet. The texts that are derived here are for Rust callers: the program prints lines of its own, with the
+/// counts as absent. Section numbers count from 0. The numbers from M1 on are the refusals' own. The texts that are derived here are for Rust callers: the program prints lines of its own, with the
 /// refusal's number and its parts.
 #[derive(Clone, Copy, Debug, PartialEq, Eq, Error)]
 pub enum MapRefusal {
@@ -28,9 +29,15 @@ pub enum MapRefusal {
     /// M4: `version` is not the number 3, written without point and exponent.
     #[error("`version` is not 3")]
     Version,
-    /// M5: it has `sections`, other than null.
-    #[error("`sections` is refused")]
+    /// M5: `sections` is no list of objects, each with an object as its `map`, or there are more than 65,536.
+    #[error("`sections` is no list of objects with a map, or too long")]
     Sections,
+    /// M6: this section has no `offset` with a line and a column, each a whole number of 0 to 2147483647.
+    #[error("section {0} has no offset")]
+    SectionOffset(u64),
+    /// M7: the map of this section is an index map.
+    #[error("the map of section {0} has sections")]
+    Nested(u64),
     /// M8: `sources` is no list of texts and nulls, or there are more than 33,554,432.
     #[error("`sources` is no list of texts and nulls, or too long")]
     Sources,
@@ -56,6 +63,9 @@ pub enum MapRefusal {
     /// M15: the index is not built, for another cause than memory.
     #[error("the index is not built")]
     Build(BuildRefusal),
+    /// M16: the URL of a source would be longer than `url` holds, which is just under 4 GiB.
+    #[error("the URL of a source is too long")]
+    Url,
     /// M17: there is not enough memory.
     #[error("out of memory")]
     Memory,
@@ -66,5 +76,24 @@ impl From<AllocError> for MapRefusal {
 
     fn from(_error: AllocError) -> MapRefusal {
         MapRefusal::Memory
+    }
+}
+
+impl<T: Drop> From<AllocFailed<T>> for MapRefusal {
+    ghost from_gives = { λ _ refusal. refusal ≡ Memory };
+
+    fn from(_failed: AllocFailed<T>) -> MapRefusal {
+        MapRefusal::Memory
+    }
+}
+
+impl From<ResolveRefusal> for MapRefusal {
+    ghost from_gives = { λ refusal given. given ≡ name_refusal refusal };
+
+    fn from(refusal: ResolveRefusal) -> MapRefusal {
+        match refusal {
+            ResolveRefusal::UrlTooLong => MapRefusal::Url,
+            ResolveRefusal::Memory => MapRefusal::Memory,
+        }
     }
 }

@@ -6,15 +6,14 @@ ghost use Rattle.smap_mappings.specs.Mappings.{mappings_of};
 ghost use Rattle.smap_mappings.specs.Within.{IsWithin};
 ghost use Rattle.smap_record.specs.Ignored.{ignored_flags};
 ghost use Rattle.smap_record.specs.Limits.{most_entries};
-ghost use Rattle.smap_record.specs.Record.{regular_place};
 ghost use Rattle.smap_record.specs.Refusals.{Gives, first_refusal};
-ghost use Rattle.smap_record.specs.Section.{Section, contents_in, contents_refusal, ignored_in, ignored_refusal, mappings_in, mappings_refusal, names_in, names_refusal, root_refusal, section_refusals, sources_in, sources_refusal, text_refusal};
+ghost use Rattle.smap_record.specs.Section.{Section, contents_in, contents_refusal, ignored_in, ignored_refusal, mappings_in, mappings_refusal, names_in, names_refusal, root_in, root_refusal, section_refusals, sources_in, sources_refusal, text_refusal};
 ghost use Rattle.smap_record.specs.Seen.{fields_seen, section_seen, stated_section, texts_seen};
 
 use crate::MOST_ENTRIES;
 use crate::fields::Fields;
 use crate::ignored::{ignored_flags, none_ignored};
-use crate::json::{nullable_texts, texts};
+use crate::json::{nullable_texts, text, texts};
 use crate::refusal::MapRefusal;
 use serde_json::Value;
 use smap_mappings::{PackedText, TextRefusal};
@@ -30,28 +29,20 @@ pub struct SectionPlace {
     pub name_base: u32,
 }
 
-impl SectionPlace {
-    /// The place of the one section of a regular map.
-    pub fn regular() -> SectionPlace
-        ensures { result ≡ regular_place }
-    {
-        SectionPlace {
-            number: 0,
-            line: 0,
-            column: 0,
-            source_base: 0,
-            name_base: 0,
-        }
-    }
-}
-
-/// What the map of a section states: its sources' texts and contents by place, and which of them are to be passed
-/// over, its names and its mappings.
+/// What a section states of its sources: the `sourceRoot` of all, and by place the text of each, its content, and
+/// whether it is to be passed over.
 #[derive(Drop)]
-pub struct SectionMap {
+pub struct SectionSources {
+    pub root: Option<String>,
     pub texts: Vec<Option<String>>,
     pub contents: Vec<Option<String>>,
     pub ignored: Vec<bool>,
+}
+
+/// What the map of a section states: its sources, its names and its mappings.
+#[derive(Drop)]
+pub struct SectionMap {
+    pub sources: SectionSources,
     pub names: Vec<String>,
     pub text: PackedText,
 }
@@ -66,14 +57,18 @@ pub fn read_section(
     requires names_before { place.name_base ≤ most_entries }
     ensures statement { let section : Section = record { place = place; fields = fields_seen fields }
         in Gives section_seen result (first_refusal (section_refusals section)) (stated_section section) }
+    ensures few_sources { IfOk result
+        (λ section. place.source_base + length section.sources.texts.items ≤ most_entries) }
+    ensures few_names { IfOk result
+        (λ section. place.name_base + length section.names.items ≤ most_entries) }
     ensures within { IfOk result
-        (λ section. All (IsWithin (length section.texts.items) (length section.names.items)) (mappings_of section.text)) }
+        (λ section. All (IsWithin (length section.sources.texts.items) (length section.names.items)) (mappings_of section.text)) }
 {
     let texts = read_sources(alloc, place.source_base, fields.sources)?;
     let names = read_names(alloc, place.name_base, fields.names)?;
     let contents = read_contents(alloc, fields.contents)?;
     let ignored = read_ignored(alloc, fields.ignored, texts.len())?;
-    check_root(fields.root)?;
+    let root = read_root(fields.root)?;
     let text = read_mappings(
         place.number,
         fields.mappings,
@@ -81,9 +76,12 @@ pub fn read_section(
         names.len() as u32,
     )?;
     Ok(SectionMap {
-        texts,
-        contents,
-        ignored,
+        sources: SectionSources {
+            root,
+            texts,
+            contents,
+            ignored,
+        },
         names,
         text,
     })
@@ -158,13 +156,17 @@ fn read_ignored(
     }
 }
 
-// Sees that `sourceRoot` is a text, where it is there.
-fn check_root(field: Option<Value>) -> Result<(), MapRefusal>
-    ensures { Gives (λ root. root) result (root_refusal (option_map view field)) tt }
+// The `sourceRoot`, where it is there.
+fn read_root(field: Option<Value>) -> Result<Option<String>, MapRefusal>
+    ensures { Gives (λ root. Some (option_map string_bytes root)) result
+        (root_refusal (option_map view field)) (root_in (option_map view field)) }
 {
-    match field {
-        None | Some(Value::String(_)) => Ok(()),
-        Some(_) => Err(MapRefusal::FileOrRoot),
+    let Some(value) = field else {
+        return Ok(None);
+    };
+    match text(value) {
+        Some(root) => Ok(Some(root)),
+        None => Err(MapRefusal::FileOrRoot),
     }
 }
 

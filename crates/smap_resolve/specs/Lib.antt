@@ -1,1 +1,2 @@
 pub mod SourceName
+pub mod ParseAnswer

@@ -1,8 +1,9 @@
 //! `check` and `lookup` over maps in memory.
 use crate::rows::{assert_same, halves};
-use crate::running::{ALL_SOUND, Device, Devices, SOUND, run_check, run_lookup};
+use crate::running::{ALL_SOUND, Device, Devices, SOUND, run_check, run_lookup, run_lookup_at};
 use crate::vectors::example_map::EXAMPLE_MAP;
 use crate::vectors::lookups::LOOKUPS;
+use smap_record::Url;
 use std::alloc::{AllocError, Global};
 use std::test::Fail;
 
@@ -37,8 +38,64 @@ const CHECKS: &[(&str, &str)] = &[
     ("[]", "1||refused: m.map: M3 NotObject\n"),
     (r#"{"version":2}"#, "1||refused: m.map: M4 Version\n"),
     (
+        r#"{"version":3,"sections":[{"offset":{"line":0,"column":0},"map":{"version":3,"sources":["a.js"],"mappings":"AAAA"}},{"offset":{"line":0,"column":10},"map":{"version":3,"sources":["b.js"],"mappings":"AAAA"}}]}"#,
+        "0|ok sections 2 sources 2 names 0 segments 2 lines 2 checkpoints 2\n|",
+    ),
+    (
+        r#"{"version":3,"sections":[{"offset":{"line":0,"column":0},"map":{"version":3,"sources":["a.js"],"mappings":"AAAA,WAAA"}},{"offset":{"line":0,"column":10},"map":{"version":3,"sources":["b.js"],"mappings":"AAAA"}}]}"#,
+        "1||refused: m.map: M15 Build B3 SectionOverlap 1\n",
+    ),
+    (
         r#"{"version":3,"sections":[]}"#,
+        "0|ok sections 0 sources 0 names 0 segments 0 lines 0 checkpoints 0\n|",
+    ),
+    (
+        r#"{"version":3,"sections":[7]}"#,
         "1||refused: m.map: M5 Sections\n",
+    ),
+    (
+        r#"{"version":3,"sections":{}}"#,
+        "1||refused: m.map: M5 Sections\n",
+    ),
+    (
+        r#"{"version":3,"sections":[{"offset":{"line":0,"column":0}}]}"#,
+        "1||refused: m.map: M5 Sections\n",
+    ),
+    (
+        r#"{"version":3,"sections":[{"offset":{"line":0},"map":{}}]}"#,
+        "1||refused: m.map: M6 SectionOffset 0\n",
+    ),
+    (
+        r#"{"version":3,"sections":[{"offset":{"line":0,"column":2147483648},"map":{"sections":[]}}]}"#,
+        "1||refused: m.map: M6 SectionOffset 0\n",
+    ),
+    (
+        r#"{"version":3,"sections":[{"offset":{"line":0,"column":0},"map":{"sections":[]}}]}"#,
+        "1||refused: m.map: M7 Nested 0\n",
+    ),
+    (
+        r#"{"version":3,"file":7,"sections":[{"offset":{"line":0,"column":0},"map":{"sections":[]}}]}"#,
+        "1||refused: m.map: M7 Nested 0\n",
+    ),
+    (
+        r#"{"version":3,"file":7,"sections":[{"offset":{"line":0,"column":0},"map":{}}]}"#,
+        "1||refused: m.map: M12 FileOrRoot\n",
+    ),
+    (
+        r#"{"version":3,"sources":7,"sections":[{"offset":{"line":0,"column":0},"map":{"version":2,"file":7,"sources":[],"mappings":""}},{"offset":{"line":0,"column":0},"map":{}}]}"#,
+        "1||refused: m.map: M8 Sources\n",
+    ),
+    (
+        r#"{"version":3,"sections":[{"offset":{"line":0,"column":0},"map":{"sources":[],"mappings":""}},{"offset":{"line":0,"column":0},"map":{"sources":["a"],"mappings":";;CAAA,DAAA"}}]}"#,
+        "1||refused: m.map: M14 Text 1 F9 ColumnFalls line 3 byte 7\n",
+    ),
+    (
+        r#"{"version":3,"sections":[{"offset":{"line":1,"column":0},"map":{"sources":[],"mappings":""}},{"offset":{"line":0,"column":5},"map":{"sources":[],"mappings":""}}]}"#,
+        "1||refused: m.map: M15 Build B2 SectionOrder 1\n",
+    ),
+    (
+        r#"{"version":3,"sections":[{"offset":{"line":0,"column":2147483647},"map":{"sources":[],"mappings":"C"}}]}"#,
+        "1||refused: m.map: M15 Build B4 PositionRange 0\n",
     ),
     (r#"{"version":3}"#, "1||refused: m.map: M8 Sources\n"),
     (
@@ -89,6 +146,60 @@ const CHECKS: &[(&str, &str)] = &[
 
 // Maps, a line and a column from 1, and what `lookup` leaves.
 const PLACES: &[(&str, u32, u32, &str)] = &[
+    (
+        r#"{"version":3,"sections":[{"offset":{"line":0,"column":0},"map":{"version":3,"sources":["a.js"],"mappings":"AAAA"}},{"offset":{"line":0,"column":10},"map":{"version":3,"sources":["b.js"],"mappings":"AAAA"}}]}"#,
+        1,
+        10,
+        "0|a.js:1:1\n|",
+    ),
+    (
+        r#"{"version":3,"sections":[{"offset":{"line":0,"column":0},"map":{"version":3,"sources":["a.js"],"mappings":"AAAA"}},{"offset":{"line":0,"column":10},"map":{"version":3,"sources":["b.js"],"mappings":"AAAA"}}]}"#,
+        1,
+        11,
+        "0|b.js:1:1\n|",
+    ),
+    (
+        r#"{"version":3,"sections":[{"offset":{"line":0,"column":0},"map":{"version":3,"sources":["a.js"],"mappings":"AAAA"}},{"offset":{"line":0,"column":10},"map":{"version":3,"sources":["b.js"],"mappings":"CAAA"}}]}"#,
+        1,
+        11,
+        "0|a.js:1:1\n|",
+    ),
+    (
+        r#"{"version":3,"sections":[{"offset":{"line":0,"column":0},"map":{"version":3,"sources":["a.js"],"mappings":"AAAA,UAAA"}},{"offset":{"line":0,"column":10},"map":{"version":3,"sources":["b.js"],"mappings":"AAAA"}}]}"#,
+        1,
+        11,
+        "0|b.js:1:1\n|",
+    ),
+    (
+        r#"{"version":3,"sections":[{"offset":{"line":2,"column":10},"map":{"sources":["a.js"],"mappings":"AAAA;AAAA"}}]}"#,
+        3,
+        11,
+        "0|a.js:1:1\n|",
+    ),
+    (
+        r#"{"version":3,"sections":[{"offset":{"line":2,"column":10},"map":{"sources":["a.js"],"mappings":"AAAA;AAAA"}}]}"#,
+        4,
+        1,
+        "0|a.js:1:1\n|",
+    ),
+    (
+        r#"{"version":3,"sections":[{"offset":{"line":2,"column":10},"map":{"sources":["a.js"],"mappings":"AAAA;AAAA"}}]}"#,
+        3,
+        10,
+        "0|none\n|",
+    ),
+    (
+        r#"{"version":3,"sections":[{"offset":{"line":2,"column":10},"map":{"sources":["a.js"],"mappings":"AAAA;AAAA"}}]}"#,
+        1,
+        1,
+        "0|none\n|",
+    ),
+    (
+        r#"{"version":3,"sourceRoot":"src","sources":["a.ts"],"mappings":"AAAA"}"#,
+        1,
+        1,
+        "0|src/a.ts:1:1\n|",
+    ),
     (APP, 1, 6, "0|a.ts:1:2\n|"),
     (APP, 2, 1, "0|none\n|"),
     (
@@ -258,6 +369,27 @@ fn an_output_may_fail(rt: HostRuntime) -> Result<(), Fail> {
         );
         let left = run_check(rt.alloc(), "m.map", APP.as_bytes(), devices)?;
         assert_same(&rt, counts, &left, counts);
+    }
+    Ok(())
+}
+
+// A base, and what `lookup` leaves at 1, 1 of a map whose `sourceRoot` is `src` and whose source is `a.ts`.
+const BASES: &[(&str, &str)] = &[
+    (
+        "https://ex.test/js/app.js",
+        "0|https://ex.test/js/src/a.ts:1:1\n|",
+    ),
+    ("webpack:///out/app.js", "0|webpack:///out/src/a.ts:1:1\n|"),
+    ("mailto:x@ex.test", "0|src/a.ts:1:1\n|"),
+];
+
+#[test]
+fn sources_are_resolved_against_the_base(rt: HostRuntime) -> Result<(), Fail> {
+    let map = r#"{"version":3,"sourceRoot":"src","sources":["a.ts"],"mappings":"AAAA"}"#;
+    for (base, wanted) in BASES {
+        let url = Url::parse(rt.alloc(), base)?;
+        let left = run_lookup_at(rt.alloc(), Some(url), map, 1, 1, ALL_SOUND)?;
+        assert_same(&rt, base, &left, wanted);
     }
     Ok(())
 }

@@ -6,11 +6,15 @@ mod devices;
 #[cfg(test)]
 mod files;
 #[cfg(test)]
+mod index_maps;
+#[cfg(test)]
 mod indexes;
 #[cfg(test)]
 mod loading;
 #[cfg(test)]
 mod maps;
+#[cfg(test)]
+mod names;
 #[cfg(test)]
 mod numbers;
 #[cfg(test)]

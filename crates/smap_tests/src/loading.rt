@@ -38,7 +38,7 @@ const PATHS: &[(&str, &str)] = &[
 fn files_are_loaded_or_named(rt: HostRuntime) -> Result<(), Fail> {
     for (path, wanted) in PATHS {
         let path = String::from_str(rt.alloc(), path)?;
-        let left = loaded(&rt, &Command::Check { path })?;
+        let left = loaded(&rt, &Command::Check { path, base: None })?;
         assert_same(&rt, wanted, &left, wanted);
     }
     Ok(())

@@ -59,7 +59,7 @@ fn every_entry_has_its_place(rt: HostRuntime) -> Result<(), Fail> {
         &rt,
         FULL,
         &entries(rt.alloc(), &map)?,
-        "o.js | a.ts None false, none Some(\"x\") true, c.ts Some(\"y\") false, | fg------- | 2|2|0,0,0,0,0,1 1,0,1,2,3,0",
+        "o.js | src/a.ts None false, none Some(\"x\") true, src/c.ts Some(\"y\") false, | fg------- | 2|2|0,0,0,0,0,1 1,0,1,2,3,0",
     );
     Ok(())
 }

@@ -4,6 +4,7 @@ ghost use Rattle.smap_answers.specs.Files.{path_of, paths_of};
 
 use smap_answers::{Command, Loaded, run};
 use smap_io::{MemorySink, MemorySource};
+use smap_record::Url;
 use std::alloc::{AllocError, Global};
 
 /// How many bytes a call of a device moves at most, and the call that fails, from 1, or 0 for none.
@@ -106,6 +107,7 @@ pub fn run_check(
 ) -> Result<String, AllocError> {
     let command = Command::Check {
         path: String::from_str(alloc, path)?,
+        base: None,
     };
     run_on_file(alloc, &command, path, bytes, devices)
 }
@@ -118,10 +120,23 @@ pub fn run_lookup(
     column: u32,
     devices: Devices,
 ) -> Result<String, AllocError> {
+    run_lookup_at(alloc, None, map, line, column, devices)
+}
+
+/// What `lookup` leaves in a map at `m.map`, whose sources are resolved against the base.
+pub fn run_lookup_at(
+    alloc: Global,
+    base: Option<Url>,
+    map: &str,
+    line: u32,
+    column: u32,
+    devices: Devices,
+) -> Result<String, AllocError> {
     let command = Command::Lookup {
         path: String::from_str(alloc, "m.map")?,
         line: line.saturating_sub(1),
         column: column.saturating_sub(1),
+        base,
     };
     run_on_file(alloc, &command, "m.map", map.as_bytes(), devices)
 }

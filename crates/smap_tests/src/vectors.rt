@@ -1,11 +1,13 @@
 //! The rows of `tests/vectors`, as data.
 pub mod answers;
 pub mod example_map;
+pub mod index_maps;
 pub mod lookups;
 pub mod mappings;
 pub mod refusals;
 
 use answers::ANSWERS;
+use index_maps::INDEX_MAPS;
 use lookups::LOOKUPS;
 use mappings::MAPPINGS;
 use refusals::REFUSALS;
@@ -18,6 +20,7 @@ fn no_row_is_missing(rt: HostRuntime) {
         (REFUSALS, 108),
         (MAPPINGS, 116),
         (LOOKUPS, 63),
+        (INDEX_MAPS, 55),
     ] {
         assert!(&rt; rows.trim().lines().count() == count);
     }

@@ -1,6 +1,7 @@
 //! Words that are commands, words that are none, and requests for help.
 use super::{Usage, parse};
 use smap_answers::Command;
+use smap_record::Url;
 use std::alloc::{AllocError, Global};
 use std::test::Fail;
 
@@ -12,11 +13,29 @@ fn read(alloc: Global, words: &[&str]) -> Result<String, AllocError> {
     }
     match parse(alloc, owned) {
         Ok(Command::Raw { line, column }) => format!(in alloc; "raw {line} {column}"),
-        Ok(Command::Check { path }) => format!(in alloc; "check {path}"),
-        Ok(Command::Lookup { path, line, column }) => {
-            format!(in alloc; "lookup {path} {line} {column}")
+        Ok(Command::Check { path, base }) => {
+            let base = base_text(&base);
+            format!(in alloc; "check {path}{base}")
+        }
+        Ok(
+            Command::Lookup {
+                path,
+                line,
+                column,
+                base,
+            },
+        ) => {
+            let base = base_text(&base);
+            format!(in alloc; "lookup {path} {line} {column}{base}")
         }
         Err(usage) => read_usage(alloc, &usage),
+    }
+}
+
+fn base_text(base: &Option<Url>) -> &str {
+    match base {
+        Some(url) => url.as_str(),
+        None => "",
     }
 }
 
@@ -29,7 +48,7 @@ fn read_usage(alloc: Global, usage: &Usage) -> Result<String, AllocError> {
 }
 
 // Words, and the command that they give, with lines and columns from 0.
-const COMMANDS: [(&[&str], &str); 14] = [
+const COMMANDS: [(&[&str], &str); 18] = [
     (&["smap", "raw", "1", "6"], "raw 0 5"),
     (&["smap", "raw", "1", "1"], "raw 0 0"),
     (&["./smap", "raw", "007", "+2"], "raw 6 1"),
@@ -56,6 +75,28 @@ const COMMANDS: [(&[&str], &str); 14] = [
         &["smap", "lookup", "--", "-x", "2147483648", "2147483648"],
         "lookup -x 2147483647 2147483647",
     ),
+    (
+        &[
+            "smap",
+            "check",
+            "--base",
+            "HTTPS://ex.test/js/app.js",
+            "r.map",
+        ],
+        "check r.maphttps://ex.test/js/app.js",
+    ),
+    (
+        &["smap", "check", "r.map", "--base=https://ex.test/a/../b"],
+        "check r.maphttps://ex.test/b",
+    ),
+    (
+        &["smap", "lookup", "--base", "file:///x", "r.map", "1", "1"],
+        "lookup r.map 0 0file:///x",
+    ),
+    (
+        &["smap", "lookup", "r.map", "1", "1", "--base", "webpack:a"],
+        "lookup r.map 0 0webpack:a",
+    ),
 ];
 
 #[test]
@@ -68,7 +109,31 @@ fn reads_commands(rt: HostRuntime) -> Result<(), Fail> {
 }
 
 // Words that are no command, and how the text for them begins.
-const MISTAKES: [(&[&str], &str); 24] = [
+const MISTAKES: [(&[&str], &str); 30] = [
+    (
+        &["smap", "check", "--base", "nope", "r.map"],
+        "usage: bad base URL\n",
+    ),
+    (
+        &["smap", "lookup", "--base", "", "r.map", "1", "1"],
+        "usage: bad base URL\n",
+    ),
+    (
+        &["smap", "lookup", "--base", "nope", "r.map", "0", "1"],
+        "error: invalid value '0' for '<LINE>': 0 is not in 1..=2147483648\n",
+    ),
+    (
+        &["smap", "raw", "--base", "https://ex.test/", "1", "1"],
+        "error: unexpected argument '--base' found\n",
+    ),
+    (
+        &["smap", "--base", "https://ex.test/", "check", "r.map"],
+        "error: unexpected argument '--base' found\n",
+    ),
+    (
+        &["smap", "check", "r.map", "--base"],
+        "error: a value is required for '--base <URL>' but none was supplied\n",
+    ),
     (
         &[],
         "error: 'smap' requires a subcommand but one was not provided\n",
@@ -211,32 +276,32 @@ const REQUESTS: [(&[&str], &str, &str); 13] = [
     ),
     (
         &["smap", "help", "check"],
-        "smap check <PATH>",
+        "smap check [OPTIONS] <PATH>",
         CHECK_EXAMPLE,
     ),
     (
         &["smap", "check", "--help"],
-        "smap check <PATH>",
+        "smap check [OPTIONS] <PATH>",
         CHECK_EXAMPLE,
     ),
     (
         &["smap", "check", "a.map", "-h"],
-        "smap check <PATH>",
+        "smap check [OPTIONS] <PATH>",
         CHECK_EXAMPLE,
     ),
     (
         &["smap", "help", "lookup"],
-        "smap lookup <PATH> <LINE> <COLUMN>",
+        "smap lookup [OPTIONS] <PATH> <LINE> <COLUMN>",
         LOOKUP_EXAMPLE,
     ),
     (
         &["smap", "lookup", "--help"],
-        "smap lookup <PATH> <LINE> <COLUMN>",
+        "smap lookup [OPTIONS] <PATH> <LINE> <COLUMN>",
         LOOKUP_EXAMPLE,
     ),
     (
         &["smap", "lookup", "a.map", "1", "6", "-h"],
-        "smap lookup <PATH> <LINE> <COLUMN>",
+        "smap lookup [OPTIONS] <PATH> <LINE> <COLUMN>",
         LOOKUP_EXAMPLE,
     ),
 ];

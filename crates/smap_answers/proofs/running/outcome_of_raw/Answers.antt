@@ -1,4 +1,4 @@
-use Rattle.std.proofs.Common.{[], refl, rules, arith, ◌∙◌, inr, true≢false}
+use Rattle.std.proofs.Common.{[], refl, rules, arith, ◌∙◌, inl, inr, true≢false}
 use Rattle.smap_answers.specs.Raw.{raw_result}
 use Rattle.smap_answers.specs.Outcome.{telling_of}
 use Rattle.smap_answers.specs.declared.command.Command.TheVariants.{Raw}
@@ -34,5 +34,5 @@ returns-in-Err-Memory g c =
       input = input.0;
       is_input = input.1;
       unread = λ never. absurd (true≢false never);
-      is_result = result_of_read (Raw c.args.line c.args.column) [] input.0 _ _ (c.in-Err-Memory.ensures.memory (search rules) ∙ c.requires.input_works) (inr refl);
+      is_result = result_of_read (Raw c.args.line c.args.column) [] input.0 _ _ (c.in-Err-Memory.ensures.memory (search rules) ∙ c.requires.input_works) (inr (inl refl));
     }

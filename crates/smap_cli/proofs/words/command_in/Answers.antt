@@ -1,4 +1,4 @@
-use Rattle.std.proofs.Common.{◌≡◌, ◌∙◌, List, Option, Some, None, ap, codes, false, inl, inr, refl, subst, sym, true}
+use Rattle.std.proofs.Common.{◌≡◌, ◌∙◌, ◌⊎◌, List, Option, Some, None, ap, codes, false, inl, inr, refl, subst, sym, true}
 use Rattle.std.specs.Box.{box_value}
 use Rattle.std.specs.Option.{IsSome}
 use Rattle.std.specs.Prelude.{Box, option_map}
@@ -9,7 +9,10 @@ use Rattle.clap.specs.Walk.{Row, Text}
 use Rattle.clap.specs.declared.parser.matches.ArgMatches.{ArgMatches}
 use Rattle.clap.specs.declared.parser.matches.ArgMatches.TheViews.{out-ArgMatches, out-SubCommand}
 use Rattle.clap.specs.declared.parser.matches.SubCommand.{SubCommand}
-use Rattle.smap_cli.specs.Words.{HasCommand, HasNumber}
+use Rattle.smap_cli.specs.Words.{HasCommand, HasNumber, HasText, HasUrl, IsBadBase, IsBaseRefusal}
+use Rattle.smap_cli.specs.declared.words.Usage.{Usage}
+use Rattle.smap_cli.specs.declared.words.Usage.TheVariants.{Memory}
+use Rattle.std.proofs.lemmas.Result.{err_from_is_err_and}
 use Rattle.smap_cli.proofs.words.command_in.Goals as goal
 
 name_of_rows : (m : ArgMatches) → option_map (λ p. p.0) (subcommand_rows_of m) ≡ subcommand_name_of m
@@ -43,3 +46,19 @@ number_in-requires-3 c =
     let named = c.subcommand_matches-3.ensures.found.0 (subst IsSome (sym c.unwrap-raw.ensures) refl) in
     let given = rw c.unwrap-raw.ensures at c.subcommand_matches-3.ensures.rows in
     (raw_numbers (subcommand_rows_of c.args.matches.now) _ c.requires (name_of_rows c.args.matches.now ∙ named) given).1
+
+has_url : (o : Option (Text × List Row)) (rows : List Row) → option_map (λ p. p.1) o ≡ Some rows → HasText rows (codes "URL") → HasUrl o
+has_url None rows is text = cc
+has_url (Some p) rows is text =
+    let same : p.1 ≡ rows = cc in
+    (p.0, p.1, refl, subst (λ r. HasText r (codes "URL")) (sym same) text)
+
+base_refusal : (o : Option (Text × List Row)) (rows : List Row) (usage : Usage) → option_map (λ p. p.1) o ≡ Some rows
+    → (usage ≡ Memory) ⊎ (IsBadBase usage × HasText rows (codes "URL")) → IsBaseRefusal o usage
+base_refusal o rows usage is (inl memory) = inl memory
+base_refusal o rows usage is (inr bad) = inr (bad.0, has_url o rows is bad.1)
+
+pub returns-in_err-base_in-2-clause-refused : goal.returns-in_err-base_in-2-clause-refused
+returns-in_err-base_in-2-clause-refused c =
+    let p = err_from_is_err_and c.from_residual-in_err-base_in-2.result c.from_residual-in_err-base_in-2.ensures.1 in
+    rw (p.1, p.2) (base_refusal (subcommand_rows_of c.args.matches.now) _ _ c.in-Some-subcommand_matches.ensures.rows c.in_err-base_in-2.ensures.refused)

@@ -12,4 +12,5 @@ returns c =
     let column : rule_of c.help-2.result ≡ place (codes "COLUMN") = search rules in
     let first = c.in_ok-arg.ensures.shape (search rules) ∙ ap₂ with_rule named c.map_path.ensures.rule in
     let second = c.in_ok-arg-2.ensures.shape (search rules) ∙ ap₂ with_rule first line in
-    IfOk-weaker c.arg-3.result _ _ (λ command added. (added.shape (search rules) ∙ ap₂ with_rule second column, search rules)) c.arg-3.ensures
+    let third = c.in_ok-arg-3.ensures.shape (search rules) ∙ ap₂ with_rule second column in
+    IfOk-weaker c.arg-4.result _ _ (λ command added. (added.shape (search rules) ∙ ap₂ with_rule third c.base_url.ensures.rule, search rules)) c.arg-4.ensures

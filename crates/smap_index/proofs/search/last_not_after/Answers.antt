@@ -16,35 +16,35 @@ loop-low-init c = record {
   none_decoded = refl;
 }
 
-pub at-requires-clause-room : goal.at-requires-clause-room
-at-requires-clause-room c =
+pub at-checkpoint-requires-clause-room : goal.at-checkpoint-requires-clause-room
+at-checkpoint-requires-clause-room c =
     let most = c.loop-low.invariant.few 64 (omega (arith, c.len-high.ensures)) in
     omega (arith, most.1, c.requires.room.0)
 
 pub loop-low-preserved-then-is_not_after : goal.loop-low-preserved-then-is_not_after
 loop-low-preserved-then-is_not_after c =
-    let there = read_mapping c.args.table.now _ c.at.result c.at.ensures.read in
-    let counted = ap (λ m. m.comparisons) c.at.ensures.counted in
+    let there = read_mapping c.args.table.now _ c.at-checkpoint.result c.at-checkpoint.ensures.read in
+    let counted = ap (λ m. m.comparisons) c.at-checkpoint.ensures.counted in
     record {
-      low = in_front c.args.line c.args.column (mappings_at c.args.table.now) _ c.at.result.mapping c.requires.ordered there (sym c.is_not_after.ensures ∙ c.if-is_not_after.true);
+      low = in_front c.args.line c.args.column (mappings_at c.args.table.now) _ c.at-checkpoint.result.mapping c.requires.ordered there (sym c.is_not_after.ensures ∙ c.if-is_not_after.true);
       high = c.loop-low.invariant.high;
       inside = c.loop-low.invariant.inside;
-      best = sym (last_taken None (mappings_at c.args.table.now) _ c.at.result.mapping there);
+      best = sym (last_taken None (mappings_at c.args.table.now) _ c.at-checkpoint.result.mapping there);
       onward = omega (arith, c.loop-low.invariant.onward);
       few = λ b below. one_more _ _ _ b _ _ (omega arith) (omega arith) counted (c.loop-low.invariant.few b below);
-      none_decoded = ap (λ m. m.segments) c.at.ensures.counted ∙ c.loop-low.invariant.none_decoded;
+      none_decoded = ap (λ m. m.segments) c.at-checkpoint.ensures.counted ∙ c.loop-low.invariant.none_decoded;
     }
 
 pub loop-low-preserved : goal.loop-low-preserved
 loop-low-preserved c =
-    let there = read_mapping c.args.table.now _ c.at.result c.at.ensures.read in
-    let counted = ap (λ m. m.comparisons) c.at.ensures.counted in
+    let there = read_mapping c.args.table.now _ c.at-checkpoint.result c.at-checkpoint.ensures.read in
+    let counted = ap (λ m. m.comparisons) c.at-checkpoint.ensures.counted in
     record {
       low = c.loop-low.invariant.low;
-      high = ends_front c.args.line c.args.column (mappings_at c.args.table.now) _ c.at.result.mapping there (sym c.is_not_after.ensures ∙ c.if-is_not_after.false);
+      high = ends_front c.args.line c.args.column (mappings_at c.args.table.now) _ c.at-checkpoint.result.mapping there (sym c.is_not_after.ensures ∙ c.if-is_not_after.false);
       inside = omega (arith, c.loop-low.invariant.inside);
       best = c.loop-low.invariant.best;
       onward = omega (arith, c.loop-low.invariant.onward);
       few = λ b below. one_more _ _ _ b _ _ (omega arith) (omega arith) counted (c.loop-low.invariant.few b below);
-      none_decoded = ap (λ m. m.segments) c.at.ensures.counted ∙ c.loop-low.invariant.none_decoded;
+      none_decoded = ap (λ m. m.segments) c.at-checkpoint.ensures.counted ∙ c.loop-low.invariant.none_decoded;
     }

@@ -1,6 +1,9 @@
 use Rattle.std.proofs.Common.{◌∙◌}
-use Rattle.smap_index.proofs.MarkLaws.{as_many}
+use Rattle.smap_index.proofs.MarkLaws.{as_many, bounded}
 use Rattle.smap_index.proofs.index.Index.checkpoints.Goals as goal
 
-pub returns : goal.returns
-returns c = c.len.ensures ∙ as_many _ c.self.invariant _ c.self.view_is
+pub returns-clause-count : goal.returns-clause-count
+returns-clause-count c = c.len.ensures ∙ as_many _ c.self.invariant _ c.self.view_is
+
+pub returns-clause-bound : goal.returns-clause-bound
+returns-clause-bound c = bounded _ c.self.invariant _ c.self.view_is _ c.len.ensures

@@ -1,0 +1,43 @@
+use Rattle.std.proofs.Common.{◌+◌, Some, refl, sym, ap, ◌∙◌, arith, cond, drop, append-nil}
+use Rattle.std.proofs.lemmas.Bool.{cond-false}
+use Rattle.std.specs.List.{position_from}
+use Rattle.std.specs.Option.{option_or}
+use Rattle.smap_index.specs.Faults.{is_part_past_limit, overlap_fault, range_fault}
+use Rattle.smap_index.specs.Walk.{IsTextInOrder, is_overlapping_next}
+use Rattle.smap_index.proofs.FaultLaws.{drop_at, first_or, none_so_far, copied_get, overlap_step}
+use Rattle.smap_index.proofs.PartLaws.{checkpoints_next, All_next}
+use Rattle.smap_index.proofs.mark.mark_parts.Goals as goal
+
+pub loop-i-init : goal.loop-i-init
+unfolding overlap_fault range_fault
+loop-i-init c = record {
+  overlap = refl;
+  past_limit = refl;
+  marked = λ none has. sym (append-nil c.args.table.now);
+  ordered = tt;
+}
+
+pub loop-i-preserved : goal.loop-i-preserved
+loop-i-preserved c =
+    let parts = c.args.parts.now in
+    let i = c.loop-i.i in
+    let part = c.index-parts-i.result in
+    let passes = c.mark_part-walk.result.is_past_limit in
+    let before = c.loop-i.past_limit in
+    let next = ap (is_overlapping_next part) (copied_get c.get.result parts (i + 1) c.get.ensures.lookup.3) in
+    let apart = sym next ∙ sym c.is_last_overlapping.ensures ∙ c.if-is_last_overlapping.false in
+    let past = c.or-past_limit.ensures ∙ ap (option_or before) c.then_some.ensures in
+    let behind = position_from is_part_past_limit (i + 1) (drop (i + 1) parts) in
+    record {
+      overlap = c.loop-i.invariant.overlap ∙ overlap_step parts i (i + 1) part refl (omega arith) c.index-parts-i.is ∙ cond-false _ _ _ apart;
+      past_limit =
+          ap (λ o. option_or o behind) past ∙ first_or before passes i behind
+          ∙ ap (λ p. option_or before (cond p (Some i) behind)) c.mark_part-walk.ensures.past_limit
+          ∙ ap (λ rest. option_or before (position_from is_part_past_limit i rest)) (sym (drop_at parts i part (omega arith) c.index-parts-i.is))
+          ∙ c.loop-i.invariant.past_limit;
+      marked = λ none has.
+          let none_here = none_so_far before passes i (sym past ∙ none) in
+          checkpoints_next parts i part (omega arith) c.index-parts-i.is c.args.table.now c.loop-i.table c.mark_part-walk.new.table
+          (c.loop-i.invariant.marked none_here.0 (c.mark_part-walk.ensures.room has)) (c.mark_part-walk.ensures.marked none_here.1 has);
+      ordered = All_next parts i part (omega arith) c.index-parts-i.is IsTextInOrder c.loop-i.invariant.ordered c.mark_part-walk.ensures.ordered;
+    }

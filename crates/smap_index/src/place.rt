@@ -1,0 +1,75 @@
+//! The mappings of a part at their places in the whole map.
+
+ghost use Rattle.std.specs.Prelude.{◌≡◌, ◌+◌, ◌==◌, Some, None, option_map, if◌then◌else◌};
+ghost use Rattle.smap_index.specs.Parts.{placed_origin, placed_mapping};
+ghost use Rattle.smap_index.specs.Faults.{is_out_of_order, is_after_offset, is_past_limit, is_name_past_limit, is_origin_past_limit, is_mapping_past_limit};
+
+use crate::part::Part;
+use smap_mappings::{LIMIT, Mapping, Origin};
+
+// The sum, if it is not past the limit.
+fn sum_in_range(base: u32, n: u32) -> Option<u32>
+    ensures { result ≡ (if is_past_limit (base + n) then None else Some (base + n)) }
+{
+    let sum = base as u64 + n as u64;
+    if sum <= LIMIT as u64 {
+        Some(sum as u32)
+    } else {
+        None
+    }
+}
+
+// The origin with the indices of the whole map, if no number of it is past the limit.
+fn place_origin(part: &Part, origin: &Origin) -> Option<Origin>
+    ensures { let placed = placed_origin part.now origin.now in
+        result ≡ (if is_origin_past_limit (Some placed) then None else Some placed) }
+{
+    let source = sum_in_range(part.source_base, origin.source)?;
+    let line = sum_in_range(0, origin.line)?;
+    let column = sum_in_range(0, origin.column)?;
+    let name = match origin.name {
+        Some(name) => Some(sum_in_range(part.name_base, name)?),
+        None => None,
+    };
+    Some(Origin {
+        source,
+        line,
+        column,
+        name,
+    })
+}
+
+// What is added to the column of a mapping of a part's text: the offset's column moves the text's first line alone.
+fn added_column(part: &Part, mapping: &Mapping) -> u32
+    ensures { result ≡ (if mapping.now.line == 0 then part.now.column else 0) }
+{
+    if mapping.line == 0 { part.column } else { 0 }
+}
+
+// The mapping of a part's text at its place, if no number of it is past the limit there.
+pub fn place(part: &Part, mapping: &Mapping) -> Option<Mapping>
+    ensures { let placed = placed_mapping part.now mapping.now in
+        result ≡ (if is_mapping_past_limit placed then None else Some placed) }
+{
+    let line = sum_in_range(part.line, mapping.line)?;
+    let column = sum_in_range(added_column(part, mapping), mapping.column)?;
+    let origin = match &mapping.origin {
+        Some(origin) => Some(place_origin(part, origin)?),
+        None => None,
+    };
+    Some(Mapping {
+        line,
+        column,
+        origin,
+    })
+}
+
+// Whether the mapping of a part's text stands, at its place, after the offset of the next part.
+pub fn is_after_offset(part: &Part, mapping: &Mapping, next: &Part) -> bool
+    ensures { result ≡ is_after_offset next.now (placed_mapping part.now mapping.now) }
+{
+    let line = part.line as u64 + mapping.line as u64;
+    let column = added_column(part, mapping) as u64 + mapping.column as u64;
+    let next_line = next.line as u64;
+    next_line < line || (next_line == line && (next.column as u64) < column)
+}

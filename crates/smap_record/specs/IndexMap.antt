@@ -1,0 +1,113 @@
+-- The sections of an index map (ECMA-426, Index source map). This project's own are: that a regular map is the one
+-- section of itself, the limits, and that an index map in an index map is refused.
+use Rattle.std.specs.Prelude.{ℕ, List, [], ◌∷◌, ◌++◌, Option, Some, None, Bool, false, is_some, is_none, nat_lt, if◌then◌else◌, length, position, option_map, option_and_then, unwrap_or, codes}
+use Rattle.std.specs.List.{sum_by}
+use Rattle.serde_json.specs.Data.{Data, null, boolean, number, string, array, object}
+use Rattle.smap_mappings.specs.Limits.{most_indices}
+use Rattle.smap_index.specs.Parts.{most_parts}
+use Rattle.smap_record.specs.Fields.{Fields, fields_of}
+use Rattle.smap_record.specs.Json.{field, list_of, number_below}
+use Rattle.smap_record.specs.Refusals.{refused_if}
+use Rattle.smap_record.specs.Section.{Section, sources_in, names_in}
+use Rattle.smap_record.specs.declared.index_map.Offset.{Offset}
+use Rattle.smap_record.specs.declared.refusal.MapRefusal.{MapRefusal}
+use Rattle.smap_record.specs.declared.refusal.MapRefusal.TheVariants.{Sections, SectionOffset, Nested}
+
+-- ---- an entry of `sections`
+
+-- where it begins, where that is stated right, whether its map is an index map, and the fields of its map
+pub record SectionEntry : Type 0 where
+  pub offset : Option Offset
+  pub is_nested : Bool
+  pub fields : Fields
+
+-- a value, where it is an object
+abbrev pub object_in : Data → Option Data
+object_in (object members) = Some (object members)
+object_in null = None
+object_in (boolean b) = None
+object_in (number n) = None
+object_in (string s) = None
+object_in (array items) = None
+
+-- the line or the column at a key, a whole number up to the limit
+abbrev pub coordinate_in : List ℕ → Data → Option ℕ
+coordinate_in key offset = option_and_then (number_below most_indices) (field key offset)
+
+abbrev pub offset_in : Data → Option Offset
+offset_in offset =
+    option_and_then (λ line. option_map (λ column. record { line = line; column = column }) (coordinate_in (codes "column") offset))
+    (coordinate_in (codes "line") offset)
+
+-- an entry that begins at this offset and has this map
+abbrev pub entry_with : Option Offset → Data → SectionEntry
+entry_with offset map = record { offset = offset; is_nested = is_some (field (codes "sections") map); fields = fields_of map }
+
+-- the entry that a value is, where its `map` is an object
+abbrev pub entry_in : Data → Option SectionEntry
+entry_in value =
+    option_map (entry_with (option_and_then offset_in (field (codes "offset") value)))
+    (option_and_then object_in (field (codes "map") value))
+
+-- ---- the entries of a map
+
+-- those of an index map, whose `sections` are this, where it is a list of no more than an index has parts
+abbrev pub index_entries : Data → Option (List SectionEntry)
+index_entries sections =
+    option_and_then (λ entries. if nat_lt most_parts (length entries) then None else Some entries) (list_of entry_in sections)
+
+-- the start of a map
+abbrev pub start : Offset
+start = record { line = 0; column = 0 }
+
+-- the one entry of a regular map: it begins at the start
+abbrev pub regular_entry : Fields → SectionEntry
+regular_entry fields = record { offset = Some start; is_nested = false; fields = fields }
+
+-- those of a map with these `sections`, if any, and these fields of its own, which an index map's are not read
+abbrev pub entries_in : Option Data → Fields → Option (List SectionEntry)
+entries_in None fields = Some (regular_entry fields ∷ [])
+entries_in (Some sections) fields = index_entries sections
+
+-- where it begins is not stated right
+abbrev pub has_no_offset : SectionEntry → Bool
+has_no_offset entry = is_none entry.offset
+
+-- its map is an index map
+abbrev pub is_index_map : SectionEntry → Bool
+is_index_map entry = entry.is_nested
+
+-- why they are refused: each is asked for its offset before any is for its map
+abbrev pub entries_refusals : Option (List SectionEntry) → List (Option MapRefusal)
+entries_refusals entries =
+    refused_if Sections (is_none entries)
+    ∷ option_map SectionOffset (position has_no_offset (unwrap_or entries []))
+    ∷ option_map Nested (position is_index_map (unwrap_or entries []))
+    ∷ []
+
+-- ---- the sections
+
+-- how many sources an entry's map has
+abbrev pub source_count : SectionEntry → ℕ
+source_count entry = length (unwrap_or (sources_in entry.fields.sources) [])
+
+abbrev pub name_count : SectionEntry → ℕ
+name_count entry = length (unwrap_or (names_in entry.fields.names) [])
+
+-- the section that an entry is, where these stand before it
+abbrev pub section_behind : List SectionEntry → SectionEntry → Section
+section_behind before entry = record {
+  place = record {
+    number = length before;
+    line = (unwrap_or entry.offset start).line;
+    column = (unwrap_or entry.offset start).column;
+    source_base = sum_by source_count before;
+    name_base = sum_by name_count before;
+  };
+  fields = entry.fields;
+}
+
+-- the sections that entries are, where others stand before them
+abbrev pub sections_behind : List SectionEntry → List SectionEntry → List Section
+sections_behind before [] = []
+sections_behind before (entry ∷ entries) = section_behind before entry ∷ sections_behind (before ++ entry ∷ []) entries

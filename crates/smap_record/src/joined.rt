@@ -1,0 +1,75 @@
+//! All sections of a map, joined in order.
+ghost use Rattle.std.specs.Prelude.{◌≡◌, ◌≤◌, [], length, flat_map, IfOk};
+ghost use Rattle.std.specs.List.{All, sum_by};
+ghost use Rattle.smap_index.specs.Parts.{most_parts};
+ghost use Rattle.smap_record.specs.IndexMap.{sections_behind};
+ghost use Rattle.smap_record.specs.MapFile.{IsPartWithin};
+ghost use Rattle.smap_record.specs.Refusals.{Gives, first_refusal};
+ghost use Rattle.smap_record.specs.Section.{part_at, section_refusals};
+ghost use Rattle.smap_record.specs.Seen.{entries_seen, sections_seen, stated_sections};
+
+use crate::index_map::{Offset, SectionEntry};
+use crate::refusal::MapRefusal;
+use crate::section::{SectionPlace, SectionSources, read_section};
+use smap_index::Part;
+use smap_mappings::PackedText;
+use std::alloc::Global;
+
+/// What the sections of a map state: their parts of the index, what each states of its sources, and the names of all.
+#[derive(Drop)]
+pub struct JoinedSections {
+    pub parts: Vec<Part>,
+    pub sources: Vec<SectionSources>,
+    pub names: Vec<String>,
+}
+
+/// Reads the sections, one after another. The bases of each are how many sources and names stand before it.
+pub fn read_sections(
+    alloc: Global,
+    entries: Vec<SectionEntry>,
+) -> Result<JoinedSections, MapRefusal>
+    requires { length entries.items ≤ most_parts }
+    ensures statement { let sections = sections_behind [] (entries_seen entries.items)
+        in Gives sections_seen result (first_refusal (flat_map section_refusals sections)) (stated_sections sections) }
+    ensures within { IfOk result (λ joined. All
+        (IsPartWithin (sum_by (λ sources. length sources.texts.items) joined.sources.items) (length joined.names.items))
+        joined.parts.items) }
+{
+    let mut parts = Vec::with_capacity(alloc, entries.len())?;
+    let mut sources = Vec::with_capacity(alloc, entries.len())?;
+    let mut names = Vec::new(alloc);
+    let mut source_base: u32 = 0;
+    for entry in entries {
+        let offset = entry.offset.unwrap_or(Offset { line: 0, column: 0 });
+        let place = SectionPlace {
+            number: parts.len() as u64,
+            line: offset.line,
+            column: offset.column,
+            source_base,
+            name_base: names.len() as u32,
+        };
+        let mut section = read_section(alloc, place, entry.fields)?;
+        source_base += section.sources.texts.len() as u32;
+        parts.push(part(place, section.text))?;
+        sources.push(section.sources)?;
+        names.append(&mut section.names)?;
+    }
+    Ok(JoinedSections {
+        parts,
+        sources,
+        names,
+    })
+}
+
+// The part of the index that a section at this place with this text is.
+fn part(place: SectionPlace, text: PackedText) -> Part
+    ensures { result ≡ part_at place text }
+{
+    Part {
+        line: place.line,
+        column: place.column,
+        text,
+        source_base: place.source_base,
+        name_base: place.name_base,
+    }
+}
