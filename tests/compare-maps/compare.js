@@ -108,7 +108,7 @@ function codeOf(bytes) {
   if (map === undefined) return 'M2';
   if (map === null || typeof map !== 'object' || Array.isArray(map)) return 'M3';
   if (map.version !== 3) return 'M4';
-  if ((map.sections ?? null) !== null) return 'M5';
+  if ((map.sections ?? null) !== null) throw new Error('index maps are not compared here');
   if (!isTextOrNull(map.file ?? null)) return 'M12';
   const { sources } = map;
   if (!isListOf(isTextOrNull, sources) || sources.length > MOST_ENTRIES) return 'M8';
