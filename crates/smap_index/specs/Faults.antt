@@ -45,25 +45,25 @@ overlap_fault parts = position_from is_overlapping 1 (neighbours parts)
 
 -- ---- what is past the limit
 
-abbrev pub is_past_limit : ℕ → Bool
-is_past_limit n = nat_lt limit n
+abbrev pub is_number_past_limit : ℕ → Bool
+is_number_past_limit n = nat_lt limit n
 
 abbrev pub is_name_past_limit : Option ℕ → Bool
 is_name_past_limit None = false
-is_name_past_limit (Some name) = is_past_limit name
+is_name_past_limit (Some name) = is_number_past_limit name
 
 abbrev pub is_origin_past_limit : Option Origin → Bool
 is_origin_past_limit None = false
 is_origin_past_limit (Some origin) =
-    is_past_limit origin.source || is_past_limit origin.line || is_past_limit origin.column || is_name_past_limit origin.name
+    is_number_past_limit origin.source || is_number_past_limit origin.line || is_number_past_limit origin.column || is_name_past_limit origin.name
 
 -- a number of the mapping is past the limit
 abbrev pub is_mapping_past_limit : Mapping → Bool
-is_mapping_past_limit mapping = is_past_limit mapping.line || is_past_limit mapping.column || is_origin_past_limit mapping.origin
+is_mapping_past_limit mapping = is_number_past_limit mapping.line || is_number_past_limit mapping.column || is_origin_past_limit mapping.origin
 
 -- the part's offset is past the limit, or a number of a mapping of it at its place
 abbrev pub is_part_past_limit : Part → Bool
-is_part_past_limit part = is_past_limit part.line || is_past_limit part.column || list_any is_mapping_past_limit (placed part)
+is_part_past_limit part = is_number_past_limit part.line || is_number_past_limit part.column || list_any is_mapping_past_limit (placed part)
 
 -- the number of the first such part
 unfoldable pub range_fault : List Part → Option ℕ

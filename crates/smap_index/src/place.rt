@@ -2,14 +2,14 @@
 
 ghost use Rattle.std.specs.Prelude.{◌≡◌, ◌+◌, ◌==◌, Some, None, option_map, if◌then◌else◌};
 ghost use Rattle.smap_index.specs.Parts.{placed_origin, placed_mapping};
-ghost use Rattle.smap_index.specs.Faults.{is_out_of_order, is_after_offset, is_past_limit, is_name_past_limit, is_origin_past_limit, is_mapping_past_limit};
+ghost use Rattle.smap_index.specs.Faults.{is_out_of_order, is_after_offset, is_number_past_limit, is_name_past_limit, is_origin_past_limit, is_mapping_past_limit};
 
 use crate::part::Part;
 use smap_mappings::{LIMIT, Mapping, Origin};
 
 // The sum, if it is not past the limit.
 fn sum_in_range(base: u32, n: u32) -> Option<u32>
-    ensures { result ≡ (if is_past_limit (base + n) then None else Some (base + n)) }
+    ensures { result ≡ (if is_number_past_limit (base + n) then None else Some (base + n)) }
 {
     let sum = base as u64 + n as u64;
     if sum <= LIMIT as u64 {

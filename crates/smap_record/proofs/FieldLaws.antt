@@ -12,7 +12,7 @@ use Rattle.serde_json.specs.Data.{Members, object}
 use Rattle.serde_json.specs.Find.{get_member}
 use Rattle.serde_json.specs.View.{view, members_view}
 use Rattle.serde_json.proofs.Views.{Entry, member_later}
-use Rattle.smap_record.specs.Fields.{fields_of}
+use Rattle.smap_record.specs.Fields.{section_fields_of}
 
 module _ (other key : List ℕ) (apart : bytes_eq other key ≡ false) where
   -- whether a key is the one that was removed
@@ -36,5 +36,5 @@ module _ (other key : List ℕ) (apart : bytes_eq other key ≡ false) where
       (cases_Bool (is_key e.0))
 
 -- an object from which `sections` was removed keeps the fields of a section's map
-pub same_fields : (left all : Members) → ((other : List ℕ) → bytes_eq other (codes "sections") ≡ false → get_member other left ≡ get_member other all) → fields_of (object left) ≡ fields_of (object all)
+pub same_fields : (left all : Members) → ((other : List ℕ) → bytes_eq other (codes "sections") ≡ false → get_member other left ≡ get_member other all) → section_fields_of (object left) ≡ section_fields_of (object all)
 same_fields left all others = rw (others (codes "sources") refl, others (codes "names") refl, others (codes "sourcesContent") refl, others (codes "ignoreList") refl, others (codes "x_google_ignoreList") refl, others (codes "sourceRoot") refl, others (codes "mappings") refl) refl

@@ -5,7 +5,7 @@ use Rattle.std.specs.List.{position_or_len}
 use Rattle.std.proofs.lemmas.List.{length-map}
 use Rattle.serde_json.specs.Data.{Data, Members, null, boolean, number, string, array, object}
 use Rattle.serde_json.specs.Find.{as_object}
-use Rattle.smap_record.specs.Fields.{Fields, fields_of}
+use Rattle.smap_record.specs.Fields.{Fields, section_fields_of}
 use Rattle.smap_record.specs.IndexMap.{SectionEntry, has_no_offset, is_index_map, entries_refusals, coordinate_in, offset_in, entry_in, entry_with, object_in}
 use Rattle.smap_record.specs.Json.{field}
 use Rattle.smap_record.specs.Refusals.{first_refusal}
@@ -32,7 +32,7 @@ same_entry offset_is nested_is fields_are = rw (offset_is, nested_is, fields_are
 -- the entry from its parts
 pub entry_there : (value map : Data) (offset : Option Offset) (is_nested : Bool) (fields : Fields)
     → Some map ≡ option_and_then object_in (field (codes "map") value)
-    → offset ≡ option_and_then offset_in (field (codes "offset") value) → is_nested ≡ is_some (field (codes "sections") map) → fields ≡ fields_of map
+    → offset ≡ option_and_then offset_in (field (codes "offset") value) → is_nested ≡ is_some (field (codes "sections") map) → fields ≡ section_fields_of map
     → Some (record { offset = offset; is_nested = is_nested; fields = fields }) ≡ entry_in value
 entry_there value map offset is_nested fields map_is offset_is nested_is fields_are =
     ap Some (same_entry offset_is nested_is fields_are) ∙ ap (option_map (entry_with (option_and_then offset_in (field (codes "offset") value)))) map_is

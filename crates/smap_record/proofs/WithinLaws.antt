@@ -10,7 +10,7 @@ use Rattle.smap_mappings.specs.Within.{IsIndexWithin, IsOriginWithin, IsWithin}
 use Rattle.smap_mappings.specs.declared.mapping.Mapping.{Mapping}
 use Rattle.smap_mappings.specs.declared.mapping.Origin.{Origin}
 use Rattle.smap_index.specs.Answer.{is_on_line_at_or_before, answer_with, answer_of_last, answer_at_or_before}
-use Rattle.smap_index.specs.Faults.{is_past_limit, is_name_past_limit, is_origin_past_limit, is_mapping_past_limit}
+use Rattle.smap_index.specs.Faults.{is_number_past_limit, is_name_past_limit, is_origin_past_limit, is_mapping_past_limit}
 use Rattle.smap_index.specs.Parts.{placed, placed_mapping, placed_origin, joined}
 use Rattle.smap_index.specs.declared.answer.Answer.{Answer}
 use Rattle.smap_index.specs.declared.part.Part.{Part}
@@ -45,9 +45,9 @@ module _ (sources names : ℕ) (part : Part) (within : IsPartWithin sources name
   origin_placed : (origin : Origin) → IsOriginWithin within.own_sources within.own_names origin → is_origin_past_limit (Some (placed_origin part origin)) ≡ false → IsOriginWithin sources names (placed_origin part origin)
   origin_placed origin own small =
       let placed_one = placed_origin part origin in
-      let all = both_false (is_past_limit placed_one.source || is_past_limit placed_one.line || is_past_limit placed_one.column) (is_name_past_limit placed_one.name) small in
-      let numbers = both_false (is_past_limit placed_one.source || is_past_limit placed_one.line) (is_past_limit placed_one.column) all.0 in
-      let source = both_false (is_past_limit placed_one.source) (is_past_limit placed_one.line) numbers.0 in
+      let all = both_false (is_number_past_limit placed_one.source || is_number_past_limit placed_one.line || is_number_past_limit placed_one.column) (is_name_past_limit placed_one.name) small in
+      let numbers = both_false (is_number_past_limit placed_one.source || is_number_past_limit placed_one.line) (is_number_past_limit placed_one.column) all.0 in
+      let source = both_false (is_number_past_limit placed_one.source) (is_number_past_limit placed_one.line) numbers.0 in
       record {
         source = record { named = omega (arith, own.source.named, within.sources_fit); small = omega (arith, ltb-false _ _ source.0) };
         line = own.line;
@@ -62,8 +62,8 @@ module _ (sources names : ℕ) (part : Part) (within : IsPartWithin sources name
   mapping_placed : (mapping : Mapping) → IsWithin within.own_sources within.own_names mapping → is_mapping_past_limit (placed_mapping part mapping) ≡ false → IsWithin sources names (placed_mapping part mapping)
   mapping_placed mapping own small =
       let placed_one = placed_mapping part mapping in
-      let all = both_false (is_past_limit placed_one.line || is_past_limit placed_one.column) (is_origin_past_limit placed_one.origin) small in
-      let position = both_false (is_past_limit placed_one.line) (is_past_limit placed_one.column) all.0 in
+      let all = both_false (is_number_past_limit placed_one.line || is_number_past_limit placed_one.column) (is_origin_past_limit placed_one.origin) small in
+      let position = both_false (is_number_past_limit placed_one.line) (is_number_past_limit placed_one.column) all.0 in
       record { line = omega (arith, ltb-false _ _ position.0); column = omega (arith, ltb-false _ _ position.1); origin = maybe_placed mapping.origin own.origin all.1 }
 
   list_placed : (list : List Mapping) → AllByRecursion (IsWithin within.own_sources within.own_names) list → list_any is_mapping_past_limit (map (placed_mapping part) list) ≡ false → AllByRecursion (IsWithin sources names) (map (placed_mapping part) list)

@@ -17,8 +17,8 @@ pub record Fields : Type 0 where
 abbrev pub ignored_field : Data → Option Data
 ignored_field value = option_or (field (codes "ignoreList") value) (field (codes "x_google_ignoreList") value)
 
-abbrev pub fields_of : Data → Fields
-fields_of value = record {
+abbrev pub section_fields_of : Data → Fields
+section_fields_of value = record {
   sources = field (codes "sources") value;
   names = field (codes "names") value;
   contents = field (codes "sourcesContent") value;

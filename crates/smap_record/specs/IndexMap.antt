@@ -5,7 +5,7 @@ use Rattle.std.specs.List.{sum_by}
 use Rattle.serde_json.specs.Data.{Data, null, boolean, number, string, array, object}
 use Rattle.smap_mappings.specs.Limits.{most_indices}
 use Rattle.smap_index.specs.Parts.{most_parts}
-use Rattle.smap_record.specs.Fields.{Fields, fields_of}
+use Rattle.smap_record.specs.Fields.{Fields, section_fields_of}
 use Rattle.smap_record.specs.Json.{field, list_of, number_below}
 use Rattle.smap_record.specs.Refusals.{refused_if}
 use Rattle.smap_record.specs.Section.{Section, sources_in, names_in}
@@ -41,7 +41,7 @@ offset_in offset =
 
 -- an entry that begins at this offset and has this map
 abbrev pub entry_with : Option Offset → Data → SectionEntry
-entry_with offset map = record { offset = offset; is_nested = is_some (field (codes "sections") map); fields = fields_of map }
+entry_with offset map = record { offset = offset; is_nested = is_some (field (codes "sections") map); fields = section_fields_of map }
 
 -- the entry that a value is, where its `map` is an object
 abbrev pub entry_in : Data → Option SectionEntry

@@ -4,7 +4,7 @@ use Rattle.std.specs.Prelude.{ℕ, List, [], ◌∷◌, ◌++◌, Option, Some, 
 use Rattle.std.specs.Option.{option_map_or}
 use Rattle.serde_json.specs.Data.{Data}
 use Rattle.serde_json.specs.Find.{as_str}
-use Rattle.smap_record.specs.Fields.{fields_of}
+use Rattle.smap_record.specs.Fields.{section_fields_of}
 use Rattle.smap_record.specs.IndexMap.{SectionEntry, entries_in, entries_refusals}
 use Rattle.smap_record.specs.Json.{field, or_absent, whole_number}
 use Rattle.smap_record.specs.Refusals.{refused_if}
@@ -43,7 +43,7 @@ generated_file value = unwrap_or (generated_file_in (field (codes "file") value)
 
 -- the entries of a map's sections, where they are stated right
 abbrev pub entries_of : Data → Option (List SectionEntry)
-entries_of value = entries_in (field (codes "sections") value) (fields_of value)
+entries_of value = entries_in (field (codes "sections") value) (section_fields_of value)
 
 -- its refusals, each where it holds, in the order in which they are asked
 abbrev pub outer_refusals : Data → List (Option MapRefusal)

@@ -16,9 +16,9 @@ first_refusal (Some refusal ∷ others) = Some refusal
 first_refusal (None ∷ others) = first_refusal others
 
 -- a value that is seen as what is stated, where there is no refusal; else that refusal, or want of memory
-abbrev pub Gives : {X Y : Type 0} → (X → Y) → Result X MapRefusal → Option MapRefusal → Y → Type 0
-Gives seen (Ok value) refusal stated = (refusal ≡ None) × (seen value ≡ stated)
-Gives seen (Err given) refusal stated = (given ≡ Memory) ⊎ (refusal ≡ Some given)
+abbrev pub GivesStated : {X Y : Type 0} → (X → Y) → Result X MapRefusal → Option MapRefusal → Y → Type 0
+GivesStated seen (Ok value) refusal stated = (refusal ≡ None) × (seen value ≡ stated)
+GivesStated seen (Err given) refusal stated = (given ≡ Memory) ⊎ (refusal ≡ Some given)
 
 -- the refusal of a map of which a source gets no name
 abbrev pub name_refusal : ResolveRefusal → MapRefusal

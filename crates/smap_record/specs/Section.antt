@@ -56,8 +56,8 @@ source_texts section = unwrap_or (sources_in section.fields.sources) []
 abbrev pub section_names : Section → List (List ℕ)
 section_names section = unwrap_or (names_in section.fields.names) []
 
-abbrev pub contents_of : Section → List (Option (List ℕ))
-contents_of section = unwrap_or (contents_in section.fields.contents) []
+abbrev pub section_contents : Section → List (Option (List ℕ))
+section_contents section = unwrap_or (contents_in section.fields.contents) []
 
 abbrev pub ignored_of : Section → List ℕ
 ignored_of section = unwrap_or (ignored_in (length (source_texts section)) section.fields.ignored) []

@@ -5,7 +5,7 @@ use Rattle.std.specs.Option.{option_flatten}
 use Rattle.url.specs.Parts.{Parts}
 use Rattle.smap_resolve.specs.SourceName.{Name, name_of, source_name}
 use Rattle.smap_record.specs.Ignored.{ignored_flags}
-use Rattle.smap_record.specs.Section.{Section, source_texts, contents_of, ignored_of, root_of}
+use Rattle.smap_record.specs.Section.{Section, source_texts, section_contents, ignored_of, root_of}
 use Rattle.smap_record.specs.declared.entry.SourceEntry.{SourceEntry}
 
 -- what a map states of a source: its name, its content, and whether it is to be passed over
@@ -30,7 +30,7 @@ abbrev pub stated_sources : Section → StatedSources
 stated_sources section = record {
   root = root_of section;
   texts = source_texts section;
-  contents = contents_of section;
+  contents = section_contents section;
   ignored = ignored_flags (length (source_texts section)) (ignored_of section);
 }
 

@@ -3,7 +3,7 @@ ghost use Rattle.std.specs.Prelude.{◌≡◌, ℕ, List, false, bytes_eq, optio
 ghost use Rattle.serde_json.specs.Data.{object};
 ghost use Rattle.serde_json.specs.Find.{get_member};
 ghost use Rattle.serde_json.specs.View.{members_view, view};
-ghost use Rattle.smap_record.specs.Fields.{fields_of};
+ghost use Rattle.smap_record.specs.Fields.{section_fields_of};
 ghost use Rattle.smap_record.specs.Json.{field, not_null};
 ghost use Rattle.smap_record.specs.Seen.{fields_seen};
 
@@ -23,7 +23,7 @@ pub struct Fields {
 impl Fields {
     /// Moves the fields out of an object.
     pub fn of(mut members: Map<String, Value>) -> Fields
-        ensures { fields_seen result ≡ fields_of (object (members_view members.entries)) }
+        ensures { fields_seen result ≡ section_fields_of (object (members_view members.entries)) }
     {
         let sources = take(&mut members, "sources");
         let names = take(&mut members, "names");

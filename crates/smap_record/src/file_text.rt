@@ -2,7 +2,7 @@
 ghost use Rattle.std.specs.Prelude.{◌≡◌, Some, is_none};
 ghost use Rattle.serde_json.specs.View.{view};
 ghost use Rattle.smap_record.specs.FileText.{json_text, value_of_file, without_guard_line, without_mark};
-ghost use Rattle.smap_record.specs.Refusals.{Gives, refused_if};
+ghost use Rattle.smap_record.specs.Refusals.{GivesStated, refused_if};
 ghost use Rattle.smap_record.specs.declared.refusal.MapRefusal.TheVariants.{NotJson};
 
 use crate::refusal::MapRefusal;
@@ -11,7 +11,7 @@ use std::alloc::Global;
 
 /// The JSON value of a file.
 pub fn file_value(alloc: Global, bytes: &[u8]) -> Result<Value, MapRefusal>
-    ensures { Gives (λ value. Some (view value)) result
+    ensures { GivesStated (λ value. Some (view value)) result
         (refused_if NotJson (is_none (value_of_file bytes.now))) (value_of_file bytes.now) }
 {
     match Value::from_slice(alloc, json_text(bytes)) {

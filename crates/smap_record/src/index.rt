@@ -3,7 +3,7 @@ ghost use Rattle.std.specs.Prelude.{◌≡◌, ◌≤◌, false, length, option_
 ghost use Rattle.std.specs.List.{list_any};
 ghost use Rattle.smap_index.specs.Faults.{build_fault, is_mapping_past_limit};
 ghost use Rattle.smap_index.specs.Parts.{joined, most_parts};
-ghost use Rattle.smap_record.specs.Refusals.{Gives};
+ghost use Rattle.smap_record.specs.Refusals.{GivesStated};
 ghost use Rattle.smap_record.specs.declared.refusal.MapRefusal.TheVariants.{Build};
 
 use crate::refusal::MapRefusal;
@@ -13,7 +13,7 @@ use std::alloc::Global;
 /// The index of these parts.
 pub fn build_index(alloc: Global, parts: Vec<Part>, k: u32) -> Result<Index, MapRefusal>
     requires { length parts.items ≤ most_parts }
-    ensures parts { Gives (λ index. index.parts) result (option_map Build (build_fault parts.items k)) parts.items }
+    ensures parts { GivesStated (λ index. index.parts) result (option_map Build (build_fault parts.items k)) parts.items }
     ensures interval { IfOk result (λ index. index.k ≡ k) }
     ensures in_range { OnOk result (list_any is_mapping_past_limit (joined parts.items) ≡ false) }
 {

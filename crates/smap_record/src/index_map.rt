@@ -5,7 +5,7 @@ ghost use Rattle.smap_mappings.specs.Limits.{most_indices};
 ghost use Rattle.smap_index.specs.Parts.{most_parts};
 ghost use Rattle.smap_record.specs.IndexMap.{entries_in, entries_refusals, entry_in, has_no_offset, index_entries, is_index_map, offset_in, regular_entry};
 ghost use Rattle.smap_record.specs.Json.{list_of, number_below};
-ghost use Rattle.smap_record.specs.Refusals.{Gives, first_refusal};
+ghost use Rattle.smap_record.specs.Refusals.{GivesStated, first_refusal};
 ghost use Rattle.smap_record.specs.Seen.{entries_seen, entry_seen, fields_seen};
 
 use crate::MOST_SECTIONS;
@@ -41,7 +41,7 @@ pub fn read_entries(
     fields: Fields,
 ) -> Result<Vec<SectionEntry>, MapRefusal>
     ensures statement { let entries = entries_in (option_map view sections) (fields_seen fields)
-        in Gives (λ read. entries_seen read.items) result (first_refusal (entries_refusals entries)) (unwrap_or entries []) }
+        in GivesStated (λ read. entries_seen read.items) result (first_refusal (entries_refusals entries)) (unwrap_or entries []) }
     ensures few { IfOk result (λ entries. length entries.items ≤ most_parts) }
 {
     let Some(entries) = entries(alloc, sections, fields)? else {

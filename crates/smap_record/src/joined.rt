@@ -4,7 +4,7 @@ ghost use Rattle.std.specs.List.{All, sum_by};
 ghost use Rattle.smap_index.specs.Parts.{most_parts};
 ghost use Rattle.smap_record.specs.IndexMap.{sections_behind};
 ghost use Rattle.smap_record.specs.MapFile.{IsPartWithin};
-ghost use Rattle.smap_record.specs.Refusals.{Gives, first_refusal};
+ghost use Rattle.smap_record.specs.Refusals.{GivesStated, first_refusal};
 ghost use Rattle.smap_record.specs.Section.{part_at, section_refusals};
 ghost use Rattle.smap_record.specs.Seen.{entries_seen, sections_seen, stated_sections};
 
@@ -30,7 +30,7 @@ pub fn read_sections(
 ) -> Result<JoinedSections, MapRefusal>
     requires { length entries.items ≤ most_parts }
     ensures statement { let sections = sections_behind [] (entries_seen entries.items)
-        in Gives sections_seen result (first_refusal (flat_map section_refusals sections)) (stated_sections sections) }
+        in GivesStated sections_seen result (first_refusal (flat_map section_refusals sections)) (stated_sections sections) }
     ensures within { IfOk result (λ joined. All
         (IsPartWithin (sum_by (λ sources. length sources.texts.items) joined.sources.items) (length joined.names.items))
         joined.parts.items) }

@@ -3,9 +3,9 @@ ghost use Rattle.std.specs.Prelude.{◌≡◌, ◌≤◌, length, option_map, st
 ghost use Rattle.serde_json.specs.Data.{object};
 ghost use Rattle.serde_json.specs.View.{members_view, view};
 ghost use Rattle.smap_index.specs.Parts.{most_parts};
-ghost use Rattle.smap_record.specs.Fields.{fields_of};
+ghost use Rattle.smap_record.specs.Fields.{section_fields_of};
 ghost use Rattle.smap_record.specs.Outer.{file_refusal, generated_file_in, is_three, outer_of, outer_refusals};
-ghost use Rattle.smap_record.specs.Refusals.{Gives, first_refusal};
+ghost use Rattle.smap_record.specs.Refusals.{GivesStated, first_refusal};
 ghost use Rattle.smap_record.specs.Seen.{outer_fields_seen, outer_seen, stated_outer};
 
 use crate::fields::{Fields, take};
@@ -25,7 +25,7 @@ pub struct Outer {
 /// Reads the outer object. Of an index map's, only `version`, `sections` and `file` are read.
 pub fn read_outer(alloc: Global, mut members: Map<String, Value>) -> Result<Outer, MapRefusal>
     ensures statement { let value = object (members_view members.entries)
-        in Gives outer_seen result (first_refusal (outer_refusals value)) (stated_outer value) }
+        in GivesStated outer_seen result (first_refusal (outer_refusals value)) (stated_outer value) }
     ensures few { IfOk result (λ outer. length outer.entries.items ≤ most_parts) }
 {
     let outer = OuterFields::take(&mut members);
@@ -49,7 +49,7 @@ impl OuterFields {
     // Moves the fields out of an object, which keeps those of a section's map.
     fn take(members: &mut Map<String, Value>) -> OuterFields
         ensures value { outer_fields_seen result ≡ outer_of (object (members_view members.old.entries)) }
-        ensures others { fields_of (object (members_view members.new.entries)) ≡ fields_of (object (members_view members.old.entries)) }
+        ensures others { section_fields_of (object (members_view members.new.entries)) ≡ section_fields_of (object (members_view members.old.entries)) }
     {
         OuterFields {
             version: take(members, "version"),
@@ -61,7 +61,7 @@ impl OuterFields {
 
 // The name in the field `file`.
 fn generated_file(field: Option<Value>) -> Result<Option<String>, MapRefusal>
-    ensures { Gives (λ file. Some (option_map string_bytes file)) result
+    ensures { GivesStated (λ file. Some (option_map string_bytes file)) result
         (file_refusal (option_map view field)) (generated_file_in (option_map view field)) }
 {
     let Some(value) = field else {

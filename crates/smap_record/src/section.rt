@@ -6,7 +6,7 @@ ghost use Rattle.smap_mappings.specs.Mappings.{mappings_of};
 ghost use Rattle.smap_mappings.specs.Within.{IsWithin};
 ghost use Rattle.smap_record.specs.Ignored.{ignored_flags};
 ghost use Rattle.smap_record.specs.Limits.{most_entries};
-ghost use Rattle.smap_record.specs.Refusals.{Gives, first_refusal};
+ghost use Rattle.smap_record.specs.Refusals.{GivesStated, first_refusal};
 ghost use Rattle.smap_record.specs.Section.{Section, contents_in, contents_refusal, ignored_in, ignored_refusal, mappings_in, mappings_refusal, names_in, names_refusal, root_in, root_refusal, section_refusals, sources_in, sources_refusal, text_refusal};
 ghost use Rattle.smap_record.specs.Seen.{fields_seen, section_seen, stated_section, texts_seen};
 
@@ -56,7 +56,7 @@ pub fn read_section(
     requires sources_before { place.source_base ≤ most_entries }
     requires names_before { place.name_base ≤ most_entries }
     ensures statement { let section : Section = record { place = place; fields = fields_seen fields }
-        in Gives section_seen result (first_refusal (section_refusals section)) (stated_section section) }
+        in GivesStated section_seen result (first_refusal (section_refusals section)) (stated_section section) }
     ensures few_sources { IfOk result
         (λ section. place.source_base + length section.sources.texts.items ≤ most_entries) }
     ensures few_names { IfOk result
@@ -94,7 +94,7 @@ fn read_sources(
     field: Option<Value>,
 ) -> Result<Vec<Option<String>>, MapRefusal>
     requires { before ≤ most_entries }
-    ensures statement { Gives (λ texts. Some (texts_seen texts.items)) result
+    ensures statement { GivesStated (λ texts. Some (texts_seen texts.items)) result
         (sources_refusal before (option_map view field)) (sources_in (option_map view field)) }
     ensures few { IfOk result (λ texts. before + length texts.items ≤ most_entries) }
 {
@@ -110,7 +110,7 @@ fn read_sources(
 // The names, where this many stand before them.
 fn read_names(alloc: Global, before: u32, field: Option<Value>) -> Result<Vec<String>, MapRefusal>
     requires { before ≤ most_entries }
-    ensures statement { Gives (λ names. Some (map string_bytes names.items)) result
+    ensures statement { GivesStated (λ names. Some (map string_bytes names.items)) result
         (names_refusal before (option_map view field)) (names_in (option_map view field)) }
     ensures few { IfOk result (λ names. before + length names.items ≤ most_entries) }
 {
@@ -125,7 +125,7 @@ fn read_names(alloc: Global, before: u32, field: Option<Value>) -> Result<Vec<St
 
 // The texts of the sources.
 fn read_contents(alloc: Global, field: Option<Value>) -> Result<Vec<Option<String>>, MapRefusal>
-    ensures { Gives (λ contents. Some (texts_seen contents.items)) result
+    ensures { GivesStated (λ contents. Some (texts_seen contents.items)) result
         (contents_refusal (option_map view field)) (contents_in (option_map view field)) }
 {
     let Some(value) = field else {
@@ -143,7 +143,7 @@ fn read_ignored(
     field: Option<Value>,
     sources: usize,
 ) -> Result<Vec<bool>, MapRefusal>
-    ensures { Gives (λ flags. Some flags.items) result
+    ensures { GivesStated (λ flags. Some flags.items) result
         (ignored_refusal sources (option_map view field))
         (option_map (ignored_flags sources) (ignored_in sources (option_map view field))) }
 {
@@ -158,7 +158,7 @@ fn read_ignored(
 
 // The `sourceRoot`, where it is there.
 fn read_root(field: Option<Value>) -> Result<Option<String>, MapRefusal>
-    ensures { Gives (λ root. Some (option_map string_bytes root)) result
+    ensures { GivesStated (λ root. Some (option_map string_bytes root)) result
         (root_refusal (option_map view field)) (root_in (option_map view field)) }
 {
     let Some(value) = field else {
@@ -177,7 +177,7 @@ fn read_mappings(
     sources: u32,
     names: u32,
 ) -> Result<PackedText, MapRefusal>
-    ensures statement { let text = mappings_in (option_map view field) in Gives (λ packed. Some packed) result
+    ensures statement { let text = mappings_in (option_map view field) in GivesStated (λ packed. Some packed) result
         (first_refusal (mappings_refusal (option_map view field) ∷ text_refusal number (unwrap_or text []) sources names ∷ []))
         text }
     ensures within { IfOk result (λ text. All (IsWithin sources names) (mappings_of text)) }

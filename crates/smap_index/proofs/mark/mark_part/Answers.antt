@@ -1,7 +1,7 @@
 use Rattle.std.proofs.Common.{◌++◌, ◌||◌, map, sym, ◌∙◌, ap, arith}
 use Rattle.std.specs.List.{last_or, list_any}
 use Rattle.std.proofs.lemmas.Bool.{or_parts}
-use Rattle.smap_index.specs.Faults.{is_past_limit, is_mapping_past_limit}
+use Rattle.smap_index.specs.Faults.{is_number_past_limit, is_mapping_past_limit}
 use Rattle.smap_index.specs.Walk.{checkpoint_in}
 use Rattle.smap_index.proofs.WalkLaws.{all_taken, all_placed, after_next, last_next, any_next, listed_next}
 use Rattle.smap_index.proofs.mark.mark_part.Goals as goal
@@ -34,7 +34,7 @@ returns-clause-last c = c.loop-mapping.invariant.last ∙ ap (last_or _) (all_ta
 pub returns-clause-past_limit : goal.returns-clause-past_limit
 returns-clause-past_limit c =
     c.loop-mapping.invariant.past_limit
-    ∙ ap (λ list. is_past_limit c.args.part.now.line || is_past_limit c.args.part.now.column || list_any is_mapping_past_limit list) (all_placed c.args.part.now _ (c.in_default.ensures.none _ c.loop-mapping.invariant.after))
+    ∙ ap (λ list. is_number_past_limit c.args.part.now.line || is_number_past_limit c.args.part.now.column || list_any is_mapping_past_limit list) (all_placed c.args.part.now _ (c.in_default.ensures.none _ c.loop-mapping.invariant.after))
 
 pub returns-clause-marked : goal.returns-clause-marked
 returns-clause-marked c none has =

@@ -4,7 +4,7 @@ use Rattle.smap_mappings.specs.Pieces.{pieces_of}
 use Rattle.smap_mappings.specs.Mappings.{mappings_of}
 use Rattle.smap_mappings.specs.State.{IsAfter}
 use Rattle.smap_index.specs.Parts.{placed}
-use Rattle.smap_index.specs.Faults.{is_past_limit, is_mapping_past_limit}
+use Rattle.smap_index.specs.Faults.{is_number_past_limit, is_mapping_past_limit}
 use Rattle.smap_index.specs.Walk.{checkpoint_in}
 use Rattle.smap_index.proofs.mark.mark_part.Given as goal
 
@@ -14,7 +14,7 @@ abbrev pub invariant-loop-mapping : goal.invariant-loop-mapping
 invariant-loop-mapping l = record {
   after : IsAfter l.part.text l.meter.segments l.state;
   last : l.walk.last ≡ last_or None (take l.meter.segments (mappings_of l.part.text));
-  past_limit : l.walk.is_past_limit ≡ (is_past_limit l.part.line || is_past_limit l.part.column || list_any is_mapping_past_limit (take l.meter.segments (placed l.part)));
+  past_limit : l.walk.is_past_limit ≡ (is_number_past_limit l.part.line || is_number_past_limit l.part.column || list_any is_mapping_past_limit (take l.meter.segments (placed l.part)));
   room : l.walk.has_room ≡ true → l.fn.has_room ≡ true;
   marked : l.walk.is_past_limit ≡ false → l.walk.has_room ≡ true → l.table ≡ l.fn.table ++ map (checkpoint_in l.number) (take l.meter.segments (placed l.part));
 }

@@ -3,7 +3,7 @@ use Rattle.std.specs.Prelude.{not}
 use Rattle.std.proofs.lemmas.Result.{err_from_is_err_and}
 use Rattle.serde_json.specs.Data.{object}
 use Rattle.serde_json.specs.View.{view, members_view}
-use Rattle.smap_record.specs.Fields.{fields_of}
+use Rattle.smap_record.specs.Fields.{section_fields_of}
 use Rattle.smap_record.specs.IndexMap.{entries_in, entries_refusals}
 use Rattle.smap_record.specs.Outer.{OuterFields, outer_of, entries_of, outer_refusals, is_three}
 use Rattle.smap_record.specs.Refusals.{first_refusal, refused_if}
@@ -18,7 +18,7 @@ returns-in_err-entries-clause-statement c =
     let value = object (members_view c.args.members.entries) in
     let entries_are : entries_in (option_map view c.take-outer.result.sections) (fields_seen c.of.result) ≡ entries_of value =
     ap (λ fields. entries_in (option_map view c.take-outer.result.sections) fields) (c.of.ensures ∙ c.take-outer.ensures.others)
-    ∙ ap (λ (o : OuterFields). entries_in o.sections (fields_of value)) c.take-outer.ensures.value in
+    ∙ ap (λ (o : OuterFields). entries_in o.sections (section_fields_of value)) c.take-outer.ensures.value in
     let version : refused_if Version (not (is_three (outer_of value).version)) ≡ None =
     ap (λ b. refused_if Version (not b)) (sym (ap (λ (o : OuterFields). is_three o.version) c.take-outer.ensures.value) ∙ sym c.is_three.ensures ∙ c.if-not-is_three.false) in
     rw (p.1, p.2)
