@@ -7,4 +7,5 @@ pub mod RefusalLaws
 pub mod OrderLaws
 pub mod WalkLaws
 pub mod PartLaws
+pub mod WholeTextLaws
 pub mod Examples

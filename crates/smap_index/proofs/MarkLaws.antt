@@ -7,7 +7,7 @@ use Rattle.std.proofs.lemmas.List.{append_assoc, length-append, length-map, map-
 use Rattle.smap_mappings.specs.Order.{IsInOrder}
 use Rattle.smap_mappings.specs.declared.mapping.Mapping.{Mapping}
 use Rattle.smap_index.specs.Parts.{placed, joined, bytes_in}
-use Rattle.smap_index.specs.Faults.{is_mapping_past_limit}
+use Rattle.smap_mappings.specs.Range.{is_mapping_past_limit}
 use Rattle.smap_index.specs.Marks.{Mark, mark_in, number_on_line, marked_segments, marks_from, marks, IsCheckpointOf, IsTableOf, used_lines_in}
 use Rattle.smap_index.specs.Search.{mappings_at}
 use Rattle.smap_index.specs.Walk.{checkpoint_in, checkpoints_from}

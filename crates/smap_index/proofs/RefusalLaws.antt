@@ -9,7 +9,8 @@ use Rattle.smap_index.specs.declared.part.Part.{Part}
 use Rattle.smap_index.specs.declared.refusal.BuildRefusal.{BuildRefusal}
 use Rattle.smap_index.specs.declared.refusal.BuildRefusal.TheVariants.{Interval, SectionOrder, SectionOverlap, PositionRange}
 use Rattle.smap_index.specs.Parts.{placed, joined}
-use Rattle.smap_index.specs.Faults.{is_mapping_past_limit, is_part_past_limit, order_fault, overlap_fault, range_fault, part_fault, build_fault}
+use Rattle.smap_index.specs.Faults.{is_part_past_limit, order_fault, overlap_fault, range_fault, part_fault, build_fault}
+use Rattle.smap_mappings.specs.Range.{is_mapping_past_limit}
 use Rattle.smap_index.proofs.FaultLaws.{none_from}
 
 -- ---- no fault

@@ -14,7 +14,7 @@ use Rattle.smap_mappings.specs.State.{IsNext}
 use Rattle.smap_mappings.specs.declared.cursor.Cursor.{Cursor}
 use Rattle.smap_mappings.specs.declared.mapping.Mapping.{Mapping}
 use Rattle.smap_index.specs.Parts.{placed_mapping, placed}
-use Rattle.smap_index.specs.Faults.{is_mapping_past_limit}
+use Rattle.smap_mappings.specs.Range.{is_mapping_past_limit}
 use Rattle.smap_index.specs.declared.part.Part.{Part}
 use Rattle.smap_index.proofs.ListLaws.{take_next}
 
@@ -98,3 +98,11 @@ placed_in_range part j m behind next none kept =
     let within = none_at is_mapping_past_limit (placed part) j (placed_mapping part m) none there in
     let e = cond-false (is_mapping_past_limit (placed_mapping part m)) None (Some (placed_mapping part m)) within in
     cc (e, kept)
+
+-- a mapping that has its place is not past the limit there
+pub there_in_range : (m there : Mapping) → cond (is_mapping_past_limit m) None (Some m) ≡ Some there → is_mapping_past_limit there ≡ false
+there_in_range m there is =
+    ⊎_elim
+    (λ past. absurd (let e = cond-true (is_mapping_past_limit m) None (Some m) past in cc (e, is)))
+    (λ within. let e : m ≡ there = (let e = cond-false (is_mapping_past_limit m) None (Some m) within in cc (e, is)) in sym (ap is_mapping_past_limit e) ∙ within)
+    (cases_Bool (is_mapping_past_limit m))

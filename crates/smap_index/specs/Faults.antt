@@ -2,12 +2,11 @@
 -- reaches past the next one's offset. This project's own are: that a mapping may stand at the next offset, the limit
 -- 2147483647 for all that is placed, the order of the refusals, and that one of them refuses all parts. The numbers
 -- of parts count from 0.
-use Rattle.std.specs.Prelude.{ℕ, List, [], ◌∷◌, Option, Some, None, Bool, false, ◌&&◌, ◌||◌, ◌==◌, nat_lt, if◌then◌else◌, option_map}
+use Rattle.std.specs.Prelude.{ℕ, List, [], ◌∷◌, Option, Some, Bool, ◌&&◌, ◌||◌, ◌==◌, nat_lt, if◌then◌else◌, option_map}
 use Rattle.std.specs.List.{list_any, position_from}
 use Rattle.std.specs.Option.{option_or}
 use Rattle.smap_mappings.specs.declared.mapping.Mapping.{Mapping}
-use Rattle.smap_mappings.specs.declared.mapping.Origin.{Origin}
-use Rattle.smap_mappings.specs.Limits.{limit}
+use Rattle.smap_mappings.specs.Range.{is_number_past_limit, is_mapping_past_limit}
 use Rattle.smap_index.specs.declared.part.Part.{Part}
 use Rattle.smap_index.specs.declared.refusal.BuildRefusal.{BuildRefusal}
 use Rattle.smap_index.specs.declared.refusal.BuildRefusal.TheVariants.{Interval, SectionOrder, SectionOverlap, PositionRange}
@@ -45,22 +44,6 @@ overlap_fault parts = position_from is_overlapping 1 (neighbours parts)
 
 -- ---- what is past the limit
 
-abbrev pub is_number_past_limit : ℕ → Bool
-is_number_past_limit n = nat_lt limit n
-
-abbrev pub is_name_past_limit : Option ℕ → Bool
-is_name_past_limit None = false
-is_name_past_limit (Some name) = is_number_past_limit name
-
-abbrev pub is_origin_past_limit : Option Origin → Bool
-is_origin_past_limit None = false
-is_origin_past_limit (Some origin) =
-    is_number_past_limit origin.source || is_number_past_limit origin.line || is_number_past_limit origin.column || is_name_past_limit origin.name
-
--- a number of the mapping is past the limit
-abbrev pub is_mapping_past_limit : Mapping → Bool
-is_mapping_past_limit mapping = is_number_past_limit mapping.line || is_number_past_limit mapping.column || is_origin_past_limit mapping.origin
-
 -- the part's offset is past the limit, or a number of a mapping of it at its place
 abbrev pub is_part_past_limit : Part → Bool
 is_part_past_limit part = is_number_past_limit part.line || is_number_past_limit part.column || list_any is_mapping_past_limit (placed part)
@@ -78,6 +61,10 @@ part_fault parts =
     (option_or (option_map SectionOverlap (overlap_fault parts))
     (option_map PositionRange (range_fault parts)))
 
--- the first refusal of these parts at the interval k, if there is one: for now the interval has to be 1
+-- the interval is one at which checkpoints may stand: for now it has to be 1
+abbrev pub is_interval : ℕ → Bool
+is_interval k = k == 1
+
+-- the first refusal of these parts at the interval k, if there is one
 unfoldable pub build_fault : List Part → ℕ → Option BuildRefusal
-build_fault parts k = if k == 1 then part_fault parts else Some Interval
+build_fault parts k = if is_interval k then part_fault parts else Some Interval

@@ -34,3 +34,7 @@ most_parts = 65536
 abbrev pub bytes_in : List Part → ℕ
 bytes_in [] = 0
 bytes_in (part ∷ parts) = length part.text + bytes_in parts
+
+-- a text as a part that begins at the start and moves no index
+abbrev pub whole_text : List ℕ → Part
+whole_text text = record { line = 0; column = 0; text = text; source_base = 0; name_base = 0 }

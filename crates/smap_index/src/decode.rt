@@ -3,7 +3,7 @@
 ghost use Rattle.std.specs.Prelude.{◌≡◌, ◌++◌, false, IfOk};
 ghost use Rattle.std.specs.List.{list_any};
 ghost use Rattle.smap_index.specs.Parts.{placed};
-ghost use Rattle.smap_index.specs.Faults.{is_mapping_past_limit};
+ghost use Rattle.smap_mappings.specs.Range.{is_mapping_past_limit};
 
 use crate::part::Part;
 use crate::place::place;

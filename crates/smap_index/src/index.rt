@@ -1,23 +1,31 @@
 //! An index: the parts of a map, and the table of checkpoints from which positions are looked up in them.
 
-ghost use Rattle.std.specs.Prelude.{◌≡◌, ℕ, ◌+◌, ◌-◌, ◌*◌, ◌/◌, ◌^◌, ◌<◌, ◌≤◌, length, IfOk, OnOk, IsOkUnless, Err, Some, None, false};
-ghost use Rattle.std.specs.List.{list_any};
+ghost use Rattle.std.specs.Prelude.{◌≡◌, ℕ, ◌+◌, ◌-◌, ◌*◌, ◌/◌, ◌^◌, ◌<◌, ◌≤◌, length, IfOk, OnOk, IsOkUnless, Err, Some, None, false, string_bytes};
+ghost use Rattle.std.specs.List.{All, list_any};
+ghost use Rattle.smap_mappings.specs.Limits.{most_text_bytes};
+ghost use Rattle.smap_mappings.specs.Mappings.{mappings_of};
+ghost use Rattle.smap_mappings.specs.Accepted.{IsAccepted};
+ghost use Rattle.smap_mappings.specs.Within.{IsWithin};
+ghost use Rattle.smap_mappings.specs.Canonical.{canonical_text};
 ghost use Rattle.smap_mappings.specs.Meter.{HasRoom};
 ghost use Rattle.smap_mappings.specs.Order.{IsInOrder};
 ghost use Rattle.smap_index.specs.Parts.{most_parts, joined, bytes_in};
 ghost use Rattle.smap_index.specs.Marks.{marks, used_lines_in};
-ghost use Rattle.smap_index.specs.Faults.{is_mapping_past_limit, build_fault};
+ghost use Rattle.smap_index.specs.Faults.{build_fault};
+ghost use Rattle.smap_mappings.specs.Range.{is_mapping_past_limit};
 ghost use Rattle.smap_index.specs.Answer.{answer_at_or_before};
 
 use crate::answer::{Answer, answer_of};
 use crate::decode::decode_part;
+use crate::encode::{length_of_parts, write_parts};
 use crate::mark::mark_parts;
 use crate::order::first_out_of_order;
 use crate::part::Part;
-use crate::refusal::BuildRefusal;
+use crate::refusal::{BuildRefusal, EncodeAllRefusal};
 use crate::search::last_not_after;
 use crate::table::Table;
 use crate::totals::totals_of;
+use smap_mappings::laws::lists_in_order_have_no_fault;
 use smap_mappings::{Mapping, Meter};
 use std::alloc::{AllocError, Global};
 use std::marker::Model;
@@ -140,5 +148,33 @@ impl Index {
             decode_part(alloc, part, &mut list)?;
         }
         Ok(list)
+    }
+
+    /// All mappings as one canonical text (ECMA-426, Mappings structure), which decodes to them: each difference in its
+    /// shortest spelling, `,` between the segments of a line, one `;` for each line passed, nothing at the end. No list
+    /// is made: the texts are gone through twice, and room is made once. A text past 67,108,864 bytes is refused.
+    pub fn encode_all(&self, alloc: Global) -> Result<String, EncodeAllRefusal>
+        ensures text { IfOk result (λ text. string_bytes text ≡ canonical_text (joined self.now.parts)) }
+        ensures decodes { OnOk result
+            (mappings_of (canonical_text (joined self.now.parts)) ≡ joined self.now.parts) }
+        ensures accepted { OnOk result ((sources names : ℕ) →
+            All (IsWithin sources names) (joined self.now.parts) →
+            IsAccepted (canonical_text (joined self.now.parts)) sources names) }
+        ensures too_long { most_text_bytes < length (canonical_text (joined self.now.parts)) →
+            result ≡ Err EncodeAllRefusal.TooLong }
+        ensures fits { OnOk result
+            (length (canonical_text (joined self.now.parts)) ≤ most_text_bytes) }
+        ensures memory { length (canonical_text (joined self.now.parts)) ≤ most_text_bytes →
+            IsOkUnless result EncodeAllRefusal.Memory }
+    {
+        let length = length_of_parts(alloc, &self.parts);
+        let Some(bytes) = length.bytes() else {
+            return Err(EncodeAllRefusal::TooLong);
+        };
+        lists_in_order_have_no_fault();
+        match write_parts(alloc, &self.parts, bytes) {
+            Ok(writer) => Ok(writer.into_text()),
+            Err(_) => Err(EncodeAllRefusal::Memory),
+        }
     }
 }

@@ -13,7 +13,9 @@
 
 mod answer;
 mod decode;
+mod encode;
 mod index;
+pub mod laws;
 mod mark;
 mod order;
 mod part;
@@ -26,4 +28,4 @@ mod totals;
 pub use answer::Answer;
 pub use index::Index;
 pub use part::Part;
-pub use refusal::BuildRefusal;
+pub use refusal::{BuildRefusal, EncodeAllRefusal};

@@ -5,7 +5,8 @@ ghost use Rattle.std.specs.List.{AllByRecursion, last_or};
 ghost use Rattle.std.specs.Option.{option_copied};
 ghost use Rattle.smap_mappings.specs.Mappings.{mappings_of};
 ghost use Rattle.smap_index.specs.Parts.{most_parts, placed_mapping, placed};
-ghost use Rattle.smap_index.specs.Faults.{overlap_fault, range_fault, is_mapping_past_limit, is_part_past_limit};
+ghost use Rattle.smap_index.specs.Faults.{overlap_fault, range_fault, is_part_past_limit};
+ghost use Rattle.smap_mappings.specs.Range.{is_mapping_past_limit};
 ghost use Rattle.smap_index.specs.Walk.{checkpoint_in, checkpoints_from, IsTextInOrder, is_overlapping_next};
 
 use crate::part::Part;

@@ -2,7 +2,8 @@
 
 ghost use Rattle.std.specs.Prelude.{◌≡◌, ◌+◌, ◌==◌, Some, None, option_map, if◌then◌else◌};
 ghost use Rattle.smap_index.specs.Parts.{placed_origin, placed_mapping};
-ghost use Rattle.smap_index.specs.Faults.{is_out_of_order, is_after_offset, is_number_past_limit, is_name_past_limit, is_origin_past_limit, is_mapping_past_limit};
+ghost use Rattle.smap_index.specs.Faults.{is_out_of_order, is_after_offset};
+ghost use Rattle.smap_mappings.specs.Range.{is_number_past_limit, is_name_past_limit, is_origin_past_limit, is_mapping_past_limit};
 
 use crate::part::Part;
 use smap_mappings::{LIMIT, Mapping, Origin};

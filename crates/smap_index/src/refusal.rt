@@ -1,4 +1,4 @@
-//! Why an index is not built.
+//! Why an index is not built, and why its mappings are not encoded.
 
 /// Why an index is not built: the first of these that holds, in this order. Numbers of parts count from 0, and each is
 /// the least of its kind.
@@ -13,5 +13,14 @@ pub enum BuildRefusal {
     /// B4: this part's offset, or a number of one of its mappings at its place, is past 2147483647.
     PositionRange(u64),
     /// B5: there is not enough memory for the table.
+    Memory,
+}
+
+/// Why the mappings of an index are not encoded.
+#[derive(Clone, Copy)]
+pub enum EncodeAllRefusal {
+    /// The text would have more than 67,108,864 bytes.
+    TooLong,
+    /// There is not enough memory for the text.
     Memory,
 }

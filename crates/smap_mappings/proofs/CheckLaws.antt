@@ -19,6 +19,7 @@ use Rattle.smap_mappings.specs.declared.fault.Fault.{Fault}
 use Rattle.smap_mappings.specs.declared.fault.FaultKind.{FaultKind}
 use Rattle.smap_mappings.specs.declared.mapping.Mapping.{Mapping}
 use Rattle.smap_mappings.proofs.PieceLaws.{pieces_at_end}
+use Rattle.smap_mappings.proofs.MoveLaws.{below_line}
 use Rattle.smap_mappings.proofs.SpellingFaultLaws.{spelled_known, known_spelled}
 use Rattle.smap_mappings.proofs.ValueFaultLaws.{accepts_from, accepts_known, accepts_none, accepted_widest}
 use Rattle.smap_mappings.proofs.OrderLaws.{any_last}
@@ -122,10 +123,6 @@ new_lines-push earlier (m ∷ moves) move =
 none_later_line : (line : ℕ) (moves : List Move) → AllByRecursion (λ (m : Move). m.line < line) moves → list_any (λ (m : Move). eqb m.line line) moves ≡ false
 none_later_line line [] all = refl
 none_later_line line (m ∷ moves) all = or_from _ _ (ne_eqb m.line line (λ (e : m.line ≡ line). absurd (omega (arith, all.0)))) (none_later_line line moves all.1)
-
-below_line : (line later : ℕ) (moves : List Move) → line < later → AllByRecursion (λ (m : Move). m.line ≤ line) moves → AllByRecursion (λ (m : Move). m.line < later) moves
-below_line line later [] lt all = tt
-below_line line later (m ∷ moves) lt all = (omega (arith, all.0), below_line line later moves lt all.1)
 
 none_so_far : (p : Move → Bool) (segments : ℕ) (moves : List Move) → segments ≡ 0 → list_any p (take segments moves) ≡ false
 none_so_far p segments moves is = ap (λ n. list_any p (take n moves)) is

@@ -15,6 +15,10 @@ use Rattle.smap_mappings.specs.declared.fault.FaultKind.TheVariants as kinds
 use Rattle.smap_mappings.specs.declared.vlq.VlqFault.{VlqFault}
 use Rattle.smap_mappings.specs.declared.vlq.VlqFault.TheVariants.{BadDigit, Unended, TooLong, TooLarge, NegativeZero}
 use Rattle.smap_mappings.specs.declared.mapping.Origin.{Origin}
+use Rattle.smap_mappings.specs.declared.mapping.Mapping.{Mapping}
+use Rattle.smap_mappings.specs.Canonical.{canonical_text, segment_bytes, fields_behind, shortest_spelling}
+use Rattle.smap_mappings.specs.Encode.{list_fault}
+use Rattle.smap_mappings.specs.declared.canonical.EncodeRefusal.TheVariants.{NotSorted, OutOfRange}
 
 -- ---- numbers and their shortest spellings
 
@@ -124,3 +128,50 @@ first_faults = refl
 more_faults : faults (codes "AA" ∷ codes "CAAA,DAAA" ∷ codes "+/////D,C" ∷ codes "gggggggA" ∷ codes "A,A,A" ∷ []) ≡ at_byte 0 0 kinds.FieldCount ∷ at_byte 5 0 kinds.ColumnFalls ∷ at_byte 8 0 kinds.PastLimit ∷ at_byte 0 0 kinds.TooLong ∷ None ∷ []
 unfolding first_fault spelling_fault move_fault values_on pieces_of pieces_from pieces_on fields_of number_of unsigned_of digit_of
 more_faults = refl
+
+-- ---- canonical texts
+
+abbrev unmapped_at : ℕ → ℕ → Mapping
+unmapped_at line column = record { line = line; column = column; origin = None }
+
+abbrev mapped_at : ℕ → ℕ → ℕ → ℕ → ℕ → Mapping
+mapped_at line column source original_line original_column =
+    record { line = line; column = column; origin = Some (record { source = source; line = original_line; column = original_column; name = None }) }
+
+none_is_empty : canonical_text [] ≡ []
+unfolding canonical_text
+none_is_empty = refl
+
+equal_mappings_stay : canonical_text (unmapped_at 0 0 ∷ unmapped_at 0 0 ∷ []) ≡ codes "A,A"
+unfolding canonical_text segment_bytes fields_behind shortest_spelling
+equal_mappings_stay = refl
+
+lines_are_passed : canonical_text (unmapped_at 2 5 ∷ []) ≡ codes ";;K"
+unfolding canonical_text segment_bytes fields_behind shortest_spelling
+lines_are_passed = refl
+
+origins_differ_from_the_last_one : canonical_text (mapped_at 0 0 0 0 0 ∷ unmapped_at 0 1 ∷ mapped_at 0 2 0 0 2 ∷ []) ≡ codes "AAAA,C,CAAE"
+unfolding canonical_text segment_bytes fields_behind shortest_spelling
+origins_differ_from_the_last_one = refl
+
+sources_are_differences : canonical_text (mapped_at 0 0 0 0 0 ∷ mapped_at 0 10 1 0 0 ∷ []) ≡ codes "AAAA,UCAA"
+unfolding canonical_text segment_bytes fields_behind shortest_spelling
+sources_are_differences = refl
+
+greatest_is_spelled : shortest_spelling (pos 2147483647) ≡ codes "+/////D"
+unfolding shortest_spelling
+greatest_is_spelled = refl
+
+least_is_spelled : shortest_spelling (negsuc 2147483646) ≡ codes "//////D"
+unfolding shortest_spelling
+least_is_spelled = refl
+
+-- ---- why a list is not encoded
+
+order_is_asked_before_range : list_fault (unmapped_at 0 5 ∷ mapped_at 0 4 2147483648 0 0 ∷ []) ≡ Some (NotSorted 1)
+unfolding list_fault
+order_is_asked_before_range = refl
+
+first_past_the_limit : list_fault (unmapped_at 0 2147483648 ∷ unmapped_at 0 0 ∷ []) ≡ Some (OutOfRange 0)
+unfolding list_fault
+first_past_the_limit = refl

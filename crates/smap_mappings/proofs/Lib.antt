@@ -5,6 +5,14 @@ pub mod SpelledNumbers
 pub mod PieceLaws
 pub mod FieldLaws
 pub mod JoinLaws
+pub mod ShortestLaws
+pub mod DigitLaws
+pub mod BeforeLaws
+pub mod CanonicalPieces
+pub mod CanonicalLaws
+pub mod ListFaultLaws
+pub mod WritingLaws
+pub mod EncodeLaws
 pub mod MoveLaws
 pub mod Ranges
 pub mod ValueFaultLaws

@@ -55,24 +55,25 @@ values-push before move =
     }
 
 -- where no segment stands on a line yet, the column there is 0 still
-none_on_line : (line : ℕ) (moves : List Move) → AllByRecursion (λ (m : Move). m.line < line) moves → filter (λ m. eqb m.line line) moves ≡ []
+pub none_on_line : (line : ℕ) (moves : List Move) → AllByRecursion (λ (m : Move). m.line < line) moves → filter (λ m. eqb m.line line) moves ≡ []
 none_on_line line [] below = refl
 none_on_line line (m ∷ moves) below = cond-false _ _ _ (ne_eqb m.line line (λ (e : m.line ≡ line). absurd (omega (arith, below.0)))) ∙ none_on_line line moves below.1
+
+-- segments up to a line are before each later one
+pub below_line : (line later : ℕ) (moves : List Move) → line < later → AllByRecursion (λ (m : Move). m.line ≤ line) moves → AllByRecursion (λ (m : Move). m.line < later) moves
+below_line line later [] lt all = tt
+below_line line later (m ∷ moves) lt all = (omega (arith, all.0), below_line line later moves lt all.1)
 
 pub values_on_new_line : (line : ℕ) (moves : List Move) → AllByRecursion (λ (m : Move). m.line ≤ line) moves
     → values_on (line + 1) moves ≡ record (values_on line moves) { column = pos 0 }
 unfolding values_on
 values_on_new_line line moves below = λ i. record {
-  column = ap (total 0) (none_on_line (line + 1) moves (weaker moves below)) i;
+  column = ap (total 0) (none_on_line (line + 1) moves (below_line line (line + 1) moves (omega arith) below)) i;
   source = total 1 moves;
   original_line = total 2 moves;
   original_column = total 3 moves;
   name = total 4 moves;
 }
-  where
-    weaker : (ms : List Move) → AllByRecursion (λ (m : Move). m.line ≤ line) ms → AllByRecursion (λ (m : Move). m.line < line + 1) ms
-    weaker [] below = tt
-    weaker (m ∷ ms) below = (omega (arith, below.0), weaker ms below.1)
 
 -- the column on a line with no earlier segment
 pub column_of_none : (line : ℕ) (moves : List Move) → list_any (λ earlier. eqb earlier.line line) moves ≡ false → (values_on line moves).column ≡ pos 0
@@ -84,6 +85,13 @@ column_of_none line moves none = ap (total 0) (no_move moves none)
     no_move (m ∷ ms) none = let parts = or_parts _ _ none in cond-false _ _ _ parts.0 ∙ no_move ms parts.1
 
 -- ---- lists, one element on
+
+pub all_append : {X : Type 0} (P : X → Type 0) (xs ys : List X) → AllByRecursion P xs → AllByRecursion P ys → AllByRecursion P (xs ++ ys)
+all_append P [] ys all others = others
+all_append P (x ∷ xs) ys all others = (all.0, all_append P xs ys all.1 others)
+
+pub all_push : {X : Type 0} (P : X → Type 0) (xs : List X) (x : X) → AllByRecursion P xs → P x → AllByRecursion P (xs ++ x ∷ [])
+all_push P xs x all here = all_append P xs (x ∷ []) all (here, tt)
 
 pub next_element : {X : Type 0} (j : ℕ) (xs ys : List X) (x : X) → drop j xs ≡ x ∷ ys → (take (suc j) xs ≡ take j xs ++ x ∷ []) × (drop (suc j) xs ≡ ys) × (slice_get xs j ≡ Some x) × (suc j ≤ length xs)
 next_element zero [] ys x is = absurd (cc)

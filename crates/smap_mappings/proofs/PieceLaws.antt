@@ -12,7 +12,7 @@ use Rattle.smap_mappings.specs.Reading.{is_inside, piece_at}
 -- ---- splits
 
 -- a list of parts is never empty
-first_part : (p : ℕ → Bool) (xs : List ℕ) → (part : List ℕ) × (parts : List (List ℕ)) × (slice_split p xs ≡ part ∷ parts)
+pub first_part : (p : ℕ → Bool) (xs : List ℕ) → (part : List ℕ) × (parts : List (List ℕ)) × (slice_split p xs ≡ part ∷ parts)
 first_part p [] = ([], [], refl)
 first_part p (x ∷ xs) =
     let rest = first_part p xs in

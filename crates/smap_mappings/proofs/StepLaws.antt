@@ -17,7 +17,7 @@ use Rattle.smap_mappings.specs.declared.fault.FaultKind.{FaultKind}
 use Rattle.smap_mappings.specs.declared.segment.Segment.{Segment}
 use Rattle.smap_mappings.specs.declared.segment.OriginFields.{OriginFields}
 use Rattle.smap_mappings.proofs.PieceLaws.{pieces_at_segment, pieces_at_line_end, pieces_at_comma}
-use Rattle.smap_mappings.proofs.MoveLaws.{values-push, values_on_new_line, next_element}
+use Rattle.smap_mappings.proofs.MoveLaws.{values-push, values_on_new_line, next_element, all_push}
 use Rattle.smap_mappings.proofs.ValueFaultLaws.{move_fault_is}
 use Rattle.smap_mappings.proofs.SpellingFaultLaws.{known_spelled}
 
@@ -79,10 +79,6 @@ known_count column (Some o) = named o.source o.line o.column o.name
     named : (source line original_column : ℤ) (name : Option ℤ) → has_known_length (column ∷ source ∷ line ∷ original_column ∷ name_fields name) ≡ true
     named source line original_column None = refl
     named source line original_column (Some name) = refl
-
-all_push : {X : Type 0} (P : X → Type 0) (xs : List X) (x : X) → AllByRecursion P xs → P x → AllByRecursion P (xs ++ x ∷ [])
-all_push P [] x all here = (here, tt)
-all_push P (y ∷ xs) x all here = (all.0, all_push P xs x all.1 here)
 
 module _ (text : List ℕ) (j : ℕ) (cursor : Cursor) (segment : Segment) (end : ℕ) (after : IsAfter text j cursor) (within : cursor.place < length text) (inside : is_inside (get_or text cursor.place 0) ≡ true) (reads : IsSegmentAt text cursor.place segment end) where
   read_move : AtSegment text j cursor (move_in cursor.line segment)

@@ -9,6 +9,10 @@ pub mod Faults
 pub mod Counts
 pub mod Order
 pub mod Within
+pub mod Range
+pub mod Canonical
+pub mod Encode
+pub mod Writing
 pub mod State
 pub mod PackedText
 pub mod Meter
@@ -17,3 +21,4 @@ pub mod Reading
 pub mod Spelling
 pub mod Advance
 pub mod Step
+pub mod OneMore

@@ -1,6 +1,7 @@
 //! Base64 digits (ECMA-426, Base64 VLQ).
-ghost use Rattle.std.specs.Prelude.{◌≡◌};
+ghost use Rattle.std.specs.Prelude.{◌≡◌, ◌<◌};
 ghost use Rattle.smap_mappings.specs.Base64.{digit_of};
+ghost use Rattle.smap_mappings.specs.Canonical.{letter_of};
 
 // No byte's value: digits are 0 to 63.
 const NO_DIGIT: u8 = 64;
@@ -26,4 +27,16 @@ pub fn digit(byte: u8) -> Option<u8>
 {
     let value = DIGITS[byte as usize];
     if value < NO_DIGIT { Some(value) } else { None }
+}
+
+// Of each value, 0 to 63, its letter.
+const LETTERS: [u8; 64] = *b"ABCDEFGHIJKLMNOPQRSTUVWXYZabcdefghijklmnopqrstuvwxyz0123456789+/";
+
+// The letter of a digit's value, 0 to 63 (ECMA-426, Base64 VLQ).
+#[inline(always)]
+pub fn letter(value: u32) -> u8
+    requires { value < 64 }
+    ensures { result ≡ letter_of value }
+{
+    LETTERS[value as usize]
 }

@@ -13,9 +13,11 @@
 
 mod advance;
 mod base64;
+mod canonical;
 mod check;
 mod cursor;
 mod fault;
+mod last_values;
 pub mod laws;
 mod limits;
 mod mapping;
@@ -25,12 +27,17 @@ mod segment;
 mod spelling;
 mod state;
 mod step;
+mod text_length;
+mod text_writer;
 mod vlq;
 
+pub use canonical::{EncodeRefusal, encode};
 pub use fault::{Fault, FaultKind};
 pub use limits::{LIMIT, MOST_BYTES, MOST_INDICES};
 pub use mapping::{Mapping, Origin};
 pub use meter::Meter;
 pub use packed_text::{PackedText, TextRefusal};
 pub use state::State;
-pub use vlq::{VlqFault, read_vlq};
+pub use text_length::TextLength;
+pub use text_writer::TextWriter;
+pub use vlq::{VlqFault, read_vlq, write_vlq};

@@ -1,10 +1,13 @@
-//! Base64 VLQ numbers, as they are read (ECMA-426, Base64 VLQ).
-ghost use Rattle.std.specs.Prelude.{◌≡◌, ◌≤◌, ◌↔◌, ℤ, ℕ, Ok, length, slice_range};
+//! Base64 VLQ numbers, as they are read and written (ECMA-426, Base64 VLQ).
+ghost use Rattle.std.specs.Prelude.{◌≡◌, ◌+◌, ◌++◌, ◌∷◌, ◌<◌, ◌≤◌, ◌↔◌, ℤ, ℕ, [], Ok, OnOk, OnErr, length, unsigned_abs, slice_range, vec_len, vec_capacity};
+ghost use Rattle.smap_mappings.specs.Limits.{limit, most_digits};
 ghost use Rattle.smap_mappings.specs.Vlq.{Spells, number_at};
+ghost use Rattle.smap_mappings.specs.Canonical.{IsShortestSpelling, digits_of, shortest_spelling, unsigned_number};
 ghost use Rattle.smap_mappings.specs.Reading.{checked_number, long_fault};
 
-use crate::base64::digit;
+use crate::base64::{digit, letter};
 use crate::limits::{LIMIT, MOST_DIGITS};
+use std::alloc::AllocError;
 
 /// Why no number begins at a place (ECMA-426, Base64 VLQ, in this project's profile).
 #[derive(Clone, Copy, Debug, PartialEq, Eq)]
@@ -92,4 +95,89 @@ fn fault_past_most_digits(bytes: &[u8], place: usize) -> VlqFault
         }
     }
     VlqFault::Unended
+}
+
+/// Appends the shortest spelling of a number, which has the fewest digits of all that spell it (ECMA-426, Base64 VLQ).
+/// The caller gives any number but -2147483648. Room for the whole spelling is made before its first digit is written,
+/// so a refusal leaves `out` as it was.
+#[inline(always)]
+pub fn write_vlq(n: i32, out: &mut Vec<u8>) -> Result<(), AllocError>
+    requires { unsigned_abs n ≤ limit }
+    ensures appended { OnOk result (out.new.items ≡ out.old.items ++ shortest_spelling n) }
+    ensures shortest { IsShortestSpelling (shortest_spelling n) n }
+    ensures unchanged { OnErr result (out.new.items ≡ out.old.items) }
+{
+    let unsigned = unsigned_number(n);
+    if unsigned < 32 {
+        out.push(letter(unsigned))?;
+        Ok(())
+    } else {
+        write_long(unsigned, out)
+    }
+}
+
+// How many digits the shortest spelling of a number has.
+#[inline(always)]
+pub fn spelling_length(n: i32) -> u64
+    requires { unsigned_abs n ≤ limit }
+    ensures length { result ≡ length (shortest_spelling n) }
+    ensures few { result ≤ most_digits }
+{
+    let unsigned = unsigned_number(n);
+    if unsigned < 32 {
+        1
+    } else {
+        count_digits(unsigned) as u64
+    }
+}
+
+// A number as an unsigned value: its lowest bit says whether it is negative.
+#[inline(always)]
+fn unsigned_number(n: i32) -> u32
+    requires { unsigned_abs n ≤ limit }
+    ensures { result ≡ unsigned_number n }
+{
+    n.unsigned_abs() * 2 + u32::from(n < 0)
+}
+
+// Appends the digits of an unsigned value.
+fn write_long(unsigned: u32, out: &mut Vec<u8>) -> Result<(), AllocError>
+    ensures appended { OnOk result
+        (out.new.items ≡ out.old.items ++ digits_of most_digits unsigned) }
+    ensures unchanged { OnErr result (out.new.items ≡ out.old.items) }
+{
+    out.reserve(count_digits(unsigned))?;
+    let mut rest = unsigned;
+    while rest >= 32 {
+        push_within(letter(rest % 32 + 32), out);
+        rest /= 32;
+    }
+    push_within(letter(rest), out);
+    Ok(())
+}
+
+// Appends a byte for which there is room.
+#[inline(always)]
+fn push_within(byte: u8, out: &mut Vec<u8>)
+    requires { vec_len out.old < vec_capacity out.old }
+    ensures items { out.new.items ≡ out.old.items ++ byte ∷ [] }
+    ensures len { vec_len out.new ≡ vec_len out.old + 1 }
+    ensures capacity { vec_capacity out.old ≤ vec_capacity out.new }
+{
+    let pushed = out.push(byte).is_ok();
+    prove!(pushed);
+}
+
+// How many digits an unsigned value has.
+fn count_digits(unsigned: u32) -> usize
+    ensures count { result ≡ length (digits_of most_digits unsigned) }
+    ensures few { result ≤ most_digits }
+{
+    let mut count = 1;
+    let mut rest = unsigned;
+    while rest >= 32 {
+        rest /= 32;
+        count += 1;
+    }
+    count
 }

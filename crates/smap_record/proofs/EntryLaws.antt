@@ -14,7 +14,7 @@ use Rattle.smap_record.specs.Sources.{StatedSource, StatedSources, stated_source
 use Rattle.smap_record.specs.Seen.{texts_seen, sources_seen}
 use Rattle.smap_record.specs.declared.section.SectionSources.{SectionSources}
 
-enumerate_push : {A : Type 0} (n : ℕ) (xs : List A) (x : A) → enumerate_from n (xs ++ x ∷ []) ≡ enumerate_from n xs ++ (length xs + n, x) ∷ []
+pub enumerate_push : {A : Type 0} (n : ℕ) (xs : List A) (x : A) → enumerate_from n (xs ++ x ∷ []) ≡ enumerate_from n xs ++ (length xs + n, x) ∷ []
 enumerate_push n [] x = ap (λ i. (i, x) ∷ []) (omega arith)
 enumerate_push n (y ∷ xs) x = ap (λ rest. (n, y) ∷ rest) (enumerate_push (n + 1) xs x ∙ ap (λ i. enumerate_from (n + 1) xs ++ (i, x) ∷ []) (omega arith))
 

@@ -1,6 +1,7 @@
 -- Worked examples of the definitions: each holds by computing both sides.
 use Rattle.std.proofs.Common.{◌≡◌, ℕ, List, [], ◌∷◌, ◌++◌, Option, Some, None, Ok, Err, true, false, refl, codes}
 use Rattle.std.specs.Prelude.{Result, ⊤}
+use Rattle.std.specs.Fmt.{digits}
 use Rattle.std.specs.Str.{is_utf8, chars}
 use Rattle.serde_json.proofs.OnLiterals.{serde_json_on_literals}
 use Rattle.smap_mappings.specs.Base64.{digit_of}
@@ -17,11 +18,14 @@ use Rattle.smap_index.specs.declared.answer.Answer.{Answer}
 use Rattle.smap_index.specs.declared.answer.Answer.TheVariants.{Nothing, Found}
 use Rattle.smap_index.specs.declared.part.Part.{Part}
 use Rattle.smap_index.specs.declared.refusal.BuildRefusal.TheVariants.{Interval, SectionOverlap}
-use Rattle.url.proofs.OnLiterals.{url_on_literals}
+use Rattle.url.specs.Input.{split_once, strip_tabs_and_new_lines, trim_c0_control_and_space}
+use Rattle.url.specs.Parser.{parse_url, split_scheme}
+use Rattle.url.specs.Scheme.{scheme_len}
 use Rattle.smap_resolve.specs.SourceName.{kept, source_name}
 use Rattle.smap_record.specs.FileText.{byte_order_mark}
 use Rattle.smap_record.specs.Sources.{StatedSource}
 use Rattle.smap_record.specs.Record.{MapRecord, record_of, answer_of_map}
+use Rattle.smap_record.specs.Written.{written}
 use Rattle.smap_record.specs.declared.refusal.MapRefusal.{MapRefusal}
 use Rattle.smap_record.specs.declared.refusal.MapRefusal.TheVariants as refusals
 
@@ -35,7 +39,7 @@ called text = record { name = Some (kept text); content = None; ignored = false 
 
 -- what an example unfolds to compute the record of a file
 unfoldable record_on_literals : ⊤
-unfolding record_of source_name url_on_literals is_utf8 chars serde_json_on_literals whole called build_fault part_fault order_fault overlap_fault range_fault placed mappings_of mapping_after moves_of first_fault spelling_fault move_fault values_on pieces_of pieces_from pieces_on fields_of number_of unsigned_of digit_of
+unfolding record_of source_name parse_url split_scheme scheme_len split_once strip_tabs_and_new_lines trim_c0_control_and_space is_utf8 chars serde_json_on_literals whole called build_fault part_fault order_fault overlap_fault range_fault placed mappings_of mapping_after moves_of first_fault spelling_fault move_fault values_on pieces_of pieces_from pieces_on fields_of number_of unsigned_of digit_of
 record_on_literals = tt
 
 -- the refusal of a file, where it is refused
@@ -209,3 +213,16 @@ last_on_the_line = refl
 nothing_on_the_next_line : answer_in (record_of (codes "{\"version\":3,\"sources\":[\"a.ts\"],\"mappings\":\"AAAA,CAAC\"}") None 1) 1 0 ≡ Some Nothing
 unfolding record_on_literals answer_at_or_before
 nothing_on_the_next_line = refl
+
+-- ---- written maps
+
+-- a content where one source has it, the index of an ignored source, and null for a source without a name
+all_keys : written (record { name = Some (kept (codes "a.js")); content = Some (codes "x"); ignored = false } ∷ record { name = None; content = None; ignored = true } ∷ []) [] (Some (codes "o.js")) (codes "AAAA")
+    ≡ codes "{\"file\":\"o.js\",\"ignoreList\":[1],\"mappings\":\"AAAA\",\"names\":[],\"sources\":[\"a.js\",null],\"sourcesContent\":[\"x\",null],\"version\":3}"
+unfolding written serde_json_on_literals digits
+all_keys = refl
+
+no_more_than_needed : written (called (codes "a.js") ∷ called (codes "b.js") ∷ []) (codes "f" ∷ []) None (codes "AAAA,UCAA")
+    ≡ codes "{\"mappings\":\"AAAA,UCAA\",\"names\":[\"f\"],\"sources\":[\"a.js\",\"b.js\"],\"version\":3}"
+unfolding written serde_json_on_literals digits called
+no_more_than_needed = refl

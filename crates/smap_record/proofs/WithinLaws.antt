@@ -10,7 +10,7 @@ use Rattle.smap_mappings.specs.Within.{IsIndexWithin, IsOriginWithin, IsWithin}
 use Rattle.smap_mappings.specs.declared.mapping.Mapping.{Mapping}
 use Rattle.smap_mappings.specs.declared.mapping.Origin.{Origin}
 use Rattle.smap_index.specs.Answer.{is_on_line_at_or_before, answer_with, answer_of_last, answer_at_or_before}
-use Rattle.smap_index.specs.Faults.{is_number_past_limit, is_name_past_limit, is_origin_past_limit, is_mapping_past_limit}
+use Rattle.smap_mappings.specs.Range.{is_number_past_limit, is_name_past_limit, is_origin_past_limit, is_mapping_past_limit}
 use Rattle.smap_index.specs.Parts.{placed, placed_mapping, placed_origin, joined}
 use Rattle.smap_index.specs.declared.answer.Answer.{Answer}
 use Rattle.smap_index.specs.declared.part.Part.{Part}
@@ -20,7 +20,7 @@ use Rattle.smap_record.specs.declared.map_file.MapFile.TheInside.{Inside}
 
 -- ---- the mappings of a part
 
-both_false : (a b : Bool) → (a || b) ≡ false → (a ≡ false) × (b ≡ false)
+pub both_false : (a b : Bool) → (a || b) ≡ false → (a ≡ false) × (b ≡ false)
 both_false true b is = absurd (cc)
 both_false false b is = (refl, is)
 

@@ -9,5 +9,7 @@ pub mod Sources
 pub mod IndexMap
 pub mod Outer
 pub mod Record
+pub mod Written
+pub mod ReadBack
 pub mod MapFile
 pub mod Seen

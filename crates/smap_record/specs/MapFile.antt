@@ -7,6 +7,7 @@ use Rattle.smap_index.specs.Parts.{joined}
 use Rattle.smap_index.specs.declared.answer.Answer.{Answer}
 use Rattle.smap_index.specs.declared.answer.Answer.TheVariants.{Nothing, Unmapped, Found}
 use Rattle.smap_index.specs.declared.part.Part.{Part}
+use Rattle.smap_record.specs.Limits.{most_entries}
 use Rattle.smap_record.specs.Record.{MapRecord}
 use Rattle.smap_record.specs.Sources.{source_of}
 use Rattle.smap_record.specs.declared.map_file.MapFile.TheInside.{Inside}
@@ -36,9 +37,12 @@ pub record IsPartWithin (sources names : ℕ) (part : Part) : Type 0 where
   pub names_fit : part.name_base + own_names ≤ names
   pub text : All (IsWithin own_sources own_names) (mappings_of part.text)
 
--- its sections are the parts of its index, and its mappings keep to the limit and to its sources and names
+-- its sections are the parts of its index, it lists no more sources and names than a map may, and its mappings keep to
+-- the limit and to its sources and names
 pub record IsCounted (inside : Inside) : Type 0 where
   pub sections : inside.sections ≡ length inside.index.parts
+  pub few_sources : length inside.sources.items ≤ most_entries
+  pub few_names : length inside.names.items ≤ most_entries
   pub within : All (IsWithin (length inside.sources.items) (length inside.names.items)) (joined inside.index.parts)
 
 -- the origin that an answer gives, where it gives one, names one of these many sources and names

@@ -1,7 +1,7 @@
 -- What the code's own values stand for.
-use Rattle.std.specs.Prelude.{ℕ, List, [], Option, map, flat_map, option_map, unwrap_or, String, string_bytes}
+use Rattle.std.specs.Prelude.{ℕ, List, [], Option, Some, None, map, flat_map, option_map, unwrap_or, String, string_bytes}
 use Rattle.std.specs.declared.alloc.Global.{Global}
-use Rattle.serde_json.specs.Data.{Data}
+use Rattle.serde_json.specs.Data.{Data, Members, put}
 use Rattle.serde_json.specs.View.{view}
 use Rattle.smap_index.specs.declared.part.Part.{Part}
 use Rattle.smap_record.specs.Fields as spec
@@ -92,3 +92,10 @@ stated_sections sections = record { parts = map part_of sections; sources = map 
 
 abbrev pub sections_seen : JoinedSections → StatedSections
 sections_seen joined = record { parts = joined.parts.items; sources = map sources_seen joined.sources.items; names = map string_bytes joined.names.items }
+
+-- ---- a written map
+
+-- the members with a value at a key, where there is one
+abbrev pub put_where : List ℕ → Option Data → Members → Members
+put_where key None members = members
+put_where key (Some value) members = put key value members

@@ -1,7 +1,8 @@
 //! The index of a map's mappings.
 ghost use Rattle.std.specs.Prelude.{◌≡◌, ◌≤◌, false, length, option_map, IfOk, OnOk};
 ghost use Rattle.std.specs.List.{list_any};
-ghost use Rattle.smap_index.specs.Faults.{build_fault, is_mapping_past_limit};
+ghost use Rattle.smap_mappings.specs.Range.{is_mapping_past_limit};
+ghost use Rattle.smap_index.specs.Faults.{build_fault};
 ghost use Rattle.smap_index.specs.Parts.{joined, most_parts};
 ghost use Rattle.smap_record.specs.Refusals.{GivesStated};
 ghost use Rattle.smap_record.specs.declared.refusal.MapRefusal.TheVariants.{Build};

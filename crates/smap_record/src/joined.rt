@@ -3,6 +3,7 @@ ghost use Rattle.std.specs.Prelude.{◌≡◌, ◌≤◌, [], length, flat_map, 
 ghost use Rattle.std.specs.List.{All, sum_by};
 ghost use Rattle.smap_index.specs.Parts.{most_parts};
 ghost use Rattle.smap_record.specs.IndexMap.{sections_behind};
+ghost use Rattle.smap_record.specs.Limits.{most_entries};
 ghost use Rattle.smap_record.specs.MapFile.{IsPartWithin};
 ghost use Rattle.smap_record.specs.Refusals.{GivesStated, first_refusal};
 ghost use Rattle.smap_record.specs.Section.{part_at, section_refusals};
@@ -31,6 +32,9 @@ pub fn read_sections(
     requires { length entries.items ≤ most_parts }
     ensures statement { let sections = sections_behind [] (entries_seen entries.items)
         in GivesStated sections_seen result (first_refusal (flat_map section_refusals sections)) (stated_sections sections) }
+    ensures few_sources { IfOk result
+        (λ joined. sum_by (λ sources. length sources.texts.items) joined.sources.items ≤ most_entries) }
+    ensures few_names { IfOk result (λ joined. length joined.names.items ≤ most_entries) }
     ensures within { IfOk result (λ joined. All
         (IsPartWithin (sum_by (λ sources. length sources.texts.items) joined.sources.items) (length joined.names.items))
         joined.parts.items) }

@@ -1,11 +1,12 @@
-//! The map files of ECMA-426 (Source map format): what the JSON text of a map states, and why one is refused. Lines,
-//! columns and indices count from 0, columns in UTF-16 code units.
+//! The map files of ECMA-426 (Source map format): what the JSON text of a map states, why one is refused, and the text
+//! of a written map. Lines, columns and indices count from 0, columns in UTF-16 code units.
 //!
 //! ```text
 //! let map = MapFile::read(alloc, bytes, None, 1)?;
 //! if let Answer::Found { origin, .. } = map.look_up(line, column, &mut meter) {
 //!     let source = map.source(origin.source);
 //! }
+//! let bytes = map.write(alloc)?;
 //! ```
 #![tactic(auto)]
 
@@ -22,6 +23,8 @@ mod outer;
 mod refusal;
 mod section;
 mod sources;
+mod write;
+mod written;
 
 pub use entry::SourceEntry;
 pub use map_file::MapFile;
@@ -30,6 +33,7 @@ pub use smap_index::{Answer, BuildRefusal};
 pub use smap_mappings::{Fault, FaultKind, Mapping, Meter, Origin};
 pub use smap_resolve::SourceName;
 pub use url::Url;
+pub use write::{WriteRefusal, write_record};
 
 /// How many bytes a map file has at most, which is as many as a mappings text.
 pub const MOST_FILE_BYTES: usize = smap_mappings::MOST_BYTES;

@@ -1,6 +1,8 @@
 //! A map file that was read, and the look-ups in it.
-ghost use Rattle.std.specs.Prelude.{◌≡◌, ◌<◌, ◌⊎◌, ◌+◌, ◌-◌, ◌≤◌, ◌*◌, ◌/◌, ◌^◌, ℕ, None, Ok, Err, length, slice_get, option_copied, option_map, IsOk, IfOk, IfErr};
+ghost use Rattle.std.specs.Prelude.{◌≡◌, ◌<◌, ◌⊎◌, ◌+◌, ◌-◌, ◌≤◌, ◌*◌, ◌/◌, ◌^◌, ℕ, None, Ok, Err, length, slice_get, option_copied, option_map, IsOk, IsOkUnless, IfOk, IfErr};
 ghost use Rattle.std.specs.List.{All};
+ghost use Rattle.smap_mappings.specs.Canonical.{canonical_text};
+ghost use Rattle.smap_mappings.specs.Limits.{most_text_bytes};
 ghost use Rattle.smap_mappings.specs.Meter.{HasRoom};
 ghost use Rattle.smap_mappings.specs.Order.{IsInOrder};
 ghost use Rattle.smap_mappings.specs.Within.{IsWithin};
@@ -8,8 +10,10 @@ ghost use Rattle.smap_index.specs.Parts.{bytes_in, joined};
 ghost use Rattle.smap_index.specs.Marks.{marks, used_lines_in};
 ghost use Rattle.smap_record.specs.Limits.{most_file_bytes};
 ghost use Rattle.smap_record.specs.MapFile.{IsAnswerWithin};
+ghost use Rattle.smap_record.specs.ReadBack.{ReadsBackAs};
 ghost use Rattle.smap_record.specs.Record.{answer_of_map, record_of};
 ghost use Rattle.smap_record.specs.Sources.{source_of};
+ghost use Rattle.smap_record.specs.Written.{written};
 ghost use Rattle.smap_record.specs.declared.refusal.MapRefusal.TheVariants as refusals;
 
 use crate::MOST_FILE_BYTES;
@@ -21,6 +25,7 @@ use crate::json::object;
 use crate::outer::read_outer;
 use crate::refusal::MapRefusal;
 use crate::sources::sources;
+use crate::write::{WriteRefusal, write_owned};
 use smap_index::{Answer, Index};
 use smap_mappings::{Mapping, Meter};
 use std::alloc::{AllocError, Global};
@@ -179,5 +184,23 @@ impl MapFile {
         ensures within { All (IsWithin (length self.now.stated.sources) (length self.now.stated.names)) (joined self.now.stated.parts) }
     {
         self.index.decode_all(alloc)
+    }
+
+    /// The map as the text of one regular map, whose mappings are canonical: JSON without blanks, as `write_record`
+    /// makes it. The same map is read of it again, save that the names of its sources may be resolved once more.
+    pub fn write(&self, alloc: Global) -> Result<Vec<u8>, WriteRefusal>
+        ensures text { IfOk result (λ bytes. bytes.items ≡ written self.now.stated.sources self.now.stated.names
+            self.now.stated.file (canonical_text (joined self.now.stated.parts))) }
+        ensures too_long { most_text_bytes < length (canonical_text (joined self.now.stated.parts)) →
+            result ≡ Err WriteRefusal.TextTooLong }
+        ensures memory { length (canonical_text (joined self.now.stated.parts)) ≤ most_text_bytes →
+            IsOkUnless result WriteRefusal.Memory }
+        ensures reads_back { IfOk result (λ bytes. length bytes.items ≤ most_file_bytes
+            → ReadsBackAs bytes.items (joined self.now.stated.parts) self.now.stated.sources
+            self.now.stated.names self.now.stated.file) }
+    {
+        let mappings = self.index.encode_all(alloc)?;
+        let bytes = write_owned(alloc, &self.sources, &self.names, self.file(), mappings)?;
+        Ok(bytes)
     }
 }

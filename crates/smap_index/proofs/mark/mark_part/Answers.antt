@@ -1,7 +1,7 @@
 use Rattle.std.proofs.Common.{◌++◌, ◌||◌, map, sym, ◌∙◌, ap, arith}
 use Rattle.std.specs.List.{last_or, list_any}
 use Rattle.std.proofs.lemmas.Bool.{or_parts}
-use Rattle.smap_index.specs.Faults.{is_number_past_limit, is_mapping_past_limit}
+use Rattle.smap_mappings.specs.Range.{is_number_past_limit, is_mapping_past_limit}
 use Rattle.smap_index.specs.Walk.{checkpoint_in}
 use Rattle.smap_index.proofs.WalkLaws.{all_taken, all_placed, after_next, last_next, any_next, listed_next}
 use Rattle.smap_index.proofs.mark.mark_part.Goals as goal

@@ -4,7 +4,7 @@ use Rattle.smap_mappings.specs.Pieces.{pieces_of}
 use Rattle.smap_mappings.specs.Mappings.{mappings_of}
 use Rattle.smap_mappings.specs.State.{IsAfter}
 use Rattle.smap_index.specs.Parts.{placed}
-use Rattle.smap_index.specs.Faults.{is_number_past_limit, is_mapping_past_limit}
+use Rattle.smap_mappings.specs.Range.{is_number_past_limit, is_mapping_past_limit}
 use Rattle.smap_index.specs.Walk.{checkpoint_in}
 use Rattle.smap_index.proofs.mark.mark_part.Given as goal
 

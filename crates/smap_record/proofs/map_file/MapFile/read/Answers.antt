@@ -148,6 +148,8 @@ invariant_of-result c =
     let many = sym (length-all_sources base all) ∙ sym (ap length c.in_ok-sources.ensures.list) ∙ length-map c.in_ok-sources.sources.items source_of in
     record {
       sections = omega (arith, c.len-sections.ensures, ap length parts_are);
+      few_sources = omega (arith, many, c.in_ok-joined.ensures.few_sources);
+      few_names = c.in_ok-joined.ensures.few_names;
       within = subst (λ (parts : List Part). All (IsWithin (length c.in_ok-sources.sources.items) names) (joined parts)) (sym parts_are)
           (joined_within (length c.in_ok-sources.sources.items) names c.in_ok-joined.joined.parts.items
           (subst (λ n. All (IsPartWithin n names) c.in_ok-joined.joined.parts.items) many c.in_ok-joined.ensures.within)

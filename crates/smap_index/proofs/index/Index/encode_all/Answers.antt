@@ -1,0 +1,30 @@
+use Rattle.std.proofs.Common.{◌≡◌, None, sym, ap, ◌∙◌}
+use Rattle.smap_mappings.specs.Encode.{list_fault}
+use Rattle.smap_index.specs.Index.{IndexContents}
+use Rattle.smap_index.specs.Parts.{joined}
+use Rattle.smap_index.specs.Faults.{range_fault}
+use Rattle.smap_index.proofs.RefusalLaws.{faultless}
+use Rattle.smap_index.proofs.index.Index.encode_all.Goals as goal
+use Rattle.smap_index.proofs.index.Index.encode_all.Goals.{In-Ok}
+
+pub length_of_parts-length-requires : goal.length_of_parts-length-requires
+length_of_parts-length-requires c =
+    let range = (faultless c.self.inside.parts.items c.self.inside.k c.self.invariant.sound).range in
+    record { in_range = ap range_fault c.deref.ensures.value ∙ range }
+
+pub write_parts-requires : goal.write_parts-requires
+write_parts-requires c =
+    let range = (faultless c.self.inside.parts.items c.self.inside.k c.self.invariant.sound).range in
+    record { in_range = ap range_fault c.deref-2.ensures.value ∙ range }
+
+-- the mappings of an index have no fault
+none : (c : In-Ok) → list_fault (joined c.args.self.now.parts) ≡ None
+none c =
+    ap (λ (index : IndexContents). list_fault (joined index.parts)) (sym c.self.view_is)
+    ∙ (c.lists_in_order_have_no_fault.ensures.exact (joined c.self.inside.parts.items)).1 (c.self.invariant.holds.ordered, c.self.invariant.holds.in_range)
+
+pub returns-in-Ok-clause-decodes : goal.returns-in-Ok-clause-decodes
+returns-in-Ok-clause-decodes c = c.into_text.ensures.decodes (joined c.args.self.now.parts) (none (goal.at.returns-in-Ok-clause-decodes c).In-Ok)
+
+pub returns-in-Ok-clause-accepted : goal.returns-in-Ok-clause-accepted
+returns-in-Ok-clause-accepted c = c.into_text.ensures.accepted (joined c.args.self.now.parts) (none (goal.at.returns-in-Ok-clause-accepted c).In-Ok)

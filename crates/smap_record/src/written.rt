@@ -1,0 +1,148 @@
+//! The members of a written map, in JSON values: each text is copied into its value once.
+ghost use Rattle.std.specs.Prelude.{◌≡◌, map, option_copied, option_map, string_bytes, IfOk, OnOk};
+ghost use Rattle.serde_json.specs.Data.{string};
+ghost use Rattle.serde_json.specs.View.{members_view, view};
+ghost use Rattle.smap_record.specs.Seen.{put_where};
+ghost use Rattle.smap_record.specs.Sources.{source_of};
+ghost use Rattle.smap_record.specs.Written.{content_of_source, contents_value, ignored_value, list_value, text_of_source, value_of_text, written_members};
+
+use crate::entry::SourceEntry;
+use serde_json::{Map, Value};
+use smap_resolve::SourceName;
+use std::alloc::{AllocError, Global};
+
+/// The members of the object of a map with these sources, these names, this generated file and this mappings text.
+pub fn members(
+    alloc: Global,
+    sources: &[SourceEntry],
+    names: &[String],
+    file: Option<&str>,
+    mappings: String,
+) -> Result<Map<String, Value>, AllocError>
+    ensures { IfOk result (λ members. members_view members.entries
+        ≡ written_members (map source_of sources.now) (map string_bytes names.now) (option_copied file.entry) (string_bytes mappings)) }
+{
+    let mut members = Map::new(alloc);
+    put(alloc, &mut members, "version", Some(Value::from(3u32)))?;
+    put(
+        alloc,
+        &mut members,
+        "sourcesContent",
+        contents(alloc, sources)?,
+    )?;
+    put(
+        alloc,
+        &mut members,
+        "sources",
+        Some(source_names(alloc, sources)?),
+    )?;
+    put(alloc, &mut members, "names", Some(texts(alloc, names)?))?;
+    put(
+        alloc,
+        &mut members,
+        "mappings",
+        Some(Value::String(mappings)),
+    )?;
+    put(alloc, &mut members, "ignoreList", ignored(alloc, sources)?)?;
+    put(alloc, &mut members, "file", text_where(alloc, file)?)?;
+    Ok(members)
+}
+
+// Puts a value at a key, where there is one.
+fn put(
+    alloc: Global,
+    members: &mut Map<String, Value>,
+    key: &str,
+    value: Option<Value>,
+) -> Result<(), AllocError>
+    ensures { OnOk result (members_view members.new.entries
+        ≡ put_where key.now (option_map view value) (members_view members.old.entries)) }
+{
+    match value {
+        Some(value) => serde_json::put(members, alloc, key, value),
+        None => Ok(()),
+    }
+}
+
+// A text, where there is one.
+fn text_where(alloc: Global, text: Option<&str>) -> Result<Option<Value>, AllocError>
+    ensures { IfOk result (λ value. option_map view value ≡ option_map string (option_copied text.entry)) }
+{
+    match text {
+        Some(text) => Ok(Some(Value::try_from_str(alloc, text)?)),
+        None => Ok(None),
+    }
+}
+
+// A list of texts.
+fn texts(alloc: Global, texts: &[String]) -> Result<Value, AllocError>
+    ensures { IfOk result (λ value. view value ≡ list_value string (map string_bytes texts.now)) }
+{
+    let mut values = Vec::with_capacity(alloc, texts.len())?;
+    for text in texts {
+        values.push(Value::try_from_str(alloc, text.as_str())?)?;
+    }
+    Ok(Value::Array(values))
+}
+
+// The texts of the names of the sources, null where one has none.
+fn source_names(alloc: Global, sources: &[SourceEntry]) -> Result<Value, AllocError>
+    ensures { IfOk result (λ value. view value
+        ≡ list_value (λ source. value_of_text (text_of_source source)) (map source_of sources.now)) }
+{
+    let mut values = Vec::with_capacity(alloc, sources.len())?;
+    for source in sources {
+        values.push(source_name(alloc, source)?)?;
+    }
+    Ok(Value::Array(values))
+}
+
+// The text of the name of a source, null where it has none.
+fn source_name(alloc: Global, source: &SourceEntry) -> Result<Value, AllocError>
+    ensures { IfOk result (λ value. view value ≡ value_of_text (text_of_source (source_of source.now))) }
+{
+    match &source.name {
+        Some(name) => Value::try_from_str(alloc, name.text()),
+        None => Ok(Value::Null),
+    }
+}
+
+// The contents of the sources, null where one has none, where at least one has one.
+fn contents(alloc: Global, sources: &[SourceEntry]) -> Result<Option<Value>, AllocError>
+    ensures { IfOk result (λ value. option_map view value ≡ contents_value (map source_of sources.now)) }
+{
+    if !sources.iter().any(|source| source.content.is_some()) {
+        return Ok(None);
+    }
+    let mut values = Vec::with_capacity(alloc, sources.len())?;
+    for source in sources {
+        values.push(content(source)?)?;
+    }
+    Ok(Some(Value::Array(values)))
+}
+
+// The content of a source, null where it has none.
+fn content(source: &SourceEntry) -> Result<Value, AllocError>
+    ensures { IfOk result (λ value. view value ≡ value_of_text (content_of_source (source_of source.now))) }
+{
+    match &source.content {
+        Some(content) => Ok(Value::String(content.clone()?)),
+        None => Ok(Value::Null),
+    }
+}
+
+// The indices of the ignored sources, where at least one is ignored.
+fn ignored(alloc: Global, sources: &[SourceEntry]) -> Result<Option<Value>, AllocError>
+    ensures { IfOk result (λ value. option_map view value ≡ ignored_value (map source_of sources.now)) }
+{
+    let mut values = Vec::new(alloc);
+    for (i, source) in sources.iter().enumerate() {
+        if source.ignored {
+            values.push(Value::from(i))?;
+        }
+    }
+    if values.is_empty() {
+        return Ok(None);
+    }
+    Ok(Some(Value::Array(values)))
+}
