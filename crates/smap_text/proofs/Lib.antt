@@ -1,0 +1,7 @@
+mod CharacterLaws
+mod EndLaws
+mod LineLaws
+mod UnitLaws
+mod PlaceLaws
+mod ExcerptLaws
+mod Examples

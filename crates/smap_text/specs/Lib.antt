@@ -1,0 +1,6 @@
+pub mod Lines
+pub mod Units
+pub mod Place
+pub mod Excerpt
+-- of private contracts only
+pub mod Ends

@@ -1,0 +1,69 @@
+//! The lines of a text (ECMAScript, line terminator sequences).
+ghost use Rattle.std.specs.Prelude.{◌≡◌, ◌≤◌, ◌-◌, [], length, drop, take, Some, option_map, slice_get, IfSome, MatchOption};
+ghost use Rattle.std.specs.Str.{chars};
+ghost use Rattle.smap_text.specs.Ends.{end_bytes, line_bytes};
+ghost use Rattle.smap_text.specs.Lines.{IsSliceAt, lines_of};
+
+/// The line of this number, from 0, without its line end; `None` where there are fewer. Lines end in LF, CR LF, CR,
+/// U+2028 or U+2029, and an empty content has one empty line.
+pub fn line_at(content: &str, line: u32) -> Option<&str>
+    ensures text { option_map (λ text. chars text.now) result
+        ≡ slice_get (lines_of (chars content.now)) line }
+    ensures slice { IfSome result (λ text. IsSliceAt content.now line text.now) }
+{
+    let mut rest = content;
+    for _passed in 0..line {
+        rest = after_first_line(rest)?;
+    }
+    Some(first_line(rest))
+}
+
+// The first line of a text.
+fn first_line(text: &str) -> &str
+    ensures line { slice_get (lines_of (chars text.now)) 0 ≡ Some (chars result.now) }
+    ensures front { take (length result.now) text.now ≡ result.now }
+{
+    &text[..line_bytes(text.as_bytes())]
+}
+
+// What follows the first line of a text and its end; `None` where the text ends with that line.
+fn after_first_line(text: &str) -> Option<&str>
+    ensures lines { MatchOption result (drop 1 (lines_of (chars text.now)) ≡ [])
+        (λ rest. drop 1 (lines_of (chars text.now)) ≡ lines_of (chars rest.now)) }
+    ensures rest { IfSome result (λ rest.
+        drop (length text.now - length rest.now) text.now ≡ rest.now) }
+{
+    let bytes = text.as_bytes();
+    let end = line_bytes(bytes);
+    match end_bytes(&bytes[end..]) {
+        0 => None,
+        length => Some(&text[end + length..]),
+    }
+}
+
+// How many bytes stand before the first line end of a text.
+fn line_bytes(bytes: &[u8]) -> usize
+    ensures bytes { result ≡ line_bytes bytes.now }
+    ensures within { result ≤ length bytes.now }
+{
+    for end in 0..bytes.len() {
+        if end_bytes(&bytes[end..]) > 0 {
+            return end;
+        }
+    }
+    bytes.len()
+}
+
+// How many bytes the line end has that begins a text; 0 where none does.
+#[inline(always)]
+fn end_bytes(bytes: &[u8]) -> usize
+    ensures { result ≡ end_bytes bytes.now }
+{
+    match bytes {
+        [b'\n', ..] => 1,
+        [b'\r', b'\n', ..] => 2,
+        [b'\r', ..] => 1,
+        [0xE2, 0x80, 0xA8 | 0xA9, ..] => 3,
+        _ => 0,
+    }
+}
