@@ -33,7 +33,7 @@ map=$folder/map
 bytes=$(stat -c %s -- "$map")
 
 insist 'smap check' "$("$program" check "$map")" "$counts"
-insist 'smap lookup' "$("$program" lookup "$map" "$line" "$column")" "$place"
+insist 'smap lookup' "$(place_in "$map")" "$place"
 
 by_json() { by_node json -; }
 by_source_map() { by_node node "$place"; }

@@ -36,8 +36,8 @@ regular=$folder/regular.map
 
 insist 'smap check' "$("$program" check "$index")" "$index_counts"
 insist 'smap check' "$("$program" check "$regular")" "$regular_counts"
-insist 'smap lookup' "$("$program" lookup "$index" "$line" "$column")" "$place"
-insist 'smap lookup' "$("$program" lookup "$regular" "$line" "$column")" "$place"
+insist 'smap lookup' "$(place_in "$index")" "$place"
+insist 'smap lookup' "$(place_in "$regular")" "$place"
 
 by_json() { by_node json -; }
 by_source_map() { by_node node "$place"; }

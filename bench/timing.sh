@@ -25,6 +25,9 @@ insist() {
     fi
 }
 
+# The line of a look-up in a map, without the excerpt behind it.
+place_in() { "$program" lookup "$1" "$line" "$column" | head -n 1; }
+
 plain() { cat -- "$map" >/dev/null; }
 check() { "$program" check "$map" >/dev/null; }
 look_up() { "$program" lookup "$map" "$line" "$column" >/dev/null; }

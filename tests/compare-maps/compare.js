@@ -8,14 +8,13 @@
 'use strict';
 
 const fs = require('fs');
-const path = require('path');
-const { execFileSync, spawn, spawnSync } = require('child_process');
+const { spawn, spawnSync } = require('child_process');
 const { parseArgs } = require('util');
 const { KINDS, checked } = require('../vectors/checker.js');
+const { excerptOf } = require('../vectors/excerpt.js');
 const { linesOf, printedLine, spread } = require('../vectors/lookup.js');
+const { BUILT, mapsOfPackages } = require('./files.js');
 
-const PACKAGES = ['libjs-jquery', 'node-source-map', 'libjs-bootstrap5', 'node-babel7-debug'];
-const BUILT = path.join(__dirname, '..', '..', 'crates', 'smap_cli', 'out', 'smap_cli');
 const MOST_BYTES = 67108864;
 const MOST_ENTRIES = 33554432;
 const TOLD = 5;
@@ -52,21 +51,16 @@ function options() {
     jobs: Number(jobs),
     most: all ? Infinity : Number(most),
     count,
-    files: read.positionals.length > 0 ? read.positionals : filesOf(PACKAGES),
+    files: read.positionals.length > 0 ? read.positionals : filesOfPackages(),
   };
 }
 
-// The map files of installed packages, each once.
-function filesOf(packages) {
-  const listed = packages.flatMap((name) => {
-    try {
-      return execFileSync('dpkg', ['-L', name], { encoding: 'utf8', stdio: 'pipe' }).split('\n');
-    } catch {
-      return usage(`the package ${name} is not installed`);
-    }
-  });
-  const maps = listed.filter((file) => file.endsWith('.map')).map((file) => fs.realpathSync(file));
-  return [...new Set(maps)].sort();
+function filesOfPackages() {
+  try {
+    return mapsOfPackages();
+  } catch (error) {
+    return usage(error.message);
+  }
 }
 
 // ---------------------------------------------------------------------------------------------
@@ -169,10 +163,10 @@ function stateOf(file) {
 // ---------------------------------------------------------------------------------------------
 
 // A worker is a shell that starts the program for each place that it reads. It is much quicker at
-// that than node. What the program says is followed by a line with a blank and its status.
+// that than node. What the program says is followed by a line with U+0001, which it never prints, and its status.
 const WORKER = `while read -r line column; do
   "$0" lookup "$1" "$line" "$column" 2>&1 </dev/null
-  printf ' %s\\n' "$?"
+  printf '\\001%s\\n' "$?"
 done`;
 
 // What the program says at each place: its lines and its status.
@@ -187,8 +181,8 @@ function askAll(program, file, places) {
       const whole = (rest + text).split('\n');
       rest = whole.pop();
       for (const line of whole) {
-        if (/^ \d+$/.test(line)) {
-          said.push({ lines, status: Number(line) });
+        if (/^\x01\d+$/.test(line)) {
+          said.push({ lines, status: Number(line.slice(1)) });
           lines = [];
         } else {
           lines.push(line);
@@ -213,11 +207,20 @@ async function askInParts(program, jobs, file, places) {
   return said.flat();
 }
 
+// What is to be printed for a mapping: its line, and the excerpt where its source has content.
+function printedText(map, segment) {
+  const line = printedLine(map, segment);
+  if (segment === null || segment.length === 1) return line;
+  const content = map.sourcesContent?.[segment[1]] ?? null;
+  const found = content === null ? null : excerptOf(content, segment[2], segment[3]);
+  return found === null ? line : `${line}\n${found.shown}\n${' '.repeat(found.before)}^`;
+}
+
 function differencesOfLookUps(state, places, said) {
   return places.flatMap(({ line, column, segment }, i) => {
-    const expected = printedLine(state.map, segment);
+    const expected = printedText(state.map, segment);
     const { lines, status } = said[i];
-    if (status === 0 && lines.length === 1 && lines[0] === expected) return [];
+    if (status === 0 && lines.join('\n') === expected) return [];
     const told = `it says "${lines.join('\\n')}" with status ${status}`;
     return [`lookup ${line} ${column}: "${expected}" is right, and ${told}`];
   });

@@ -12,6 +12,7 @@ const path = require('path');
 const { TraceMap, traceSegment } = require('@jridgewell/trace-mapping');
 const { SourceMapConsumer } = require('source-map');
 const { checked } = require('./checker.js');
+const { excerptOf } = require('./excerpt.js');
 const { linesOf, answerOf, printedLine, spread } = require('./lookup.js');
 
 const NAME = 'preset-react.js.map';
@@ -108,6 +109,16 @@ function compare(line, column, answer) {
   counts.consumed += 1;
 }
 
+// How many spaces stand before the caret and what shows of the original line, behind a bar each; nothing where no
+// original line shows.
+function shownBehind(answer) {
+  if (answer === null || answer.length === 1) return '';
+  const [, source, line, column] = answer;
+  const content = map.sourcesContent?.[source] ?? null;
+  const found = content === null ? null : excerptOf(content, line, column);
+  return found === null ? '' : `|${found.before}|${found.shown}`;
+}
+
 const rows = [];
 const seen = new Set();
 const tally = {};
@@ -120,7 +131,7 @@ for (const [kind, places] of Object.entries(ASKED)) {
     compare(line, column, answer);
     const expected = printedLine(map, answer);
     insist(!/[|\n\r]/.test(expected), 'a line that no row can hold');
-    rows.push(`${line}|${column}|${expected}`);
+    rows.push(`${line}|${column}|${expected}${shownBehind(answer)}`);
     tally[kind] = (tally[kind] || 0) + 1;
   }
 }
@@ -136,7 +147,8 @@ insist(rows.every((row) => !row.includes('"#')), 'a row that ends the constant')
 writeConstant(
   'lookups.rt',
   [
-    '//! Look-ups in the example map, a row a line: LINE, COLUMN, and what is printed, with | between two.',
+    '//! Look-ups in the example map, a row a line: LINE, COLUMN, and the line that is printed; and where an original line shows,',
+    '//! how many spaces stand before the caret, and what shows of the line; with | between two.',
     '//! Written by `tests/vectors/make-lookups.js`.',
   ],
   `pub const LOOKUPS: &str = r#"\n${rows.join('\n')}\n"#;`,

@@ -1,4 +1,4 @@
--- What `raw` tells of a text, by the tests that it passes, and of the one part that holds a whole text.
+-- What `raw` tells of a text, by the tests that it passes.
 use Rattle.std.proofs.Common.{◌≡◌, ℕ, ◌+◌, ◌-◌, ◌<◌, ◌≤◌, Bool, true, false, not, cond, eqb, List, [], ◌∷◌, ◌++◌, length, get_or, map, Option, Some, None, refl, sym, ap, ◌∙◌, arith, le-ltb, lt-ltb, zero-add, subst, length-append, ⊎_elim}
 use Rattle.std.specs.Prelude.{IfSome}
 use Rattle.std.specs.Io.KnownBytes.{IsAtEnd}
@@ -33,35 +33,6 @@ text_not_utf8 text line column short not_text =
 pub text_is_utf8 : (text : List ℕ) (line column : ℕ) → length text ≤ most_text_bytes → IsUtf8 text → text_result text line column ≡ fault_or_answer (first_fault text most_indices most_indices) (answer_at_or_before (mappings_of text) line column)
 text_is_utf8 text line column short is_text =
     cond-false _ _ _ (le-ltb most_text_bytes (length text) short) ∙ cond-false _ _ _ (ap not (is_utf8-from_IsUtf8 text is_text))
-
--- ---- one part at the start
-
-no_name_moved : (name : Option ℕ) → option_map (λ n. 0 + n) name ≡ name
-no_name_moved None = refl
-no_name_moved (Some n) = ap Some (zero-add n)
-
-whole : List ℕ → Part
-whole text = record { line = 0; column = 0; text = text; source_base = 0; name_base = 0 }
-
-origin_stays : (text : List ℕ) (origin : Option Origin) → option_map (placed_origin (record { line = 0; column = 0; text = text; source_base = 0; name_base = 0 })) origin ≡ origin
-origin_stays text None = refl
-origin_stays text (Some o) = λ i. Some (record { source = zero-add o.source i; line = o.line; column = o.column; name = no_name_moved o.name i })
-
-column_stays : (b : Bool) (column : ℕ) → cond b (0 + column) column ≡ column
-column_stays true column = zero-add column
-column_stays false column = refl
-
-mapping_stays : (text : List ℕ) (mapping : Mapping) → placed_mapping (record { line = 0; column = 0; text = text; source_base = 0; name_base = 0 }) mapping ≡ mapping
-mapping_stays text m = λ i. record { line = zero-add m.line i; column = column_stays (eqb m.line 0) m.column i; origin = origin_stays text m.origin i }
-
-mappings_stay : (text : List ℕ) (mappings : List Mapping) → map (placed_mapping (record { line = 0; column = 0; text = text; source_base = 0; name_base = 0 })) mappings ≡ mappings
-mappings_stay text [] = refl
-mappings_stay text (m ∷ mappings) = λ i. mapping_stays text m i ∷ mappings_stay text mappings i
-
--- the mappings of a whole text as the only part are the text's
-pub joined_whole : (text : List ℕ) → joined (record { line = 0; column = 0; text = text; source_base = 0; name_base = 0 } ∷ []) ≡ mappings_of text
-unfolding placed
-joined_whole text = append-nil _ ∙ mappings_stay text (mappings_of text)
 
 -- ---- an input that isn't read to its end
 

@@ -11,7 +11,7 @@ use Rattle.smap_answers.specs.Run.{IsOverflow, IsResult, Tells, command_result, 
 use Rattle.url.specs.Parts.{Parts}
 use Rattle.smap_record.specs.Record.{MapRecord}
 use Rattle.smap_record.specs.declared.refusal.MapRefusal.{MapRefusal}
-use Rattle.smap_answers.specs.Map.{IsMapAnswer, IsUrlRefusal, map_result}
+use Rattle.smap_answers.specs.Map.{IsMapTelling, IsUrlRefusal, map_result}
 use Rattle.smap_answers.specs.Files.{first_bytes, path_of}
 use Rattle.smap_answers.specs.Streams.{SourceSeen}
 use Rattle.smap_answers.specs.declared.command.Command.{Command}
@@ -27,12 +27,12 @@ or_memory (Ok outcome) telling wanted told is = inl cc
 or_memory (Err error) telling wanted told is = inr (inl told)
 
 -- an outcome is what a map answers, or memory ran out
-pub map_or_memory : (outcome : Result Outcome AllocError) (telling : Telling) (line_of : MapRecord → List ℕ) (path : List ℕ) (found : Result MapRecord MapRefusal)
-    → telling ≡ telling_or_memory outcome → IfOk outcome (λ o. IsMapAnswer line_of path found (telling_of o))
-    → (telling ≡ map_result line_of path found) ⊎ ((telling ≡ out_of_memory) ⊎ IsUrlRefusal path found telling)
-map_or_memory (Ok outcome) telling line_of path found told (inl is) = inl cc
-map_or_memory (Ok outcome) telling line_of path found told (inr is) = inr (inr (is.0, told ∙ is.1))
-map_or_memory (Err error) telling line_of path found told is = inr (inl told)
+pub map_or_memory : (outcome : Result Outcome AllocError) (telling : Telling) (result_of : MapRecord → Telling) (path : List ℕ) (found : Result MapRecord MapRefusal)
+    → telling ≡ telling_or_memory outcome → IfOk outcome (λ o. IsMapTelling result_of path found (telling_of o))
+    → (telling ≡ map_result result_of path found) ⊎ ((telling ≡ out_of_memory) ⊎ IsUrlRefusal path found telling)
+map_or_memory (Ok outcome) telling result_of path found told (inl is) = inl cc
+map_or_memory (Ok outcome) telling result_of path found told (inr is) = inr (inr (is.0, told ∙ is.1))
+map_or_memory (Err error) telling result_of path found told is = inr (inl told)
 
 -- where the input did not fail
 pub result_of_read : (command : Command) (files : List Loaded) (input : List ℕ) (failed : Bool) (telling : Telling) → failed ≡ false
@@ -77,10 +77,10 @@ tells_unread command asked files before telling is none works told =
     })
 
 -- what is told of a map, by the path, the bytes and the base that the call was given
-pub told_of_same : (outcome : Result Outcome AllocError) (line_of : MapRecord → List ℕ) (found : List ℕ → Option Parts → Result MapRecord MapRefusal)
+pub told_of_same : (outcome : Result Outcome AllocError) (result_of : MapRecord → Telling) (found : List ℕ → Option Parts → Result MapRecord MapRefusal)
     (path path2 bytes bytes2 : List ℕ) (base base2 : Option Parts) → path ≡ path2 → bytes ≡ bytes2 → base ≡ base2
-    → IfOk outcome (λ o. IsMapAnswer line_of path (found bytes base) (telling_of o)) → IfOk outcome (λ o. IsMapAnswer line_of path2 (found bytes2 base2) (telling_of o))
-told_of_same outcome line_of found path path2 bytes bytes2 base base2 same_path same_bytes same_base told =
-    subst (λ p. IfOk outcome (λ o. IsMapAnswer line_of p (found bytes2 base2) (telling_of o))) same_path
-    (subst (λ b. IfOk outcome (λ o. IsMapAnswer line_of path (found b base2) (telling_of o))) same_bytes
-    (subst (λ u. IfOk outcome (λ o. IsMapAnswer line_of path (found bytes u) (telling_of o))) same_base told))
+    → IfOk outcome (λ o. IsMapTelling result_of path (found bytes base) (telling_of o)) → IfOk outcome (λ o. IsMapTelling result_of path2 (found bytes2 base2) (telling_of o))
+told_of_same outcome result_of found path path2 bytes bytes2 base base2 same_path same_bytes same_base told =
+    subst (λ p. IfOk outcome (λ o. IsMapTelling result_of p (found bytes2 base2) (telling_of o))) same_path
+    (subst (λ b. IfOk outcome (λ o. IsMapTelling result_of path (found b base2) (telling_of o))) same_bytes
+    (subst (λ u. IfOk outcome (λ o. IsMapTelling result_of path (found bytes u) (telling_of o))) same_base told))

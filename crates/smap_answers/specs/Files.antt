@@ -4,13 +4,14 @@ use Rattle.std.specs.List.{Contains}
 use Rattle.smap_answers.specs.Lines.{file_failed_line}
 use Rattle.smap_answers.specs.Outcome.{Telling, failure, out_of_memory}
 use Rattle.smap_answers.specs.declared.command.Command.{Command}
-use Rattle.smap_answers.specs.declared.command.Command.TheVariants.{Raw, Check, Lookup}
+use Rattle.smap_answers.specs.declared.command.Command.TheVariants.{Raw, Check, Show, Lookup}
 use Rattle.smap_answers.specs.declared.load.Loaded.{Loaded}
 
 -- the paths that a command names, in their order
 abbrev pub paths_of : Command → List (List ℕ)
 paths_of (Raw line column) = []
 paths_of (Check path base) = string_bytes path ∷ []
+paths_of (Show path base) = string_bytes path ∷ []
 paths_of (Lookup path line column base) = string_bytes path ∷ []
 
 -- the path of a file

@@ -5,6 +5,7 @@ pub mod Raw
 pub mod Refusal
 pub mod Map
 pub mod Check
+pub mod Show
 pub mod Lookup
 pub mod Files
 pub mod Run

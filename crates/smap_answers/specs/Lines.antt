@@ -109,6 +109,10 @@ refused_line fault = line_from (codes "refused: " ∷ fault_text fault ∷ [])
 abbrev pub text_too_long_line : List ℕ
 text_too_long_line = line_from (codes "refused: TextTooLong" ∷ [])
 
+-- the mappings text of a map that is to be written is too long
+abbrev pub written_text_too_long_line : List ℕ
+written_text_too_long_line = line_from (codes "refused: O1 TextTooLong" ∷ [])
+
 abbrev pub not_utf8_line : List ℕ
 not_utf8_line = line_from (codes "refused: NotUtf8" ∷ [])
 

@@ -1,5 +1,5 @@
 -- What `lookup` answers: where a generated place comes from, by the names that the map gives.
-use Rattle.std.specs.Prelude.{ℕ, Bool, false, List, ◌++◌, Option, Some, None, codes, option_and_then, slice_get}
+use Rattle.std.specs.Prelude.{ℕ, Bool, false, List, [], ◌∷◌, ◌++◌, Option, Some, None, codes, option_and_then, slice_get}
 use Rattle.std.specs.Fmt.{decimal}
 use Rattle.smap_mappings.specs.declared.mapping.Origin.{Origin}
 use Rattle.smap_index.specs.declared.answer.Answer.{Answer}
@@ -7,7 +7,8 @@ use Rattle.smap_index.specs.declared.answer.Answer.TheVariants.{Nothing, Unmappe
 use Rattle.smap_resolve.specs.SourceName.{Name, name_text}
 use Rattle.smap_record.specs.Sources.{StatedSource}
 use Rattle.smap_record.specs.Record.{MapRecord, answer_of_map}
-use Rattle.smap_answers.specs.Lines.{shown, none_line, unmapped_line, place_line}
+use Rattle.smap_text.specs.Excerpt.{excerpt_of}
+use Rattle.smap_answers.specs.Lines.{shown, line_from, none_line, unmapped_line, place_line}
 
 -- how a source of this index prints: by its name or, where it has none, by its index in brackets
 abbrev pub name_or_index : Option Name → ℕ → List ℕ
@@ -29,12 +30,25 @@ origin_line stated origin =
     place_line (source_text source origin.source) origin.line origin.column
     (option_and_then (slice_get stated.names) origin.name) (is_passed_over source)
 
--- the line for an answer
-abbrev pub map_answer_line : MapRecord → Answer → List ℕ
-map_answer_line stated Nothing = none_line
-map_answer_line stated (Unmapped column) = unmapped_line
-map_answer_line stated (Found column origin) = origin_line stated origin
+-- the excerpt of the source's content that shows a place, where there is one
+abbrev pub source_excerpt : Option StatedSource → Origin → Option (List ℕ)
+source_excerpt source origin =
+    option_and_then (λ content. excerpt_of content origin.line origin.column) (option_and_then (λ stated. stated.content) source)
 
--- the line for a generated line and column, from 0
-abbrev pub lookup_line : (line column : ℕ) → MapRecord → List ℕ
-lookup_line line column stated = map_answer_line stated (answer_of_map stated line column)
+abbrev pub excerpt_lines : Option (List ℕ) → List ℕ
+excerpt_lines None = []
+excerpt_lines (Some excerpt) = line_from (excerpt ∷ [])
+
+-- the line for a place in a source, and the excerpt that shows it
+abbrev pub origin_text : MapRecord → Origin → List ℕ
+origin_text stated origin = origin_line stated origin ++ excerpt_lines (source_excerpt (slice_get stated.sources origin.source) origin)
+
+-- the text for an answer
+abbrev pub map_answer_text : MapRecord → Answer → List ℕ
+map_answer_text stated Nothing = none_line
+map_answer_text stated (Unmapped column) = unmapped_line
+map_answer_text stated (Found column origin) = origin_text stated origin
+
+-- what is printed for a generated line and column, from 0: a line, and behind that of a place its excerpt
+abbrev pub lookup_text : (line column : ℕ) → MapRecord → List ℕ
+lookup_text line column stated = map_answer_text stated (answer_of_map stated line column)

@@ -31,6 +31,7 @@ out_of_memory = failure memory_line
 
 abbrev pub telling_of : Outcome → Telling
 telling_of (outcome.Answer text) = answer (string_bytes text)
+telling_of (outcome.Map bytes) = answer bytes.items
 telling_of (outcome.Refusal text) = refusal (string_bytes text)
 telling_of (outcome.Misuse text) = misuse (string_bytes text)
 telling_of outcome.WordsNotUtf8 = misuse words_not_utf8_line

@@ -15,6 +15,11 @@ pub enum Command {
         path: String,
         base: Option<Url>,
     },
+    /// Writes the source map in the file at this path as one regular map. Its sources are resolved against the base.
+    Show {
+        path: String,
+        base: Option<Url>,
+    },
     /// Looks up a generated line and column in the source map in the file at this path. Its sources are resolved
     /// against the base.
     Lookup {

@@ -17,6 +17,7 @@ mod outcome;
 mod raw;
 mod refusal;
 mod running;
+mod show;
 mod telling;
 
 pub use command::Command;

@@ -17,6 +17,9 @@ pub const UNMAPPED: &str = "unmapped\n";
 /// Standard error: the input is longer than a mappings text may be.
 pub const TEXT_TOO_LONG: &str = "refused: TextTooLong\n";
 
+/// Standard error: the mappings text of a map that is to be written is longer than one may be.
+pub const WRITTEN_TEXT_TOO_LONG: &str = "refused: O1 TextTooLong\n";
+
 /// Standard error: the input is not UTF-8.
 pub const NOT_UTF8: &str = "refused: NotUtf8\n";
 

@@ -30,10 +30,9 @@ pub fn load_files(rt: &HostRuntime, command: &Command) -> Result<Vec<Loaded>, Ou
 {
     match command {
         Command::Raw { .. } => Ok(Vec::new(rt.alloc())),
-        Command::Check { path, .. } | Command::Lookup { path, .. } => only(
-            rt.alloc(),
-            load(rt, path)?,
-        ),
+        Command::Check { path, .. } | Command::Show { path, .. } | Command::Lookup { path, .. } => {
+            only(rt.alloc(), load(rt, path)?)
+        }
     }
 }
 

@@ -2,7 +2,8 @@
 ghost use Rattle.std.specs.Prelude.{◌≡◌, option_and_then, option_map, slice_get, string_bytes, option_copied, IfOk};
 ghost use Rattle.smap_record.specs.Record.{record_of};
 ghost use Rattle.smap_record.specs.Sources.{source_of};
-ghost use Rattle.smap_answers.specs.Lookup.{is_passed_over, lookup_line, origin_line, source_text};
+ghost use Rattle.smap_answers.specs.Lookup.{is_passed_over, lookup_text, origin_line, origin_text};
+ghost use Rattle.smap_answers.specs.Lookup.{source_excerpt, source_text};
 ghost use Rattle.smap_answers.specs.Map.{IsMapAnswer};
 ghost use Rattle.smap_answers.specs.Outcome.{telling_of};
 ghost use Rattle.smap_answers.specs.Run.{interval};
@@ -12,6 +13,7 @@ use crate::lines;
 use crate::outcome::Outcome;
 use crate::refusal::refuse;
 use smap_record::{Answer, MapFile, Meter, Origin, SourceEntry, Url};
+use smap_text::excerpt;
 use std::alloc::{AllocError, Global};
 
 /// Looks up a generated line and column, both from 0, in the map that the bytes of the file at this path are.
@@ -24,23 +26,56 @@ pub fn answer_lookup(
     column: u32,
 ) -> Result<Outcome, AllocError>
     ensures { IfOk result (λ outcome.
-        IsMapAnswer (lookup_line line column) path.now (record_of bytes.now (option_copied base.entry) interval) (telling_of outcome)) }
+        IsMapAnswer (lookup_text line column) path.now (record_of bytes.now (option_copied base.entry) interval) (telling_of outcome)) }
 {
     match MapFile::read(alloc, bytes, base, INTERVAL) {
-        Ok(map) => Ok(Outcome::Answer(lookup_line(alloc, &map, line, column)?)),
+        Ok(map) => Ok(Outcome::Answer(lookup_text(alloc, &map, line, column)?)),
         Err(refusal) => refuse(alloc, path, refusal),
     }
 }
 
-// The line for what a map answers at a position.
-fn lookup_line(alloc: Global, map: &MapFile, line: u32, column: u32) -> Result<String, AllocError>
-    ensures { IfOk result (λ text. string_bytes text ≡ lookup_line line column map.now.stated) }
+// The text for what a map answers at a position.
+fn lookup_text(alloc: Global, map: &MapFile, line: u32, column: u32) -> Result<String, AllocError>
+    ensures { IfOk result (λ text. string_bytes text ≡ lookup_text line column map.now.stated) }
 {
     let mut meter = Meter::new(alloc);
     match map.look_up(line, column, &mut meter) {
         Answer::Nothing => String::from_str(alloc, lines::NONE),
         Answer::Unmapped { .. } => String::from_str(alloc, lines::UNMAPPED),
-        Answer::Found { origin, .. } => origin_line(alloc, map, &origin),
+        Answer::Found { origin, .. } => origin_text(alloc, map, &origin),
+    }
+}
+
+// The line for a place in a source, and the excerpt that shows it.
+fn origin_text(alloc: Global, map: &MapFile, origin: &Origin) -> Result<String, AllocError>
+    ensures { IfOk result (λ text. string_bytes text ≡ origin_text map.now.stated origin.now) }
+{
+    let mut text = origin_line(alloc, map, origin)?;
+    let excerpt = source_excerpt(alloc, map.source(origin.source), origin)?;
+    if let Some(excerpt) = excerpt {
+        text.push_str(&excerpt)?;
+        text.push('\n')?;
+    }
+    Ok(text)
+}
+
+// The excerpt of the source's content that shows a place, where there is one.
+fn source_excerpt(
+    alloc: Global,
+    entry: Option<&SourceEntry>,
+    origin: &Origin,
+) -> Result<Option<String>, AllocError>
+    ensures { IfOk result (λ text. option_map string_bytes text
+        ≡ source_excerpt (option_map (λ entry. source_of entry.now) entry.entry) origin.now) }
+{
+    match entry {
+        Some(
+            SourceEntry {
+                content: Some(content),
+                ..
+            },
+        ) => excerpt(alloc, content, origin.line, origin.column),
+        _ => Ok(None),
     }
 }
 

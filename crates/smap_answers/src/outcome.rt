@@ -18,6 +18,8 @@ pub const FAILED: u8 = 3;
 pub enum Outcome {
     /// What was asked for: for standard output, with status 0.
     Answer(String),
+    /// The map that was asked for, for standard output, with status 0.
+    Map(Vec<u8>),
     /// Why the input is refused: for standard error, as all that follow, with status 1.
     Refusal(String),
     /// Why the words of the command line give no command: status 2.
@@ -38,7 +40,7 @@ impl Outcome {
         ensures { result ≡ (telling_of self.now).status }
     {
         match self {
-            Outcome::Answer(_) => DONE,
+            Outcome::Answer(_) | Outcome::Map(_) => DONE,
             Outcome::Refusal(_) => REFUSED,
             Outcome::Misuse(_) | Outcome::WordsNotUtf8 => MISUSED,
             Outcome::Unreadable(_) | Outcome::InputFailure | Outcome::Memory => FAILED,
@@ -46,17 +48,18 @@ impl Outcome {
     }
 
     /// What the user reads. The call takes no memory.
-    pub fn text(&self) -> &str
+    pub fn bytes(&self) -> &[u8]
         ensures { result.now ≡ (telling_of self.now).text }
     {
         match self {
-            Outcome::Answer(text) => text,
-            Outcome::Refusal(text) => text,
-            Outcome::Misuse(text) => text,
-            Outcome::WordsNotUtf8 => lines::WORDS_NOT_UTF8,
-            Outcome::Unreadable(text) => text,
-            Outcome::InputFailure => lines::INPUT_FAILED,
-            Outcome::Memory => lines::NO_MEMORY,
+            Outcome::Answer(text) => text.as_bytes(),
+            Outcome::Map(bytes) => bytes,
+            Outcome::Refusal(text) => text.as_bytes(),
+            Outcome::Misuse(text) => text.as_bytes(),
+            Outcome::WordsNotUtf8 => lines::WORDS_NOT_UTF8.as_bytes(),
+            Outcome::Unreadable(text) => text.as_bytes(),
+            Outcome::InputFailure => lines::INPUT_FAILED.as_bytes(),
+            Outcome::Memory => lines::NO_MEMORY.as_bytes(),
         }
     }
 }

@@ -1,8 +1,10 @@
 //! Looking a position up in a bare mappings text.
 ghost use Rattle.std.specs.Prelude.{◌≡◌, ◌≤◌, IfOk, length, string_bytes};
+ghost use Rattle.std.specs.List.{All};
 ghost use Rattle.smap_mappings.specs.Faults.{first_fault};
 ghost use Rattle.smap_mappings.specs.Mappings.{mappings_of};
 ghost use Rattle.smap_mappings.specs.Limits.{most_indices, most_text_bytes};
+ghost use Rattle.smap_mappings.specs.Within.{IsWithin};
 ghost use Rattle.smap_index.specs.Answer.{answer_at_or_before};
 ghost use Rattle.smap_answers.specs.Outcome.{telling_of};
 ghost use Rattle.smap_answers.specs.Raw.{answer_line, fault_or_answer, raw_result, text_result};
@@ -11,7 +13,8 @@ ghost use Rattle.smap_answers.specs.Raw.{without_last_line_end};
 use crate::command::INTERVAL;
 use crate::lines;
 use crate::outcome::Outcome;
-use smap_index::{Answer, Index, Part};
+use smap_index::laws::one_text_is_its_mappings;
+use smap_index::{Answer, BuildRefusal, Index, Part};
 use smap_mappings::{MOST_BYTES, MOST_INDICES, Meter, PackedText, TextRefusal};
 use std::alloc::{AllocError, Global};
 
@@ -79,6 +82,7 @@ fn answer_mappings(
 
 // Looks the position up in a text that is the one part of its index.
 fn look_up(alloc: Global, text: PackedText, line: u32, column: u32) -> Result<Answer, AllocError>
+    requires { All (IsWithin most_indices most_indices) (mappings_of text) }
     ensures { IfOk result (λ answer. answer ≡ answer_at_or_before (mappings_of text) line column) }
 {
     let mut parts = Vec::new(alloc);
@@ -89,14 +93,21 @@ fn look_up(alloc: Global, text: PackedText, line: u32, column: u32) -> Result<An
         source_base: 0,
         name_base: 0,
     })?;
+    one_text_is_its_mappings();
     match Index::build(alloc, parts, INTERVAL) {
         Ok(index) => {
             let mut meter = Meter::new(alloc);
             Ok(index.look_up(line, column, &mut meter))
         }
-        // A checked text that begins at the start has no fault as the one part, so memory ran out.
-        Err(_) => Err(AllocError),
+        Err(refusal) => Err(no_memory(refusal)),
     }
+}
+
+// Of a checked text as the only part, nothing but want of memory is refused.
+fn no_memory(_refusal: BuildRefusal) -> AllocError
+    requires { _refusal ≡ BuildRefusal.Memory }
+{
+    AllocError
 }
 
 // The line for an answer.

@@ -12,6 +12,7 @@ use crate::load::Loaded;
 use crate::lookup::answer_lookup;
 use crate::outcome::Outcome;
 use crate::raw::answer_raw;
+use crate::show::answer_show;
 use crate::telling::tell;
 use smap_io::{ByteSink, ByteSource, ReadFailure, read_all};
 use smap_mappings::MOST_BYTES;
@@ -59,6 +60,9 @@ fn outcome_of<R: ByteSource>(
         Command::Raw { line, column } => outcome_of_raw(alloc, *line, *column, input),
         Command::Check { path, base } => {
             or_memory(answer_check(alloc, path, &files[0].bytes, base.as_ref()))
+        }
+        Command::Show { path, base } => {
+            or_memory(answer_show(alloc, path, &files[0].bytes, base.as_ref()))
         }
         Command::Lookup {
             path,

@@ -19,20 +19,20 @@ pub fn tell<W: ByteSink, E: ByteSink>(outcome: &Outcome, output: &mut W, errors:
 {
     let status = outcome.status();
     if status != DONE {
-        report(errors, outcome.text());
+        report(errors, outcome.bytes());
         return status;
     }
-    match print(output, outcome.text()) {
+    match print(output, outcome.bytes()) {
         Ok(()) => DONE,
         Err(_) => {
-            report(errors, lines::OUTPUT_FAILED);
+            report(errors, lines::OUTPUT_FAILED.as_bytes());
             FAILED
         }
     }
 }
 
 // Writes the text and flushes.
-fn print<W: ByteSink>(output: &mut W, text: &str) -> Result<(), DeviceFault>
+fn print<W: ByteSink>(output: &mut W, text: &[u8]) -> Result<(), DeviceFault>
     ensures whole { OnOk result (Takes (W.taken output.old) (W.taken output.new) text.now) }
     ensures flushed { OnOk result (W.is_flushed output.new ≡ true) }
     ensures no_failure { OnOk result (W.has_failed output.new ≡ W.has_failed output.old) }
@@ -40,12 +40,12 @@ fn print<W: ByteSink>(output: &mut W, text: &str) -> Result<(), DeviceFault>
     ensures front { OnErr result (TakesFront (W.taken output.old) (W.taken output.new) text.now) }
     ensures failure { OnErr result (W.has_failed output.new ≡ true) }
 {
-    write_all(output, text.as_bytes())?;
+    write_all(output, text)?;
     output.flush()
 }
 
 // Tells the text to the user, and passes over a failure of the device.
-fn report<E: ByteSink>(errors: &mut E, text: &str)
+fn report<E: ByteSink>(errors: &mut E, text: &[u8])
     ensures { IsToldTo (sink_seen E.taken E.is_flushed E.has_failed errors.old)
         (sink_seen E.taken E.is_flushed E.has_failed errors.new) text.now }
 {

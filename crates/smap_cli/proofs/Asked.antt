@@ -19,7 +19,7 @@ use Rattle.clap.specs.declared.error.Error.{Error}
 use Rattle.clap.specs.declared.error.kind.ErrorKind.TheVariants.{DisplayHelp, DisplayVersion, OutOfMemory}
 use Rattle.smap_cli.specs.declared.words.Usage.{Usage}
 use Rattle.smap_cli.specs.declared.words.Usage.TheVariants.{Help, Words, Memory}
-use Rattle.smap_cli.specs.Words.{HasCommand, HasNumber, HasText, IsBaseRefusal, IsUsageOf, IsRefusalOf, check, lookup, number, raw, smap}
+use Rattle.smap_cli.specs.Words.{HasCommand, HasNumber, HasText, IsBaseRefusal, IsUsageOf, IsRefusalOf, lookup, map_command, number, raw, smap}
 use Rattle.smap_cli.proofs.Rows.{AreReadRows, Keeps, first_none, given_value, help_keeps, long_option_keeps, no_default_keeps, second_none, settle_keeps, value_keeps, walk_keeps}
 use Rattle.smap_cli.proofs.Stops.{IsNoHelp, walk_names}
 
@@ -85,8 +85,8 @@ at_argument id = cond (bytes_eq id (codes "PATH") || bytes_eq id (codes "URL")) 
 abbrev raw_shape : Shape
 raw_shape = built_leaf raw.top
 
-abbrev check_shape : Shape
-check_shape = built_leaf check.top
+abbrev map_shape : Text → Shape
+map_shape name = built_leaf (map_command name).top
 
 abbrev lookup_shape : Shape
 lookup_shape = built_leaf lookup.top
@@ -106,11 +106,11 @@ raw_given words none =
     both_given true false none = cc
     both_given false column none = cc
 
-check_given : (words : List Text) → level_fault check_shape [] nothing_held words false [] ≡ []
-    → HasText (rows_after check_shape.rules [] words) (codes "PATH")
-check_given words none =
-    let rows = rows_after check_shape.rules [] words in
-    let level = level_gives at_text check_shape
+map_given : (name : Text) (words : List Text) → level_fault (map_shape name) [] nothing_held words false [] ≡ []
+    → HasText (rows_after (map_shape name).rules [] words) (codes "PATH")
+map_given name words none =
+    let rows = rows_after (map_shape name).rules [] words in
+    let level = level_gives at_text (map_shape name)
     (value_keeps at_text 1 (codes "PATH") true, (long_option_keeps at_text 2 (codes "URL") (codes "base"), (help_keeps at_text, tt)))
     (refl, (refl, (refl, tt))) words none in
     let path = given_value at_text (codes "PATH") rows level.0 (path_given (is_given (codes "PATH") rows) level.1) in
@@ -156,28 +156,33 @@ stopped_command : (stop : Option (Text × List Text)) → IsNoHelp stop → is_s
     → HasCommand (entered (built smap) stop)
 stopped_command None named some none = cc
 stopped_command (Some p) named some none =
-    go (bytes_eq (codes "lookup") p.0) (bytes_eq (codes "check") p.0) (bytes_eq (codes "raw") p.0) (bytes_eq (codes "help") p.0) refl some none
+    go (bytes_eq (codes "lookup") p.0) (bytes_eq (codes "check") p.0) (bytes_eq (codes "show") p.0) (bytes_eq (codes "raw") p.0)
+    (bytes_eq (codes "help") p.0) refl some none
   where
-    shapes : Bool → Bool → Bool → Bool → Option Shape
-    shapes b1 b2 b3 b4 = cond (b1 || false) (Some lookup_shape)
-        (cond (b2 || false) (Some check_shape) (cond (b3 || false) (Some raw_shape) (cond (b4 || false) (Some (built_leaf help_shape)) None)))
+    shapes : Bool → Bool → Bool → Bool → Bool → Option Shape
+    shapes b1 b2 b3 b4 b5 = cond (b1 || false) (Some lookup_shape)
+        (cond (b2 || false) (Some (map_shape (codes "check"))) (cond (b3 || false) (Some (map_shape (codes "show")))
+        (cond (b4 || false) (Some raw_shape) (cond (b5 || false) (Some (built_leaf help_shape)) None))))
 
-    go : (b1 b2 b3 b4 : Bool) → bytes_eq (codes "help") p.0 ≡ b4
-        → is_some (option_map (λ s. rows_at s p.1) (shapes b1 b2 b3 b4)) ≡ true
-        → option_map_or (λ s. level_fault s [] nothing_held p.1 false []) (shapes b1 b2 b3 b4) [] ≡ []
-        → HasCommand (option_map (λ s. rows_at s p.1) (shapes b1 b2 b3 b4))
-    go true b2 b3 b4 is some none =
+    go : (b1 b2 b3 b4 b5 : Bool) → bytes_eq (codes "help") p.0 ≡ b5
+        → is_some (option_map (λ s. rows_at s p.1) (shapes b1 b2 b3 b4 b5)) ≡ true
+        → option_map_or (λ s. level_fault s [] nothing_held p.1 false []) (shapes b1 b2 b3 b4 b5) [] ≡ []
+        → HasCommand (option_map (λ s. rows_at s p.1) (shapes b1 b2 b3 b4 b5))
+    go true b2 b3 b4 b5 is some none =
         let given = lookup_given p.1 none in
-        inr (inr (rows_after lookup_shape.rules [] p.1, refl, given.0, given.1, given.2))
-    go false true b3 b4 is some none = inr (inl (rows_after check_shape.rules [] p.1, refl, check_given p.1 none))
-    go false false true b4 is some none =
+        inr (inr (inr (rows_after lookup_shape.rules [] p.1, refl, given.0, given.1, given.2)))
+    go false true b3 b4 b5 is some none =
+        inr (inl (rows_after (map_shape (codes "check")).rules [] p.1, refl, map_given (codes "check") p.1 none))
+    go false false true b4 b5 is some none =
+        inr (inr (inl (rows_after (map_shape (codes "show")).rules [] p.1, refl, map_given (codes "show") p.1 none)))
+    go false false false true b5 is some none =
         let given = raw_given p.1 none in
         inl (rows_after raw_shape.rules [] p.1, refl, given.0, given.1)
-    go false false false true is some none =
+    go false false false false true is some none =
         let same = (bytes_eq-Decides (codes "help") p.0).0 is in
         let help : bytes_eq p.0 (codes "help") ≡ true = (bytes_eq-Decides p.0 (codes "help")).1 (sym same) in
         absurd (true≢false (sym help ∙ named))
-    go false false false false is some none = cc
+    go false false false false false is some none = cc
 
 wants_subcommand : (rows : List Row) (has : Bool) → check_fault (built smap).top rows has ≡ [] → has ≡ true
 wants_subcommand rows true none = refl

@@ -19,7 +19,7 @@ use Rattle.clap.specs.declared.builder.value_parser.ValueParser.TheVariants as p
 use Rattle.clap.specs.declared.error.kind.ErrorKind.{ErrorKind}
 use Rattle.clap.specs.declared.error.kind.ErrorKind.TheVariants.{DisplayHelp, DisplayVersion, OutOfMemory}
 use Rattle.smap_answers.specs.declared.command.Command.{Command}
-use Rattle.smap_answers.specs.declared.command.Command.TheVariants.{Raw, Check, Lookup}
+use Rattle.smap_answers.specs.declared.command.Command.TheVariants.{Raw, Check, Show, Lookup}
 use Rattle.smap_cli.specs.declared.words.Usage.{Usage}
 use Rattle.smap_cli.specs.declared.words.Usage.TheVariants.{Help, Words, Memory}
 
@@ -27,6 +27,7 @@ use Rattle.smap_cli.specs.declared.words.Usage.TheVariants.{Help, Words, Memory}
 abbrev pub IsInRange : Command → Type 0
 IsInRange (Raw line column) = (line ≤ limit) × (column ≤ limit)
 IsInRange (Check path base) = ⊤
+IsInRange (Show path base) = ⊤
 IsInRange (Lookup path line column base) = (line ≤ limit) × (column ≤ limit)
 
 -- the words as text
@@ -54,8 +55,9 @@ path_rule = record (new_rule (codes "PATH")) { required = true }
 abbrev pub base_rule : Rule
 base_rule = record (new_rule (codes "URL")) { long = Some (codes "base") }
 
-abbrev pub check : App
-check = with_rule (with_rule (new_app (codes "check")) path_rule) base_rule
+-- a command of this name that asks for a map file, with a base or without
+abbrev pub map_command : Text → App
+map_command name = with_rule (with_rule (new_app name) path_rule) base_rule
 
 abbrev pub lookup : App
 lookup = with_rule (with_rule (with_rule (with_rule (new_app (codes "lookup")) path_rule)
@@ -67,9 +69,9 @@ IsLocalCommand app command = (app_of command ≡ app) × ((out-Command command).
 
 -- `smap`, which has a version and wants a subcommand
 abbrev pub smap : App
-smap = with_subcommand (with_subcommand (with_subcommand
+smap = with_subcommand (with_subcommand (with_subcommand (with_subcommand
     (on_top (λ shape. record shape { subcommand_required = true; has_version = true }) (new_app (codes "smap")))
-    lookup.top) check.top) raw.top
+    lookup.top) (map_command (codes "check")).top) (map_command (codes "show")).top) raw.top
 
 -- ---- what any words ask for
 
@@ -101,28 +103,32 @@ abbrev pub HasRaw : Option (Text × List Row) → Type 0
 HasRaw subcommand = (rows : List Row) × (subcommand ≡ Some (codes "raw", rows))
     × HasNumber rows (codes "LINE") × HasNumber rows (codes "COLUMN")
 
--- the subcommand is `check`, with its argument
-abbrev pub HasCheck : Option (Text × List Row) → Type 0
-HasCheck subcommand = (rows : List Row) × (subcommand ≡ Some (codes "check", rows))
-    × HasText rows (codes "PATH")
+-- the subcommand has this name, and the path of a map file
+abbrev pub HasMap : (name : Text) → Option (Text × List Row) → Type 0
+HasMap name subcommand = (rows : List Row) × (subcommand ≡ Some (name, rows)) × HasText rows (codes "PATH")
 
 -- the subcommand is `lookup`, with its three arguments
 abbrev pub HasLookup : Option (Text × List Row) → Type 0
 HasLookup subcommand = (rows : List Row) × (subcommand ≡ Some (codes "lookup", rows))
     × HasText rows (codes "PATH") × HasNumber rows (codes "LINE") × HasNumber rows (codes "COLUMN")
 
--- the subcommand is one of the three, with its arguments
+-- the subcommand is one of the four, with its arguments
 abbrev pub HasCommand : Option (Text × List Row) → Type 0
-HasCommand subcommand = HasRaw subcommand ⊎ (HasCheck subcommand ⊎ HasLookup subcommand)
+HasCommand subcommand = HasRaw subcommand
+    ⊎ (HasMap (codes "check") subcommand ⊎ (HasMap (codes "show") subcommand ⊎ HasLookup subcommand))
+
+-- the subcommand of this name asks for the map file at the path, with the base
+abbrev pub AsksForMap : (name : Text) → Option (Text × List Row) → (path : Text) (base : Option Parts) → Type 0
+AsksForMap name subcommand path base = (rows : List Row) × (subcommand ≡ Some (name, rows))
+    × GivesText rows (codes "PATH") path × GivesUrl (first_of (codes "URL") rows) base
 
 -- the subcommand asks for the command, with lines and columns counted from 1
 abbrev pub SubcommandAsksFor : Option (Text × List Row) → Command → Type 0
 SubcommandAsksFor subcommand (Raw line column) = (rows : List Row)
     × (subcommand ≡ Some (codes "raw", rows))
     × GivesNumber rows (codes "LINE") (line + 1) × GivesNumber rows (codes "COLUMN") (column + 1)
-SubcommandAsksFor subcommand (Check path base) = (rows : List Row)
-    × (subcommand ≡ Some (codes "check", rows))
-    × GivesText rows (codes "PATH") (string_bytes path) × GivesUrl (first_of (codes "URL") rows) base
+SubcommandAsksFor subcommand (Check path base) = AsksForMap (codes "check") subcommand (string_bytes path) base
+SubcommandAsksFor subcommand (Show path base) = AsksForMap (codes "show") subcommand (string_bytes path) base
 SubcommandAsksFor subcommand (Lookup path line column base) = (rows : List Row)
     × (subcommand ≡ Some (codes "lookup", rows))
     × GivesText rows (codes "PATH") (string_bytes path)

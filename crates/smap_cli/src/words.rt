@@ -6,7 +6,7 @@ ghost use Rattle.clap.specs.Words.{subcommand_rows_of};
 ghost use Rattle.smap_cli.specs.Words.{GivesNumber, GivesText, HasCommand, HasNumber, HasText};
 ghost use Rattle.smap_cli.specs.Words.{IsInRange, IsLocalCommand};
 ghost use Rattle.smap_cli.specs.Words.{IsRefusalOf, IsUsageOf};
-ghost use Rattle.smap_cli.specs.Words.{SubcommandAsksFor, WordsAskFor, check, lookup};
+ghost use Rattle.smap_cli.specs.Words.{SubcommandAsksFor, WordsAskFor, lookup, map_command};
 ghost use Rattle.smap_mappings.specs.Limits.{limit};
 ghost use Rattle.smap_cli.specs.Words.{GivesUrl, IsBadBase, IsBaseRefusal, base_rule};
 ghost use Rattle.smap_cli.specs.Words.{path_rule, place, raw, smap, texts};
@@ -36,15 +36,28 @@ Answers:
   unmapped            the mapping is of generated code without an original
   none                no mapping stands at the position or before it on its line
 
+Where the map holds the text of the source, its line follows, and a caret under the position.
+
 Columns are UTF-16 code units. LINE and COLUMN count from 1, as V8 prints them in a stack trace.
 
 Example: smap lookup examples/preset-react.js.map 65 80";
+
+const CHECK_ABOUT: &str = "Checks a source map file and prints its counts";
 
 const CHECK_NOTES: &str = "\
 Answer: how many sections, sources, names and segments the map has, how many generated lines hold a
 segment, and how many checkpoints its index has.
 
 Example: smap check examples/preset-react.js.map";
+
+const SHOW_ABOUT: &str = "Writes a source map file as one regular map";
+
+const SHOW_NOTES: &str = "\
+Answer: the map as one regular map, in compact JSON on one line. An index map is joined, each source stands
+under its resolved name, and `mappings` in its shortest spelling. Keys that smap does not read are dropped,
+and so is `sourceRoot`, which the names then have.
+
+Example: smap show examples/bundle.js.map > joined.js.map";
 
 const RAW_NOTES: &str = "\
 Answers:
@@ -121,7 +134,8 @@ fn command_line<'a>(alloc: Global) -> Result<clap::Command<'a>, AllocError>
         .after_help(STATUSES)
         .subcommand_required(true)
         .subcommand(lookup_words(alloc)?)?
-        .subcommand(check_words(alloc)?)?
+        .subcommand(map_words(alloc, "check", CHECK_ABOUT, CHECK_NOTES)?)?
+        .subcommand(map_words(alloc, "show", SHOW_ABOUT, SHOW_NOTES)?)?
         .subcommand(raw_words(alloc)?)
 }
 
@@ -138,13 +152,18 @@ fn lookup_words<'a>(alloc: Global) -> Result<clap::Command<'a>, AllocError>
         .arg(base_url(alloc))
 }
 
-// The words of `check`.
-fn check_words<'a>(alloc: Global) -> Result<clap::Command<'a>, AllocError>
-    ensures { IfOk result (IsLocalCommand check) }
+// The words of a command that asks for one map file.
+fn map_words<'a>(
+    alloc: Global,
+    name: &'a str,
+    about: &'a str,
+    notes: &'a str,
+) -> Result<clap::Command<'a>, AllocError>
+    ensures { IfOk result (IsLocalCommand (map_command name.entry.now)) }
 {
-    clap::Command::new(alloc, "check")
-        .about("Checks a source map file and prints its counts")
-        .after_help(CHECK_NOTES)
+    clap::Command::new(alloc, name)
+        .about(about)
+        .after_help(notes)
         .arg(map_path(alloc))?
         .arg(base_url(alloc))
 }
@@ -201,6 +220,12 @@ fn command_in(alloc: Global, matches: &ArgMatches<'_>) -> Result<Command, Usage>
         return Ok(Command::Check {
             path: path_in(alloc, check)?,
             base: base_in(alloc, check)?,
+        });
+    }
+    if let Some(show) = matches.subcommand_matches("show") {
+        return Ok(Command::Show {
+            path: path_in(alloc, show)?,
+            base: base_in(alloc, show)?,
         });
     }
     if let Some(lookup) = matches.subcommand_matches("lookup") {

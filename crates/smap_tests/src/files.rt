@@ -1,5 +1,5 @@
 //! `check` and `lookup` over maps in memory.
-use crate::rows::{assert_same, halves};
+use crate::rows::{assert_same, caret_text, halves};
 use crate::running::{ALL_SOUND, Device, Devices, SOUND, run_check, run_lookup, run_lookup_at};
 use crate::vectors::example_map::EXAMPLE_MAP;
 use crate::vectors::lookups::LOOKUPS;
@@ -209,12 +209,6 @@ const PLACES: &[(&str, u32, u32, &str)] = &[
         "0|unmapped\n|",
     ),
     (
-        r#"{"version":3,"sources":["a.ts"],"sourcesContent":["let 😀x"],"mappings":"AAAM"}"#,
-        1,
-        1,
-        "0|a.ts:1:7\n|",
-    ),
-    (
         r#"{"version":3,"sources":[null],"mappings":"AAAA"}"#,
         1,
         1,
@@ -257,6 +251,51 @@ const PLACES: &[(&str, u32, u32, &str)] = &[
         1,
         "0|a? ?é?:1:1 name ?\n|",
     ),
+    // A pair of units is one character, and the caret stands behind characters.
+    (
+        r#"{"version":3,"sources":["a.ts"],"sourcesContent":["let 😀x"],"mappings":"AAAM"}"#,
+        1,
+        1,
+        "0|a.ts:1:7\nlet 😀x\n     ^\n|",
+    ),
+    // The line has no such column.
+    (
+        r#"{"version":3,"sources":["a.ts"],"sourcesContent":["let 😀x"],"mappings":"AAAQ"}"#,
+        1,
+        1,
+        "0|a.ts:1:9\n|",
+    ),
+    (
+        r#"{"version":3,"sources":["a.ts"],"sourcesContent":[null],"mappings":"AAAM"}"#,
+        1,
+        1,
+        "0|a.ts:1:7\n|",
+    ),
+    (
+        r#"{"version":3,"sources":["a.ts"],"sourcesContent":[""],"mappings":"AAAA"}"#,
+        1,
+        1,
+        "0|a.ts:1:1\n\n^\n|",
+    ),
+    (
+        r#"{"version":3,"sources":["a.ts","b.ts"],"names":["f"],"sourcesContent":["x","a\r\n\tb\u0000"],"ignoreList":[1],"mappings":"ACCCA"}"#,
+        1,
+        1,
+        "0|b.ts:2:2 name f ignored\n b?\n ^\n|",
+    ),
+    // The content has no such line.
+    (
+        r#"{"version":3,"sources":["a.ts"],"sourcesContent":["a\n"],"mappings":"AAEA"}"#,
+        1,
+        1,
+        "0|a.ts:3:1\n|",
+    ),
+    (
+        r#"{"version":3,"sources":["a.ts"],"sourcesContent":["a"],"mappings":"A"}"#,
+        1,
+        1,
+        "0|unmapped\n|",
+    ),
     ("[]", 1, 1, "1||refused: m.map: M3 NotObject\n"),
 ];
 
@@ -278,6 +317,16 @@ fn places_are_found(rt: HostRuntime) -> Result<(), Fail> {
     Ok(())
 }
 
+// What is printed of the line of a row, and of its excerpt where it has one.
+fn printed_text(alloc: Global, row: &str) -> Result<String, Fail> {
+    let (line, shown) = halves(row);
+    if shown.is_empty() {
+        return Ok(["0|", line, "\n|"].concat(alloc)?);
+    }
+    let excerpt = caret_text(alloc, shown)?;
+    Ok(["0|", line, "\n", &excerpt, "\n|"].concat(alloc)?)
+}
+
 // What `lookup` leaves for a row of the vectors, which has the line, the column and what is printed, and what it is to
 // leave.
 fn row_leaves(alloc: Global, row: &str) -> Result<(String, String), Fail> {
@@ -290,7 +339,7 @@ fn row_leaves(alloc: Global, row: &str) -> Result<(String, String), Fail> {
         column.parse()?,
         ALL_SOUND,
     )?;
-    Ok((left, ["0|", printed, "\n|"].concat(alloc)?))
+    Ok((left, printed_text(alloc, printed)?))
 }
 
 #[test]

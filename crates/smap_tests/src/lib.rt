@@ -4,6 +4,8 @@
 #[cfg(test)]
 mod devices;
 #[cfg(test)]
+mod encoding;
+#[cfg(test)]
 mod files;
 #[cfg(test)]
 mod index_maps;
@@ -18,11 +20,15 @@ mod names;
 #[cfg(test)]
 mod numbers;
 #[cfg(test)]
+mod places;
+#[cfg(test)]
 mod raw;
 #[cfg(test)]
 mod rows;
 #[cfg(test)]
 mod running;
+#[cfg(test)]
+mod show;
 #[cfg(test)]
 mod shown;
 #[cfg(test)]

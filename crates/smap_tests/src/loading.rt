@@ -17,7 +17,7 @@ fn loaded(rt: &HostRuntime, command: &Command) -> Result<String, AllocError> {
             }
         }
         Err(outcome) => {
-            text.push_str(outcome.text())?;
+            text.push_str(&String::from_utf8_lossy(rt.alloc(), outcome.bytes())?)?;
             push_number(&mut text, rt.alloc(), "", u64::from(outcome.status()))?;
         }
     }

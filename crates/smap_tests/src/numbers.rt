@@ -1,6 +1,6 @@
-//! Numbers of the mappings text, where they stand and where none does.
+//! Numbers of the mappings text, where they stand and where none does, and how they are spelled.
 use crate::rows::assert_same;
-use smap_mappings::read_vlq;
+use smap_mappings::{read_vlq, write_vlq};
 use std::alloc::{AllocError, Global};
 use std::test::Fail;
 
@@ -52,6 +52,39 @@ fn number_at(alloc: Global, bytes: &str, place: usize) -> Result<String, AllocEr
 fn each_number_is_read(rt: HostRuntime) -> Result<(), Fail> {
     for (bytes, place, wanted) in NUMBERS {
         assert_same(&rt, bytes, &number_at(rt.alloc(), bytes, *place)?, wanted);
+    }
+    Ok(())
+}
+
+// Numbers, and their shortest spellings.
+const SPELLINGS: &[(i32, &str)] = &[
+    (0, "A"),
+    (1, "C"),
+    (-1, "D"),
+    (10, "U"),
+    (-10, "V"),
+    (15, "e"),
+    (16, "gB"),
+    (-16, "hB"),
+    (17, "iB"),
+    (2147483647, "+/////D"),
+    (-2147483647, "//////D"),
+];
+
+// The spelling of a number behind another text, which stays as it is.
+fn spelled(alloc: Global, number: i32) -> Result<String, AllocError> {
+    let mut bytes = b"!".to_vec(alloc)?;
+    if number > i32::MIN {
+        write_vlq(number, &mut bytes)?;
+    }
+    String::from_utf8_lossy(alloc, &bytes)
+}
+
+#[test]
+fn each_number_is_spelled(rt: HostRuntime) -> Result<(), Fail> {
+    for (number, spelling) in SPELLINGS {
+        let wanted = ["!", spelling].concat(rt.alloc())?;
+        assert_same(&rt, spelling, &spelled(rt.alloc(), *number)?, &wanted);
     }
     Ok(())
 }

@@ -1,5 +1,7 @@
 //! Rows of texts, and the comparison of all tests: what is asked came to this text, and to no other.
+use std::alloc::Global;
 use std::process::Abort;
+use std::test::Fail;
 
 /// What was asked came to this text, and to no other.
 pub fn assert_same(rt: &impl Abort, asked: &str, got: &str, wanted: &str) {
@@ -12,4 +14,11 @@ pub fn halves(row: &str) -> (&str, &str) {
         Some(halves) => halves,
         None => (row, ""),
     }
+}
+
+/// The text of an excerpt, of a row that has how many spaces stand before the caret, and what shows of the line.
+pub fn caret_text(alloc: Global, row: &str) -> Result<String, Fail> {
+    let (before, shown) = halves(row);
+    let spaces = " ".repeat(alloc, before.parse()?)?;
+    Ok([shown, "\n", &spaces, "^"].concat(alloc)?)
 }

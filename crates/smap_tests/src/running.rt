@@ -21,6 +21,9 @@ pub struct Devices(pub Device, pub Device, pub Device);
 /// Devices of which none ever fails.
 pub const ALL_SOUND: Devices = Devices(SOUND, SOUND, SOUND);
 
+// How many bytes an output takes at most.
+const MOST_TAKEN: usize = 8_192;
+
 fn new_source(alloc: Global, bytes: &[u8], device: Device) -> Result<MemorySource, AllocError>
     ensures { IfOk result (λ source. source.failed ≡ false) }
 {
@@ -30,7 +33,11 @@ fn new_source(alloc: Global, bytes: &[u8], device: Device) -> Result<MemorySourc
 fn new_sink(alloc: Global, device: Device) -> Result<MemorySink, AllocError>
     ensures { IfOk result (λ sink. sink.failed ≡ false) }
 {
-    Ok(MemorySink::new(Vec::with_capacity(alloc, 200)?, device.0.max(1), device.1))
+    Ok(MemorySink::new(
+        Vec::with_capacity(alloc, MOST_TAKEN)?,
+        device.0.max(1),
+        device.1,
+    ))
 }
 
 // The status, and what stands on the output and on the error stream, with `|` between two.
@@ -49,8 +56,8 @@ fn run_over(
         return String::from_str(alloc, "a device that moves nothing");
     }
     let mut input = MemorySource::new(input.to_vec(alloc)?, reads, read_fails);
-    let mut output = MemorySink::new(Vec::with_capacity(alloc, 200)?, writes, write_fails);
-    let mut errors = MemorySink::new(Vec::with_capacity(alloc, 200)?, tells, tell_fails);
+    let mut output = MemorySink::new(Vec::with_capacity(alloc, MOST_TAKEN)?, writes, write_fails);
+    let mut errors = MemorySink::new(Vec::with_capacity(alloc, MOST_TAKEN)?, tells, tell_fails);
     let status = run(alloc, command, files, &mut input, &mut output, &mut errors);
     left_text(alloc, status, output.bytes(), errors.bytes())
 }
@@ -136,6 +143,25 @@ pub fn run_lookup_at(
         path: String::from_str(alloc, "m.map")?,
         line: line.saturating_sub(1),
         column: column.saturating_sub(1),
+        base,
+    };
+    run_on_file(alloc, &command, "m.map", map.as_bytes(), devices)
+}
+
+/// What `show` leaves of a map at `m.map`.
+pub fn run_show(alloc: Global, map: &str, devices: Devices) -> Result<String, AllocError> {
+    run_show_at(alloc, None, map, devices)
+}
+
+/// What `show` leaves of a map at `m.map`, whose sources are resolved against the base.
+pub fn run_show_at(
+    alloc: Global,
+    base: Option<Url>,
+    map: &str,
+    devices: Devices,
+) -> Result<String, AllocError> {
+    let command = Command::Show {
+        path: String::from_str(alloc, "m.map")?,
         base,
     };
     run_on_file(alloc, &command, "m.map", map.as_bytes(), devices)

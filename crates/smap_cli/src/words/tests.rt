@@ -17,6 +17,10 @@ fn read(alloc: Global, words: &[&str]) -> Result<String, AllocError> {
             let base = base_text(&base);
             format!(in alloc; "check {path}{base}")
         }
+        Ok(Command::Show { path, base }) => {
+            let base = base_text(&base);
+            format!(in alloc; "show {path}{base}")
+        }
         Ok(
             Command::Lookup {
                 path,
@@ -48,7 +52,7 @@ fn read_usage(alloc: Global, usage: &Usage) -> Result<String, AllocError> {
 }
 
 // Words, and the command that they give, with lines and columns from 0.
-const COMMANDS: [(&[&str], &str); 18] = [
+const COMMANDS: [(&[&str], &str); 21] = [
     (&["smap", "raw", "1", "6"], "raw 0 5"),
     (&["smap", "raw", "1", "1"], "raw 0 0"),
     (&["./smap", "raw", "007", "+2"], "raw 6 1"),
@@ -64,6 +68,12 @@ const COMMANDS: [(&[&str], &str); 18] = [
     (&["smap", "check", ""], "check "),
     (&["smap", "check", "-"], "check -"),
     (&["smap", "check", "--", "--help"], "check --help"),
+    (&["smap", "show", "app.js.map"], "show app.js.map"),
+    (&["smap", "show", "--", "-x"], "show -x"),
+    (
+        &["smap", "show", "--base", "https://ex.test/", "b.map"],
+        "show b.maphttps://ex.test/",
+    ),
     (
         &["smap", "lookup", "app.js.map", "1", "6"],
         "lookup app.js.map 0 5",
@@ -109,7 +119,7 @@ fn reads_commands(rt: HostRuntime) -> Result<(), Fail> {
 }
 
 // Words that are no command, and how the text for them begins.
-const MISTAKES: [(&[&str], &str); 30] = [
+const MISTAKES: [(&[&str], &str); 33] = [
     (
         &["smap", "check", "--base", "nope", "r.map"],
         "usage: bad base URL\n",
@@ -192,6 +202,18 @@ const MISTAKES: [(&[&str], &str); 30] = [
         "error: unexpected argument '-x' found\n",
     ),
     (
+        &["smap", "show"],
+        "error: the following required arguments were not provided:\n  <PATH>\n",
+    ),
+    (
+        &["smap", "show", "a.map", "b.map"],
+        "error: unexpected argument 'b.map' found\n",
+    ),
+    (
+        &["smap", "show", "--base", "nope", "r.map"],
+        "usage: bad base URL\n",
+    ),
+    (
         &["smap", "lookup"],
         "error: the following required arguments were not provided:\n  <PATH>\n  <LINE>\n  <COLUMN>\n",
     ),
@@ -247,10 +269,12 @@ const LOOKUP_EXAMPLE: &str = "Example: smap lookup examples/preset-react.js.map 
 
 const CHECK_EXAMPLE: &str = "Example: smap check examples/preset-react.js.map\n";
 
+const SHOW_EXAMPLE: &str = "Example: smap show examples/bundle.js.map > joined.js.map\n";
+
 const RAW_EXAMPLE: &str = "Example: printf 'AAAA,CAAC;AACA' | smap raw 1 6\n";
 
 // Requests for help, the usage that they show, and how the text ends.
-const REQUESTS: [(&[&str], &str, &str); 13] = [
+const REQUESTS: [(&[&str], &str, &str); 15] = [
     (&["out/program", "--help"], "smap <COMMAND>", LOOKUP_EXAMPLE),
     (&["smap", "-h"], "smap <COMMAND>", LOOKUP_EXAMPLE),
     (&["smap", "help"], "smap <COMMAND>", LOOKUP_EXAMPLE),
@@ -288,6 +312,16 @@ const REQUESTS: [(&[&str], &str, &str); 13] = [
         &["smap", "check", "a.map", "-h"],
         "smap check [OPTIONS] <PATH>",
         CHECK_EXAMPLE,
+    ),
+    (
+        &["smap", "help", "show"],
+        "smap show [OPTIONS] <PATH>",
+        SHOW_EXAMPLE,
+    ),
+    (
+        &["smap", "show", "a.map", "--help"],
+        "smap show [OPTIONS] <PATH>",
+        SHOW_EXAMPLE,
     ),
     (
         &["smap", "help", "lookup"],

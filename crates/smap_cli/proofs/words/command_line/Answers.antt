@@ -14,8 +14,10 @@ returns c =
     ∙ ap (on_top (λ s. record s { subcommand_required = true })) (ap app_of_fields c.after_help.ensures ∙ (ap app_of_fields c.about.ensures ∙ versioned)) in
     let with_lookup = c.in_ok-subcommand.ensures.shape c.in_ok-lookup_words.ensures.1
     ∙ ap₂ with_subcommand top (ap (λ (a : App). a.top) c.in_ok-lookup_words.ensures.0) in
-    let with_check = c.in_ok-subcommand-2.ensures.shape c.in_ok-check_words.ensures.1
-    ∙ ap₂ with_subcommand with_lookup (ap (λ (a : App). a.top) c.in_ok-check_words.ensures.0) in
-    IfOk-weaker c.subcommand-3.result _ _
-    (λ r added. added.shape c.in_ok-raw_words.ensures.1 ∙ ap₂ with_subcommand with_check (ap (λ (a : App). a.top) c.in_ok-raw_words.ensures.0))
-    c.subcommand-3.ensures
+    let with_check = c.in_ok-subcommand-2.ensures.shape c.in_ok-map_words.ensures.1
+    ∙ ap₂ with_subcommand with_lookup (ap (λ (a : App). a.top) c.in_ok-map_words.ensures.0) in
+    let with_show = c.in_ok-subcommand-3.ensures.shape c.in_ok-map_words-2.ensures.1
+    ∙ ap₂ with_subcommand with_check (ap (λ (a : App). a.top) c.in_ok-map_words-2.ensures.0) in
+    IfOk-weaker c.subcommand-4.result _ _
+    (λ r added. added.shape c.in_ok-raw_words.ensures.1 ∙ ap₂ with_subcommand with_show (ap (λ (a : App). a.top) c.in_ok-raw_words.ensures.0))
+    c.subcommand-4.ensures

@@ -1,0 +1,19 @@
+-- What `show` answers: what a map states, written as one regular map.
+use Rattle.std.specs.Prelude.{ℕ, List, [], ◌∷◌, if◌then◌else◌}
+use Rattle.smap_mappings.specs.Canonical.{canonical_text}
+use Rattle.smap_mappings.specs.Encode.{is_text_too_long}
+use Rattle.smap_index.specs.Parts.{joined}
+use Rattle.smap_record.specs.Record.{MapRecord}
+use Rattle.smap_record.specs.Written.{written}
+use Rattle.smap_answers.specs.Lines.{line_from, written_text_too_long_line}
+use Rattle.smap_answers.specs.Outcome.{Telling, answer, refusal}
+
+-- the written map, as a line
+abbrev pub written_line : MapRecord → List ℕ
+written_line stated = line_from (
+    written stated.sources stated.names stated.file (canonical_text (joined stated.parts)) ∷ [])
+
+-- the written map, where its mappings text is not too long
+abbrev pub show_result : MapRecord → Telling
+show_result stated =
+    if is_text_too_long (joined stated.parts) then refusal written_text_too_long_line else answer (written_line stated)

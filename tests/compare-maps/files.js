@@ -1,0 +1,36 @@
+// The map files of some packages, and the program that is compared with.
+'use strict';
+
+const fs = require('fs');
+const path = require('path');
+const { execFileSync } = require('child_process');
+
+const PACKAGES = ['libjs-jquery', 'node-source-map', 'libjs-bootstrap5', 'node-babel7-debug'];
+const BUILT = path.join(__dirname, '..', '..', 'crates', 'smap_cli', 'out', 'smap_cli');
+
+// The map files among these, each once. A link counts as the file that it leads to.
+function mapsAmong(files) {
+  const maps = files.filter((file) => file.endsWith('.map')).map((file) => fs.realpathSync(file));
+  return [...new Set(maps)].sort();
+}
+
+// The files that a package installed.
+function filesOfPackage(name) {
+  try {
+    return execFileSync('dpkg', ['-L', name], { encoding: 'utf8', stdio: 'pipe' }).split('\n');
+  } catch {
+    throw new Error(`the package ${name} is not installed`);
+  }
+}
+
+// The map files of the four packages.
+function mapsOfPackages() {
+  return mapsAmong(PACKAGES.flatMap(filesOfPackage));
+}
+
+// The map files in a folder and in the folders in it.
+function mapsIn(folder) {
+  return mapsAmong(fs.readdirSync(folder, { recursive: true }).map((name) => path.join(folder, name)));
+}
+
+module.exports = { BUILT, mapsIn, mapsOfPackages };
