@@ -1,0 +1,6 @@
+pub mod TextLaws
+pub mod ComposedLaws
+pub mod ListLaws
+pub mod FollowLaws
+pub mod AssociationLaws
+pub mod Examples

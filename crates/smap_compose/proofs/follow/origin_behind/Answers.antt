@@ -1,0 +1,6 @@
+use Rattle.smap_record.specs.MapFile.{IsAnswerWithin}
+use Rattle.smap_compose.proofs.follow.origin_behind.Goals as goal
+
+pub moved_origin-requires-clause-found : goal.moved_origin-requires-clause-found
+unfolding IsAnswerWithin
+moved_origin-requires-clause-found c = c.in-Found.ensures.within

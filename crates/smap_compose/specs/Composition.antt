@@ -1,0 +1,68 @@
+-- What composing two maps gives, and why it is refused, which is this project's own. The sources of both maps stand side
+-- by side, and so do their names: none is merged, and the source that is followed stays listed.
+use Rattle.std.specs.Prelude.{ℕ, ◌+◌, ◌≤◌, List, ◌++◌, Option, Some, None, Bool, ◌||◌, nat_le, nat_lt, if◌then◌else◌, length}
+use Rattle.std.specs.Option.{option_or}
+use Rattle.smap_mappings.specs.Encode.{is_text_too_long}
+use Rattle.smap_mappings.specs.declared.mapping.Mapping.{Mapping}
+use Rattle.smap_index.specs.Parts.{joined}
+use Rattle.smap_record.specs.Limits.{most_entries}
+use Rattle.smap_record.specs.Record.{MapRecord}
+use Rattle.smap_record.specs.Sources.{StatedSource}
+use Rattle.smap_compose.specs.Follow.{CountedMappings, followed}
+use Rattle.smap_compose.specs.declared.refusal.ComposeRefusal.{ComposeRefusal}
+use Rattle.smap_compose.specs.declared.refusal.ComposeRefusal.TheVariants.{SourceIndex, TooLarge}
+
+-- the mappings of a map, and how many sources and names it has
+abbrev pub mappings_of_map : MapRecord → CountedMappings
+mappings_of_map stated = record { mappings = joined stated.parts; sources = length stated.sources; names = length stated.names }
+
+-- what callers see of a composed map
+pub record Composition : Type 0 where
+  pub mappings : List Mapping
+  pub sources : List StatedSource
+  pub names : List (List ℕ)
+  pub file : Option (List ℕ)
+
+-- the mappings of the first map, followed through the second where they are of this source of the first
+abbrev pub followed_mappings : MapRecord → ℕ → MapRecord → List Mapping
+followed_mappings outer source inner = (followed (mappings_of_map outer) source (mappings_of_map inner)).mappings
+
+-- these mappings, with the sources and names of both maps; it is a map of the file that the first map is of
+abbrev pub composition : MapRecord → ℕ → MapRecord → Composition
+composition outer source inner = record {
+  mappings = followed_mappings outer source inner;
+  sources = outer.sources ++ inner.sources;
+  names = outer.names ++ inner.names;
+  file = outer.file;
+}
+
+-- ---- refusals
+
+-- how many sources two maps have together
+abbrev pub sources_together : MapRecord → MapRecord → ℕ
+sources_together outer inner = length outer.sources + length inner.sources
+
+-- how many names
+abbrev pub names_together : MapRecord → MapRecord → ℕ
+names_together outer inner = length outer.names + length inner.names
+
+-- the two maps have more sources together than a map lists, or more names
+abbrev pub has_too_many_entries : MapRecord → MapRecord → Bool
+has_too_many_entries outer inner = nat_lt most_entries (sources_together outer inner) || nat_lt most_entries (names_together outer inner)
+
+-- they have no more of either
+pub record AreFew (outer inner : MapRecord) : Type 0 where
+  pub sources : sources_together outer inner ≤ most_entries
+  pub names : names_together outer inner ≤ most_entries
+
+-- the refusal that the numbers of sources and names decide, if there is one
+abbrev pub count_refusal : MapRecord → ℕ → MapRecord → Option ComposeRefusal
+count_refusal outer source inner =
+    if nat_le (length outer.sources) source then Some SourceIndex
+    else (if has_too_many_entries outer inner then Some TooLarge else None)
+
+-- the first refusal, if there is one: the canonical text of the composed mappings may be too long
+abbrev pub compose_refusal : MapRecord → ℕ → MapRecord → Option ComposeRefusal
+compose_refusal outer source inner =
+    option_or (count_refusal outer source inner)
+    (if is_text_too_long (followed_mappings outer source inner) then Some TooLarge else None)

@@ -1,0 +1,3 @@
+pub mod Follow
+pub mod Composition
+pub mod Composed

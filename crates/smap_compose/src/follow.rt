@@ -1,0 +1,96 @@
+//! The mappings of a map, followed through the map of one of its sources.
+ghost use Rattle.std.specs.Prelude.{◌≡◌, None, length, IfOk, IfSome};
+ghost use Rattle.std.specs.List.{All};
+ghost use Rattle.smap_mappings.specs.Encode.{list_fault};
+ghost use Rattle.smap_mappings.specs.Within.{IsOriginWithin, IsWithin};
+ghost use Rattle.smap_record.specs.Record.{answer_of_map};
+ghost use Rattle.smap_compose.specs.Composition.{AreFew, followed_mappings, mappings_of_map, names_together, sources_together};
+ghost use Rattle.smap_compose.specs.Follow.{follow, moved_origin, origin_of_answer};
+
+use smap_mappings::laws::lists_in_order_have_no_fault;
+use smap_record::{Answer, MapFile, Mapping, Meter, Origin};
+use std::alloc::{AllocError, Global};
+
+/// The mappings of the outer map, those of this source followed through the inner map. Each costs at most one look-up
+/// there; the inner map's mappings are not listed.
+pub fn followed_mappings(
+    alloc: Global,
+    outer: &MapFile,
+    source: u32,
+    inner: &MapFile,
+) -> Result<Vec<Mapping>, AllocError>
+    requires few { AreFew outer.now.stated inner.now.stated }
+    ensures list { IfOk result (λ list. list.items
+        ≡ followed_mappings outer.now.stated source inner.now.stated) }
+    ensures within { let outer = outer.now.stated in let inner = inner.now.stated in
+        IfOk result (λ list. All
+        (IsWithin (sources_together outer inner) (names_together outer inner)) list.items) }
+    ensures no_fault { IfOk result (λ list. list_fault list.items ≡ None) }
+{
+    let mut list = outer.decode_all(alloc)?;
+    for mapping in list.iter_mut() {
+        *mapping = follow(alloc, outer, source, inner, *mapping);
+    }
+    lists_in_order_have_no_fault();
+    Ok(list)
+}
+
+// The mapping, followed where it is of this source.
+fn follow(alloc: Global, outer: &MapFile, source: u32, inner: &MapFile, mapping: Mapping) -> Mapping
+    requires few { AreFew outer.now.stated inner.now.stated }
+    requires within { IsWithin
+        (length outer.now.stated.sources) (length outer.now.stated.names) mapping }
+    ensures followed { result ≡ follow
+        (mappings_of_map outer.now.stated) source (mappings_of_map inner.now.stated) mapping }
+    ensures within { let outer = outer.now.stated in let inner = inner.now.stated in
+        IsWithin (sources_together outer inner) (names_together outer inner) result }
+{
+    match mapping.origin {
+        Some(origin) if origin.source == source => Mapping {
+            origin: origin_behind(alloc, outer, inner, origin),
+            ..mapping
+        },
+        _ => mapping,
+    }
+}
+
+// The origin to which the inner map leads from this one, if there is one.
+fn origin_behind(alloc: Global, outer: &MapFile, inner: &MapFile, origin: Origin) -> Option<Origin>
+    requires few { AreFew outer.now.stated inner.now.stated }
+    requires within { IsOriginWithin
+        (length outer.now.stated.sources) (length outer.now.stated.names) origin }
+    ensures answer { result ≡ origin_of_answer (mappings_of_map outer.now.stated) origin.name
+        (answer_of_map inner.now.stated origin.line origin.column) }
+    ensures within { let outer = outer.now.stated in let inner = inner.now.stated in
+        IfSome result (IsOriginWithin (sources_together outer inner) (names_together outer inner)) }
+{
+    let mut meter = Meter::new(alloc);
+    match inner.look_up(origin.line, origin.column, &mut meter) {
+        Answer::Found { origin: found, .. } => Some(moved_origin(outer, inner, origin, found)),
+        Answer::Unmapped { .. } => None,
+        Answer::Nothing => None,
+    }
+}
+
+// An origin of the inner map, behind the outer map's sources and names; with the name of the one that led to it where it
+// has none itself.
+fn moved_origin(outer: &MapFile, inner: &MapFile, origin: Origin, found: Origin) -> Origin
+    requires few { AreFew outer.now.stated inner.now.stated }
+    requires within { IsOriginWithin
+        (length outer.now.stated.sources) (length outer.now.stated.names) origin }
+    requires found { IsOriginWithin
+        (length inner.now.stated.sources) (length inner.now.stated.names) found }
+    ensures moved { result ≡ moved_origin (mappings_of_map outer.now.stated) origin.name found }
+    ensures within { let outer = outer.now.stated in let inner = inner.now.stated in
+        IsOriginWithin (sources_together outer inner) (names_together outer inner) result }
+{
+    let _entries = inner.sources();
+    Origin {
+        source: outer.sources() as u32 + found.source,
+        name: match found.name {
+            Some(name) => Some(outer.names() as u32 + name),
+            None => origin.name,
+        },
+        ..found
+    }
+}

@@ -1,0 +1,32 @@
+-- Worked examples of the definitions: each holds by computing both sides.
+use Rattle.std.proofs.Common.{◌≡◌, true, false, [], ◌∷◌, Some, None, refl, codes}
+use Rattle.smap_trace.specs.FrameOf.{frame_of, number_of}
+use Rattle.smap_trace.specs.Rewritten.{lines_of}
+use Rattle.smap_trace.specs.Table.{is_bad_url}
+
+a_call : frame_of (codes "  at async f (a.js:1:6)") ≡ Some (record { head = codes "  at async f ("; url = codes "a.js"; line = 1; column = 6; tail = codes ")" })
+unfolding frame_of
+a_call = refl
+
+a_module : frame_of (codes "at async a.js:10:6\r") ≡ Some (record { head = codes "at async "; url = codes "a.js"; line = 10; column = 6; tail = codes "\r" })
+unfolding frame_of
+a_module = refl
+
+-- the function is missing
+no_function : frame_of (codes "at  (u:1:1)") ≡ None
+unfolding frame_of
+no_function = refl
+
+twice_async : frame_of (codes "at async async u:1:1") ≡ None
+unfolding frame_of
+twice_async = refl
+
+numbers : number_of (codes "2147483648") ∷ number_of (codes "2147483649") ∷ number_of (codes "0") ∷ number_of (codes "01") ∷ [] ≡ Some 2147483648 ∷ None ∷ None ∷ None ∷ []
+numbers = refl
+
+lines : lines_of (codes "a\n\nb") ≡ codes "a\n" ∷ codes "\n" ∷ codes "b" ∷ []
+lines = refl
+
+urls : is_bad_url (codes "eval at u") ∷ is_bad_url (codes "") ∷ is_bad_url (codes "a\nb") ∷ is_bad_url (codes "u") ∷ [] ≡ true ∷ true ∷ true ∷ false ∷ []
+unfolding is_bad_url
+urls = refl

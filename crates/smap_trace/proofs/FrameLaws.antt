@@ -1,0 +1,301 @@
+-- A line is a frame of exactly the parts that `frame_of` computes, and so in at most one way.
+use Rattle.std.proofs.Common.{◌≡◌, ◌≢◌, ◌+◌, ◌<◌, ℕ, Bool, true, false, cond, List, [], ◌∷◌, ◌++◌, length, take, drop, Option, Some, None, IsTrue, refl, sym, ap, ◌∙◌, arith, subst, suc, ◌⊎◌, inl, inr, ⊎_elim, append_assoc, append-nil, length-append}
+use Rattle.std.specs.Fmt.{decimal}
+use Rattle.std.specs.List.{AllByRecursion, prefix_len, starts_with}
+use Rattle.std.specs.Bool.{nat_eq}
+use Rattle.std.specs.Option.{MatchOption}
+use Rattle.std.proofs.lemmas.Bool.{cond-true, cond-false, cond_both, false_from_ne_true, both_ways}
+use Rattle.std.proofs.lemmas.Bool.Decides.{Decides-eqb}
+use Rattle.std.proofs.lemmas.List.{take_at, drop_at, take-append-drop, drop-drop, append_cancel_right}
+use Rattle.std.proofs.lemmas.Slice.Eq.{starts_is}
+use Rattle.smap_trace.specs.Cuts.{cut_at_last, cut_at_call, without_last}
+use Rattle.smap_trace.specs.Frame.{FrameParts, is_line, is_blank, IsLineEnd, IsPrinted, IsCallFrame, IsPlainFrame, IsFrame}
+use Rattle.smap_trace.specs.FrameOf.{Place, place_of, place_cut, place_before, place_with, parts_with, call_frame, is_async, unless_async, plain_frame, frame_behind, frame_after, frame_in, frame_of, number_of}
+use Rattle.smap_trace.proofs.CutLaws.{IsLastCut, cut_is_last, last_cut, is_without, IsFirstCall, HasNoCall, call_is_first, first_call, last_is, last_is_other, last_stands}
+use Rattle.smap_trace.proofs.NumberLaws.{none_else, number_is, number_reads, number_without, number_ends}
+
+-- ---- places
+
+-- a text that is a URL, `:`, a line, `:`, a column
+abbrev pub place_text : List ℕ → ℕ → ℕ → List ℕ
+place_text url line column = url ++ 58 ∷ (decimal line ++ 58 ∷ decimal column)
+
+record IsPlace (text : List ℕ) (place : Place) : Type 0 where
+  text_is : text ≡ place_text place.url place.line place.column
+  located : place.url ≢ []
+  line_printed : IsPrinted place.line
+  column_printed : IsPrinted place.column
+
+with_is : (text url line column : List ℕ) (place : Place) (l c : Option ℕ) → l ≡ number_of line → c ≡ number_of column → text ≡ url ++ 58 ∷ (line ++ 58 ∷ column) → place_with url l c ≡ Some place → IsPlace text place
+with_is text [] line column place l c li ci whole is = cc
+with_is text (b ∷ url) line column place None c li ci whole is = cc
+with_is text (b ∷ url) line column place (Some l) None li ci whole is = cc
+with_is text (b ∷ url) line column place (Some l) (Some c) li ci whole is =
+    let l_is = number_is line l (sym li) in
+    let c_is = number_is column c (sym ci) in
+    let same : place ≡ record { url = b ∷ url; line = l; column = c } = cc in
+    let P : Place → Type 0 = λ p. IsPlace text p in
+    subst P (sym same) (record {
+      text_is = whole ∙ (λ i. (b ∷ url) ++ 58 ∷ (l_is.0 i ++ 58 ∷ c_is.0 i));
+      located = λ e. (cc);
+      line_printed = l_is.1;
+      column_printed = c_is.1;
+    })
+
+before_is : (text front column : List ℕ) (place : Place) (cut : Option (List ℕ × List ℕ)) → MatchOption cut (is_without 58 front) (IsLastCut 58 front) → text ≡ front ++ 58 ∷ column → place_before cut (number_of column) ≡ Some place → IsPlace text place
+before_is text front column place None cuts whole is = cc
+before_is text front column place (Some (url, line)) cuts whole is =
+    with_is text url line column place (number_of line) (number_of column) refl refl (whole ∙ ap (λ f. f ++ 58 ∷ column) cuts.0 ∙ append_assoc url (58 ∷ line) (58 ∷ column)) is
+
+cut_is : (text : List ℕ) (place : Place) (cut : Option (List ℕ × List ℕ)) → MatchOption cut (is_without 58 text) (IsLastCut 58 text) → place_cut cut ≡ Some place → IsPlace text place
+cut_is text place None cuts is = cc
+cut_is text place (Some (front, column)) cuts is = before_is text front column place (cut_at_last 58 front) (cut_is_last 58 front) cuts.0 is
+
+place_is : (text : List ℕ) (place : Place) → place_of text ≡ Some place → IsPlace text place
+place_is text place is = cut_is text place (cut_at_last 58 text) (cut_is_last 58 text) is
+
+place_reads : (url : List ℕ) (line column : ℕ) → url ≢ [] → IsPrinted line → IsPrinted column → place_of (place_text url line column) ≡ Some (record { url = url; line = line; column = column })
+place_reads [] line column located l c = absurd (located refl)
+place_reads (b ∷ url) line column located l c =
+    ap place_cut (ap (cut_at_last 58) (sym (append_assoc (b ∷ url) (58 ∷ decimal line) (58 ∷ decimal column))) ∙ last_cut 58 ((b ∷ url) ++ 58 ∷ decimal line) (decimal column) (number_without column c))
+    ∙ ap (λ cut. place_before cut (number_of (decimal column))) (last_cut 58 (b ∷ url) (decimal line) (number_without line l))
+    ∙ (λ i. place_with (b ∷ url) (number_reads line l i) (number_reads column c i))
+
+-- ---- from the parts that are computed to a frame
+
+abbrev at_word : List ℕ
+at_word = 97 ∷ 116 ∷ 32 ∷ []
+
+abbrev async_word : List ℕ
+async_word = 97 ∷ 115 ∷ 121 ∷ 110 ∷ 99 ∷ 32 ∷ []
+
+abbrev call_word : List ℕ
+call_word = 32 ∷ 40 ∷ []
+
+unless_is : (o : Option FrameParts) (parts : FrameParts) → unless_async o ≡ Some parts → (o ≡ Some parts) × (is_async parts.url ≡ false)
+unless_is None parts is = cc
+unless_is (Some p) parts is = go (is_async p.url) refl is
+  where
+    go : (t : Bool) → is_async p.url ≡ t → cond t None (Some p) ≡ Some parts → (Some p ≡ Some parts) × (is_async parts.url ≡ false)
+    go true at e = cc
+    go false at e = let same : p ≡ parts = cc in (e, ap (λ q. is_async q.url) (sym same) ∙ at)
+
+not_async : (url rest : List ℕ) → is_async url ≡ false → url ≢ async_word ++ rest
+not_async url rest off is = both_ways _ off ((starts_is Decides-eqb url async_word (is_async url) refl).1 rest is)
+
+-- what is passed over is blank
+blank_prefix : (text : List ℕ) → AllByRecursion (λ byte. IsTrue (is_blank byte)) (take (prefix_len is_blank text) text)
+blank_prefix [] = tt
+blank_prefix (x ∷ text) =
+    let P : ℕ → Type 0 = λ n. AllByRecursion (λ byte. IsTrue (is_blank byte)) (take n (x ∷ text)) in
+    let one : suc (prefix_len is_blank text) ≡ 1 + prefix_len is_blank text = omega arith in
+    cond_both (is_blank x) (1 + prefix_len is_blank text) 0 P (λ blank. subst P one (blank, blank_prefix text)) (λ _. tt)
+
+-- a byte that is none ends the blanks
+blanks_end : (blanks : List ℕ) (byte : ℕ) (rest : List ℕ) → AllByRecursion (λ b. IsTrue (is_blank b)) blanks → is_blank byte ≡ false → prefix_len is_blank (blanks ++ byte ∷ rest) ≡ length blanks
+blanks_end [] byte rest blank other = cond-false (is_blank byte) (1 + prefix_len is_blank rest) 0 other
+blanks_end (x ∷ blanks) byte rest blank other =
+    cond-true (is_blank x) (1 + prefix_len is_blank (blanks ++ byte ∷ rest)) 0 blank.0 ∙ ap (λ n. 1 + n) (blanks_end blanks byte rest blank.1 other) ∙ omega arith
+
+module _ (line : List ℕ) (bounded : IsTrue (is_line line)) where
+  at_place : (head text tail : List ℕ) (place : Option Place) (parts : FrameParts) → MatchOption place (Unit {0}) (IsPlace text) → line ≡ head ++ (text ++ tail) →
+      parts_with head place tail ≡ Some parts → ((p : FrameParts) → p.head ≡ head → p.tail ≡ tail → p ≡ parts → IsCallFrame p ⊎ IsPlainFrame p) → IsFrame line parts
+  at_place head text tail None parts stands whole is form = cc
+  at_place head text tail (Some place) parts stands whole is form =
+      let found : FrameParts = record { head = head; url = place.url; line = place.line; column = place.column; tail = tail } in
+      let same : found ≡ parts = cc in
+      let P : FrameParts → Type 0 = λ p. IsFrame line p in
+      subst P same (record {
+        bounded = bounded;
+        joined = whole ∙ ap (λ t. head ++ (t ++ tail)) stands.text_is ∙ simp append_assoc;
+        located = stands.located;
+        line_printed = stands.line_printed;
+        column_printed = stands.column_printed;
+        form = form found refl refl same;
+      })
+
+  at_text : (head text tail : List ℕ) (parts : FrameParts) → line ≡ head ++ (text ++ tail) →
+      parts_with head (place_of text) tail ≡ Some parts → ((p : FrameParts) → p.head ≡ head → p.tail ≡ tail → p ≡ parts → IsCallFrame p ⊎ IsPlainFrame p) → IsFrame line parts
+  at_text head text tail parts whole is form = at_place head text tail (place_of text) parts (seen (place_of text) refl) whole is form
+    where
+      seen : (o : Option Place) → place_of text ≡ o → MatchOption o (Unit {0}) (IsPlace text)
+      seen None e = tt
+      seen (Some place) e = place_is text place e
+
+  call_is : (blanks inner end : List ℕ) (parts : FrameParts) (cut : Option (List ℕ × List ℕ)) → AllByRecursion (λ byte. IsTrue (is_blank byte)) blanks → IsLineEnd end → MatchOption cut (Unit {0}) (IsFirstCall inner) →
+      line ≡ (blanks ++ at_word) ++ ((inner ++ 41 ∷ []) ++ end) → call_frame (blanks ++ at_word) cut (41 ∷ end) ≡ Some parts → IsFrame line parts
+  call_is blanks inner end parts None blank ends first whole is = cc
+  call_is blanks inner end parts (Some ([], place)) blank ends first whole is = cc
+  call_is blanks inner end parts (Some (b ∷ function, place)) blank ends first whole is =
+      at_text ((blanks ++ at_word) ++ (b ∷ function) ++ call_word) place (41 ∷ end) parts
+      (whole ∙ ap (λ t. (blanks ++ at_word) ++ ((t ++ 41 ∷ []) ++ end)) first.0 ∙ simp append_assoc) is
+      (λ p head_is tail_is same. inl (record {
+        blanks = blanks;
+        function = b ∷ function;
+        end = end;
+        blank = blank;
+        named = λ e. (cc);
+        first = λ before after e. first.1 before after (e ∙ append_assoc before call_word after);
+        ends = ends;
+        head_is = head_is;
+        tail_is = tail_is;
+      }))
+
+  plain_is : (blanks text end : List ℕ) (parts : FrameParts) → AllByRecursion (λ byte. IsTrue (is_blank byte)) blanks → IsLineEnd end →
+      line ≡ (blanks ++ at_word) ++ (text ++ end) → plain_frame (blanks ++ at_word) text end ≡ Some parts → IsFrame line parts
+  plain_is blanks text end parts blank ends whole is = go (is_async text) refl out.0
+    where
+      out : (cond (is_async text) (parts_with ((blanks ++ at_word) ++ async_word) (place_of (drop 6 text)) end) (parts_with (blanks ++ at_word) (place_of text) end) ≡ Some parts) × (is_async parts.url ≡ false)
+      out = unless_is _ parts is
+
+      form : (p : FrameParts) → p.tail ≡ end → p ≡ parts → (p.head ≡ blanks ++ at_word) ⊎ (p.head ≡ blanks ++ (97 ∷ 116 ∷ 32 ∷ async_word)) → IsPlainFrame p
+      form p tail_is same heads = record {
+        blanks = blanks;
+        blank = blank;
+        not_async = λ rest e. not_async p.url rest (ap (λ q. is_async q.url) same ∙ out.1) e;
+        head_is = heads;
+        tail_is = let P : List ℕ → Type 0 = λ e. IsLineEnd e in subst P (sym tail_is) ends;
+      }
+
+      go : (t : Bool) → is_async text ≡ t → cond t (parts_with ((blanks ++ at_word) ++ async_word) (place_of (drop 6 text)) end) (parts_with (blanks ++ at_word) (place_of text) end) ≡ Some parts → IsFrame line parts
+      go true holds e =
+          let begins : text ≡ async_word ++ drop 6 text = (starts_is Decides-eqb text async_word (is_async text) refl).0 holds in
+          at_text ((blanks ++ at_word) ++ async_word) (drop 6 text) end parts (whole ∙ ap (λ t. (blanks ++ at_word) ++ (t ++ end)) begins ∙ simp append_assoc) e
+          (λ p head_is tail_is same. inr (form p tail_is same (inr (head_is ∙ append_assoc blanks at_word async_word))))
+      go false fails e = at_text (blanks ++ at_word) text end parts whole e (λ p head_is tail_is same. inr (form p tail_is same (inl head_is)))
+
+  behind_is : (blanks text end : List ℕ) (parts : FrameParts) (inner : Option (List ℕ)) → AllByRecursion (λ byte. IsTrue (is_blank byte)) blanks → IsLineEnd end → MatchOption inner (Unit {0}) (λ front. text ≡ front ++ 41 ∷ []) →
+      line ≡ (blanks ++ at_word) ++ (text ++ end) → frame_behind (blanks ++ at_word) text inner end ≡ Some parts → IsFrame line parts
+  behind_is blanks text end parts None blank ends stands whole is = plain_is blanks text end parts blank ends whole is
+  behind_is blanks text end parts (Some inner) blank ends stands whole is =
+      call_is blanks inner end parts (cut_at_call inner) blank ends (call_is_first inner) (whole ∙ ap (λ t. (blanks ++ at_word) ++ (t ++ end)) stands) is
+
+  after_is : (body end : List ℕ) (parts : FrameParts) → IsLineEnd end → line ≡ body ++ end → frame_after (prefix_len is_blank body) body end ≡ Some parts → IsFrame line parts
+  after_is body end parts ends whole is =
+      let n : ℕ = prefix_len is_blank body in
+      let found = none_else (starts_with nat_eq (drop n body) at_word) _ parts is in
+      let begins : drop n body ≡ at_word ++ drop 3 (drop n body) = (starts_is Decides-eqb (drop n body) at_word _ refl).0 found.0 in
+      let split : body ≡ (take n body ++ at_word) ++ drop (n + 3) body =
+      sym (take-append-drop n body) ∙ ap (λ l. take n body ++ l) (begins ∙ ap (λ l. at_word ++ l) (drop-drop 3 n body)) ∙ sym (append_assoc (take n body) at_word (drop (n + 3) body)) in
+      let head : take (n + 3) body ≡ take n body ++ at_word = append_cancel_right (take (n + 3) body) (take n body ++ at_word) (drop (n + 3) body) (take-append-drop (n + 3) body ∙ split) in
+      behind_is (take n body) (drop (n + 3) body) end parts (without_last 41 (drop (n + 3) body)) (blank_prefix body) ends (last_stands 41 (drop (n + 3) body))
+      (whole ∙ ap (λ b. b ++ end) split ∙ append_assoc (take n body ++ at_word) (drop (n + 3) body) end)
+      (ap (λ h. frame_behind h (drop (n + 3) body) (without_last 41 (drop (n + 3) body)) end) (sym head) ∙ found.1)
+
+  in_is : (parts : FrameParts) (body : Option (List ℕ)) → MatchOption body (Unit {0}) (λ front. line ≡ front ++ 13 ∷ []) → frame_in line body ≡ Some parts → IsFrame line parts
+  in_is parts None stands is = after_is line [] parts (inl refl) (sym (append-nil line)) is
+  in_is parts (Some body) stands is = after_is body (13 ∷ []) parts (inr refl) stands is
+
+pub parts_are_frame : (line : List ℕ) (parts : FrameParts) → frame_of line ≡ Some parts → IsFrame line parts
+unfolding frame_of
+parts_are_frame line parts is =
+    let found = none_else (is_line line) (frame_in line (without_last 13 line)) parts is in
+    in_is line found.0 parts (without_last 13 line) (last_stands 13 line) found.1
+
+-- ---- from a frame to the parts that are computed
+
+after_reads : (blanks text end : List ℕ) → AllByRecursion (λ b. IsTrue (is_blank b)) blanks →
+    frame_after (prefix_len is_blank ((blanks ++ at_word) ++ text)) ((blanks ++ at_word) ++ text) end ≡ frame_behind (blanks ++ at_word) text (without_last 41 text) end
+after_reads blanks text end blank =
+    let body : List ℕ = (blanks ++ at_word) ++ text in
+    let split : body ≡ blanks ++ (at_word ++ text) = append_assoc blanks at_word text in
+    let n : prefix_len is_blank body ≡ length blanks = ap (prefix_len is_blank) split ∙ blanks_end blanks 97 (116 ∷ 32 ∷ text) blank refl in
+    let rest : drop (length blanks) body ≡ at_word ++ text = ap (drop (length blanks)) split ∙ drop_at blanks (at_word ++ text) (length blanks) refl in
+    let begins : starts_with nat_eq (drop (length blanks) body) at_word ≡ true = (starts_is Decides-eqb (drop (length blanks) body) at_word _ refl).1 text rest in
+    let long : length (blanks ++ at_word) ≡ length blanks + 3 = length-append blanks at_word in
+    let head : take (length blanks + 3) body ≡ blanks ++ at_word = take_at (blanks ++ at_word) text (length blanks + 3) long in
+    let tail : drop (length blanks + 3) body ≡ text = drop_at (blanks ++ at_word) text (length blanks + 3) long in
+    ap (λ k. frame_after k body end) n ∙ cond-true (starts_with nat_eq (drop (length blanks) body) at_word) _ None begins ∙ (λ i. frame_behind (head i) (tail i) (without_last 41 (tail i)) end)
+
+-- a line that ends in another byte than a CR, and the end of a line behind it
+ended : (line body end : List ℕ) → IsLineEnd end → line ≡ body ++ end → without_last 13 body ≡ None → frame_in line (without_last 13 line) ≡ frame_after (prefix_len is_blank body) body end
+ended line body end ends whole other = ⊎_elim
+    (λ (none : end ≡ []).
+    let same : line ≡ body = whole ∙ ap (λ e. body ++ e) none ∙ append-nil body in
+    ap (frame_in line) (ap (without_last 13) same ∙ other) ∙ (λ i. frame_after (prefix_len is_blank (same i)) (same i) (sym none i)))
+    (λ (cr : end ≡ 13 ∷ []).
+    ap (frame_in line) (ap (without_last 13) (whole ∙ ap (λ e. body ++ e) cr) ∙ last_is 13 body) ∙ ap (frame_after (prefix_len is_blank body) body) (sym cr))
+    ends
+
+record_is : (parts : FrameParts) (head tail : List ℕ) → parts.head ≡ head → parts.tail ≡ tail → record { head = head; url = parts.url; line = parts.line; column = parts.column; tail = tail } ≡ parts
+record_is parts head tail h t = λ i. record { head = sym h i; url = parts.url; line = parts.line; column = parts.column; tail = sym t i }
+
+call_reads : (line : List ℕ) (parts : FrameParts) (is : IsFrame line parts) (call : IsCallFrame parts) → frame_in line (without_last 13 line) ≡ Some parts
+call_reads line parts is call =
+    let place : List ℕ = place_text parts.url parts.line parts.column in
+    let inner : List ℕ = call.function ++ 32 ∷ 40 ∷ place in
+    let body : List ℕ = (call.blanks ++ at_word) ++ (inner ++ 41 ∷ []) in
+    let whole : line ≡ body ++ call.end = is.joined ∙ (λ i. call.head_is i ++ parts.url ++ 58 ∷ [] ++ decimal parts.line ++ 58 ∷ [] ++ decimal parts.column ++ call.tail_is i) ∙ simp append_assoc in
+    let other : without_last 13 body ≡ None = ap (without_last 13) (sym (append_assoc (call.blanks ++ at_word) inner (41 ∷ []))) ∙ last_is_other 13 41 ((call.blanks ++ at_word) ++ inner) (λ e. cc) in
+    let uncalled : HasNoCall call.function = λ before after e. call.first before after (e ∙ sym (append_assoc before call_word after)) in
+    ended line body call.end call.ends whole other
+    ∙ after_reads call.blanks (inner ++ 41 ∷ []) call.end call.blank
+    ∙ ap (λ o. frame_behind (call.blanks ++ at_word) (inner ++ 41 ∷ []) o call.end) (last_is 41 inner)
+    ∙ ap (λ cut. call_frame (call.blanks ++ at_word) cut (41 ∷ call.end)) (first_call call.function place uncalled)
+    ∙ named call.function call.named call.head_is
+  where
+    named : (function : List ℕ) → function ≢ [] → parts.head ≡ (call.blanks ++ at_word) ++ function ++ call_word →
+        call_frame (call.blanks ++ at_word) (Some (function, place_text parts.url parts.line parts.column)) (41 ∷ call.end) ≡ Some parts
+    named [] some head_is = absurd (some refl)
+    named (b ∷ function) some head_is =
+        ap (λ p. parts_with ((call.blanks ++ at_word) ++ (b ∷ function) ++ call_word) p (41 ∷ call.end)) (place_reads parts.url parts.line parts.column is.located is.line_printed is.column_printed)
+        ∙ ap Some (record_is parts ((call.blanks ++ at_word) ++ (b ∷ function) ++ call_word) (41 ∷ call.end) head_is call.tail_is)
+
+-- `async ` ends before the first `:`
+async_stays : (url rest : List ℕ) → is_async (url ++ 58 ∷ rest) ≡ true → is_async url ≡ true
+async_stays [] rest is = is
+async_stays (a ∷ []) rest is = is
+async_stays (a ∷ b ∷ []) rest is = is
+async_stays (a ∷ b ∷ d ∷ []) rest is = is
+async_stays (a ∷ b ∷ d ∷ e ∷ []) rest is = is
+async_stays (a ∷ b ∷ d ∷ e ∷ f ∷ []) rest is = is
+async_stays (a ∷ b ∷ d ∷ e ∷ f ∷ g ∷ url) rest is = is
+
+not_async_is : (url : List ℕ) → ((rest : List ℕ) → url ≢ async_word ++ rest) → is_async url ≡ false
+not_async_is url none = false_from_ne_true _ (λ holds. none (drop 6 url) ((starts_is Decides-eqb url async_word (is_async url) refl).0 holds))
+
+plain_reads : (line : List ℕ) (parts : FrameParts) (is : IsFrame line parts) (plain : IsPlainFrame parts) → frame_in line (without_last 13 line) ≡ Some parts
+plain_reads line parts is plain = ⊎_elim
+    (λ (head_is : parts.head ≡ plain.blanks ++ at_word).
+    to_text place (is.joined ∙ ap (λ h. h ++ parts.url ++ 58 ∷ [] ++ decimal parts.line ++ 58 ∷ [] ++ decimal parts.column ++ parts.tail) head_is ∙ simp append_assoc) [] refl
+    ∙ ap unless_async (cond-false (is_async place) (parts_with ((plain.blanks ++ at_word) ++ async_word) (place_of (drop 6 place)) parts.tail) (parts_with (plain.blanks ++ at_word) (place_of place) parts.tail) (false_from_ne_true _ (λ holds. both_ways _ off (async_stays parts.url (decimal parts.line ++ 58 ∷ decimal parts.column) holds))) ∙ with_head (plain.blanks ++ at_word) head_is)
+    ∙ kept)
+    (λ (head_is : parts.head ≡ plain.blanks ++ (at_word ++ async_word)).
+    to_text (async_word ++ place) (is.joined ∙ ap (λ h. h ++ parts.url ++ 58 ∷ [] ++ decimal parts.line ++ 58 ∷ [] ++ decimal parts.column ++ parts.tail) head_is ∙ simp append_assoc) async_word refl
+    ∙ ap unless_async (cond-true (is_async (async_word ++ place)) (parts_with ((plain.blanks ++ at_word) ++ async_word) (place_of place) parts.tail) (parts_with (plain.blanks ++ at_word) (place_of (async_word ++ place)) parts.tail) refl ∙ with_head ((plain.blanks ++ at_word) ++ async_word) (head_is ∙ sym (append_assoc plain.blanks at_word async_word)))
+    ∙ kept)
+    plain.head_is
+  where
+    place : List ℕ
+    place = place_text parts.url parts.line parts.column
+
+    off : is_async parts.url ≡ false
+    off = not_async_is parts.url plain.not_async
+
+    kept : unless_async (Some parts) ≡ Some parts
+    kept = cond-false (is_async parts.url) None (Some parts) off
+
+    with_head : (head : List ℕ) → parts.head ≡ head → parts_with head (place_of (place_text parts.url parts.line parts.column)) parts.tail ≡ Some parts
+    with_head head head_is =
+        ap (λ p. parts_with head p parts.tail) (place_reads parts.url parts.line parts.column is.located is.line_printed is.column_printed)
+        ∙ ap Some (record_is parts head parts.tail head_is refl)
+
+    number_last : (byte : ℕ) (opening : List ℕ) → (byte < 48) ⊎ (57 < byte) → without_last byte (opening ++ place_text parts.url parts.line parts.column) ≡ None
+    number_last byte opening outside =
+        let e : (opening ++ parts.url ++ 58 ∷ [] ++ decimal parts.line ++ 58 ∷ []) ++ decimal parts.column ≡ opening ++ place_text parts.url parts.line parts.column = simp append_assoc in
+        ap (without_last byte) (sym e) ∙ number_ends byte (opening ++ parts.url ++ 58 ∷ [] ++ decimal parts.line ++ 58 ∷ []) parts.column outside is.column_printed
+
+    to_text : (text : List ℕ) → line ≡ ((plain.blanks ++ at_word) ++ text) ++ parts.tail → (word : List ℕ) → word ++ place_text parts.url parts.line parts.column ≡ text →
+        frame_in line (without_last 13 line) ≡ plain_frame (plain.blanks ++ at_word) text parts.tail
+    to_text text whole word text_is =
+        let head : List ℕ = plain.blanks ++ at_word in
+        let same : (head ++ word) ++ place_text parts.url parts.line parts.column ≡ head ++ text = append_assoc head word (place_text parts.url parts.line parts.column) ∙ ap (λ t. head ++ t) text_is in
+        ended line (head ++ text) parts.tail plain.tail_is whole (ap (without_last 13) (sym same) ∙ number_last 13 (head ++ word) (inl (omega arith)))
+        ∙ after_reads plain.blanks text parts.tail plain.blank
+        ∙ ap (λ o. frame_behind head text o parts.tail) (ap (without_last 41) (sym text_is) ∙ number_last 41 word (inl (omega arith)))
+
+pub frame_has_parts : (line : List ℕ) (parts : FrameParts) → IsFrame line parts → frame_of line ≡ Some parts
+unfolding frame_of
+frame_has_parts line parts is =
+    cond-true (is_line line) (frame_in line (without_last 13 line)) None is.bounded
+    ∙ ⊎_elim (λ (call : IsCallFrame parts). call_reads line parts is call) (λ (plain : IsPlainFrame parts). plain_reads line parts is plain) is.form

@@ -1,0 +1,9 @@
+pub mod CutLaws
+pub mod FrameSteps
+pub mod NumberLaws
+pub mod FrameLaws
+pub mod TableLaws
+pub mod LineLaws
+pub mod CountLaws
+pub mod WrittenLaws
+pub mod Examples

@@ -1,0 +1,60 @@
+-- The frames of a stack trace, as V8 prints them, narrowed to two forms (this project's own grammar):
+--   blanks, `at `, a function, ` (`, a URL, `:`, a line, `:`, a column, `)`
+--   blanks, `at ` or `at async `, a URL, `:`, a line, `:`, a column
+-- A CR may end either. Lines and columns count from 1.
+use Rattle.std.specs.Prelude.{◌≡◌, ◌≢◌, ◌≤◌, ◌-◌, ℕ, ◌==◌, ◌||◌, ◌&&◌, Bool, not, nat_le, IsTrue, List, [], ◌++◌, ◌⊎◌, codes, length, take}
+use Rattle.std.specs.Fmt.{decimal}
+use Rattle.std.specs.List.{AllByRecursion, list_any}
+
+-- what a frame line is made of
+pub record FrameParts : Type 0 where
+  pub head : List ℕ
+  pub url : List ℕ
+  pub line : ℕ
+  pub column : ℕ
+  pub tail : List ℕ
+
+-- a line has at most 65,536 bytes, no LF, and a CR at most as its last byte
+abbrev pub is_line : List ℕ → Bool
+is_line line = nat_le (length line) 65536 && not (list_any (λ byte. byte == 10) line) && not (list_any (λ byte. byte == 13) (take (length line - 1) line))
+
+-- a space or a tab
+abbrev pub is_blank : ℕ → Bool
+is_blank byte = byte == 32 || byte == 9
+
+-- nothing, or a CR
+abbrev pub IsLineEnd : List ℕ → Type 0
+IsLineEnd end = (end ≡ []) ⊎ (end ≡ codes "\r")
+
+-- a line or a column as it is printed
+abbrev pub IsPrinted : ℕ → Type 0
+IsPrinted n = (1 ≤ n) × (n ≤ 2147483648)
+
+-- the first form: what stands before the URL and behind the column. The first ` (` behind `at ` ends the function
+pub record IsCallFrame (parts : FrameParts) : Type 0 where
+  pub blanks : List ℕ
+  pub function : List ℕ
+  pub end : List ℕ
+  pub blank : AllByRecursion (λ byte. IsTrue (is_blank byte)) blanks
+  pub named : function ≢ []
+  pub first : (before after : List ℕ) → function ≢ before ++ codes " (" ++ after
+  pub ends : IsLineEnd end
+  pub head_is : parts.head ≡ blanks ++ codes "at " ++ function ++ codes " ("
+  pub tail_is : parts.tail ≡ codes ")" ++ end
+
+-- the second form. `async ` belongs to the head
+pub record IsPlainFrame (parts : FrameParts) : Type 0 where
+  pub blanks : List ℕ
+  pub blank : AllByRecursion (λ byte. IsTrue (is_blank byte)) blanks
+  pub not_async : (rest : List ℕ) → parts.url ≢ codes "async " ++ rest
+  pub head_is : (parts.head ≡ blanks ++ codes "at ") ⊎ (parts.head ≡ blanks ++ codes "at async ")
+  pub tail_is : IsLineEnd parts.tail
+
+-- the line is a frame of these parts
+pub record IsFrame (line : List ℕ) (parts : FrameParts) : Type 0 where
+  pub bounded : IsTrue (is_line line)
+  pub joined : line ≡ parts.head ++ parts.url ++ codes ":" ++ decimal parts.line ++ codes ":" ++ decimal parts.column ++ parts.tail
+  pub located : parts.url ≢ []
+  pub line_printed : IsPrinted parts.line
+  pub column_printed : IsPrinted parts.column
+  pub form : IsCallFrame parts ⊎ IsPlainFrame parts

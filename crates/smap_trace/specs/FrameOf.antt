@@ -1,0 +1,90 @@
+-- The parts of a frame line: the one choice of them of which `IsFrame` holds.
+use Rattle.std.specs.Prelude.{ℕ, ◌+◌, ◌-◌, ◌*◌, ◌&&◌, Bool, nat_lt, nat_le, List, [], ◌∷◌, ◌++◌, Option, Some, None, if◌then◌else◌, codes, take, drop, slice_index}
+use Rattle.std.specs.Char.{is_ascii_digit}
+use Rattle.std.specs.List.{prefix_len, starts_with}
+use Rattle.std.specs.Bool.{nat_eq}
+use Rattle.smap_trace.specs.Cuts.{cut_at_last, cut_at_call, without_last}
+use Rattle.smap_trace.specs.Frame.{FrameParts, is_line, is_blank}
+
+-- ---- numbers
+
+-- the number that these digits write behind those of n, if it is at most 2147483648
+abbrev pub read_on : ℕ → List ℕ → Option ℕ
+read_on n [] = Some n
+read_on n (byte ∷ text) =
+    if is_ascii_digit byte && nat_le (10 * n + (byte - 48)) 2147483648 then read_on (10 * n + (byte - 48)) text else None
+
+-- the number from 1 to 2147483648 that a text writes without leading zeros
+abbrev pub number_of : List ℕ → Option ℕ
+number_of text = if nat_lt 48 (slice_index text 0) then read_on 0 text else None
+
+-- ---- a place: a URL, `:`, a line, `:`, a column
+
+pub record Place : Type 0 where
+  pub url : List ℕ
+  pub line : ℕ
+  pub column : ℕ
+
+abbrev pub place_with : List ℕ → Option ℕ → Option ℕ → Option Place
+place_with [] line column = None
+place_with (byte ∷ url) None column = None
+place_with (byte ∷ url) (Some line) None = None
+place_with (byte ∷ url) (Some line) (Some column) = Some (record { url = byte ∷ url; line = line; column = column })
+
+-- the place before a column
+abbrev pub place_before : Option (List ℕ × List ℕ) → Option ℕ → Option Place
+place_before None column = None
+place_before (Some (url, line)) column = place_with url (number_of line) column
+
+abbrev pub place_cut : Option (List ℕ × List ℕ) → Option Place
+place_cut None = None
+place_cut (Some (front, column)) = place_before (cut_at_last 58 front) (number_of column)
+
+-- the place that a text is; its last two `:` cut it
+abbrev pub place_of : List ℕ → Option Place
+place_of text = place_cut (cut_at_last 58 text)
+
+-- ---- the two forms
+
+abbrev pub parts_with : (head : List ℕ) → Option Place → (tail : List ℕ) → Option FrameParts
+parts_with head None tail = None
+parts_with head (Some place) tail = Some (record { head = head; url = place.url; line = place.line; column = place.column; tail = tail })
+
+abbrev pub call_frame : (head : List ℕ) → Option (List ℕ × List ℕ) → (tail : List ℕ) → Option FrameParts
+call_frame head None tail = None
+call_frame head (Some ([], place)) tail = None
+call_frame head (Some (byte ∷ function, place)) tail = parts_with (head ++ byte ∷ function ++ codes " (") (place_of place) tail
+
+abbrev pub is_async : List ℕ → Bool
+is_async text = starts_with nat_eq text (codes "async ")
+
+-- the parts, unless the URL begins with `async `
+abbrev pub unless_async : Option FrameParts → Option FrameParts
+unless_async None = None
+unless_async (Some parts) = if is_async parts.url then None else Some parts
+
+abbrev pub plain_frame : (head text tail : List ℕ) → Option FrameParts
+plain_frame head text tail =
+    unless_async (if is_async text then parts_with (head ++ codes "async ") (place_of (drop 6 text)) tail else parts_with head (place_of text) tail)
+
+-- the frame behind its blanks and `at `, where what stands there may end in `)`
+abbrev pub frame_behind : (head text : List ℕ) → Option (List ℕ) → (end : List ℕ) → Option FrameParts
+frame_behind head text (Some inner) end = call_frame head (cut_at_call inner) (codes ")" ++ end)
+frame_behind head text None end = plain_frame head text end
+
+-- ---- the line
+
+-- the frame of a line with this end, whose blanks are this many
+abbrev pub frame_after : ℕ → (body end : List ℕ) → Option FrameParts
+frame_after blanks body end =
+    if starts_with nat_eq (drop blanks body) (codes "at ")
+    then frame_behind (take (blanks + 3) body) (drop (blanks + 3) body) (without_last 41 (drop (blanks + 3) body)) end
+    else None
+
+abbrev pub frame_in : (line : List ℕ) → Option (List ℕ) → Option FrameParts
+frame_in line (Some body) = frame_after (prefix_len is_blank body) body (codes "\r")
+frame_in line None = frame_after (prefix_len is_blank line) line []
+
+-- the parts of a line, if it is a frame
+unfoldable pub frame_of : List ℕ → Option FrameParts
+frame_of line = if is_line line then frame_in line (without_last 13 line) else None

@@ -1,0 +1,10 @@
+pub mod Cuts
+pub mod Frame
+pub mod FrameOf
+pub mod FrameSeen
+pub mod Table
+pub mod Rewritten
+pub mod Lines
+pub mod Rewriting
+-- of private contracts only
+pub mod HandingOn

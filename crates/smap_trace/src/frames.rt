@@ -1,0 +1,134 @@
+//! The frames of a stack trace.
+ghost use Rattle.std.specs.Prelude.{◌≡◌, ◌≤◌, ◌↔◌, Some, length, take, drop, slice_range, option_map};
+ghost use Rattle.std.specs.List.{prefix_len};
+ghost use Rattle.smap_trace.specs.Cuts.{cut_at_call, without_last};
+ghost use Rattle.smap_trace.specs.Frame.{FrameParts, IsFrame, is_blank, is_line};
+ghost use Rattle.smap_trace.specs.FrameOf.{call_frame, frame_after, frame_of, parts_with, place_of};
+ghost use Rattle.smap_trace.specs.FrameOf.{plain_frame, unless_async};
+ghost use Rattle.smap_trace.specs.FrameSeen.{parts_seen, place_seen};
+
+use crate::cuts::{cut_at_call, cut_at_last, without_last};
+use crate::number::number;
+use crate::parts::Frame;
+
+// How many bytes a line has at most, its LF aside.
+const MOST_LINE_BYTES: usize = 65536;
+
+/// The parts of a line, without its LF, that is a frame. The call takes no memory, and goes over the line a fixed number
+/// of times.
+pub fn frame(line: &[u8]) -> Option<Frame<'_>>
+    ensures parts { option_map parts_seen result ≡ frame_of line.now }
+    ensures frame { (parts : FrameParts) → (frame_of line.now ≡ Some parts) ↔ IsFrame line.now parts }
+{
+    if !is_line(line) {
+        return None;
+    }
+    match without_last(b'\r', line) {
+        Some(body) => frame_before(line, body.len()),
+        None => frame_before(line, line.len()),
+    }
+}
+
+// Whether the bytes are one line that is not too long.
+fn is_line(line: &[u8]) -> bool
+    ensures { result ≡ is_line line.now }
+{
+    line.len() <= MOST_LINE_BYTES
+        && !line.contains(&b'\n')
+        && !line[..line.len().saturating_sub(1)].contains(&b'\r')
+}
+
+// The frame of a line whose CR, where it has one, stands at `end`.
+fn frame_before(line: &[u8], end: usize) -> Option<Frame<'_>>
+    requires { end ≤ length line.now }
+    ensures { option_map parts_seen result
+        ≡ frame_after (prefix_len is_blank (take end line.now)) (take end line.now) (drop end line.now) }
+{
+    let body = &line[..end];
+    let blanks = blanks(body);
+    if !body[blanks..].starts_with(b"at ") {
+        return None;
+    }
+    let start = blanks + b"at ".len();
+    if without_last(b')', &body[start..]).is_some() {
+        call_frame(line, start, end - 1)
+    } else {
+        plain_frame(line, start, end)
+    }
+}
+
+// How many blanks a text begins with.
+fn blanks(text: &[u8]) -> usize
+    ensures count { result ≡ prefix_len is_blank text.now }
+    ensures within { result ≤ length text.now }
+{
+    text.iter()
+        .take_while(|byte| **byte == b' ' || **byte == b'\t')
+        .count()
+}
+
+// The frame of the first form whose function and place stand from `start` to `end`.
+fn call_frame(line: &[u8], start: usize, end: usize) -> Option<Frame<'_>>
+    requires { (start ≤ end) × (end ≤ length line.now) }
+    ensures { option_map parts_seen result
+        ≡ call_frame (take start line.now) (cut_at_call (slice_range line.now start end)) (drop end line.now) }
+{
+    let (function, _) = cut_at_call(&line[start..end])?;
+    if function.is_empty() {
+        return None;
+    }
+    frame_at(line, start + function.len() + b" (".len(), end)
+}
+
+// The frame of the second form that stands from `start` to `end`.
+fn plain_frame(line: &[u8], start: usize, end: usize) -> Option<Frame<'_>>
+    requires { (start ≤ end) × (end ≤ length line.now) }
+    ensures { option_map parts_seen result
+        ≡ plain_frame (take start line.now) (slice_range line.now start end) (drop end line.now) }
+{
+    if line[start..end].starts_with(b"async ") {
+        unless_async(frame_at(line, start + b"async ".len(), end))
+    } else {
+        unless_async(frame_at(line, start, end))
+    }
+}
+
+// The frame, unless its URL begins with `async `.
+fn unless_async(frame: Option<Frame<'_>>) -> Option<Frame<'_>>
+    ensures { option_map parts_seen result ≡ unless_async (option_map parts_seen frame.entry) }
+{
+    let frame = frame?;
+    if frame.url.starts_with(b"async ") {
+        None
+    } else {
+        Some(frame)
+    }
+}
+
+// The frame whose place stands from `start` to `end`.
+fn frame_at(line: &[u8], start: usize, end: usize) -> Option<Frame<'_>>
+    requires { (start ≤ end) × (end ≤ length line.now) }
+    ensures { option_map parts_seen result
+        ≡ parts_with (take start line.now) (place_of (slice_range line.now start end)) (drop end line.now) }
+{
+    let (url, printed_line, column) = place_of(&line[start..end])?;
+    Some(Frame {
+        head: &line[..start],
+        url,
+        line: printed_line,
+        column,
+        tail: &line[end..],
+    })
+}
+
+// The URL, the line and the column of a text that is these three, with a `:` between each two.
+fn place_of(text: &[u8]) -> Option<(&[u8], u32, u32)>
+    ensures { option_map place_seen result ≡ place_of text.now }
+{
+    let (front, column) = cut_at_last(b':', text)?;
+    let (url, line) = cut_at_last(b':', front)?;
+    if url.is_empty() {
+        return None;
+    }
+    Some((url, number(line)?, number(column)?))
+}

@@ -1,0 +1,27 @@
+//! The lines and columns of frames.
+ghost use Rattle.std.specs.Prelude.{◌≡◌};
+ghost use Rattle.smap_trace.specs.FrameOf.{number_of};
+
+// The largest line or column that a frame may print: a map's largest, counted from 1.
+const MOST: u64 = 2147483648;
+
+/// The number from 1 to 2147483648 that a text writes in decimal without leading zeros.
+pub fn number(text: &[u8]) -> Option<u32>
+    ensures { result ≡ number_of text.now }
+{
+    let first = text.first()?;
+    if *first <= b'0' {
+        return None;
+    }
+    let mut value: u64 = 0;
+    for byte in text {
+        if !byte.is_ascii_digit() {
+            return None;
+        }
+        value = value * 10 + u64::from(*byte - b'0');
+        if value > MOST {
+            return None;
+        }
+    }
+    Some(value as u32)
+}

@@ -1,0 +1,25 @@
+//! What rewriting a trace comes to.
+
+/// What was in a trace that was rewritten.
+#[derive(Clone, Copy, Debug, PartialEq, Eq)]
+pub struct Summary {
+    /// How many lines it had: those that an LF ends, and a rest that is not empty.
+    pub lines: u64,
+    /// How many of them were frames.
+    pub frames: u64,
+    /// How many frames were replaced.
+    pub mapped: u64,
+}
+
+/// Why the rewriting of a trace ended before its end.
+#[derive(Clone, Copy, Debug, PartialEq, Eq)]
+pub enum RewriteFault {
+    /// X1: a read failed.
+    Read,
+    /// X2: a write failed.
+    Write,
+    /// X3: the trace has more than 1,073,741,824 bytes.
+    TooMuch,
+    /// X4: there was not enough memory.
+    Memory,
+}

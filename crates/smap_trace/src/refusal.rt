@@ -1,0 +1,12 @@
+//! Why a map is not put into a table.
+
+/// Why a map is not put into a table.
+#[derive(Clone, Copy, Debug, PartialEq, Eq)]
+pub enum TableRefusal {
+    /// A1: the URL is empty, holds a CR or an LF, or begins with `async ` or `eval at `.
+    BadUrl,
+    /// A2: the table has a map under this URL.
+    Twice,
+    /// A3: there is not enough memory.
+    Memory,
+}

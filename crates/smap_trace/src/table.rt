@@ -1,0 +1,88 @@
+//! The maps of a trace.
+ghost use Rattle.std.specs.Prelude.{◌≡◌, [], string_bytes, option_map, MatchOption, OnOk, OnErr, IfErr, IsErrAnd};
+ghost use Rattle.std.specs.Str.{IsUtf8};
+ghost use Rattle.smap_trace.specs.Table.{IsWith, is_bad_url, record_for, url_refusal};
+ghost use Rattle.smap_trace.specs.declared.refusal.TableRefusal.TheVariants.{Memory};
+
+use crate::refusal::TableRefusal;
+use smap_record::MapFile;
+use std::alloc::{AllocFailed, Global};
+use std::collections::BTreeMap;
+use std::marker::Model;
+
+/// The maps of a trace, each under the URL that its frames name.
+#[derive(Drop)]
+pub struct Table {
+    maps: BTreeMap<Vec<u8>, MapFile>,
+}
+
+impl Model for Table {
+    ghost use Rattle.std.specs.Prelude.{ℕ, List, map};
+    ghost use Rattle.smap_record.specs.Record.{MapRecord};
+
+    ghost Value = { List (List ℕ × MapRecord) };
+
+    ghost view = { λ t. map (λ e. (e.0.items, e.1.stated)) t.maps.entries };
+}
+
+impl Table {
+    /// A table without maps. The call takes no memory.
+    pub fn new(alloc: Global) -> Table
+        ensures { result ≡ [] }
+    {
+        Table {
+            maps: BTreeMap::new(alloc),
+        }
+    }
+
+    /// Puts a map into the table, under its URL. Frames name the URL as it stands there. After a refusal, which comes in
+    /// the order of `TableRefusal`, both values come back.
+    pub fn add(&mut self, url: String, map: MapFile) -> Result<(), (TableRefusal, String, MapFile)>
+        ensures added { OnOk result (IsWith self.old (string_bytes url) map.stated self.new) }
+        ensures kept { OnErr result (self.new ≡ self.old) }
+        ensures back { IfErr result (λ e. (string_bytes e.1 ≡ string_bytes url) × (e.2 ≡ map)) }
+        ensures refused { MatchOption (url_refusal self.old (string_bytes url))
+            (IfErr result (λ e. e.0 ≡ Memory)) (λ refusal. IsErrAnd result (λ e. e.0 ≡ refusal)) }
+    {
+        if is_bad_url(url.as_bytes()) {
+            return Err((TableRefusal::BadUrl, url, map));
+        }
+        if self.map_for(url.as_str().as_bytes()).is_some() {
+            return Err((TableRefusal::Twice, url, map));
+        }
+        match self.maps.insert(url.into_bytes(), map) {
+            Ok(_) => Ok(()),
+            Err(AllocFailed { value: (url, map) }) => Err((TableRefusal::Memory, text(url), map)),
+        }
+    }
+
+    // The map under a URL, where there is one.
+    pub(crate) fn map_for(&self, url: &[u8]) -> Option<&MapFile>
+        ensures { option_map (λ map. map.now.stated) result ≡ record_for url.now self.now }
+    {
+        self.maps.get(url)
+    }
+}
+
+// The text that these bytes are.
+fn text(bytes: Vec<u8>) -> String
+    requires { IsUtf8 bytes.items }
+    ensures { string_bytes result ≡ bytes.items }
+{
+    match String::from_utf8(bytes) {
+        Ok(text) => text,
+        Err(_) => unreachable!("the bytes are those of a text"),
+    }
+}
+
+// Whether no frame has such a URL.
+#[tactic(auto, unfolding(crate::specs::Table::is_bad_url))]
+fn is_bad_url(url: &[u8]) -> bool
+    ensures { result ≡ is_bad_url url.now }
+{
+    url.is_empty()
+        || url.contains(&b'\n')
+        || url.contains(&b'\r')
+        || url.starts_with(b"async ")
+        || url.starts_with(b"eval at ")
+}
