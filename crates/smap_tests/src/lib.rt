@@ -2,6 +2,8 @@
 #![tactic(auto)]
 
 #[cfg(test)]
+mod composing;
+#[cfg(test)]
 mod devices;
 #[cfg(test)]
 mod encoding;
@@ -33,6 +35,8 @@ mod show;
 mod shown;
 #[cfg(test)]
 mod texts;
+#[cfg(test)]
+mod traces;
 #[cfg(test)]
 mod transfer;
 #[cfg(test)]
