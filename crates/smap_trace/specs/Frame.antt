@@ -5,6 +5,7 @@
 use Rattle.std.specs.Prelude.{◌≡◌, ◌≢◌, ◌≤◌, ◌-◌, ℕ, ◌==◌, ◌||◌, ◌&&◌, Bool, not, nat_le, IsTrue, List, [], ◌++◌, ◌⊎◌, codes, length, take}
 use Rattle.std.specs.Fmt.{decimal}
 use Rattle.std.specs.List.{AllByRecursion, list_any}
+use Rattle.smap_trace.specs.Limits.{most_line_bytes, most_printed}
 
 -- what a frame line is made of
 pub record FrameParts : Type 0 where
@@ -16,7 +17,7 @@ pub record FrameParts : Type 0 where
 
 -- a line has at most 65,536 bytes, no LF, and a CR at most as its last byte
 abbrev pub is_line : List ℕ → Bool
-is_line line = nat_le (length line) 65536 && not (list_any (λ byte. byte == 10) line) && not (list_any (λ byte. byte == 13) (take (length line - 1) line))
+is_line line = nat_le (length line) most_line_bytes && not (list_any (λ byte. byte == 10) line) && not (list_any (λ byte. byte == 13) (take (length line - 1) line))
 
 -- a space or a tab
 abbrev pub is_blank : ℕ → Bool
@@ -28,7 +29,7 @@ IsLineEnd end = (end ≡ []) ⊎ (end ≡ codes "\r")
 
 -- a line or a column as it is printed
 abbrev pub IsPrinted : ℕ → Type 0
-IsPrinted n = (1 ≤ n) × (n ≤ 2147483648)
+IsPrinted n = (1 ≤ n) × (n ≤ most_printed)
 
 -- the first form: what stands before the URL and behind the column. The first ` (` behind `at ` ends the function
 pub record IsCallFrame (parts : FrameParts) : Type 0 where

@@ -5,6 +5,7 @@ use Rattle.std.specs.List.{prefix_len, starts_with}
 use Rattle.std.specs.Bool.{nat_eq}
 use Rattle.smap_trace.specs.Cuts.{cut_at_last, cut_at_call, without_last}
 use Rattle.smap_trace.specs.Frame.{FrameParts, is_line, is_blank}
+use Rattle.smap_trace.specs.Limits.{most_printed}
 
 -- ---- numbers
 
@@ -12,7 +13,7 @@ use Rattle.smap_trace.specs.Frame.{FrameParts, is_line, is_blank}
 abbrev pub read_on : ℕ → List ℕ → Option ℕ
 read_on n [] = Some n
 read_on n (byte ∷ text) =
-    if is_ascii_digit byte && nat_le (10 * n + (byte - 48)) 2147483648 then read_on (10 * n + (byte - 48)) text else None
+    if is_ascii_digit byte && nat_le (10 * n + (byte - 48)) most_printed then read_on (10 * n + (byte - 48)) text else None
 
 -- the number from 1 to 2147483648 that a text writes without leading zeros
 abbrev pub number_of : List ℕ → Option ℕ

@@ -1,3 +1,4 @@
+pub mod Limits
 pub mod Cuts
 pub mod Frame
 pub mod FrameOf

@@ -3,6 +3,7 @@ use Rattle.std.specs.Prelude.{◌≡◌, ◌<◌, ◌≤◌, ℕ, Bool, true, fa
 use Rattle.std.specs.Io.KnownBytes.{IsAtEnd}
 use Rattle.smap_io.specs.Device.{Gives, Takes, TakesFront}
 use Rattle.smap_record.specs.Record.{MapRecord}
+use Rattle.smap_trace.specs.Limits.{most_trace_bytes}
 use Rattle.smap_trace.specs.Rewritten.{Counts, counts_of, rewritten}
 use Rattle.smap_trace.specs.declared.outcome.RewriteFault.{RewriteFault}
 use Rattle.smap_trace.specs.declared.outcome.RewriteFault.TheVariants.{Read, Write, TooMuch, Memory}
@@ -21,7 +22,7 @@ pub record Rewrites (before after : Streams) (table : List (List ℕ × MapRecor
   pub bytes : List ℕ
   pub read : Gives before.left after.left bytes
   pub ended : IsAtEnd after.left
-  pub fits : length bytes ≤ 1073741824
+  pub fits : length bytes ≤ most_trace_bytes
   pub written : Takes before.taken after.taken (rewritten bytes table)
   pub counted : counts_seen summary ≡ counts_of bytes table
 
@@ -30,7 +31,7 @@ pub record RewritesFront (before after : Streams) (table : List (List ℕ × Map
   pub bytes : List ℕ
   pub read : Gives before.left after.left bytes
   pub front : TakesFront before.taken after.taken (rewritten bytes table)
-  pub many : fault ≡ TooMuch → 1073741824 < length bytes
+  pub many : fault ≡ TooMuch → most_trace_bytes < length bytes
 
 -- whether the input failed, and whether the output did
 abbrev pub is_read_fault : Result Summary RewriteFault → Bool

@@ -3,6 +3,7 @@ ghost use Rattle.std.specs.Prelude.{◌≡◌, ◌⊎◌, ◌++◌, ◌<◌, ◌
 ghost use Rattle.smap_io.specs.Device.{Takes, TakesFront};
 ghost use Rattle.smap_trace.specs.Lines.{with_line};
 ghost use Rattle.smap_trace.specs.HandingOn.{HandsOn};
+ghost use Rattle.smap_trace.specs.Limits.{most_trace_bytes};
 ghost use Rattle.smap_trace.specs.Rewriting.{Rewrites, RewritesFront, counts_seen};
 ghost use Rattle.smap_trace.specs.Rewriting.{is_read_fault, is_write_fault};
 ghost use Rattle.smap_trace.specs.Rewritten.{IsWholeLines, counts_of, rewritten};
@@ -61,7 +62,7 @@ fn write_lines<W: ByteSink>(
     output: &mut W,
     table: &Table,
 ) -> Result<Summary, RewriteFault>
-    requires fits { length bytes.now ≤ 1073741824 }
+    requires fits { length bytes.now ≤ most_trace_bytes }
     requires works { W.has_failed output.old ≡ false }
     ensures written { OnOk result (Takes (W.taken output.old) (W.taken output.new) (rewritten bytes.now table.now)) }
     ensures counted { IfOk result (λ summary. counts_seen summary ≡ counts_of bytes.now table.now) }
