@@ -1,5 +1,5 @@
 -- A number at the front of a segment is its first field, and the other fields are those of the bytes behind it.
-use Rattle.std.proofs.Common.{◌≡◌, ℕ, ◌+◌, ◌-◌, ◌<◌, ◌≤◌, suc, true, false, ◌||◌, eqb, List, [], ◌∷◌, ◌++◌, length, take, drop, Option, Some, None, refl, sym, ap, subst, ◌∙◌, arith, length-append, length-drop, length-take-le, take-append-drop, append_assoc, ⊎_elim, ◌⊎◌, inl, inr, unwrap_or}
+use Rattle.std.proofs.Common.{◌≡◌, ℕ, ◌+◌, ◌-◌, ◌<◌, ◌≤◌, suc, true, false, ◌||◌, eqb, List, [], ◌∷◌, ◌++◌, length, get_or, take, drop, Option, Some, None, refl, sym, ap, subst, ◌∙◌, arith, length-append, length-drop, length-take-le, take-append-drop, append_assoc, ⊎_elim, ◌⊎◌, inl, inr, unwrap_or}
 use Rattle.std.specs.Prelude.{ℤ, slice_range, IfSome, IfNone, ◌↔◌, Result, Ok, Err}
 use Rattle.std.specs.Result.{result_ok}
 use Rattle.smap_mappings.specs.declared.vlq.VlqFault.{VlqFault}
@@ -7,7 +7,7 @@ use Rattle.std.specs.List.{onto_first, take_while, prefix_len}
 use Rattle.std.proofs.lemmas.Bool.Decides.{nat_tests}
 use Rattle.std.proofs.lemmas.Bool.{cond-true, cond-false, cases_Bool, both_ways, and_parts, or_from, not_from_false, eqb-true, false_from_ne_true}
 use Rattle.std.proofs.lemmas.Option.{cond_some}
-use Rattle.std.proofs.lemmas.List.{drop-drop, take_at, nil_from_length}
+use Rattle.std.proofs.lemmas.List.{drop-drop, drop_more, take_at, nil_from_length}
 use Rattle.std.proofs.lemmas.List.Sums.{take_while-cons}
 use Rattle.smap_mappings.specs.Base64.{digit_of}
 use Rattle.smap_mappings.specs.Vlq.{is_digit, is_continuing, is_ending, is_one_number, number_of, Spells}
@@ -108,6 +108,13 @@ reads_field text place next n inside spells =
       fields = ap fields_of run ∙ fields-spelled number (piece_at text next) n spells;
       ends = omega (arith, ap length run, length-append number (piece_at text next));
     }
+
+-- and so is one that its byte spells by itself
+pub reads_short_field : (text : List ℕ) (place : ℕ) (n : ℤ) → place < length text → Spells (get_or text place 0 ∷ []) n → IsFieldAt text place n (place + 1)
+reads_short_field text place n within spells =
+    let one : place + 1 - place ≡ 1 = omega arith in
+    let byte : slice_range text place (place + 1) ≡ get_or text place 0 ∷ [] = ap (λ k. take k (drop place text)) one ∙ ap (take 1) (drop_more text place 0 within) in
+    reads_field text place (place + 1) n (omega arith) (subst (λ bytes. Spells bytes n) (sym byte) spells)
 
 if_some_from : {A : Type 0} (o : Option A) (P : A → Type 0) → ((x : A) → o ≡ Some x → P x) → IfSome o P
 if_some_from None P h = tt

@@ -19,7 +19,7 @@ use Rattle.smap_mappings.specs.declared.segment.OriginFields.{OriginFields}
 use Rattle.smap_mappings.proofs.PieceLaws.{pieces_at_segment, pieces_at_line_end, pieces_at_comma}
 use Rattle.smap_mappings.proofs.MoveLaws.{values-push, values_on_new_line, next_element, all_push}
 use Rattle.smap_mappings.proofs.ValueFaultLaws.{move_fault_is}
-use Rattle.smap_mappings.proofs.SpellingFaultLaws.{known_spelled}
+use Rattle.smap_mappings.proofs.SpellingFaultLaws.{spelled_known, known_spelled}
 
 -- ---- the segment at a state's place
 
@@ -146,6 +146,23 @@ faulty_spelling text j cursor sources names kind after within inside is =
     let piece = piece_on cursor.line (cursor.place, piece_at text cursor.place) in
     fault_from_here text j sources names cursor (at_segment text j cursor after within inside)
     ∙ ap (λ first. fault_or (first_kind first (move_fault sources names (take j (moves_of text)) (move_of piece))) piece (fault_from text sources names (suc j))) is
+
+-- ---- where no segment has a fault
+
+none_unless : (o : Option FaultKind) → ((kind : FaultKind) → o ≡ Some kind → ⊥) → o ≡ None
+none_unless None not_some = refl
+none_unless (Some kind) not_some = absurd (not_some kind refl)
+
+module _ (text : List ℕ) (j : ℕ) (cursor : Cursor) (sources names : ℕ) (none : fault_from text sources names j ≡ None) (after : IsAfter text j cursor) (within : cursor.place < length text) (inside : is_inside (get_or text cursor.place 0) ≡ true) where
+  -- the segment can be read
+  pub can_be_read : has_known_length (known_fields text cursor.place) ≡ true
+  can_be_read = spelled_known (piece_at text cursor.place) (none_unless _ (λ kind is.
+      let both = sym none ∙ faulty_spelling text j cursor sources names kind after within inside is in absurd (cc)))
+
+  -- and its values have no fault
+  pub clean_values : (segment : Segment) (end : ℕ) → IsSegmentAt text cursor.place segment end → sums_fault sources names segment (values_behind (values_at cursor) (move_in cursor.line segment)) ≡ None
+  clean_values segment end reads = none_unless _ (λ kind is.
+      let both = sym none ∙ faulty_values text j cursor segment end after within inside reads sources names kind is in absurd (cc))
 
 -- ---- over separators
 

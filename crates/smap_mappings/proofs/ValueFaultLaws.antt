@@ -77,6 +77,12 @@ no_fault_parts sources names falls fields values none =
     let name = none_from_test _ NameIndex None source.1 in
     record { below = below.0; past = past.0; rises = rises.0; source = source.0; name = name.0 }
 
+-- values that have no fault are in range
+pub sums_in_range : (sources names : ℕ) (segment : Segment) (values : RunningValues) → sums_fault sources names segment values ≡ None → are_in_range values ≡ true
+sums_in_range sources names segment values none =
+    let parts = no_fault_parts sources names (is_below_zero segment.column) (fields_in segment) values none in
+    all_from_each values (in_range_from values parts.below parts.past)
+
 no_fault_from : (sources names : ℕ) (falls : Bool) (fields : List ℤ) (values : RunningValues) → NoFault sources names falls fields values → values_fault sources names falls fields values ≡ None
 no_fault_from sources names falls fields values none =
     cond-false _ _ _ none.below ∙ cond-false _ _ _ none.past ∙ cond-false _ _ _ none.rises ∙ cond-false _ _ _ none.source ∙ cond-false _ _ _ none.name

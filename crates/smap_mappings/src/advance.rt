@@ -1,5 +1,7 @@
 //! A state that goes on behind a segment.
-ghost use Rattle.std.specs.Prelude.{◌≡◌, IfOk, IfErr, Some, pos, ◌+ℤ◌};
+ghost use Rattle.std.specs.Prelude.{◌≡◌, IfOk, IfErr, None, Some, pos, ◌+ℤ◌, true};
+ghost use Rattle.smap_mappings.specs.Limits.{most_indices};
+ghost use Rattle.smap_mappings.specs.Accepted.{are_in_range};
 ghost use Rattle.smap_mappings.specs.Faults.{has_value_below_zero, has_value_past_limit};
 ghost use Rattle.smap_mappings.specs.State.{values_at};
 ghost use Rattle.smap_mappings.specs.Reading.{move_in};
@@ -37,16 +39,18 @@ pub fn advance(
     let sums = sums_after(cursor, segment);
     match sums.fault(segment, sources, names) {
         Some(kind) => Err(kind),
-        None => Ok(Cursor {
-            place: end,
-            line: cursor.line,
-            column: sums.column as u32,
-            source: sums.source as u32,
-            original_line: sums.original_line as u32,
-            original_column: sums.original_column as u32,
-            name: sums.name as u32,
-        }),
+        None => Ok(sums.cursor(cursor.line, end)),
     }
+}
+
+// The state behind a segment that ends before the place `end`, where no kind of fault of the running values holds.
+#[inline(always)]
+pub fn advance_checked(cursor: &Cursor, segment: &Segment, end: usize) -> Cursor
+    requires { sums_fault most_indices most_indices segment.now
+        (values_behind (values_at cursor.now) (move_in cursor.now.line segment.now)) ≡ None }
+    ensures { IsBehind cursor.now segment.now end most_indices most_indices result }
+{
+    sums_after(cursor, segment).cursor(cursor.line, end)
 }
 
 #[inline(always)]
@@ -81,6 +85,24 @@ fn added(value: u32, difference: i32) -> i64
 }
 
 impl Sums {
+    // The state with these values, each of which is in range.
+    #[inline(always)]
+    fn cursor(&self, line: u32, place: usize) -> Cursor
+        requires { are_in_range (values_in self.now) ≡ true }
+        ensures at { (result.line ≡ line) × (result.place ≡ place) }
+        ensures values { values_at result ≡ values_in self.now }
+    {
+        Cursor {
+            place,
+            line,
+            column: self.column as u32,
+            source: self.source as u32,
+            original_line: self.original_line as u32,
+            original_column: self.original_column as u32,
+            name: self.name as u32,
+        }
+    }
+
     #[inline(always)]
     fn has_value_below_zero(&self) -> bool
         ensures { result ≡ has_value_below_zero (values_in self.now) }

@@ -1,7 +1,8 @@
 //! Base64 digits (ECMA-426, Base64 VLQ).
-ghost use Rattle.std.specs.Prelude.{◌≡◌, ◌<◌};
+ghost use Rattle.std.specs.Prelude.{◌≡◌, ◌<◌, [], ◌∷◌};
 ghost use Rattle.smap_mappings.specs.Base64.{digit_of};
 ghost use Rattle.smap_mappings.specs.Canonical.{letter_of};
+ghost use Rattle.smap_mappings.specs.Vlq.{number_of};
 
 // No byte's value: digits are 0 to 63.
 const NO_DIGIT: u8 = 64;
@@ -27,6 +28,37 @@ pub fn digit(byte: u8) -> Option<u8>
 {
     let value = DIGITS[byte as usize];
     if value < NO_DIGIT { Some(value) } else { None }
+}
+
+// No number of one digit: these are -15 to 15.
+const NO_NUMBER: i32 = 16;
+
+// Of each byte, the number that it spells by itself. A table, so that such a number costs one look-up.
+const NUMBERS: [i32; 256] = [
+    16, 16, 16, 16, 16, 16, 16, 16, 16, 16, 16, 16, 16, 16, 16, 16, 16, 16, 16, 16, 16, 16, 16, 16,
+    16, 16, 16, 16, 16, 16, 16, 16, 16, 16, 16, 16, 16, 16, 16, 16, 16, 16, 16, 16, 16, 16, 16, 16,
+    16, 16, 16, 16, 16, 16, 16, 16, 16, 16, 16, 16, 16, 16, 16, 16, 16, 0, 16, 1, -1, 2, -2, 3, -3,
+    4, -4, 5, -5, 6, -6, 7, -7, 8, -8, 9, -9, 10, -10, 11, -11, 12, -12, 16, 16, 16, 16, 16, 16,
+    13, -13, 14, -14, 15, -15, 16, 16, 16, 16, 16, 16, 16, 16, 16, 16, 16, 16, 16, 16, 16, 16, 16,
+    16, 16, 16, 16, 16, 16, 16, 16, 16, 16, 16, 16, 16, 16, 16, 16, 16, 16, 16, 16, 16, 16, 16, 16,
+    16, 16, 16, 16, 16, 16, 16, 16, 16, 16, 16, 16, 16, 16, 16, 16, 16, 16, 16, 16, 16, 16, 16, 16,
+    16, 16, 16, 16, 16, 16, 16, 16, 16, 16, 16, 16, 16, 16, 16, 16, 16, 16, 16, 16, 16, 16, 16, 16,
+    16, 16, 16, 16, 16, 16, 16, 16, 16, 16, 16, 16, 16, 16, 16, 16, 16, 16, 16, 16, 16, 16, 16, 16,
+    16, 16, 16, 16, 16, 16, 16, 16, 16, 16, 16, 16, 16, 16, 16, 16, 16, 16, 16, 16, 16, 16, 16, 16,
+    16, 16, 16, 16, 16, 16, 16, 16, 16, 16, 16, 16, 16, 16, 16, 16,
+];
+
+// The number that a byte spells by itself, as most numbers are spelled (ECMA-426, Base64 VLQ).
+#[inline(always)]
+pub fn number_of_one(byte: u8) -> Option<i32>
+    ensures { result ≡ number_of (byte ∷ []) }
+{
+    let number = NUMBERS[byte as usize];
+    if number < NO_NUMBER {
+        Some(number)
+    } else {
+        None
+    }
 }
 
 // Of each value, 0 to 63, its letter.

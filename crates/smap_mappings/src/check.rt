@@ -29,7 +29,7 @@ pub fn check_segments(bytes: &[u8], sources: u32, names: u32) -> Result<TextCoun
     let mut used_lines: u64 = 0;
     loop {
         let next = skip_separators(bytes, &at);
-        if next.place == bytes.len() {
+        if next.place >= bytes.len() {
             return Ok(TextCounts {
                 segments,
                 used_lines,

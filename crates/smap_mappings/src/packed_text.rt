@@ -14,11 +14,11 @@ ghost use Rattle.smap_mappings.specs.PackedText.{IsPacked};
 use crate::check::check_segments;
 use crate::cursor::Cursor;
 use crate::fault::Fault;
-use crate::limits::{MOST_BYTES, MOST_INDICES};
+use crate::limits::MOST_BYTES;
 use crate::mapping::Mapping;
 use crate::meter::Meter;
 use crate::state::State;
-use crate::step::{skip_separators, step};
+use crate::step::{checked_step, skip_separators};
 use std::alloc::{AllocError, Global};
 use std::marker::Model;
 
@@ -114,6 +114,7 @@ impl PackedText {
     /// The mapping of the next segment and the state behind it, or `None` at the end of the text. The caller gives a
     /// state of this text, and a meter whose count of segments leaves room for one more. A segment that is given adds
     /// one to that count, and the end adds nothing. The call takes no memory.
+    #[inline(always)]
     pub fn next(&self, state: &State, meter: &mut Meter) -> Option<(Mapping, State)>
         requires state { IsBetween self.now state.now }
         requires room { meter.old.segments < u64.MAX }
@@ -157,6 +158,7 @@ fn decode_segments(alloc: Global, bytes: &[u8], expected: usize) -> Result<Vec<M
 }
 
 // The mapping of the next segment of a checked text and the state behind it, or `None` at the end.
+#[inline(always)]
 fn next_segment(bytes: &[u8], cursor: &Cursor) -> Option<(Mapping, Cursor)>
     requires packed { IsPacked bytes.now }
     requires state { IsBetween bytes.now cursor.now }
@@ -168,11 +170,8 @@ fn next_segment(bytes: &[u8], cursor: &Cursor) -> Option<(Mapping, Cursor)>
         IsAfter bytes.now j cursor.now → j ≡ segments_of bytes.now) }
 {
     let at = skip_separators(bytes, cursor);
-    if at.place == bytes.len() {
+    if at.place >= bytes.len() {
         return None;
     }
-    match step(bytes, &at, MOST_INDICES, MOST_INDICES) {
-        Ok(next) => Some(next),
-        Err(_) => unreachable!("no segment of a checked text is faulty"),
-    }
+    Some(checked_step(bytes, &at))
 }

@@ -3,6 +3,7 @@ ghost use Rattle.std.specs.Prelude.{◌≡◌, ◌<◌, ◌≤◌, ◌↔◌, le
 ghost use Rattle.smap_mappings.specs.Segment.{has_known_length};
 ghost use Rattle.smap_mappings.specs.Reading.{is_inside, piece_at, IsFieldAt, HasNoField, IsSegmentAt, fields_at, known_fields};
 
+use crate::base64::number_of_one;
 use crate::vlq::read_vlq;
 
 // The differences that a segment states (ECMA-426, Mappings structure).
@@ -34,11 +35,26 @@ fn is_at_end(bytes: &[u8], place: usize) -> bool
     requires { place ≤ length bytes.now }
     ensures { IsTrue result ↔ (length (piece_at bytes.now place) ≡ 0) }
 {
-    place == bytes.len() || !is_inside(bytes[place])
+    place >= bytes.len() || !is_inside(bytes[place])
 }
 
 #[inline(always)]
 fn read_field(bytes: &[u8], place: usize) -> Option<(i32, usize)>
+    requires { place ≤ length bytes.now }
+    ensures some { IfSome result (λ read. IsFieldAt bytes.now place read.0 read.1) }
+    ensures none { IfNone result (HasNoField bytes.now place) }
+{
+    // Most numbers have one digit, and most of a text's bytes are theirs.
+    if place < bytes.len()
+        && let Some(number) = number_of_one(bytes[place])
+    {
+        return Some((number, place + 1));
+    }
+    read_long_field(bytes, place)
+}
+
+// A field of any number of digits.
+fn read_long_field(bytes: &[u8], place: usize) -> Option<(i32, usize)>
     requires { place ≤ length bytes.now }
     ensures some { IfSome result (λ read. IsFieldAt bytes.now place read.0 read.1) }
     ensures none { IfNone result (HasNoField bytes.now place) }

@@ -22,12 +22,14 @@ impl Model for State {
 impl State {
     ghost use Rattle.std.specs.Prelude.{◌≡◌};
 
+    #[inline(always)]
     pub(crate) fn new(cursor: Cursor) -> Self
         ensures { result ≡ cursor }
     {
         State { cursor }
     }
 
+    #[inline(always)]
     pub(crate) fn cursor(&self) -> Cursor
         ensures { result ≡ self.now }
     {

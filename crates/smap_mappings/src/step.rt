@@ -3,11 +3,12 @@ ghost use Rattle.std.specs.Prelude.{◌≡◌, ◌+◌, ◌<◌, ◌≤◌, ℕ,
 ghost use Rattle.smap_mappings.specs.Limits.{most_text_bytes};
 ghost use Rattle.smap_mappings.specs.Segment.{has_known_length};
 ghost use Rattle.smap_mappings.specs.Faults.{spelling_fault};
-ghost use Rattle.smap_mappings.specs.State.{IsAfter};
+ghost use Rattle.smap_mappings.specs.State.{IsAfter, IsBetween, IsNext};
+ghost use Rattle.smap_mappings.specs.PackedText.{IsPacked};
 ghost use Rattle.smap_mappings.specs.Reading.{is_inside, piece_at, known_fields};
 ghost use Rattle.smap_mappings.specs.Step.{IsStep, fault_at, fault_from, mapping_in};
 
-use crate::advance::advance;
+use crate::advance::{advance, advance_checked};
 use crate::cursor::Cursor;
 use crate::fault::FaultKind;
 use crate::mapping::{Mapping, Origin};
@@ -71,6 +72,24 @@ pub fn step(
         Ok(after) => Ok((mapping_in(&segment, &after), after)),
         Err(kind) => Err(kind),
     }
+}
+
+// Reads the segment at the state's place in a checked text, where nothing needs to be asked: its mapping and the state
+// behind it.
+#[inline(always)]
+pub fn checked_step(bytes: &[u8], cursor: &Cursor) -> (Mapping, Cursor)
+    requires packed { IsPacked bytes.now }
+    requires state { IsBetween bytes.now cursor.now }
+    requires within { cursor.now.place < length bytes.now }
+    requires inside { is_inside (slice_index bytes.now cursor.now.place) ≡ true }
+    ensures ahead { (cursor.now.place < result.1.place) × (result.1.place ≤ length bytes.now) }
+    ensures next { (j : ℕ) → IsAfter bytes.now j cursor.now → IsNext bytes.now j result.0 result.1 }
+{
+    let Some((segment, end)) = read_segment(bytes, cursor.place) else {
+        unreachable!("each segment of a checked text can be read");
+    };
+    let after = advance_checked(cursor, &segment, end);
+    (mapping_in(&segment, &after), after)
 }
 
 // Why no segment could be read at a place.

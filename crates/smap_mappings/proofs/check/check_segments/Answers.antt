@@ -1,4 +1,4 @@
-use Rattle.std.proofs.Common.{sym, ◌∙◌}
+use Rattle.std.proofs.Common.{arith, sym, ◌∙◌}
 use Rattle.smap_mappings.proofs.CheckLaws.{checks_start, none_at_end, lines_at_end, all_behind, is_new, checks_more, from_bool_most}
 use Rattle.smap_mappings.proofs.check.check_segments.Goals as goal
 
@@ -7,15 +7,15 @@ loop-at-init c = checks_start c.args.bytes.now c.args.sources c.args.names
 
 pub returns-then-next-bytes-clause-fault : goal.returns-then-next-bytes-clause-fault
 returns-then-next-bytes-clause-fault c =
-    none_at_end c.args.bytes.now c.args.sources c.args.names c.loop-at.at c.skip_separators-next.result c.loop-at.segments c.loop-at.used_lines c.loop-at.invariant (c.skip_separators-next.ensures.after c.loop-at.segments c.loop-at.invariant.after) c.if-next-bytes.true
+    none_at_end c.args.bytes.now c.args.sources c.args.names c.loop-at.at c.skip_separators-next.result c.loop-at.segments c.loop-at.used_lines c.loop-at.invariant (c.skip_separators-next.ensures.after c.loop-at.segments c.loop-at.invariant.after) (omega arith)
 
 pub returns-then-next-bytes-clause-segments : goal.returns-then-next-bytes-clause-segments
 returns-then-next-bytes-clause-segments c =
-    all_behind c.args.bytes.now c.loop-at.segments c.skip_separators-next.result (c.skip_separators-next.ensures.after c.loop-at.segments c.loop-at.invariant.after) c.if-next-bytes.true
+    all_behind c.args.bytes.now c.loop-at.segments c.skip_separators-next.result (c.skip_separators-next.ensures.after c.loop-at.segments c.loop-at.invariant.after) (omega arith)
 
 pub returns-then-next-bytes-clause-used_lines : goal.returns-then-next-bytes-clause-used_lines
 returns-then-next-bytes-clause-used_lines c =
-    lines_at_end c.args.bytes.now c.args.sources c.args.names c.loop-at.at c.skip_separators-next.result c.loop-at.segments c.loop-at.used_lines c.loop-at.invariant (c.skip_separators-next.ensures.after c.loop-at.segments c.loop-at.invariant.after) c.if-next-bytes.true
+    lines_at_end c.args.bytes.now c.args.sources c.args.names c.loop-at.at c.skip_separators-next.result c.loop-at.segments c.loop-at.used_lines c.loop-at.invariant (c.skip_separators-next.ensures.after c.loop-at.segments c.loop-at.invariant.after) (omega arith)
 
 pub returns-in-Err-clause-fault : goal.returns-in-Err-clause-fault
 returns-in-Err-clause-fault c = c.loop-at.invariant.passed ∙ c.in-Err.ensures.err c.loop-at.segments (c.skip_separators-next.ensures.after c.loop-at.segments c.loop-at.invariant.after)
