@@ -14,6 +14,7 @@ pub mod ReadBackLaws
 pub mod ReadingLaws
 pub mod RecordLaws
 pub mod RefusalLaws
+pub mod SectionLaws
 pub mod ShapeLaws
 pub mod ValueLaws
 pub mod WithinLaws

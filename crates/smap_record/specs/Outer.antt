@@ -11,19 +11,6 @@ use Rattle.smap_record.specs.Refusals.{refused_if}
 use Rattle.smap_record.specs.declared.refusal.MapRefusal.{MapRefusal}
 use Rattle.smap_record.specs.declared.refusal.MapRefusal.TheVariants.{Version, FileOrRoot}
 
--- what stands, where it is not null, at the keys that are read of the outer object alone
-pub record OuterFields : Type 0 where
-  pub version : Option Data
-  pub sections : Option Data
-  pub file : Option Data
-
-abbrev pub outer_of : Data → OuterFields
-outer_of value = record {
-  version = field (codes "version") value;
-  sections = field (codes "sections") value;
-  file = field (codes "file") value;
-}
-
 -- whether a field is the whole number 3
 abbrev pub is_three : Option Data → Bool
 is_three version = option_map_or (λ number. number == 3) (option_and_then whole_number version) false

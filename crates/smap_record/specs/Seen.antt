@@ -1,8 +1,9 @@
 -- What the code's own values stand for.
 use Rattle.std.specs.Prelude.{ℕ, List, [], Option, Some, None, map, flat_map, option_map, unwrap_or, String, string_bytes}
 use Rattle.std.specs.declared.alloc.Global.{Global}
-use Rattle.serde_json.specs.Data.{Data, Members, put}
-use Rattle.serde_json.specs.View.{view}
+use Rattle.serde_json.specs.Data.{Data, Members, object, put}
+use Rattle.serde_json.specs.View.{members_view}
+use Rattle.serde_json.specs.declared.value.Value.{Value}
 use Rattle.smap_index.specs.declared.part.Part.{Part}
 use Rattle.smap_record.specs.Fields as spec
 use Rattle.smap_record.specs.IndexMap as entry
@@ -12,8 +13,6 @@ use Rattle.smap_record.specs.Sources.{StatedSources, stated_sources}
 use Rattle.smap_record.specs.declared.index_map.SectionEntry.{SectionEntry}
 use Rattle.smap_record.specs.declared.joined.JoinedSections.{JoinedSections}
 use Rattle.smap_record.specs.declared.outer.Outer.{Outer}
-use Rattle.smap_record.specs.declared.outer.OuterFields.{OuterFields}
-use Rattle.smap_record.specs.declared.fields.Fields.{Fields}
 use Rattle.smap_record.specs.declared.section.SectionMap.{SectionMap}
 use Rattle.smap_record.specs.declared.section.SectionSources.{SectionSources}
 
@@ -21,27 +20,14 @@ use Rattle.smap_record.specs.declared.section.SectionSources.{SectionSources}
 abbrev pub texts_seen : List (Option (String Global)) → List (Option (List ℕ))
 texts_seen texts = map (option_map string_bytes) texts
 
-abbrev pub outer_fields_seen : OuterFields → outer.OuterFields
-outer_fields_seen fields = record {
-  version = option_map view fields.version;
-  sections = option_map view fields.sections;
-  file = option_map view fields.file;
-}
-
-abbrev pub fields_seen : Fields → spec.Fields
-fields_seen fields = record {
-  sources = option_map view fields.sources;
-  names = option_map view fields.names;
-  contents = option_map view fields.contents;
-  ignored = option_map view fields.ignored;
-  root = option_map view fields.root;
-  mappings = option_map view fields.mappings;
-}
+-- the fields of the map with these members
+abbrev pub fields_seen : List (String Global × Value) → spec.Fields
+fields_seen members = spec.section_fields_of (object (members_view members))
 
 -- ---- the outer object
 
 abbrev pub entry_seen : SectionEntry → entry.SectionEntry
-entry_seen section = record { offset = section.offset; is_nested = section.is_nested; fields = fields_seen section.fields }
+entry_seen section = record { offset = section.offset; is_nested = section.is_nested; fields = fields_seen section.members.entries }
 
 abbrev pub entries_seen : List SectionEntry → List entry.SectionEntry
 entries_seen entries = map entry_seen entries

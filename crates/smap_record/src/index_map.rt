@@ -9,10 +9,10 @@ ghost use Rattle.smap_record.specs.Refusals.{GivesStated, first_refusal};
 ghost use Rattle.smap_record.specs.Seen.{entries_seen, entry_seen, fields_seen};
 
 use crate::MOST_SECTIONS;
-use crate::fields::{Fields, take};
+use crate::fields::take;
 use crate::json::{index_below, object};
 use crate::refusal::MapRefusal;
-use serde_json::Value;
+use serde_json::{Map, Value};
 use smap_mappings::LIMIT;
 use std::alloc::{AllocError, Global};
 
@@ -30,21 +30,21 @@ pub struct SectionEntry {
     pub offset: Option<Offset>,
     /// Whether its map is an index map.
     pub is_nested: bool,
-    /// The fields of its map.
-    pub fields: Fields,
+    /// The members of its map.
+    pub members: Map<String, Value>,
 }
 
-/// The entries of an index map with these `sections`, or the one entry of a regular map, with these fields.
+/// The entries of an index map with these `sections`, or the one entry of a regular map, with these members.
 pub fn read_entries(
     alloc: Global,
     sections: Option<Value>,
-    fields: Fields,
+    members: Map<String, Value>,
 ) -> Result<Vec<SectionEntry>, MapRefusal>
-    ensures statement { let entries = entries_in (option_map view sections) (fields_seen fields)
+    ensures statement { let entries = entries_in (option_map view sections) (fields_seen members.entries)
         in GivesStated (λ read. entries_seen read.items) result (first_refusal (entries_refusals entries)) (unwrap_or entries []) }
     ensures few { IfOk result (λ entries. length entries.items ≤ most_parts) }
 {
-    let Some(entries) = entries(alloc, sections, fields)? else {
+    let Some(entries) = entries(alloc, sections, members)? else {
         return Err(MapRefusal::Sections);
     };
     if let Some(i) = first_without_offset(&entries) {
@@ -74,26 +74,26 @@ fn first_nested(entries: &[SectionEntry]) -> Option<usize>
 fn entries(
     alloc: Global,
     sections: Option<Value>,
-    fields: Fields,
+    members: Map<String, Value>,
 ) -> Result<Option<Vec<SectionEntry>>, AllocError>
     ensures list { IfOk result (λ list. option_map (λ entries. entries_seen entries.items) list
-        ≡ entries_in (option_map view sections) (fields_seen fields)) }
+        ≡ entries_in (option_map view sections) (fields_seen members.entries)) }
     ensures few { IfOk result (λ list. IfSome list (λ entries. length entries.items ≤ most_parts)) }
 {
     match sections {
         Some(sections) => index_entries(alloc, sections),
-        None => Ok(Some(vec![in alloc; regular_entry(fields)]?)),
+        None => Ok(Some(vec![in alloc; regular_entry(members)]?)),
     }
 }
 
 // The one entry of a regular map.
-fn regular_entry(fields: Fields) -> SectionEntry
-    ensures { entry_seen result ≡ regular_entry (fields_seen fields) }
+fn regular_entry(members: Map<String, Value>) -> SectionEntry
+    ensures { entry_seen result ≡ regular_entry (fields_seen members.entries) }
 {
     SectionEntry {
         offset: Some(Offset { line: 0, column: 0 }),
         is_nested: false,
-        fields,
+        members,
     }
 }
 
@@ -145,7 +145,7 @@ fn entry(value: Value) -> Option<SectionEntry>
     Some(SectionEntry {
         offset,
         is_nested,
-        fields: Fields::of(map),
+        members: map,
     })
 }
 

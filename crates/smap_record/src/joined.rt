@@ -52,7 +52,7 @@ pub fn read_sections(
             source_base,
             name_base: names.len() as u32,
         };
-        let mut section = read_section(alloc, place, entry.fields)?;
+        let mut section = read_section(alloc, place, entry.members)?;
         source_base += section.sources.texts.len() as u32;
         parts.push(part(place, section.text))?;
         sources.push(section.sources)?;

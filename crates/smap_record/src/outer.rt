@@ -3,12 +3,11 @@ ghost use Rattle.std.specs.Prelude.{◌≡◌, ◌≤◌, length, option_map, st
 ghost use Rattle.serde_json.specs.Data.{object};
 ghost use Rattle.serde_json.specs.View.{members_view, view};
 ghost use Rattle.smap_index.specs.Parts.{most_parts};
-ghost use Rattle.smap_record.specs.Fields.{section_fields_of};
-ghost use Rattle.smap_record.specs.Outer.{file_refusal, generated_file_in, is_three, outer_of, outer_refusals};
+ghost use Rattle.smap_record.specs.Outer.{file_refusal, generated_file_in, is_three, outer_refusals};
 ghost use Rattle.smap_record.specs.Refusals.{GivesStated, first_refusal};
-ghost use Rattle.smap_record.specs.Seen.{outer_fields_seen, outer_seen, stated_outer};
+ghost use Rattle.smap_record.specs.Seen.{outer_seen, stated_outer};
 
-use crate::fields::{Fields, take};
+use crate::fields::take;
 use crate::index_map::{SectionEntry, read_entries};
 use crate::json::text;
 use crate::refusal::MapRefusal;
@@ -28,35 +27,14 @@ pub fn read_outer(alloc: Global, mut members: Map<String, Value>) -> Result<Oute
         in GivesStated outer_seen result (first_refusal (outer_refusals value)) (stated_outer value) }
     ensures few { IfOk result (λ outer. length outer.entries.items ≤ most_parts) }
 {
-    let outer = OuterFields::take(&mut members);
-    if !is_three(&outer.version) {
+    if !is_three(take(&mut members, "version")) {
         return Err(MapRefusal::Version);
     }
-    let entries = read_entries(alloc, outer.sections, Fields::of(members))?;
-    let file = generated_file(outer.file)?;
+    let sections = take(&mut members, "sections");
+    let file = take(&mut members, "file");
+    let entries = read_entries(alloc, sections, members)?;
+    let file = generated_file(file)?;
     Ok(Outer { entries, file })
-}
-
-// What stands, where it is not null, at the keys that are read of the outer object alone.
-#[derive(Drop)]
-struct OuterFields {
-    version: Option<Value>,
-    sections: Option<Value>,
-    file: Option<Value>,
-}
-
-impl OuterFields {
-    // Moves the fields out of an object, which keeps those of a section's map.
-    fn take(members: &mut Map<String, Value>) -> OuterFields
-        ensures value { outer_fields_seen result ≡ outer_of (object (members_view members.old.entries)) }
-        ensures others { section_fields_of (object (members_view members.new.entries)) ≡ section_fields_of (object (members_view members.old.entries)) }
-    {
-        OuterFields {
-            version: take(members, "version"),
-            sections: take(members, "sections"),
-            file: take(members, "file"),
-        }
-    }
 }
 
 // The name in the field `file`.
@@ -74,8 +52,8 @@ fn generated_file(field: Option<Value>) -> Result<Option<String>, MapRefusal>
 }
 
 // Whether a field is the number 3.
-fn is_three(field: &Option<Value>) -> bool
-    ensures { result ≡ is_three (option_map view field.now) }
+fn is_three(field: Option<Value>) -> bool
+    ensures { result ≡ is_three (option_map view field) }
 {
     match field {
         Some(version) => version.as_u64() == Some(3),

@@ -11,11 +11,11 @@ ghost use Rattle.smap_record.specs.Section.{Section, contents_in, contents_refus
 ghost use Rattle.smap_record.specs.Seen.{fields_seen, section_seen, stated_section, texts_seen};
 
 use crate::MOST_ENTRIES;
-use crate::fields::Fields;
+use crate::fields::{take, take_ignored};
 use crate::ignored::{ignored_flags, none_ignored};
 use crate::json::{nullable_texts, text, texts};
 use crate::refusal::MapRefusal;
-use serde_json::Value;
+use serde_json::{Map, Value};
 use smap_mappings::{PackedText, TextRefusal};
 use std::alloc::Global;
 
@@ -47,15 +47,15 @@ pub struct SectionMap {
     pub text: PackedText,
 }
 
-/// Reads the fields of the section at a place.
+/// Reads the section at a place, whose map has these members.
 pub fn read_section(
     alloc: Global,
     place: SectionPlace,
-    fields: Fields,
+    mut members: Map<String, Value>,
 ) -> Result<SectionMap, MapRefusal>
     requires sources_before { place.source_base ≤ most_entries }
     requires names_before { place.name_base ≤ most_entries }
-    ensures statement { let section : Section = record { place = place; fields = fields_seen fields }
+    ensures statement { let section : Section = record { place = place; fields = fields_seen members.entries }
         in GivesStated section_seen result (first_refusal (section_refusals section)) (stated_section section) }
     ensures few_sources { IfOk result
         (λ section. place.source_base + length section.sources.texts.items ≤ most_entries) }
@@ -64,14 +64,14 @@ pub fn read_section(
     ensures within { IfOk result
         (λ section. All (IsWithin (length section.sources.texts.items) (length section.names.items)) (mappings_of section.text)) }
 {
-    let texts = read_sources(alloc, place.source_base, fields.sources)?;
-    let names = read_names(alloc, place.name_base, fields.names)?;
-    let contents = read_contents(alloc, fields.contents)?;
-    let ignored = read_ignored(alloc, fields.ignored, texts.len())?;
-    let root = read_root(fields.root)?;
+    let texts = read_sources(alloc, place.source_base, take(&mut members, "sources"))?;
+    let names = read_names(alloc, place.name_base, take(&mut members, "names"))?;
+    let contents = read_contents(alloc, take(&mut members, "sourcesContent"))?;
+    let ignored = read_ignored(alloc, take_ignored(&mut members), texts.len())?;
+    let root = read_root(take(&mut members, "sourceRoot"))?;
     let text = read_mappings(
         place.number,
-        fields.mappings,
+        take(&mut members, "mappings"),
         texts.len() as u32,
         names.len() as u32,
     )?;

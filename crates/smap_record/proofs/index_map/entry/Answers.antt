@@ -22,5 +22,5 @@ returns c =
     entry_there value map c.read_offset-offset.result c.is_some-is_nested.result _ map_is
     (c.read_offset-offset.ensures ∙ ap (option_and_then offset_in) c.take.ensures.value)
     (c.is_some-is_nested.ensures ∙ sym (is_some-map view c.take-3.result) ∙ ap is_some c.take-3.ensures.value)
-    (c.of.ensures ∙ same_fields (members_view c.take-3.new.members.entries) (members_view c.in-Some-object.map.entries) (λ other apart. c.take-3.ensures.others other apart))
+    (same_fields (members_view c.take-3.new.members.entries) (members_view c.in-Some-object.map.entries) (λ other _ sections _. c.take-3.ensures.others other sections))
     ∙ sym (ap entry_in value_is)

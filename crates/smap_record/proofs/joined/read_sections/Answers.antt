@@ -35,7 +35,7 @@ returns-in_err-section-clause-statement c =
     (handed_on c.in_err-section.field-0.0 _ (first_refusal (flat_map section_refusals (sections_behind [] (entries_seen c.args.entries.items)))) c.in_err-section.ensures.statement
     (λ some. sym (ap (λ es. first_refusal (flat_map section_refusals (sections_behind [] es))) all)
     ∙ section_first (entries_seen before) (entry_seen entry) so_far.right (entries_seen c.next.new.self.rest.items) c.in_err-section.field-0.0
-    (sym (ap (λ (place : SectionPlace). first_refusal (section_refusals (record { place = place; fields = fields_seen entry.fields }))) place_is) ∙ some)))
+    (sym (ap (λ (place : SectionPlace). first_refusal (section_refusals (record { place = place; fields = fields_seen entry.members.entries }))) place_is) ∙ some)))
 
 pub loop-entry-preserved : goal.loop-entry-preserved
 loop-entry-preserved c =
@@ -49,7 +49,7 @@ loop-entry-preserved c =
     let place_is = same_place number (ap (λ (o : Offset). o.line) c.unwrap_or-offset.ensures) (ap (λ (o : Offset). o.column) c.unwrap_or-offset.ensures) so_far.source_base names_before in
     let pushed : entries_seen (before ++ entry ∷ []) ≡ entries_seen before ++ entry_seen entry ∷ [] = map-append entry_seen before (entry ∷ []) in
     let statement : section_seen read ≡ stated_section (section_behind seen (entry_seen entry)) =
-    c.in_ok-section.ensures.statement.1 ∙ ap (λ (place : SectionPlace). stated_section (record { place = place; fields = fields_seen entry.fields })) place_is in
+    c.in_ok-section.ensures.statement.1 ∙ ap (λ (place : SectionPlace). stated_section (record { place = place; fields = fields_seen entry.members.entries })) place_is in
     let names_of : length read.names.items ≡ name_count (entry_seen entry) = sym (length-map read.names.items string_bytes) ∙ ap (λ (s : StatedSection). length s.names) statement in
     let texts_of : length read.sources.texts.items ≡ source_count (entry_seen entry) = sym (length-map read.sources.texts.items (option_map string_bytes)) ∙ ap (λ (s : StatedSection). length s.sources.texts) statement in
     let names_are = c.in_ok-append.ensures.items in
@@ -58,7 +58,7 @@ loop-entry-preserved c =
       entries = append_assoc before (entry ∷ []) c.next.new.self.rest.items ∙ ap (λ rest. before ++ rest) (sym c.in-Some.ensures.steps.0) ∙ so_far.entries;
       right = ap (λ es. first_refusal (flat_map section_refusals (sections_behind [] es))) pushed
           ∙ right_push seen (entry_seen entry) so_far.right
-          (sym (ap (λ (place : SectionPlace). first_refusal (section_refusals (record { place = place; fields = fields_seen entry.fields }))) place_is) ∙ c.in_ok-section.ensures.statement.0);
+          (sym (ap (λ (place : SectionPlace). first_refusal (section_refusals (record { place = place; fields = fields_seen entry.members.entries }))) place_is) ∙ c.in_ok-section.ensures.statement.0);
       parts = c.in_ok-push.ensures.items ∙ ap (λ part. c.loop-entry.parts.items ++ part ∷ []) (c.part.ensures ∙ ap (λ (place : SectionPlace). part_at place read.text) place_is ∙ ap (λ (s : StatedSection). part_at (section_behind seen (entry_seen entry)).place s.text) statement)
           ∙ parts_push seen (entry_seen entry) c.loop-entry.parts.items so_far.parts ∙ sym (ap (λ es. map part_of (sections_behind [] es)) pushed);
       sources = ap (map sources_seen) c.in_ok-push-2.ensures.items ∙ map-append sources_seen c.loop-entry.sources.items (read.sources ∷ [])
