@@ -113,8 +113,9 @@ fn text_of(alloc: Global, mappings: &[Mapping]) -> Result<String, ComposeRefusal
     match encode(alloc, mappings) {
         Ok(text) => Ok(text),
         Err(EncodeRefusal::TooLong) => Err(ComposeRefusal::TooLarge),
-        // The list is in order and within the limit, so only want of memory is left.
-        Err(_) => Err(ComposeRefusal::Memory),
+        Err(EncodeRefusal::Memory) => Err(ComposeRefusal::Memory),
+        Err(EncodeRefusal::NotSorted(_)) => unreachable!("the list is in order"),
+        Err(EncodeRefusal::OutOfRange(_)) => unreachable!("the numbers are within the limit"),
     }
 }
 
