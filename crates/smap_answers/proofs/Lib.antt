@@ -1,3 +1,5 @@
+mod LoadLaws
 mod RawLaws
 mod RunLaws
 mod ShownLaws
+mod TraceLaws

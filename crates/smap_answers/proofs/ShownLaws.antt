@@ -6,6 +6,7 @@ use Rattle.std.proofs.lemmas.Bool.{cond-false, cond_both, or_from, and_right, le
 use Rattle.std.proofs.lemmas.Str.{encode_ascii, encodes-chars}
 use lib.Utf8.{encode, encodes, next}
 use Rattle.smap_answers.specs.Lines.{shown_byte, shown}
+use Rattle.smap_answers.specs.Trace.{MapWord, word_text}
 
 -- a byte of no ASCII character prints as it is
 above : (n : ℕ) → 128 ≤ n → shown_byte n ≡ n
@@ -55,3 +56,11 @@ all (c ∷ cs) = map-append shown_byte (encode c) (encodes cs) ∙ ap (λ l. l +
 pub shown_encodes : (text : List ℕ) → IsUtf8 text → encode_utf8_all (map shown_byte (chars text)) ≡ shown text
 unfolding shown
 shown_encodes text is_text = sym (all (chars text)) ∙ ap (map shown_byte) (encodes-chars text is_text)
+
+-- a word of `rewrite` prints part by part
+shown_pair : (url path : List ℕ) → shown (url ++ 61 ∷ path) ≡ shown url ++ 61 ∷ shown path
+unfolding shown
+shown_pair url path = map-append shown_byte url (61 ∷ path)
+
+pub shown_word : (word : MapWord) → shown (word_text word) ≡ shown word.url ++ 61 ∷ shown word.path
+shown_word word = shown_pair word.url word.path

@@ -1,11 +1,15 @@
 -- The files that a command names, and their bytes.
-use Rattle.std.specs.Prelude.{◌≡◌, ℕ, ◌⊎◌, List, [], ◌∷◌, string_bytes}
+use Rattle.std.specs.Prelude.{◌≡◌, ℕ, ◌⊎◌, List, [], ◌∷◌, String, string_bytes, map}
 use Rattle.std.specs.List.{Contains}
 use Rattle.smap_answers.specs.Lines.{file_failed_line}
 use Rattle.smap_answers.specs.Outcome.{Telling, failure, out_of_memory}
 use Rattle.smap_answers.specs.declared.command.Command.{Command}
-use Rattle.smap_answers.specs.declared.command.Command.TheVariants.{Raw, Check, Show, Lookup}
+use Rattle.smap_answers.specs.declared.command.Command.TheVariants.{Raw, Check, Show, Lookup, Rewrite, Compose}
 use Rattle.smap_answers.specs.declared.load.Loaded.{Loaded}
+
+-- the path in a word of `rewrite`, which is a URL and a path
+abbrev pub path_in : {A : Type 0} → String A × String A → List ℕ
+path_in word = string_bytes word.1
 
 -- the paths that a command names, in their order
 abbrev pub paths_of : Command → List (List ℕ)
@@ -13,6 +17,8 @@ paths_of (Raw line column) = []
 paths_of (Check path base) = string_bytes path ∷ []
 paths_of (Show path base) = string_bytes path ∷ []
 paths_of (Lookup path line column base) = string_bytes path ∷ []
+paths_of (Rewrite maps base) = map path_in maps.items
+paths_of (Compose outer source inner base) = string_bytes outer ∷ string_bytes inner ∷ []
 
 -- the path of a file
 abbrev pub path_of : Loaded → List ℕ
@@ -23,8 +29,19 @@ abbrev pub first_bytes : List Loaded → List ℕ
 first_bytes [] = []
 first_bytes (file ∷ files) = file.bytes.items
 
--- it is told that memory ran out, or that a file which the command names can't be read
+-- the bytes of the second
+abbrev pub second_bytes : List Loaded → List ℕ
+second_bytes [] = []
+second_bytes (file ∷ files) = first_bytes files
+
+-- it is told that memory ran out, or that the file at this path can't be read
+abbrev pub IsUnreadAt : (path : List ℕ) → Telling → Type 0
+IsUnreadAt path telling = (telling ≡ out_of_memory) ⊎ (telling ≡ failure (file_failed_line path))
+
+-- this is told of one of these paths
+abbrev pub IsUnreadOf : List (List ℕ) → Telling → Type 0
+IsUnreadOf paths telling = (path : List ℕ) × Contains paths path × IsUnreadAt path telling
+
+-- this is told of one of the paths that a command names
 abbrev pub IsUnread : Command → Telling → Type 0
-IsUnread command telling =
-    (telling ≡ out_of_memory)
-    ⊎ ((path : List ℕ) × Contains (paths_of command) path × (telling ≡ failure (file_failed_line path)))
+IsUnread command telling = IsUnreadOf (paths_of command) telling

@@ -8,4 +8,6 @@ pub mod Check
 pub mod Show
 pub mod Lookup
 pub mod Files
+pub mod Compose
+pub mod Trace
 pub mod Run

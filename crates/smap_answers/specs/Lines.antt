@@ -137,3 +137,31 @@ bad_base_line = line_from (codes "usage: bad base URL" ∷ [])
 
 abbrev pub words_not_utf8_line : List ℕ
 words_not_utf8_line = line_from (codes "error: a word of the command line is not UTF-8" ∷ [])
+
+-- a word of `rewrite` whose URL no frame has, and one whose URL has a map already
+abbrev pub bad_url_line : (word : List ℕ) → List ℕ
+bad_url_line word = line_from (codes "usage: A1 BadUrl: " ∷ shown word ∷ [])
+
+abbrev pub twice_line : (word : List ℕ) → List ℕ
+twice_line word = line_from (codes "usage: A2 Twice: " ∷ shown word ∷ [])
+
+-- a word of `rewrite` without `=`
+abbrev pub no_pair_line : (word : List ℕ) → List ℕ
+no_pair_line word = line_from (codes "usage: no URL=FILE: " ∷ shown word ∷ [])
+
+-- why a trace was not rewritten to its end
+abbrev pub trace_unread_line : List ℕ
+trace_unread_line = line_from (codes "device: X1 Read" ∷ [])
+
+abbrev pub trace_unwritten_line : List ℕ
+trace_unwritten_line = line_from (codes "device: X2 Write" ∷ [])
+
+abbrev pub trace_too_long_line : List ℕ
+trace_too_long_line = line_from (codes "refused: X3 TooMuch" ∷ [])
+
+-- why two maps are not composed
+abbrev pub no_source_line : List ℕ
+no_source_line = line_from (codes "refused: C1 SourceIndex" ∷ [])
+
+abbrev pub composed_too_large_line : List ℕ
+composed_too_large_line = line_from (codes "refused: C2 TooLarge" ∷ [])

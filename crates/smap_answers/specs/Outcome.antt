@@ -1,7 +1,9 @@
 -- What a command comes to: the text that is told, and the status with which the program ends.
-use Rattle.std.specs.Prelude.{ℕ, List, Result, Ok, Err, string_bytes}
+use Rattle.std.specs.Prelude.{ℕ, List, [], Result, Ok, Err, string_bytes}
 use Rattle.std.specs.declared.alloc.AllocError.{AllocError}
-use Rattle.smap_answers.specs.Lines.{input_failed_line, memory_line, words_not_utf8_line}
+use Rattle.smap_trace.specs.declared.outcome.RewriteFault.{RewriteFault}
+use Rattle.smap_trace.specs.declared.outcome.RewriteFault.TheVariants.{Read, Write, TooMuch, Memory}
+use Rattle.smap_answers.specs.Lines.{input_failed_line, memory_line, trace_too_long_line, trace_unread_line, trace_unwritten_line, words_not_utf8_line}
 use Rattle.smap_answers.specs.declared.outcome.Outcome.{Outcome}
 use Rattle.smap_answers.specs.declared.outcome.Outcome.TheVariants as outcome
 
@@ -29,6 +31,13 @@ failure text = record { status = 3; text = text }
 abbrev pub out_of_memory : Telling
 out_of_memory = failure memory_line
 
+-- why a trace was not rewritten to its end
+abbrev pub fault_telling : RewriteFault → Telling
+fault_telling Read = failure trace_unread_line
+fault_telling Write = failure trace_unwritten_line
+fault_telling TooMuch = refusal trace_too_long_line
+fault_telling Memory = out_of_memory
+
 abbrev pub telling_of : Outcome → Telling
 telling_of (outcome.Answer text) = answer (string_bytes text)
 telling_of (outcome.Map bytes) = answer bytes.items
@@ -37,6 +46,8 @@ telling_of (outcome.Misuse text) = misuse (string_bytes text)
 telling_of outcome.WordsNotUtf8 = misuse words_not_utf8_line
 telling_of (outcome.Unreadable text) = failure (string_bytes text)
 telling_of outcome.InputFailure = failure input_failed_line
+telling_of outcome.Rewritten = answer []
+telling_of (outcome.Fault fault) = fault_telling fault
 telling_of outcome.Memory = out_of_memory
 
 -- an outcome for which there was memory, or that it ran out

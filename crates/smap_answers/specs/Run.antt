@@ -1,62 +1,73 @@
 -- What a run of the program does to its streams, and the status with which it ends.
-use Rattle.std.specs.Prelude.{◌≡◌, ℕ, ◌⊎◌, Bool, true, false, List, IfSome, string_bytes}
+use Rattle.std.specs.Prelude.{◌≡◌, ℕ, ◌⊎◌, Bool, true, false, List, String, Option, Result, map, zip, IfSome, string_bytes}
 use Rattle.smap_answers.specs.Check.{check_line}
-use Rattle.smap_answers.specs.Files.{first_bytes}
+use Rattle.smap_answers.specs.Compose.{IsComposeTelling}
+use Rattle.smap_answers.specs.Files.{first_bytes, second_bytes}
 use Rattle.smap_answers.specs.Lines.{input_failed_line}
 use Rattle.smap_answers.specs.Lookup.{lookup_text}
-use Rattle.smap_answers.specs.Map.{IsUrlRefusal, answer_by, map_result}
+use Rattle.smap_answers.specs.Map.{IsMapAnswer, IsMapTelling, interval}
 use Rattle.smap_answers.specs.Outcome.{Telling, failure, out_of_memory}
 use Rattle.smap_answers.specs.Raw.{raw_result}
 use Rattle.smap_answers.specs.Show.{show_result}
-use Rattle.smap_answers.specs.Streams.{SourceSeen, Streams, Ends}
+use Rattle.smap_answers.specs.Streams.{SinkSeen, Streams, Work, Ends, sinks_seen, work_seen}
+use Rattle.smap_answers.specs.Trace.{MapWord, RewriteTells}
 use Rattle.smap_answers.specs.declared.command.Command.{Command}
-use Rattle.smap_answers.specs.declared.command.Command.TheVariants.{Raw, Check, Show, Lookup}
+use Rattle.smap_answers.specs.declared.command.Command.TheVariants.{Raw, Check, Show, Lookup, Rewrite, Compose}
 use Rattle.smap_answers.specs.declared.load.Loaded.{Loaded}
-use Rattle.smap_record.specs.Record.{record_of}
+use Rattle.smap_record.specs.Record.{MapRecord, record_of}
+use Rattle.smap_record.specs.declared.refusal.MapRefusal.{MapRefusal}
+use Rattle.url.specs.Parts.{Parts}
 
--- the interval of the checkpoints of a map that a command reads
-abbrev pub interval : ℕ
-interval = 1
+-- ---- `raw`
 
--- what a command tells, where these are its files and these the bytes of standard input
-abbrev pub command_result : Command → List Loaded → (input : List ℕ) → Telling
-command_result (Raw line column) files input = raw_result input line column
-command_result (Check path base) files input =
-    map_result (answer_by (check_line interval)) (string_bytes path) (record_of (first_bytes files) base interval)
-command_result (Show path base) files input = map_result show_result (string_bytes path) (record_of (first_bytes files) base interval)
-command_result (Lookup path line column base) files input =
-    map_result (answer_by (lookup_text line column)) (string_bytes path) (record_of (first_bytes files) base interval)
+-- what is told where standard input failed in the run, or did not
+abbrev pub IsRawTelling : (line column : ℕ) (input : List ℕ) (failed : Bool) → Telling → Type 0
+IsRawTelling line column input true telling = telling ≡ failure input_failed_line
+IsRawTelling line column input false telling = (telling ≡ out_of_memory) ⊎ (telling ≡ raw_result input line column)
 
--- it is told that resolving a source of the command's map gave a URL that is too long
-abbrev pub IsOverflow : Command → List Loaded → Telling → Type 0
-IsOverflow (Raw line column) files telling = ⊥
-IsOverflow (Check path base) files telling = IsUrlRefusal (string_bytes path) (record_of (first_bytes files) base interval) telling
-IsOverflow (Show path base) files telling = IsUrlRefusal (string_bytes path) (record_of (first_bytes files) base interval) telling
-IsOverflow (Lookup path line column base) files telling = IsUrlRefusal (string_bytes path) (record_of (first_bytes files) base interval) telling
-
--- whether a command reads standard input
-abbrev pub reads_input : Command → Bool
-reads_input (Raw line column) = true
-reads_input (Check path base) = false
-reads_input (Show path base) = false
-reads_input (Lookup path line column base) = false
-
--- what a run tells, where standard input failed in it, or did not
-abbrev pub IsResult : Command → List Loaded → List ℕ → (failed : Bool) → Telling → Type 0
-IsResult command files input true telling = telling ≡ failure input_failed_line
-IsResult command files input false telling =
-    (telling ≡ command_result command files input) ⊎ ((telling ≡ out_of_memory) ⊎ IsOverflow command files telling)
-
--- what a run of a command over the files of its paths tells, where standard input is like this before and after it
-pub record Tells (command : Command) (files : List Loaded) (before after : SourceSeen) (telling : Telling) : Type 0 where
+-- `raw` reads standard input, and leaves standard output alone
+pub record RawTells (line column : ℕ) (before after : Work) (telling : Telling) : Type 0 where
   -- the bytes of standard input, where it tells them
   pub input : List ℕ
-  pub is_input : IfSome before.left (λ left. left ≡ input)
-  pub unread : reads_input command ≡ false → after ≡ before
-  pub is_result : IsResult command files input after.failed telling
+  pub is_input : IfSome before.input.left (λ left. left ≡ input)
+  pub unwritten : after.output ≡ before.output
+  pub is_telling : IsRawTelling line column input after.input.failed telling
+
+-- ---- the commands that read map files
+
+-- what the bytes of a command's file give
+abbrev pub found_in : List ℕ → Option Parts → Result MapRecord MapRefusal
+found_in bytes base = record_of bytes base interval
+
+-- such a command leaves standard input and output alone, and tells this, or that memory ran out
+abbrev pub TellsAside : (Telling → Type 0) → (before after : Work) → Telling → Type 0
+TellsAside IsTelling before after telling = (after ≡ before) × ((telling ≡ out_of_memory) ⊎ IsTelling telling)
+
+-- a word of `rewrite`
+abbrev pub word_of : {A : Type 0} → String A × String A → MapWord
+word_of pair = record { url = string_bytes pair.0; path = string_bytes pair.1 }
+
+-- ---- all commands
+
+-- what a command over the files of its paths tells, and what it does to standard input and output before it tells it
+abbrev pub Tells : Command → List Loaded → (before after : Work) → Telling → Type 0
+Tells (Raw line column) files = RawTells line column
+Tells (Check path base) files =
+    TellsAside (IsMapAnswer (check_line interval) (string_bytes path) (found_in (first_bytes files) base))
+Tells (Show path base) files =
+    TellsAside (IsMapTelling show_result (string_bytes path) (found_in (first_bytes files) base))
+Tells (Lookup path line column base) files =
+    TellsAside (IsMapAnswer (lookup_text line column) (string_bytes path) (found_in (first_bytes files) base))
+Tells (Rewrite maps base) files =
+    RewriteTells base (zip (map word_of maps.items) (map (λ file. file.bytes.items) files))
+Tells (Compose outer source inner base) files =
+    TellsAside (IsComposeTelling source (string_bytes outer) (found_in (first_bytes files) base)
+    (string_bytes inner) (found_in (second_bytes files) base))
 
 -- a run of a command, which ends with this status
 pub record Runs (command : Command) (files : List Loaded) (status : ℕ) (before after : Streams) : Type 0 where
   pub telling : Telling
-  pub tells : Tells command files before.input after.input telling
-  pub ends : Ends telling status before.sinks after.sinks
+  -- standard output before that is told
+  pub written : SinkSeen
+  pub tells : Tells command files (work_seen before.input before.sinks.output) (work_seen after.input written) telling
+  pub ends : Ends telling status (sinks_seen written before.sinks.errors) after.sinks

@@ -28,6 +28,11 @@ pub record Streams : Type 0 where
   pub input : SourceSeen
   pub sinks : Sinks
 
+-- what a command reads and writes before it is told what it comes to
+pub record Work : Type 0 where
+  pub input : SourceSeen
+  pub output : SinkSeen
+
 -- a device as a stream, by what its trait tells of it
 abbrev pub source_seen : {D : Type 0} → (D → Option (List ℕ)) → (D → Bool) → D → SourceSeen
 source_seen left failed device = record { left = left device; failed = failed device }
@@ -37,6 +42,9 @@ sink_seen taken flushed failed device = record { taken = taken device; flushed =
 
 abbrev pub sinks_seen : SinkSeen → SinkSeen → Sinks
 sinks_seen output errors = record { output = output; errors = errors }
+
+abbrev pub work_seen : SourceSeen → SinkSeen → Work
+work_seen input output = record { input = input; output = output }
 
 abbrev pub streams_seen : SourceSeen → SinkSeen → SinkSeen → Streams
 streams_seen input output errors = record { input = input; sinks = sinks_seen output errors }

@@ -2,9 +2,8 @@
 ghost use Rattle.std.specs.Prelude.{◌≡◌, string_bytes, option_copied, IfOk};
 ghost use Rattle.smap_record.specs.Record.{record_of};
 ghost use Rattle.smap_answers.specs.Check.{check_line, counts_of};
-ghost use Rattle.smap_answers.specs.Map.{IsMapAnswer};
+ghost use Rattle.smap_answers.specs.Map.{IsMapAnswer, interval};
 ghost use Rattle.smap_answers.specs.Outcome.{telling_of};
-ghost use Rattle.smap_answers.specs.Run.{interval};
 
 use crate::command::INTERVAL;
 use crate::lines::{self, MapCounts};

@@ -28,6 +28,21 @@ pub enum Command {
         column: u32,
         base: Option<Url>,
     },
+    /// Rewrites the stack trace on standard input over maps: pairs of the URL that frames name and of the path of the
+    /// map's file. A map's sources are resolved against the base or, where there is none, against the map's URL, where
+    /// that is one.
+    Rewrite {
+        maps: Vec<(String, String)>,
+        base: Option<Url>,
+    },
+    /// Composes the source map in the file at the path `outer` with that of its source of this number, from 0, in the
+    /// file at the path `inner`. The sources of both are resolved against the base.
+    Compose {
+        outer: String,
+        source: u32,
+        inner: String,
+        base: Option<Url>,
+    },
 }
 
 /// The interval of the checkpoints of a map that a command reads.

@@ -10,6 +10,7 @@
 
 mod check;
 mod command;
+mod compose;
 mod lines;
 mod load;
 mod lookup;
@@ -19,9 +20,10 @@ mod refusal;
 mod running;
 mod show;
 mod telling;
+mod trace;
 
 pub use command::Command;
-pub use lines::BAD_BASE;
+pub use lines::{BAD_BASE, no_pair_line};
 pub use load::{Loaded, load_files};
 pub use outcome::Outcome;
 pub use running::run;

@@ -3,7 +3,8 @@ ghost use Rattle.std.specs.Prelude.{◌≡◌, ◌+◌, option_map, string_bytes
 ghost use Rattle.smap_answers.specs.Lines.{counts_line, fault_text, file_failed_line, found_line};
 ghost use Rattle.smap_answers.specs.Lines.{ignored_text, kind_text, lists_text, map_refused_line};
 ghost use Rattle.smap_answers.specs.Lines.{mappings_text, name_suffix, place_line, refused_line, shown};
-ghost use Rattle.smap_answers.specs.Lines.{shown_byte};
+ghost use Rattle.smap_answers.specs.Lines.{bad_url_line, no_pair_line, shown_byte, twice_line};
+ghost use Rattle.smap_answers.specs.Trace.{word_text};
 
 use smap_mappings::{Fault, FaultKind};
 use std::alloc::{AllocError, Global};
@@ -28,6 +29,21 @@ pub const WORDS_NOT_UTF8: &str = "error: a word of the command line is not UTF-8
 
 /// Standard error: the base is no URL.
 pub const BAD_BASE: &str = "usage: bad base URL\n";
+
+/// Standard error: the outer map has no source of this number.
+pub const NO_SOURCE: &str = "refused: C1 SourceIndex\n";
+
+/// Standard error: the composed map would be too large.
+pub const COMPOSED_TOO_LARGE: &str = "refused: C2 TooLarge\n";
+
+/// Standard error: the trace could not be read.
+pub const TRACE_UNREAD: &str = "device: X1 Read\n";
+
+/// Standard error: the trace could not be written.
+pub const TRACE_UNWRITTEN: &str = "device: X2 Write\n";
+
+/// Standard error: the trace is longer than one may be.
+pub const TRACE_TOO_LONG: &str = "refused: X3 TooMuch\n";
 
 /// Standard error: standard input failed.
 pub const INPUT_FAILED: &str = "device: read standard input\n";
@@ -157,6 +173,41 @@ pub fn file_failed_line(alloc: Global, path: &str) -> Result<String, AllocError>
 {
     let path = shown(alloc, path)?;
     format!(in alloc; "device: read {path}\n")
+}
+
+/// Standard error: a word of `rewrite` whose URL no frame has.
+pub fn bad_url_line(alloc: Global, url: &str, path: &str) -> Result<String, AllocError>
+    ensures { IfOk result (λ text. string_bytes text
+        ≡ bad_url_line (word_text (record { url = url.now; path = path.now }))) }
+{
+    let word = shown_word(alloc, url, path)?;
+    format!(in alloc; "usage: A1 BadUrl: {word}\n")
+}
+
+/// Standard error: a word of `rewrite` whose URL has a map already.
+pub fn twice_line(alloc: Global, url: &str, path: &str) -> Result<String, AllocError>
+    ensures { IfOk result (λ text. string_bytes text
+        ≡ twice_line (word_text (record { url = url.now; path = path.now }))) }
+{
+    let word = shown_word(alloc, url, path)?;
+    format!(in alloc; "usage: A2 Twice: {word}\n")
+}
+
+// A word of `rewrite`, for one line.
+fn shown_word(alloc: Global, url: &str, path: &str) -> Result<String, AllocError>
+    ensures { IfOk result (λ text. string_bytes text
+        ≡ shown (word_text (record { url = url.now; path = path.now }))) }
+{
+    let (url, path) = (shown(alloc, url)?, shown(alloc, path)?);
+    format!(in alloc; "{url}={path}")
+}
+
+/// Standard error: a word of `rewrite` without `=`.
+pub fn no_pair_line(alloc: Global, word: &str) -> Result<String, AllocError>
+    ensures { IfOk result (λ text. string_bytes text ≡ no_pair_line word.now) }
+{
+    let word = shown(alloc, word)?;
+    format!(in alloc; "usage: no URL=FILE: {word}\n")
 }
 
 /// A text of the user's, for one line: a `?` stands for each ASCII control character.

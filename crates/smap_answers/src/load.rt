@@ -1,8 +1,7 @@
 //! Reading the files that a command names, before it runs.
-ghost use Rattle.std.specs.Prelude.{◌≡◌, ◌∷◌, ◌⊎◌, [], map, IfErr, IfOk};
-ghost use Rattle.smap_answers.specs.Files.{IsUnread, path_of, paths_of};
-ghost use Rattle.smap_answers.specs.Lines.{file_failed_line};
-ghost use Rattle.smap_answers.specs.Outcome.{failure, out_of_memory, telling_of};
+ghost use Rattle.std.specs.Prelude.{◌≡◌, ◌++◌, ◌∷◌, [], map, IfErr, IfOk, OnOk};
+ghost use Rattle.smap_answers.specs.Files.{IsUnread, IsUnreadAt, IsUnreadOf, path_in, path_of, paths_of};
+ghost use Rattle.smap_answers.specs.Outcome.{telling_of};
 
 use crate::command::Command;
 use crate::lines;
@@ -28,22 +27,46 @@ pub fn load_files(rt: &HostRuntime, command: &Command) -> Result<Vec<Loaded>, Ou
     ensures loaded { IfOk result (λ files. map path_of files.items ≡ paths_of command.now) }
     ensures unread { IfErr result (λ outcome. IsUnread command.now (telling_of outcome)) }
 {
+    let mut files = Vec::new(rt.alloc());
     match command {
-        Command::Raw { .. } => Ok(Vec::new(rt.alloc())),
+        Command::Raw { .. } => {}
         Command::Check { path, .. } | Command::Show { path, .. } | Command::Lookup { path, .. } => {
-            only(rt.alloc(), load(rt, path)?)
+            load_next(rt, &mut files, path)?;
+        }
+        Command::Rewrite { maps, .. } => load_maps(rt, &mut files, maps)?,
+        Command::Compose { outer, inner, .. } => {
+            load_next(rt, &mut files, outer)?;
+            load_next(rt, &mut files, inner)?;
         }
     }
+    Ok(files)
 }
 
-// The one file, as a list.
-fn only(alloc: Global, file: Loaded) -> Result<Vec<Loaded>, Outcome>
-    ensures loaded { IfOk result (λ files. files.items ≡ file ∷ []) }
-    ensures memory { IfErr result (λ outcome. telling_of outcome ≡ out_of_memory) }
+// Loads the files of the maps of a trace, behind those that are loaded.
+fn load_maps(
+    rt: &HostRuntime,
+    files: &mut Vec<Loaded>,
+    maps: &[(String, String)],
+) -> Result<(), Outcome>
+    ensures loaded { OnOk result
+        (map path_of files.new.items ≡ map path_of files.old.items ++ map path_in maps.now) }
+    ensures unread { IfErr result (λ outcome. IsUnreadOf (map path_in maps.now) (telling_of outcome)) }
 {
-    let mut files = Vec::new(alloc);
+    for (_, path) in maps {
+        load_next(rt, files, path)?;
+    }
+    Ok(())
+}
+
+// Loads the file at a path, behind those that are loaded.
+fn load_next(rt: &HostRuntime, files: &mut Vec<Loaded>, path: &str) -> Result<(), Outcome>
+    ensures loaded { OnOk result
+        (map path_of files.new.items ≡ map path_of files.old.items ++ path.now ∷ []) }
+    ensures unread { IfErr result (λ outcome. IsUnreadAt path.now (telling_of outcome)) }
+{
+    let file = load(rt, path)?;
     match files.push(file) {
-        Ok(_) => Ok(files),
+        Ok(_) => Ok(()),
         Err(_) => Err(Outcome::Memory),
     }
 }
@@ -51,8 +74,7 @@ fn only(alloc: Global, file: Loaded) -> Result<Vec<Loaded>, Outcome>
 // Loads the file at a path.
 fn load(rt: &HostRuntime, path: &str) -> Result<Loaded, Outcome>
     ensures loaded { IfOk result (λ file. path_of file ≡ path.now) }
-    ensures unread { IfErr result (λ outcome. (telling_of outcome ≡ out_of_memory)
-        ⊎ (telling_of outcome ≡ failure (file_failed_line path.now))) }
+    ensures unread { IfErr result (λ outcome. IsUnreadAt path.now (telling_of outcome)) }
 {
     match read_file(rt, path) {
         Ok(bytes) => match String::from_str(rt.alloc(), path) {
@@ -66,7 +88,7 @@ fn load(rt: &HostRuntime, path: &str) -> Result<Loaded, Outcome>
 
 // The file at this path can't be read.
 fn unreadable(alloc: Global, path: &str) -> Outcome
-    ensures { (telling_of result ≡ out_of_memory) ⊎ (telling_of result ≡ failure (file_failed_line path.now)) }
+    ensures { IsUnreadAt path.now (telling_of result) }
 {
     match lines::file_failed_line(alloc, path) {
         Ok(line) => Outcome::Unreadable(line),

@@ -4,9 +4,8 @@ ghost use Rattle.smap_record.specs.Record.{record_of};
 ghost use Rattle.smap_record.specs.Sources.{source_of};
 ghost use Rattle.smap_answers.specs.Lookup.{is_passed_over, lookup_text, origin_line, origin_text};
 ghost use Rattle.smap_answers.specs.Lookup.{source_excerpt, source_text};
-ghost use Rattle.smap_answers.specs.Map.{IsMapAnswer};
+ghost use Rattle.smap_answers.specs.Map.{IsMapAnswer, interval};
 ghost use Rattle.smap_answers.specs.Outcome.{telling_of};
-ghost use Rattle.smap_answers.specs.Run.{interval};
 
 use crate::command::INTERVAL;
 use crate::lines;

@@ -1,8 +1,9 @@
 //! What a command comes to, and how that is told.
 ghost use Rattle.std.specs.Prelude.{◌≡◌};
-ghost use Rattle.smap_answers.specs.Outcome.{telling_of};
+ghost use Rattle.smap_answers.specs.Outcome.{fault_telling, telling_of};
 
 use crate::lines;
+use smap_trace::RewriteFault;
 
 /// The exit status of a run that did what it was asked.
 pub const DONE: u8 = 0;
@@ -30,6 +31,10 @@ pub enum Outcome {
     Unreadable(String),
     /// Standard input failed: status 3.
     InputFailure,
+    /// The trace is rewritten, and standard output has it already: status 0, and nothing is added.
+    Rewritten,
+    /// The trace is rewritten up to this fault: status 1 for a trace that is too long, and 3 for the others.
+    Fault(RewriteFault),
     /// Memory ran out: status 3.
     Memory,
 }
@@ -40,10 +45,11 @@ impl Outcome {
         ensures { result ≡ (telling_of self.now).status }
     {
         match self {
-            Outcome::Answer(_) | Outcome::Map(_) => DONE,
-            Outcome::Refusal(_) => REFUSED,
+            Outcome::Answer(_) | Outcome::Map(_) | Outcome::Rewritten => DONE,
+            Outcome::Refusal(_) | Outcome::Fault(RewriteFault::TooMuch) => REFUSED,
             Outcome::Misuse(_) | Outcome::WordsNotUtf8 => MISUSED,
-            Outcome::Unreadable(_) | Outcome::InputFailure | Outcome::Memory => FAILED,
+            Outcome::Unreadable(_) | Outcome::InputFailure | Outcome::Fault(_) | Outcome::Memory =>
+                FAILED,
         }
     }
 
@@ -59,7 +65,21 @@ impl Outcome {
             Outcome::WordsNotUtf8 => lines::WORDS_NOT_UTF8.as_bytes(),
             Outcome::Unreadable(text) => text.as_bytes(),
             Outcome::InputFailure => lines::INPUT_FAILED.as_bytes(),
+            Outcome::Rewritten => &[],
+            Outcome::Fault(fault) => fault_line(*fault).as_bytes(),
             Outcome::Memory => lines::NO_MEMORY.as_bytes(),
         }
+    }
+}
+
+// Why a trace is not rewritten to its end.
+fn fault_line(fault: RewriteFault) -> &'static str
+    ensures { result.now ≡ (fault_telling fault).text }
+{
+    match fault {
+        RewriteFault::Read => lines::TRACE_UNREAD,
+        RewriteFault::Write => lines::TRACE_UNWRITTEN,
+        RewriteFault::TooMuch => lines::TRACE_TOO_LONG,
+        RewriteFault::Memory => lines::NO_MEMORY,
     }
 }

@@ -2,18 +2,19 @@
 ghost use Rattle.std.specs.Prelude.{◌≡◌, [], false, map};
 ghost use Rattle.smap_answers.specs.Files.{path_of, paths_of};
 ghost use Rattle.smap_answers.specs.Outcome.{telling_of, telling_or_memory};
-ghost use Rattle.smap_answers.specs.Run.{Runs, Tells};
-ghost use Rattle.smap_answers.specs.Streams.{sink_seen, source_seen, streams_seen};
-ghost use Rattle.smap_answers.specs.declared.command.Command.TheVariants.{Raw};
+ghost use Rattle.smap_answers.specs.Run.{RawTells, Runs, Tells};
+ghost use Rattle.smap_answers.specs.Streams.{SinkSeen, sink_seen, source_seen, streams_seen, work_seen};
 
 use crate::check::answer_check;
 use crate::command::Command;
+use crate::compose::answer_compose;
 use crate::load::Loaded;
 use crate::lookup::answer_lookup;
 use crate::outcome::Outcome;
 use crate::raw::answer_raw;
 use crate::show::answer_show;
 use crate::telling::tell;
+use crate::trace::rewrite_trace;
 use smap_io::{ByteSink, ByteSource, ReadFailure, read_all};
 use smap_mappings::MOST_BYTES;
 use std::alloc::{AllocError, Global};
@@ -40,21 +41,26 @@ pub fn run<R: ByteSource, W: ByteSink, E: ByteSink>(
         (sink_seen W.taken W.is_flushed W.has_failed output.new)
         (sink_seen E.taken E.is_flushed E.has_failed errors.new)) }
 {
-    let outcome = outcome_of(alloc, command, files, input);
+    let outcome = outcome_of(alloc, command, files, input, output);
     tell(&outcome, output, errors)
 }
 
-// What a command comes to.
-fn outcome_of<R: ByteSource>(
+// What a command comes to. Standard output has a rewritten trace already.
+fn outcome_of<R: ByteSource, W: ByteSink>(
     alloc: Global,
     command: &Command,
     files: &[Loaded],
     input: &mut R,
+    output: &mut W,
 ) -> Outcome
     requires loaded { map path_of files.now ≡ paths_of command.now }
     requires input_works { R.has_failed input.old ≡ false }
-    ensures { Tells command.now files.now (source_seen R.left R.has_failed input.old)
-        (source_seen R.left R.has_failed input.new) (telling_of result) }
+    requires output_works { W.has_failed output.old ≡ false }
+    ensures tells { Tells command.now files.now
+        (work_seen (source_seen R.left R.has_failed input.old) (sink_seen W.taken W.is_flushed W.has_failed output.old))
+        (work_seen (source_seen R.left R.has_failed input.new) (sink_seen W.taken W.is_flushed W.has_failed output.new))
+        (telling_of result) }
+    ensures output_works { (telling_of result).status ≡ 0 → W.has_failed output.new ≡ false }
 {
     match command {
         Command::Raw { line, column } => outcome_of_raw(alloc, *line, *column, input),
@@ -70,14 +76,25 @@ fn outcome_of<R: ByteSource>(
             column,
             base,
         } => or_memory(answer_lookup(alloc, path, &files[0].bytes, base.as_ref(), *line, *column)),
+        Command::Rewrite { maps, base } => {
+            rewrite_trace(alloc, maps, base.as_ref(), files, input, output)
+        }
+        Command::Compose { source, base, .. } => or_memory(answer_compose(
+            alloc,
+            &files[0],
+            *source,
+            &files[1],
+            base.as_ref(),
+        )),
     }
 }
 
 // What `raw` comes to.
 fn outcome_of_raw<R: ByteSource>(alloc: Global, line: u32, column: u32, input: &mut R) -> Outcome
     requires input_works { R.has_failed input.old ≡ false }
-    ensures { Tells (Raw line column) [] (source_seen R.left R.has_failed input.old)
-        (source_seen R.left R.has_failed input.new) (telling_of result) }
+    ensures { (output : SinkSeen) → RawTells line column
+        (work_seen (source_seen R.left R.has_failed input.old) output)
+        (work_seen (source_seen R.left R.has_failed input.new) output) (telling_of result) }
 {
     // Two bytes more than a text may have: one of them may be the LF that is dropped.
     match read_all(alloc, input, MOST_BYTES + 2) {

@@ -1,9 +1,8 @@
 //! Writing what a map file states as one regular map.
 ghost use Rattle.std.specs.Prelude.{◌≡◌, ◌++◌, ◌∷◌, [], option_copied, IfOk};
 ghost use Rattle.smap_record.specs.Record.{record_of};
-ghost use Rattle.smap_answers.specs.Map.{IsMapTelling};
+ghost use Rattle.smap_answers.specs.Map.{IsMapTelling, interval};
 ghost use Rattle.smap_answers.specs.Outcome.{telling_of};
-ghost use Rattle.smap_answers.specs.Run.{interval};
 ghost use Rattle.smap_answers.specs.Show.{show_result};
 
 use crate::command::INTERVAL;
@@ -42,8 +41,8 @@ fn written_map(alloc: Global, map: &MapFile) -> Result<Outcome, AllocError>
     }
 }
 
-// The bytes, and an LF.
-fn line_of(mut bytes: Vec<u8>) -> Result<Vec<u8>, AllocError>
+/// The bytes of a map, and an LF.
+pub fn line_of(mut bytes: Vec<u8>) -> Result<Vec<u8>, AllocError>
     ensures { IfOk result (λ line. line.items ≡ bytes.items ++ 10 ∷ []) }
 {
     bytes.push(b'\n')?;

@@ -9,10 +9,10 @@ use crate::outcome::{DONE, FAILED, Outcome};
 use smap_io::{ByteSink, DeviceFault, write_all};
 
 /// Writes the text of an outcome to the stream that it is for and flushes that, and gives the exit status. Where
-/// standard output fails, standard error says so. A failure of standard error is passed over. The caller gives
-/// devices that have not failed. The call takes no memory.
+/// standard output fails, standard error says so. A failure of standard error is passed over. The caller gives a
+/// standard output that has not failed where the outcome is for it. The call takes no memory.
 pub fn tell<W: ByteSink, E: ByteSink>(outcome: &Outcome, output: &mut W, errors: &mut E) -> u8
-    requires output_works { W.has_failed output.old ≡ false }
+    requires output_works { (telling_of outcome.now).status ≡ 0 → W.has_failed output.old ≡ false }
     ensures { Ends (telling_of outcome.now) result
         (sinks_seen (sink_seen W.taken W.is_flushed W.has_failed output.old) (sink_seen E.taken E.is_flushed E.has_failed errors.old))
         (sinks_seen (sink_seen W.taken W.is_flushed W.has_failed output.new) (sink_seen E.taken E.is_flushed E.has_failed errors.new)) }

@@ -1,55 +1,89 @@
 -- What the words ask for, where clap finds no fault in them.
-use Rattle.std.proofs.Common.{◌≡◌, ◌∙◌, ◌||◌, Bool, true, false, refl, sym, subst, inl, inr, List, [], ◌∷◌, not, fold, find, Option, Some, None, true≢false, codes, cond, is_some}
-use Rattle.std.specs.Prelude.{⊤, option_and_then, option_map, slice_get}
+use Rattle.std.proofs.Common.{◌≡◌, ◌∙◌, ◌||◌, ◌&&◌, ℕ, Bool, true, false, refl, sym, subst, inl, inr, List, [], ◌∷◌, not, fold, find, Option, Some, None, true≢false, codes, cond, is_some}
+use Rattle.std.specs.Prelude.{⊤, option_map, unwrap_or}
+use Rattle.std.specs.List.{list_any}
 use Rattle.std.proofs.lemmas.Slice.Eq.{bytes_eq-Decides}
 use Rattle.std.specs.Option.{option_map_or}
 use Rattle.std.specs.Str.{bytes_eq}
-use Rattle.clap.specs.Walk.{Row, Rule, Text, finished, nothing_held, one_of, row_text, rows_after, settled, stop_after, walk, walk_from, with_default}
+use Rattle.clap.specs.Walk.{Row, Rule, Text, answers_to, finished, nothing_held, rows_after, settled, stop_after, walk, walk_from, with_default}
 use Rattle.clap.specs.declared.parser.matches.ArgMatches.{ArgMatches}
-use Rattle.clap.specs.Simple.{App, HasMatchesOf, subcommand_rows_of, Shape, argument_words, built, built_leaf, entered, is_simple, help_shape, names_of, rows_at, subcommand_of}
-use Rattle.clap.specs.Kinds.{HasKind, IsAmong, check_kinds}
+use Rattle.clap.specs.Simple.{App, HasMatchesOf, subcommand_rows_of, Shape, argument_words, built, built_leaf, entered, filled, help_rule, is_simple, label_of, names_of, new_rule, rows_at, subcommand_of, with_index}
+use Rattle.clap.specs.Kinds.{HasKind, check_kinds}
 use Rattle.clap.specs.Faults.{check_fault, is_simple_and_free, entered_fault, fault_of, defaults_fault, level_fault, settle_fault, walk_fault}
 use Rattle.clap.specs.Takes.{is_given}
-use Rattle.clap.specs.Values.{kind_of, read_as}
+use Rattle.clap.specs.Values.{kind_of}
 use Rattle.clap.proofs.OnLiterals.{clap_on_literals}
+use Rattle.clap.specs.declared.builder.action.ArgAction.TheVariants.{Append}
 use Rattle.clap.specs.declared.builder.value_parser.ValueParser.{ValueParser}
 use Rattle.clap.specs.declared.builder.value_parser.ValueParser.TheVariants as parser
-use Rattle.clap.specs.declared.builder.value_parser.Reading.{Reading}
 use Rattle.clap.specs.declared.error.Error.{Error}
 use Rattle.clap.specs.declared.error.kind.ErrorKind.TheVariants.{DisplayHelp, DisplayVersion, OutOfMemory}
+use Rattle.smap_cli.specs.CommandLine.{compose, lookup, map_command, named, number, raw, rewrite, smap, source_number}
 use Rattle.smap_cli.specs.declared.words.Usage.{Usage}
 use Rattle.smap_cli.specs.declared.words.Usage.TheVariants.{Help, Words, Memory}
-use Rattle.smap_cli.specs.Words.{HasCommand, HasNumber, HasText, IsBaseRefusal, IsUsageOf, IsRefusalOf, lookup, map_command, number, raw, smap}
-use Rattle.smap_cli.proofs.Rows.{AreReadRows, Keeps, first_none, given_value, help_keeps, long_option_keeps, no_default_keeps, second_none, settle_keeps, value_keeps, walk_keeps}
+use Rattle.smap_cli.specs.Words.{HasArguments, HasCommand, HasRequired, HasValue, IsNamedRefusal, IsUsageOf, IsRefusalOf, SubcommandTells}
+use Rattle.smap_cli.proofs.Rows.{AreReadRows, Keeps, first_none, given_value, help_keeps, long_option_keeps, more_values_keeps, no_default_keeps, second_none, settle_keeps, value_keeps, walk_keeps}
 use Rattle.smap_cli.proofs.Stops.{IsNoHelp, walk_names}
 
 -- ---- the rules of a level
 
--- the fact holds of each rule
-abbrev Each : (Rule → Type 0) → List Rule → Type 0
+-- the fact holds of each
+abbrev Each : {X : Type 0} → (X → Type 0) → List X → Type 0
 Each P [] = ⊤
-Each P (r ∷ rs) = P r × Each P rs
+Each P (x ∷ xs) = P x × Each P xs
 
-found_in : (P : Rule → Type 0) (p : Rule → Bool) (rules : List Rule) (a : Rule) → Each P rules → find p rules ≡ Some a → P a
+found_in : {X : Type 0} (P : X → Type 0) (p : X → Bool) (xs : List X) (a : X) → Each (λ x. p x ≡ true → P x) xs → find p xs ≡ Some a → P a
 found_in P p [] a each is = cc
-found_in P p (r ∷ rs) a each is = go (p r) is (found_in P p rs a each.1)
+found_in P p (x ∷ xs) a each is = go (p x) refl is (found_in P p xs a each.1)
   where
-    go : (b : Bool) → cond b (Some r) (find p rs) ≡ Some a → (find p rs ≡ Some a → P a) → P a
-    go true is later = let same : r ≡ a = cc in subst P same each.0
-    go false is later = later is
+    go : (b : Bool) → p x ≡ b → cond b (Some x) (find p xs) ≡ Some a → (find p xs ≡ Some a → P a) → P a
+    go true passes is later = let same : x ≡ a = cc in subst P same (each.0 passes)
+    go false passes is later = later is
+
+neither : (x y : Bool) → (x || y) ≡ false → (x ≡ false) × (y ≡ false)
+neither true y = λ no. cc
+neither false y = λ no. (refl, no)
+
+given_if : (required given : Bool) → required ≡ true → (required && not given) ≡ false → given ≡ true
+given_if true true = λ is no. refl
+given_if true false = λ is no. cc
+given_if false given = λ is no. cc
+
+none_missing : (help command negates any : Bool) → check_kinds help command (not (negates && false) && any) ≡ [] → any ≡ false
+none_missing help command negates false = λ none. refl
+none_missing true command negates true = λ none. cc
+none_missing false true negates true = λ none. cc
+none_missing false false true true = λ none. cc
+none_missing false false false true = λ none. cc
 
 module _ (parser_at : Text → ValueParser) where
-  finished_keeps : (rules : List Rule) (rows : List Row) → Each (λ a. a.defaults ≡ []) rules → AreReadRows parser_at rows
-      → AreReadRows parser_at (fold with_default rows rules)
-  finished_keeps [] rows none good = good
-  finished_keeps (a ∷ rest) rows none good = finished_keeps rest (with_default rows a) none.1 (no_default_keeps parser_at rows a none.0 good)
+  -- the argument has no default, and its values are read by the parser
+  abbrev IsPlain : Rule → Type 0
+  IsPlain a = Keeps parser_at a × (a.defaults ≡ []) × (a.required ≡ true → parser_at a.id ≡ unwrap_or a.parser parser.String)
 
-  -- a level in which clap finds no fault has rows that are read, and all that it requires
-  level_gives : (s : Shape) → Each (Keeps parser_at) s.rules → Each (λ a. a.defaults ≡ []) s.rules
-      → (words : List Text) → level_fault s [] nothing_held words false [] ≡ []
-      → AreReadRows parser_at (rows_after s.rules [] words) × (check_fault s (rows_after s.rules [] words) false ≡ [])
-  level_gives s each plain words none =
-      let keeps : (p : Rule → Bool) (a : Rule) → find p s.rules ≡ Some a → Keeps parser_at a = λ p a is. found_in (Keeps parser_at) p s.rules a each is in
+  finished_keeps : (rules : List Rule) (rows : List Row) → Each IsPlain rules → AreReadRows parser_at rows → AreReadRows parser_at (fold with_default rows rules)
+  finished_keeps [] rows plain good = good
+  finished_keeps (a ∷ rest) rows plain good = finished_keeps rest (with_default rows a) plain.1 (no_default_keeps parser_at rows a plain.0.1 good)
+
+  each_keeps : (rules : List Rule) (p : Rule → Bool) → Each IsPlain rules → Each (λ a. p a ≡ true → Keeps parser_at a) rules
+  each_keeps [] p plain = tt
+  each_keeps (a ∷ rest) p plain = (λ passes. plain.0.0, each_keeps rest p plain.1)
+
+  required_given : (rules : List Rule) (rows : List Row) → Each IsPlain rules → AreReadRows parser_at rows
+      → list_any (λ a. a.required && not (is_given a.id rows)) rules ≡ false → HasRequired rules rows
+  required_given [] rows plain good none = tt
+  required_given (a ∷ rest) rows plain good none =
+      let no = neither (a.required && not (is_given a.id rows)) _ none in (
+        λ required. subst (λ by. HasValue by rows a.id) (plain.0.2 required)
+            (given_value parser_at a.id rows good (given_if a.required (is_given a.id rows) required no.0)),
+        required_given rest rows plain.1 good no.1,
+      )
+
+  -- a level in which clap finds no fault has all that it requires
+  level_gives : (s : Shape) → Each IsPlain s.rules → (words : List Text) → level_fault s [] nothing_held words false [] ≡ []
+      → HasRequired s.rules (rows_after s.rules [] words)
+  level_gives s plain words none =
+      let keeps : (p : Rule → Bool) (a : Rule) → find p s.rules ≡ Some a → Keeps parser_at a = λ p a is. found_in (Keeps parser_at) p s.rules a (each_keeps s.rules p plain) is in
       let end = (walk s.rules [] nothing_held words).held in
       let walked_none = first_none (walk_fault s [] (walk_from nothing_held) words) _ none in
       let later = second_none (walk_fault s [] (walk_from nothing_held) words) _ none in
@@ -57,132 +91,97 @@ module _ (parser_at : Text → ValueParser) where
       let last = second_none (defaults_fault (settled s.rules end).rows s.rules) _ (second_none (settle_fault s.rules s.args_override_self end) _ later) in
       let walk_good = walk_keeps parser_at s [] keeps words (walk_from nothing_held) walked_none tt in
       let end_good = settle_keeps parser_at s.rules s.args_override_self keeps end settled_none walk_good in
-      (finished_keeps s.rules (settled s.rules end).rows plain end_good, last)
+      let rows = rows_after s.rules [] words in
+      required_given s.rules rows plain (finished_keeps s.rules (settled s.rules end).rows plain end_good)
+      (none_missing _ _ s.subcommand_negates_reqs (list_any (λ a. a.required && not (is_given a.id rows)) s.rules) last)
 
--- ---- what each subcommand gets
+  value : (i : ℕ) (id : Text) → IsPlain (with_index i (filled (record (new_rule id) { required = true; parser = Some (parser_at id) })))
+  value i id = (value_keeps parser_at i id true, refl, λ required. refl)
 
-first_of_one : (id text : Text) (rows : List Row) → one_of id rows ≡ Some text → HasText rows id
-first_of_one id text rows is = go (find (λ r. bytes_eq r.id id) rows) is
-  where
-    first : (how : Reading) (o : Option Text) → option_map (read_as how) o ≡ Some text → (first : Text) × (o ≡ Some first)
-    first how None is = cc
-    first how (Some value) is = (value, refl)
+  more_values : (i : ℕ) (id : Text) → IsPlain (with_index i (filled (record (new_rule id) { required = true; action = Some Append; parser = Some (parser_at id) })))
+  more_values i id = (more_values_keeps parser_at i id true, refl, λ required. refl)
 
-    go : (o : Option Row) → option_and_then row_text o ≡ Some text → (first : Text) × (option_and_then (λ r. slice_get r.values 0) o ≡ Some first)
-    go None is = cc
-    go (Some r) is = first r.reading (slice_get r.values 0) is
+  option : (i : ℕ) (id long : Text) → IsPlain (with_index i (filled (record (new_rule id) { long = Some long; parser = Some (parser_at id) })))
+  option i id long = (long_option_keeps parser_at i id long, refl, λ required. cc)
 
-abbrev at_number : Text → ValueParser
-at_number id = number
+  help : IsPlain (filled help_rule)
+  help = (help_keeps parser_at, refl, λ required. cc)
 
-abbrev at_text : Text → ValueParser
-at_text id = parser.String
+-- ---- the commands of `smap`
 
--- the path and the base are any text, and the other arguments are numbers
+-- lines, columns and sources are numbers, and the other arguments are any text
 abbrev at_argument : Text → ValueParser
-at_argument id = cond (bytes_eq id (codes "PATH") || bytes_eq id (codes "URL")) parser.String number
+at_argument id = cond (bytes_eq id (codes "SOURCE")) source_number
+    (cond (bytes_eq id (codes "LINE") || bytes_eq id (codes "COLUMN")) number parser.String)
 
-abbrev raw_shape : Shape
-raw_shape = built_leaf raw.top
+lookup_plain : Each (IsPlain at_argument) (built_leaf lookup.top).rules
+lookup_plain = (
+  value at_argument 1 (codes "PATH"),
+  (
+    value at_argument 2 (codes "LINE"),
+    (value at_argument 3 (codes "COLUMN"), (option at_argument 4 (codes "URL") (codes "base"), (help at_argument, tt))),
+  ),
+)
 
-abbrev map_shape : Text → Shape
-map_shape name = built_leaf (map_command name).top
+rewrite_plain : Each (IsPlain at_argument) (built_leaf rewrite.top).rules
+rewrite_plain = (more_values at_argument 1 (codes "URL=FILE"), (option at_argument 2 (codes "URL") (codes "base"), (help at_argument, tt)))
 
-abbrev lookup_shape : Shape
-lookup_shape = built_leaf lookup.top
+map_plain : (name : Text) → Each (IsPlain at_argument) (built_leaf (map_command name).top).rules
+map_plain name = (value at_argument 1 (codes "PATH"), (option at_argument 2 (codes "URL") (codes "base"), (help at_argument, tt)))
 
-raw_given : (words : List Text) → level_fault raw_shape [] nothing_held words false [] ≡ []
-    → HasNumber (rows_after raw_shape.rules [] words) (codes "LINE") × HasNumber (rows_after raw_shape.rules [] words) (codes "COLUMN")
-raw_given words none =
-    let rows = rows_after raw_shape.rules [] words in
-    let level = level_gives at_number raw_shape
-    (value_keeps at_number 1 (codes "LINE") true, (value_keeps at_number 2 (codes "COLUMN") true, (help_keeps at_number, tt)))
-    (refl, (refl, (refl, tt))) words none in
-    let given = both_given (is_given (codes "LINE") rows) (is_given (codes "COLUMN") rows) level.1 in
-    (given_value at_number (codes "LINE") rows level.0 given.0, given_value at_number (codes "COLUMN") rows level.0 given.1)
-  where
-    both_given : (line column : Bool) → check_kinds false false ((not line) || ((not column) || false)) ≡ [] → (line ≡ true) × (column ≡ true)
-    both_given true true none = (refl, refl)
-    both_given true false none = cc
-    both_given false column none = cc
+compose_plain : Each (IsPlain at_argument) (built_leaf compose.top).rules
+compose_plain = (
+  value at_argument 1 (codes "OUTER"),
+  (
+    value at_argument 2 (codes "SOURCE"),
+    (value at_argument 3 (codes "INNER"), (option at_argument 4 (codes "URL") (codes "base"), (help at_argument, tt))),
+  ),
+)
 
-map_given : (name : Text) (words : List Text) → level_fault (map_shape name) [] nothing_held words false [] ≡ []
-    → HasText (rows_after (map_shape name).rules [] words) (codes "PATH")
-map_given name words none =
-    let rows = rows_after (map_shape name).rules [] words in
-    let level = level_gives at_text (map_shape name)
-    (value_keeps at_text 1 (codes "PATH") true, (long_option_keeps at_text 2 (codes "URL") (codes "base"), (help_keeps at_text, tt)))
-    (refl, (refl, (refl, tt))) words none in
-    let path = given_value at_text (codes "PATH") rows level.0 (path_given (is_given (codes "PATH") rows) level.1) in
-    first_of_one (codes "PATH") path.0 rows path.1
-  where
-    path_given : (path : Bool) → check_kinds false false ((not path) || false) ≡ [] → path ≡ true
-    path_given true none = refl
-    path_given false none = cc
+raw_plain : Each (IsPlain at_argument) (built_leaf raw.top).rules
+raw_plain = (value at_argument 1 (codes "LINE"), (value at_argument 2 (codes "COLUMN"), (help at_argument, tt)))
 
-lookup_given : (words : List Text) → level_fault lookup_shape [] nothing_held words false [] ≡ []
-    → HasText (rows_after lookup_shape.rules [] words) (codes "PATH")
-    × HasNumber (rows_after lookup_shape.rules [] words) (codes "LINE") × HasNumber (rows_after lookup_shape.rules [] words) (codes "COLUMN")
-lookup_given words none =
-    let rows = rows_after lookup_shape.rules [] words in
-    let level = level_gives at_argument lookup_shape (
-      value_keeps at_argument 1 (codes "PATH") true,
+-- where clap finds no fault in the words of the subcommand, it has its arguments
+abbrev Gives : Shape → Type 0
+Gives s = (words : List Text) → level_fault s [] nothing_held words false [] ≡ [] → HasArguments (named s.name) (rows_after s.rules [] words)
+
+each_gives : (word : Text) → bytes_eq word (codes "help") ≡ false → Each (λ s. answers_to word (label_of s) ≡ true → Gives s) (built smap).subs
+each_gives word no_help = (
+  λ answers. level_gives at_argument (built_leaf lookup.top) lookup_plain,
+  (
+    λ answers. level_gives at_argument (built_leaf rewrite.top) rewrite_plain,
+    (
+      λ answers. level_gives at_argument (built_leaf (map_command (codes "check")).top) (map_plain (codes "check")),
       (
-        value_keeps at_argument 2 (codes "LINE") true,
+        λ answers. level_gives at_argument (built_leaf (map_command (codes "show")).top) (map_plain (codes "show")),
         (
-          value_keeps at_argument 3 (codes "COLUMN") true,
-          (long_option_keeps at_argument 4 (codes "URL") (codes "base"), (help_keeps at_argument, tt)),
+          λ answers. level_gives at_argument (built_leaf compose.top) compose_plain,
+          (
+            λ answers. level_gives at_argument (built_leaf raw.top) raw_plain,
+            (λ answers. absurd (is_no_help (bytes_eq (codes "help") word) refl answers), tt),
+          ),
         ),
       ),
-    )
-    (refl, (refl, (refl, (refl, (refl, tt))))) words none in
-    let given = all_given (is_given (codes "PATH") rows) (is_given (codes "LINE") rows) (is_given (codes "COLUMN") rows) level.1 in
-    let path = given_value at_argument (codes "PATH") rows level.0 given.0 in (
-      first_of_one (codes "PATH") path.0 rows path.1,
-      given_value at_argument (codes "LINE") rows level.0 given.1,
-      given_value at_argument (codes "COLUMN") rows level.0 given.2,
-    )
+    ),
+  ),
+)
   where
-    all_given : (path line column : Bool) → check_kinds false false ((not path) || ((not line) || ((not column) || false))) ≡ []
-        → (path ≡ true) × (line ≡ true) × (column ≡ true)
-    all_given true true true none = (refl, refl, refl)
-    all_given true true false none = cc
-    all_given true false column none = cc
-    all_given false line column none = cc
-
--- ---- the subcommand of `smap`
+    is_no_help : (b : Bool) → bytes_eq (codes "help") word ≡ b → (b || false) ≡ true → ⊥
+    is_no_help true is answers =
+        let help : bytes_eq word (codes "help") ≡ true = (bytes_eq-Decides word (codes "help")).1 (sym ((bytes_eq-Decides (codes "help") word).0 is)) in
+        true≢false (sym help ∙ no_help)
+    is_no_help false is answers = cc
 
 stopped_command : (stop : Option (Text × List Text)) → IsNoHelp stop → is_some (entered (built smap) stop) ≡ true → entered_fault (built smap) stop ≡ []
     → HasCommand (entered (built smap) stop)
-stopped_command None named some none = cc
-stopped_command (Some p) named some none =
-    go (bytes_eq (codes "lookup") p.0) (bytes_eq (codes "check") p.0) (bytes_eq (codes "show") p.0) (bytes_eq (codes "raw") p.0)
-    (bytes_eq (codes "help") p.0) refl some none
+stopped_command None no_help some none = cc
+stopped_command (Some p) no_help some none = go (find (λ s. answers_to p.0 (label_of s)) (built smap).subs) refl some none
   where
-    shapes : Bool → Bool → Bool → Bool → Bool → Option Shape
-    shapes b1 b2 b3 b4 b5 = cond (b1 || false) (Some lookup_shape)
-        (cond (b2 || false) (Some (map_shape (codes "check"))) (cond (b3 || false) (Some (map_shape (codes "show")))
-        (cond (b4 || false) (Some raw_shape) (cond (b5 || false) (Some (built_leaf help_shape)) None))))
-
-    go : (b1 b2 b3 b4 b5 : Bool) → bytes_eq (codes "help") p.0 ≡ b5
-        → is_some (option_map (λ s. rows_at s p.1) (shapes b1 b2 b3 b4 b5)) ≡ true
-        → option_map_or (λ s. level_fault s [] nothing_held p.1 false []) (shapes b1 b2 b3 b4 b5) [] ≡ []
-        → HasCommand (option_map (λ s. rows_at s p.1) (shapes b1 b2 b3 b4 b5))
-    go true b2 b3 b4 b5 is some none =
-        let given = lookup_given p.1 none in
-        inr (inr (inr (rows_after lookup_shape.rules [] p.1, refl, given.0, given.1, given.2)))
-    go false true b3 b4 b5 is some none =
-        inr (inl (rows_after (map_shape (codes "check")).rules [] p.1, refl, map_given (codes "check") p.1 none))
-    go false false true b4 b5 is some none =
-        inr (inr (inl (rows_after (map_shape (codes "show")).rules [] p.1, refl, map_given (codes "show") p.1 none)))
-    go false false false true b5 is some none =
-        let given = raw_given p.1 none in
-        inl (rows_after raw_shape.rules [] p.1, refl, given.0, given.1)
-    go false false false false true is some none =
-        let same = (bytes_eq-Decides (codes "help") p.0).0 is in
-        let help : bytes_eq p.0 (codes "help") ≡ true = (bytes_eq-Decides p.0 (codes "help")).1 (sym same) in
-        absurd (true≢false (sym help ∙ named))
-    go false false false false false is some none = cc
+    go : (o : Option Shape) → find (λ s. answers_to p.0 (label_of s)) (built smap).subs ≡ o → is_some (option_map (λ s. rows_at s p.1) o) ≡ true
+        → option_map_or (λ s. level_fault s [] nothing_held p.1 false []) o [] ≡ [] → HasCommand (option_map (λ s. rows_at s p.1) o)
+    go None is some none = cc
+    go (Some s) is some none =
+        (s.name, rows_after s.rules [] p.1, refl, found_in Gives (λ s. answers_to p.0 (label_of s)) (built smap).subs s (each_gives p.0 no_help) is p.1 none)
 
 wants_subcommand : (rows : List Row) (has : Bool) → check_fault (built smap).top rows has ≡ [] → has ≡ true
 wants_subcommand rows true none = refl
@@ -235,10 +234,9 @@ failed_smap a words e usage is_smap fails is = refusal_of usage (subst (λ b. is
     ]
     refusal_of Memory kind is = tt
 
--- where clap finds no fault in the words, but the base is refused
-pub base_refused : (words : List Text) (usage : Usage) → fault_of smap words ≡ [] → IsBaseRefusal (subcommand_of smap words) usage → IsRefusalOf words usage
-base_refused words (Help text) none (inl memory) = cc
-base_refused words (Help text) none (inr bad) = absurd bad.0
-base_refused words (Words text) none (inl memory) = cc
-base_refused words (Words text) none (inr bad) = inr (bad.0, none, bad.1)
-base_refused words Memory none refused = tt
+-- where clap finds no fault in the words, but the base or a word of `rewrite` is refused
+pub named_refused : (words : List Text) (usage : Usage) → fault_of smap words ≡ [] → IsNamedRefusal (SubcommandTells (subcommand_of smap words)) usage
+    → IsRefusalOf words usage
+named_refused words (Help text) none refused = absurd refused
+named_refused words (Words text) none refused = inr (none, refused)
+named_refused words Memory none refused = tt

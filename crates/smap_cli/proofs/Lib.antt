@@ -1,3 +1,8 @@
+mod Line
+mod Named
+mod Numbers
+mod Pairs
 mod Rows
 mod Stops
+mod Texts
 mod Asked

@@ -9,7 +9,8 @@ use Rattle.clap.specs.Walk.{Held, Names, Outcome, Row, Rule, Step, Text, Waiting
 use Rattle.clap.specs.Walk as w
 use Rattle.clap.specs.Simple.{Shape, new_rule, filled, help_rule, with_index}
 use Rattle.clap.specs.Kinds.{Kinds, or_else, values_kinds}
-use Rattle.clap.specs.Faults.{bundle_step_fault, flags_fault, flag_word_fault, long_fault, option_fault, other_fault, positional_fault, react_fault, repeat_fault, set_fault, stray_fault, bundle_fault, settle_fault, short_fault, step_fault, turn_fault, use_fault, walk_fault, word_fault}
+use Rattle.clap.specs.declared.builder.action.ArgAction.TheVariants.{Append}
+use Rattle.clap.specs.Faults.{values_fault, bundle_step_fault, flags_fault, flag_word_fault, long_fault, option_fault, other_fault, positional_fault, react_fault, repeat_fault, set_fault, stray_fault, bundle_fault, settle_fault, short_fault, step_fault, turn_fault, use_fault, walk_fault, word_fault}
 use Rattle.clap.specs.Lexer.{short_of, long_of}
 use Rattle.clap.specs.Takes.{is_given}
 use Rattle.clap.specs.Facts.{explicit_source}
@@ -98,6 +99,18 @@ module _ (parser_at : Text → ValueParser) where
       go : set_fault again a (v ∷ vs) rows ≡ [] → AreReadRows (used a (v ∷ vs) rows)
       go none = with_values_keeps id CommandLine (v ∷ vs) (without id rows)
           (accepted_values id v vs (second_none (repeat_fault again id rows) _ none)) (without_keeps id rows good)
+
+  -- a positional argument of one value or more
+  pub more_values_keeps : (i : ℕ) (id : Text) (required : Bool)
+      → Keeps (with_index i (filled (record (new_rule id) { required = required; action = Some Append; parser = Some (parser_at id) })))
+  more_values_keeps i id required again [] rows none good = cc
+  more_values_keeps i id required again (v ∷ vs) rows none good = go (second_none _ (values_fault a (v ∷ vs)) none)
+    where
+      a : Rule
+      a = with_index i (filled (record (new_rule id) { required = required; action = Some Append; parser = Some (parser_at id) }))
+
+      go : values_fault a (v ∷ vs) ≡ [] → AreReadRows (used a (v ∷ vs) rows)
+      go none = with_values_keeps id CommandLine (v ∷ vs) rows (accepted_values id v vs none) good
 
   -- an option of one value
   pub long_option_keeps : (i : ℕ) (id long : Text) → Keeps (with_index i (filled (record (new_rule id) { long = Some long; parser = Some (parser_at id) })))

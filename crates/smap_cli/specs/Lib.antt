@@ -1,2 +1,3 @@
-pub mod Words
+pub mod CommandLine
 pub mod Usage
+pub mod Words

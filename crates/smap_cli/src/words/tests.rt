@@ -32,6 +32,24 @@ fn read(alloc: Global, words: &[&str]) -> Result<String, AllocError> {
             let base = base_text(&base);
             format!(in alloc; "lookup {path} {line} {column}{base}")
         }
+        Ok(Command::Rewrite { maps, base }) => {
+            let mut told = format!(in alloc; "rewrite{}", base_text(&base))?;
+            for (url, path) in maps {
+                told = format!(in alloc; "{told} [{url}][{path}]")?;
+            }
+            Ok(told)
+        }
+        Ok(
+            Command::Compose {
+                outer,
+                source,
+                inner,
+                base,
+            },
+        ) => {
+            let base = base_text(&base);
+            format!(in alloc; "compose {outer} {source} {inner}{base}")
+        }
         Err(usage) => read_usage(alloc, &usage),
     }
 }
@@ -52,7 +70,7 @@ fn read_usage(alloc: Global, usage: &Usage) -> Result<String, AllocError> {
 }
 
 // Words, and the command that they give, with lines and columns from 0.
-const COMMANDS: [(&[&str], &str); 21] = [
+const COMMANDS: [(&[&str], &str); 31] = [
     (&["smap", "raw", "1", "6"], "raw 0 5"),
     (&["smap", "raw", "1", "1"], "raw 0 0"),
     (&["./smap", "raw", "007", "+2"], "raw 6 1"),
@@ -107,6 +125,54 @@ const COMMANDS: [(&[&str], &str); 21] = [
         &["smap", "lookup", "r.map", "1", "1", "--base", "webpack:a"],
         "lookup r.map 0 0webpack:a",
     ),
+    (
+        &["smap", "rewrite", "https://ex.test/app.js=app.map"],
+        "rewrite [https://ex.test/app.js][app.map]",
+    ),
+    (
+        &["smap", "rewrite", "https://ex.test/app.js?v=1=maps/app.map"],
+        "rewrite [https://ex.test/app.js?v=1][maps/app.map]",
+    ),
+    (&["smap", "rewrite", "=app.map"], "rewrite [][app.map]"),
+    (&["smap", "rewrite", "u="], "rewrite [u][]"),
+    (
+        &["smap", "rewrite", "u=1.map", "v=2.map", "u=1.map"],
+        "rewrite [u][1.map] [v][2.map] [u][1.map]",
+    ),
+    (
+        &[
+            "smap",
+            "rewrite",
+            "u=1.map",
+            "--base",
+            "https://ex.test/",
+            "v=2.map",
+        ],
+        "rewritehttps://ex.test/ [u][1.map] [v][2.map]",
+    ),
+    (
+        &["smap", "rewrite", "--", "--base=u"],
+        "rewrite [--base][u]",
+    ),
+    (
+        &["smap", "compose", "o.map", "0", "i.map"],
+        "compose o.map 0 i.map",
+    ),
+    (
+        &["smap", "compose", "7", "4294967295", "8"],
+        "compose 7 4294967295 8",
+    ),
+    (
+        &[
+            "smap",
+            "compose",
+            "--base=https://ex.test/",
+            "o.map",
+            "+01",
+            "i.map",
+        ],
+        "compose o.map 1 i.maphttps://ex.test/",
+    ),
 ];
 
 #[test]
@@ -119,7 +185,7 @@ fn reads_commands(rt: HostRuntime) -> Result<(), Fail> {
 }
 
 // Words that are no command, and how the text for them begins.
-const MISTAKES: [(&[&str], &str); 33] = [
+const MISTAKES: [(&[&str], &str); 45] = [
     (
         &["smap", "check", "--base", "nope", "r.map"],
         "usage: bad base URL\n",
@@ -249,6 +315,54 @@ const MISTAKES: [(&[&str], &str); 33] = [
         &["smap", "lookup", "1", "1", "a.map"],
         "error: invalid value 'a.map' for '<COLUMN>': invalid digit found in string\n",
     ),
+    (
+        &["smap", "rewrite"],
+        "error: the following required arguments were not provided:\n  <URL=FILE>...\n",
+    ),
+    (
+        &["smap", "rewrite", "app.map"],
+        "usage: no URL=FILE: app.map\n",
+    ),
+    (
+        &["smap", "rewrite", "u=1.map", "", "v"],
+        "usage: no URL=FILE: \n",
+    ),
+    (
+        &["smap", "rewrite", "a\nb", "u=1.map"],
+        "usage: no URL=FILE: a?b\n",
+    ),
+    (
+        &["smap", "rewrite", "app.map", "--base", "nope"],
+        "usage: bad base URL\n",
+    ),
+    (
+        &["smap", "rewrite", "--base"],
+        "error: a value is required for '--base <URL>' but none was supplied\n",
+    ),
+    (
+        &["smap", "compose", "o.map", "i.map"],
+        "error: invalid value 'i.map' for '<SOURCE>': invalid digit found in string\n",
+    ),
+    (
+        &["smap", "compose", "o.map", "0"],
+        "error: the following required arguments were not provided:\n  <INNER>\n",
+    ),
+    (
+        &["smap", "compose", "o.map", "4294967296", "i.map"],
+        "error: invalid value '4294967296' for '<SOURCE>': 4294967296 is not in 0..=4294967295\n",
+    ),
+    (
+        &["smap", "compose", "o.map", "-1", "i.map"],
+        "error: unexpected argument '-1' found\n",
+    ),
+    (
+        &["smap", "compose", "o.map", "0", "i.map", "j.map"],
+        "error: unexpected argument 'j.map' found\n",
+    ),
+    (
+        &["smap", "compose", "--base", "", "o.map", "0", "i.map"],
+        "usage: bad base URL\n",
+    ),
 ];
 
 #[test]
@@ -271,10 +385,16 @@ const CHECK_EXAMPLE: &str = "Example: smap check examples/preset-react.js.map\n"
 
 const SHOW_EXAMPLE: &str = "Example: smap show examples/bundle.js.map > joined.js.map\n";
 
+const REWRITE_EXAMPLE: &str =
+    "  smap rewrite https://example.test/receipt.min.js=examples/receipt.min.js.map < examples/receipt.trace\n";
+
+const COMPOSE_EXAMPLE: &str =
+    "Example: smap compose examples/preset-react.min.js.map 0 examples/preset-react.js.map > whole.js.map\n";
+
 const RAW_EXAMPLE: &str = "Example: printf 'AAAA,CAAC;AACA' | smap raw 1 6\n";
 
 // Requests for help, the usage that they show, and how the text ends.
-const REQUESTS: [(&[&str], &str, &str); 15] = [
+const REQUESTS: [(&[&str], &str, &str); 19] = [
     (&["out/program", "--help"], "smap <COMMAND>", LOOKUP_EXAMPLE),
     (&["smap", "-h"], "smap <COMMAND>", LOOKUP_EXAMPLE),
     (&["smap", "help"], "smap <COMMAND>", LOOKUP_EXAMPLE),
@@ -337,6 +457,26 @@ const REQUESTS: [(&[&str], &str, &str); 15] = [
         &["smap", "lookup", "a.map", "1", "6", "-h"],
         "smap lookup [OPTIONS] <PATH> <LINE> <COLUMN>",
         LOOKUP_EXAMPLE,
+    ),
+    (
+        &["smap", "help", "rewrite"],
+        "smap rewrite [OPTIONS] <URL=FILE>...",
+        REWRITE_EXAMPLE,
+    ),
+    (
+        &["smap", "rewrite", "u=a.map", "--help"],
+        "smap rewrite [OPTIONS] <URL=FILE>...",
+        REWRITE_EXAMPLE,
+    ),
+    (
+        &["smap", "help", "compose"],
+        "smap compose [OPTIONS] <OUTER> <SOURCE> <INNER>",
+        COMPOSE_EXAMPLE,
+    ),
+    (
+        &["smap", "compose", "-h"],
+        "smap compose [OPTIONS] <OUTER> <SOURCE> <INNER>",
+        COMPOSE_EXAMPLE,
     ),
 ];
 

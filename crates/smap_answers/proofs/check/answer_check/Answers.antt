@@ -2,7 +2,7 @@ use Rattle.std.proofs.Common.{ap, inl, sym, ◌∙◌}
 use Rattle.smap_answers.specs.Check.{check_line}
 use Rattle.smap_answers.specs.Map.{answer_by, map_result}
 use Rattle.smap_answers.specs.Outcome.{answer}
-use Rattle.smap_answers.specs.Run.{interval}
+use Rattle.smap_answers.specs.Map.{interval}
 use Rattle.smap_answers.proofs.check.answer_check.Goals as goal
 
 pub returns-in_ok-check_line-in-Ok : goal.returns-in_ok-check_line-in-Ok

@@ -1,38 +1,58 @@
-use Rattle.std.proofs.Common.{ap, refl, string_bytes, ◌∙◌}
-use Rattle.smap_record.specs.Record.{record_of}
+use Rattle.std.proofs.Common.{ap, ◌∙◌}
 use Rattle.smap_answers.specs.Check.{check_line}
+use Rattle.smap_answers.specs.Compose.{IsComposeTelling}
 use Rattle.smap_answers.specs.Files.{paths_of}
 use Rattle.smap_answers.specs.Lookup.{lookup_text}
-use Rattle.smap_answers.specs.Map.{answer_by}
+use Rattle.smap_answers.specs.Map.{IsMapAnswer, IsMapTelling, interval}
 use Rattle.smap_answers.specs.Outcome.{telling_of}
-use Rattle.smap_answers.specs.Run.{interval}
+use Rattle.smap_answers.specs.Run.{found_in}
 use Rattle.smap_answers.specs.Show.{show_result}
-use Rattle.smap_answers.specs.declared.command.Command.TheVariants.{Check, Lookup, Show}
-use Rattle.smap_answers.proofs.RunLaws.{first_is, map_or_memory, tells_unread, told_of_same}
+use Rattle.smap_answers.proofs.RunLaws.{file_told, files_told, first_is, rewritten_works}
 use Rattle.smap_answers.proofs.running.outcome_of.Goals as goal
 
-pub returns-in-Check : goal.returns-in-Check
-returns-in-Check g c =
-    let first = first_is c.args.files.now c.index-files-0.result (string_bytes c.in-Check.path) (c.requires.loaded ∙ ap paths_of c.in-Check.is) in
-    let told = told_of_same c.answer_check.result (answer_by (check_line interval)) (λ bytes base. record_of bytes base interval) _ _ _ _ _ _
-    c.deref.ensures (c.deref-in-Check.ensures.value ∙ first) c.as_ref.ensures.value c.answer_check.ensures in
-    tells_unread c.args.command.now (Check c.in-Check.path c.in-Check.base) c.args.files.now _ (telling_of c.or_memory.result) c.in-Check.is refl c.requires.input_works
-    (λ input. map_or_memory c.answer_check.result (telling_of c.or_memory.result) (answer_by (check_line interval)) _ _ c.or_memory.ensures told)
+pub returns-in-Raw-clause-tells : goal.returns-in-Raw-clause-tells
+returns-in-Raw-clause-tells g c = rw c.in-Raw.is (c.outcome_of_raw.ensures _)
 
-pub returns-in-Show : goal.returns-in-Show
-returns-in-Show g c =
-    let first = first_is c.args.files.now c.index-files-0-in-Show.result (string_bytes c.in-Show.path) (c.requires.loaded ∙ ap paths_of c.in-Show.is) in
-    let told = told_of_same c.answer_show.result show_result (λ bytes base. record_of bytes base interval) _ _ _ _ _ _
-    c.deref-in-Show.ensures (c.deref-in-Show-2.ensures.value ∙ first) c.as_ref-in-Show.ensures.value c.answer_show.ensures in
-    tells_unread c.args.command.now (Show c.in-Show.path c.in-Show.base) c.args.files.now _
-    (telling_of c.or_memory-in-Show.result) c.in-Show.is refl c.requires.input_works
-    (λ input. map_or_memory c.answer_show.result (telling_of c.or_memory-in-Show.result) show_result _ _ c.or_memory-in-Show.ensures told)
+pub returns-in-Check-clause-tells : goal.returns-in-Check-clause-tells
+returns-in-Check-clause-tells g c =
+    let first = first_is c.args.files.now c.index-files-0.result _ _ (c.requires.loaded ∙ ap paths_of c.in-Check.is) in
+    rw c.in-Check.is (
+      cc,
+      file_told c.answer_check.result (telling_of c.or_memory.result) (λ path bytes base. IsMapAnswer (check_line interval) path (found_in bytes base))
+          _ _ _ _ _ _ c.deref.ensures (c.deref-in-Check.ensures.value ∙ first) c.as_ref.ensures.value c.or_memory.ensures c.answer_check.ensures,
+    )
 
-pub returns-in-Lookup : goal.returns-in-Lookup
-returns-in-Lookup g c =
-    let first = first_is c.args.files.now c.index-files-0-in-Lookup.result (string_bytes c.in-Lookup.path) (c.requires.loaded ∙ ap paths_of c.in-Lookup.is) in
-    let told = told_of_same c.answer_lookup.result (answer_by (lookup_text c.in-Lookup.line c.in-Lookup.column)) (λ bytes base. record_of bytes base interval) _ _ _ _ _ _
-    c.deref-in-Lookup.ensures (c.deref-in-Lookup-2.ensures.value ∙ first) c.as_ref-in-Lookup.ensures.value c.answer_lookup.ensures in
-    tells_unread c.args.command.now (Lookup c.in-Lookup.path c.in-Lookup.line c.in-Lookup.column c.in-Lookup.base) c.args.files.now _
-    (telling_of c.or_memory-in-Lookup.result) c.in-Lookup.is refl c.requires.input_works
-    (λ input. map_or_memory c.answer_lookup.result (telling_of c.or_memory-in-Lookup.result) (answer_by (lookup_text c.in-Lookup.line c.in-Lookup.column)) _ _ c.or_memory-in-Lookup.ensures told)
+pub returns-in-Show-clause-tells : goal.returns-in-Show-clause-tells
+returns-in-Show-clause-tells g c =
+    let first = first_is c.args.files.now c.index-files-0-in-Show.result _ _ (c.requires.loaded ∙ ap paths_of c.in-Show.is) in
+    rw c.in-Show.is (
+      cc,
+      file_told c.answer_show.result (telling_of c.or_memory-in-Show.result) (λ path bytes base. IsMapTelling show_result path (found_in bytes base))
+          _ _ _ _ _ _ c.deref-in-Show.ensures (c.deref-in-Show-2.ensures.value ∙ first) c.as_ref-in-Show.ensures.value c.or_memory-in-Show.ensures c.answer_show.ensures,
+    )
+
+pub returns-in-Lookup-clause-tells : goal.returns-in-Lookup-clause-tells
+returns-in-Lookup-clause-tells g c =
+    let first = first_is c.args.files.now c.index-files-0-in-Lookup.result _ _ (c.requires.loaded ∙ ap paths_of c.in-Lookup.is) in
+    rw c.in-Lookup.is (
+      cc,
+      file_told c.answer_lookup.result (telling_of c.or_memory-in-Lookup.result)
+          (λ path bytes base. IsMapAnswer (lookup_text c.in-Lookup.line c.in-Lookup.column) path (found_in bytes base))
+          _ _ _ _ _ _ c.deref-in-Lookup.ensures (c.deref-in-Lookup-2.ensures.value ∙ first) c.as_ref-in-Lookup.ensures.value c.or_memory-in-Lookup.ensures c.answer_lookup.ensures,
+    )
+
+pub returns-in-Rewrite-clause-tells : goal.returns-in-Rewrite-clause-tells
+returns-in-Rewrite-clause-tells g c = rw c.in-Rewrite.is (rw (← c.as_ref-in-Rewrite.ensures.value) (rw (← c.deref-in-Rewrite.ensures.value) c.rewrite_trace.ensures))
+
+pub returns-in-Rewrite-clause-output_works : goal.returns-in-Rewrite-clause-output_works
+returns-in-Rewrite-clause-output_works g c = rewritten_works _ _ _ _ _ c.rewrite_trace.ensures c.requires.output_works
+
+pub returns-in-Compose-clause-tells : goal.returns-in-Compose-clause-tells
+returns-in-Compose-clause-tells g c =
+    rw c.in-Compose.is (
+      cc,
+      files_told c.answer_compose.result (telling_of c.or_memory-in-Compose.result)
+          (λ outer_path outer_bytes inner_path inner_bytes base. IsComposeTelling c.in-Compose.source outer_path (found_in outer_bytes base) inner_path (found_in inner_bytes base))
+          c.args.files.now c.index-files-0-in-Compose.result c.index-files-1.result _ _ _ _ (c.requires.loaded ∙ ap paths_of c.in-Compose.is) c.index-files-0-in-Compose.is c.index-files-1.is
+          c.as_ref-in-Compose.ensures.value c.or_memory-in-Compose.ensures c.answer_compose.ensures,
+    )

@@ -1,38 +1,37 @@
-use Rattle.std.proofs.Common.{[], refl, rules, arith, ◌∙◌, inl, inr, true≢false}
+use Rattle.std.proofs.Common.{◌≡◌, refl, rules, arith, ◌∙◌, inl}
 use Rattle.smap_answers.specs.Raw.{raw_result}
 use Rattle.smap_answers.specs.Outcome.{telling_of}
-use Rattle.smap_answers.specs.declared.command.Command.TheVariants.{Raw}
-use Rattle.smap_answers.proofs.RunLaws.{or_memory, raw_input, result_of_read, result_of_failure, some_input}
+use Rattle.smap_answers.proofs.RunLaws.{or_memory, raw_input, raw_of_failure, raw_of_input, some_input}
 use Rattle.smap_answers.proofs.running.outcome_of_raw.Goals as goal
 
 pub returns-in-Ok : goal.returns-in-Ok
-returns-in-Ok g c =
+returns-in-Ok g c output =
     let read = raw_input (g.R.ByteSource.left c.args.input.now) (g.R.ByteSource.left c.read_all.new.input) c.in-Ok.bytes.items c.args.line c.args.column c.in-Ok.ensures.gives
     (omega (arith, c.in-Ok.ensures.fits)) (λ less. c.in-Ok.ensures.whole (omega arith)) in
     record {
       input = read.0;
       is_input = read.1;
-      unread = λ never. absurd (true≢false never);
-      is_result = result_of_read (Raw c.args.line c.args.column) [] read.0 _ (telling_of c.or_memory.result) (c.in-Ok.ensures.no_failure ∙ c.requires.input_works)
-          (or_memory c.answer_raw.result (telling_of c.or_memory.result) (raw_result read.0 c.args.line c.args.column) c.or_memory.ensures (rw (← read.2) c.answer_raw.ensures));
+      unwritten = refl;
+      is_telling = raw_of_input c.args.line c.args.column read.0 _ (telling_of c.or_memory.result) (c.in-Ok.ensures.no_failure ∙ c.requires.input_works)
+          (or_memory c.answer_raw.result (telling_of c.or_memory.result) (λ t. t ≡ raw_result read.0 c.args.line c.args.column) c.or_memory.ensures (rw (← read.2) c.answer_raw.ensures));
     }
 
 pub returns-in-Err-Device : goal.returns-in-Err-Device
-returns-in-Err-Device g c =
+returns-in-Err-Device g c output =
     let input = some_input (g.R.ByteSource.left c.args.input.now) in
     record {
       input = input.0;
       is_input = input.1;
-      unread = λ never. absurd (true≢false never);
-      is_result = result_of_failure (Raw c.args.line c.args.column) [] input.0 _ (c.in-Err-Device.ensures.device (search rules));
+      unwritten = refl;
+      is_telling = raw_of_failure c.args.line c.args.column input.0 _ (c.in-Err-Device.ensures.device (search rules));
     }
 
 pub returns-in-Err-Memory : goal.returns-in-Err-Memory
-returns-in-Err-Memory g c =
+returns-in-Err-Memory g c output =
     let input = some_input (g.R.ByteSource.left c.args.input.now) in
     record {
       input = input.0;
       is_input = input.1;
-      unread = λ never. absurd (true≢false never);
-      is_result = result_of_read (Raw c.args.line c.args.column) [] input.0 _ _ (c.in-Err-Memory.ensures.memory (search rules) ∙ c.requires.input_works) (inr (inl refl));
+      unwritten = refl;
+      is_telling = raw_of_input c.args.line c.args.column input.0 _ _ (c.in-Err-Memory.ensures.memory (search rules) ∙ c.requires.input_works) (inl refl);
     }

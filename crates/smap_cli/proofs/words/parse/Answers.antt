@@ -1,8 +1,7 @@
 use Rattle.std.proofs.Common.{◌≡◌, ap, subst}
 use Rattle.std.proofs.lemmas.Result.{IfErr-weaker, IfOk-weaker}
-use Rattle.clap.specs.Words.{subcommand_of, subcommand_rows_of}
-use Rattle.smap_cli.specs.Words.{HasCommand, IsBaseRefusal, IsRefusalOf, SubcommandAsksFor, WordsAskFor, smap, texts}
-use Rattle.smap_cli.proofs.Asked.{base_refused, command_asked, failed_smap, parsed_smap}
+use Rattle.smap_cli.specs.Words.{HasCommand, IsRefusalOf, WordsAskFor, texts}
+use Rattle.smap_cli.proofs.Asked.{named_refused, command_asked, failed_smap, parsed_smap}
 use Rattle.smap_cli.proofs.words.parse.Goals as goal
 
 pub command_in-requires : goal.command_in-requires
@@ -21,7 +20,7 @@ returns-in-Ok-clause-refused c =
     let parsed = parsed_smap _ (texts c.as_slice.result.now) c.in-Ok.matches c.in_ok-smap.ensures c.in-Ok.ensures.kinds c.in-Ok.ensures.matches in
     let words_are : texts c.as_slice.result.now ≡ texts c.args.words.items = ap texts c.as_slice.ensures.value in
     rw (← words_are) (IfErr-weaker c.command_in.result _ (IsRefusalOf (texts c.as_slice.result.now))
-    (λ usage is. base_refused (texts c.as_slice.result.now) usage parsed.0 (rw parsed.1 is)) c.command_in.ensures.refused)
+    (λ usage is. named_refused (texts c.as_slice.result.now) usage parsed.0 (rw parsed.1 is)) c.command_in.ensures.refused)
 
 pub returns-clause-refused : goal.returns-clause-refused
 returns-clause-refused c =

@@ -1,0 +1,40 @@
+-- What `compose` tells of two map files.
+use Rattle.std.specs.Prelude.{◌≡◌, ℕ, ◌⊎◌, List, [], ◌∷◌, Option, Some, None, Result, Ok, Err}
+use Rattle.smap_mappings.specs.Canonical.{canonical_text}
+use Rattle.smap_record.specs.Record.{MapRecord}
+use Rattle.smap_record.specs.Written.{written}
+use Rattle.smap_record.specs.declared.refusal.MapRefusal.{MapRefusal}
+use Rattle.smap_record.specs.declared.refusal.MapRefusal.TheVariants.{Url}
+use Rattle.smap_compose.specs.Composition.{Composition, compose_refusal, composition}
+use Rattle.smap_compose.specs.declared.refusal.ComposeRefusal.{ComposeRefusal}
+use Rattle.smap_compose.specs.declared.refusal.ComposeRefusal.TheVariants.{SourceIndex, TooLarge, Memory}
+use Rattle.smap_answers.specs.Lines.{composed_too_large_line, line_from, no_source_line}
+use Rattle.smap_answers.specs.Map.{IsMapTelling, refusal_result}
+use Rattle.smap_answers.specs.Outcome.{Telling, answer, out_of_memory, refusal}
+
+-- why two maps are not composed
+abbrev pub compose_refusal_result : ComposeRefusal → Telling
+compose_refusal_result SourceIndex = refusal no_source_line
+compose_refusal_result TooLarge = refusal composed_too_large_line
+compose_refusal_result Memory = out_of_memory
+
+-- the composed map, as a line
+abbrev pub composed_line : Composition → List ℕ
+composed_line composed = line_from (
+    written composed.sources composed.names composed.file (canonical_text composed.mappings) ∷ [])
+
+-- the composed map, where nothing refuses it
+abbrev pub composed_result : Option ComposeRefusal → Composition → Telling
+composed_result (Some refused) composed = compose_refusal_result refused
+composed_result None composed = answer (composed_line composed)
+
+-- what is told of the outer map, the number of its source, and the inner map
+abbrev pub compose_result : (outer : MapRecord) (source : ℕ) (inner : MapRecord) → Telling
+compose_result outer source inner = composed_result (compose_refusal outer source inner) (composition outer source inner)
+
+-- what is told of both files, of which the outer one is read first; a source's URL that is too long refuses either
+abbrev pub IsComposeTelling : (source : ℕ) → (outer_path : List ℕ) → Result MapRecord MapRefusal
+    → (inner_path : List ℕ) → Result MapRecord MapRefusal → Telling → Type 0
+IsComposeTelling source outer_path (Err refused) inner_path inner_found telling = telling ≡ refusal_result outer_path refused
+IsComposeTelling source outer_path (Ok outer) inner_path inner_found telling =
+    (telling ≡ refusal_result outer_path Url) ⊎ IsMapTelling (compose_result outer source) inner_path inner_found telling
