@@ -6,11 +6,11 @@ use smap_record::{MapFile, MapRefusal};
 use std::alloc::{AllocError, Global};
 use std::test::Fail;
 
-const OUTER: &str = r#"{"version":3,"sources":["mid.js"],"mappings":"AAAA,KAAK"}"#;
+/// A map of one source, with a mapping to each of two of its places.
+pub const OUTER: &str = r#"{"version":3,"sources":["mid.js"],"mappings":"AAAA,KAAK"}"#;
 
-const INNER: &str = r#"{"version":3,"sources":["a.ts"],"mappings":"AAAA,GACI"}"#;
-
-const THIRD: &str = r#"{"version":3,"sources":["t.ts"],"mappings":"AAAA;CAAC"}"#;
+/// A map whose mappings answer at both.
+pub const INNER: &str = r#"{"version":3,"sources":["a.ts"],"mappings":"AAAA,GACI"}"#;
 
 // A map with a mapping whose canonical text would be too long.
 const FAR: &str =
@@ -19,12 +19,12 @@ const FAR: &str =
 // A map whose one mapping has a name.
 const NAMED: &str = r#"{"version":3,"sources":["mid.js"],"names":["g"],"mappings":"AAAAA"}"#;
 
-// A map of three sources, a mapping to each.
-const THREE: &str =
+/// A map of three sources, a mapping to each.
+pub const THREE: &str =
     r#"{"version":3,"file":"o.js","sources":["x.js","y.js","z.js"],"mappings":"AAAA,CCAA,CCAA"}"#;
 
-// An outer map, the source, an inner map, and what is written, or the refusal.
-const ROWS: &[(&str, u32, &str, &str)] = &[
+/// An outer map, the source, an inner map, and what is written, or the refusal.
+pub const ROWS: &[(&str, u32, &str, &str)] = &[
     (
         OUTER,
         0,
@@ -44,6 +44,13 @@ const ROWS: &[(&str, u32, &str, &str)] = &[
         0,
         r#"{"version":3,"sources":["a.ts"],"mappings":"AAAA,G"}"#,
         r#"{"mappings":"ACAA,K","names":[],"sources":["mid.js","a.ts"],"version":3}"#,
+    ),
+    // Of two that stand there the last answers.
+    (
+        OUTER,
+        0,
+        r#"{"version":3,"sources":["a.ts","b.ts"],"mappings":"AAAA,ACAA"}"#,
+        r#"{"mappings":"AEAA,KAAA","names":[],"sources":["mid.js","a.ts","b.ts"],"version":3}"#,
     ),
     // The line before doesn't answer.
     (
@@ -127,27 +134,6 @@ fn maps_are_composed_or_refused(rt: HostRuntime) -> Result<(), Fail> {
         let text = composed_text(rt.alloc(), outer, *source, inner)?;
         assert_same(&rt, inner, &text, wanted);
     }
-    Ok(())
-}
-
-#[test]
-fn three_maps_compose_in_either_way(rt: HostRuntime) -> Result<(), Fail> {
-    let wanted =
-        r#"{"mappings":"AEAA,KAAC","names":[],"sources":["mid.js","a.ts","t.ts"],"version":3}"#;
-    let first_two = composed_text(rt.alloc(), OUTER, 0, INNER)?;
-    let last_two = composed_text(rt.alloc(), INNER, 0, THIRD)?;
-    assert_same(
-        &rt,
-        "the first two first",
-        &composed_text(rt.alloc(), &first_two, 1, THIRD)?,
-        wanted,
-    );
-    assert_same(
-        &rt,
-        "the last two first",
-        &composed_text(rt.alloc(), OUTER, 0, &last_two)?,
-        wanted,
-    );
     Ok(())
 }
 

@@ -2,11 +2,15 @@
 #![tactic(auto)]
 
 #[cfg(test)]
+mod compose;
+#[cfg(test)]
 mod composing;
 #[cfg(test)]
 mod devices;
 #[cfg(test)]
 mod encoding;
+#[cfg(test)]
+mod failing_traces;
 #[cfg(test)]
 mod files;
 #[cfg(test)]
@@ -20,11 +24,15 @@ mod maps;
 #[cfg(test)]
 mod names;
 #[cfg(test)]
+mod node_traces;
+#[cfg(test)]
 mod numbers;
 #[cfg(test)]
 mod places;
 #[cfg(test)]
 mod raw;
+#[cfg(test)]
+mod rewriting;
 #[cfg(test)]
 mod rows;
 #[cfg(test)]

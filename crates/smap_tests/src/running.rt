@@ -62,7 +62,8 @@ fn run_over(
     left_text(alloc, status, output.bytes(), errors.bytes())
 }
 
-fn left_text(
+/// The status, and what stands on the output and on the error stream, with `|` between two.
+pub fn left_text(
     alloc: Global,
     status: u8,
     output: &[u8],
@@ -98,11 +99,18 @@ fn run_on_file(
 ) -> Result<String, AllocError>
     requires its_path { paths_of command.now ≡ path.now ∷ [] }
 {
-    let file = Loaded {
+    let file = loaded(alloc, path, bytes)?;
+    run_over(alloc, command, &[file], b"", devices)
+}
+
+// A file that was read.
+fn loaded(alloc: Global, path: &str, bytes: &[u8]) -> Result<Loaded, AllocError>
+    ensures { IfOk result (λ file. path_of file ≡ path.now) }
+{
+    Ok(Loaded {
         path: String::from_str(alloc, path)?,
         bytes: bytes.to_vec(alloc)?,
-    };
-    run_over(alloc, command, &[file], b"", devices)
+    })
 }
 
 /// What `check` leaves.
@@ -165,4 +173,37 @@ pub fn run_show_at(
         base,
     };
     run_on_file(alloc, &command, "m.map", map.as_bytes(), devices)
+}
+
+/// What `compose` leaves of a map at `o.map` and of that of its source of this number, from 0, at `i.map`.
+pub fn run_compose(
+    alloc: Global,
+    outer: &str,
+    source: u32,
+    inner: &str,
+    devices: Devices,
+) -> Result<String, AllocError> {
+    run_compose_at(alloc, None, outer, source, inner, devices)
+}
+
+/// The same, where the sources of both maps are resolved against the base.
+pub fn run_compose_at(
+    alloc: Global,
+    base: Option<Url>,
+    outer: &str,
+    source: u32,
+    inner: &str,
+    devices: Devices,
+) -> Result<String, AllocError> {
+    let command = Command::Compose {
+        outer: String::from_str(alloc, "o.map")?,
+        source,
+        inner: String::from_str(alloc, "i.map")?,
+        base,
+    };
+    let files = [
+        loaded(alloc, "o.map", outer.as_bytes())?,
+        loaded(alloc, "i.map", inner.as_bytes())?,
+    ];
+    run_over(alloc, &command, &files, b"", devices)
 }

@@ -1,0 +1,231 @@
+#!/usr/bin/env node
+// Writes the vectors for stack traces, of the traces and maps in traces/ and of the one in examples/. README.md beside
+// this file says what they are.
+//
+//   node make-traces.js       writes src/vectors/traces.rt of smap_tests and prints the counts
+//
+// Nothing here is made from smap's own code or output.
+'use strict';
+
+const fs = require('fs');
+const path = require('path');
+const { AnyMap, traceSegment } = require('@jridgewell/trace-mapping');
+const { SourceMapConsumer } = require('source-map');
+
+const ROOT = path.join(__dirname, '..', '..');
+
+function insist(holds, what) {
+  if (!holds) throw new Error(what);
+}
+
+// ---------------------------------------------------------------------------------------------
+// The maps, each under the URL that its bundle ran under.
+// ---------------------------------------------------------------------------------------------
+
+function mapAt(url, file) {
+  const whole = JSON.parse(fs.readFileSync(path.join(ROOT, file), 'utf8'));
+  const { sourcesContent, ...map } = whole;
+  return { url, path: path.basename(file), map, traced: new AnyMap(map), consumer: new SourceMapConsumer(map) };
+}
+
+const MAPS = [
+  mapAt('https://example.test/calls.js?v=3', 'tests/vectors/traces/calls.map'),
+  mapAt('file:///srv/app/waits.mjs', 'tests/vectors/traces/waits.map'),
+  mapAt('/srv/app/a (b)/texts.cjs', 'tests/vectors/traces/texts.map'),
+  mapAt('/srv/app/größe.cjs', 'tests/vectors/traces/typed.map'),
+  mapAt('https://example.test/pieces.js', 'tests/vectors/traces/pieces.map'),
+  mapAt('https://example.test/receipt.min.js', 'examples/receipt.min.js.map'),
+];
+
+const TRACES = [
+  'examples/receipt.trace',
+  ...['calls', 'waits', 'worker', 'texts', 'typed', 'pieces'].map((name) => `tests/vectors/traces/${name}.trace`),
+];
+
+// ---------------------------------------------------------------------------------------------
+// Frames, as docs/FORMAT.md has them.
+// ---------------------------------------------------------------------------------------------
+
+// The length in UTF-8 counts.
+const MOST_BYTES = 65536;
+const PLACE = /^([^]+):([1-9]\d{0,9}):([1-9]\d{0,9})$/;
+
+function placed(head, text, tail) {
+  const match = PLACE.exec(text);
+  if (!match) return null;
+  const [, url, line, column] = match;
+  return Math.max(line, column) > 2147483648 ? null : { head, url, line: Number(line), column: Number(column), tail };
+}
+
+function called(head, text, end) {
+  const call = text.indexOf(' (');
+  if (call < 1 || !text.endsWith(')')) return null;
+  return placed(head + text.slice(0, call + 2), text.slice(call + 2, -1), `)${end}`);
+}
+
+function plain(head, text, end) {
+  const waited = text.startsWith('async ') ? 'async ' : '';
+  const frame = placed(head + waited, text.slice(waited.length), end);
+  return frame && !frame.url.startsWith('async ') ? frame : null;
+}
+
+function frameOf(line) {
+  if (Buffer.byteLength(line) > MOST_BYTES) return null;
+  const match = /^([ \t]*at )([^\r]*)(\r?)$/.exec(line);
+  if (!match) return null;
+  const [, head, text, end] = match;
+  return called(head, text, end) ?? plain(head, text, end);
+}
+
+// ---------------------------------------------------------------------------------------------
+// Originals.
+// ---------------------------------------------------------------------------------------------
+
+// The URL that a text is beside a base, which may be null, or the text.
+function parsed(text, base) {
+  try {
+    return new URL(text, base ?? undefined).href;
+  } catch {
+    return text;
+  }
+}
+
+function isUrl(text) {
+  try {
+    return Boolean(new URL(text));
+  } catch {
+    return false;
+  }
+}
+
+function nameOf(map, source, url) {
+  const { sourceRoot: root } = map;
+  const prefix = !root || root.endsWith('/') ? root || '' : `${root}/`;
+  return source === null ? null : parsed(prefix + source, isUrl(url) ? url : null);
+}
+
+// The map that a source stands in, by its index: the map itself, or that of a section, and the source.
+function sourceAt({ map }, index) {
+  if (!map.sections) return [map, map.sources[index]];
+  let rest = index;
+  for (const { map: part } of map.sections) {
+    if (rest < part.sources.length) return [part, part.sources[rest]];
+    rest -= part.sources.length;
+  }
+  throw new Error(`there is no source ${index}`);
+}
+
+// The place of a frame in its source, as two other implementations have it: its line and column, from 1, and its name.
+function originalOf(frame) {
+  const entry = MAPS.find(({ url }) => url === frame.url);
+  if (!entry) return null;
+  const segment = traceSegment(entry.traced, frame.line - 1, frame.column - 1);
+  const other = entry.consumer.originalPositionFor({ line: frame.line, column: frame.column - 1 });
+  const where = `${frame.url}:${frame.line}:${frame.column}`;
+  if (!segment || segment.length === 1) {
+    insist(other.line === null, `${where} has an original`);
+    return null;
+  }
+  const [, index, line, column] = segment;
+  insist(other.line === line + 1 && other.column === column, `${where} is ${other.line}:${other.column}`);
+  const [map, source] = sourceAt(entry, index);
+  const name = nameOf(map, source, frame.url);
+  return name && !/[\x00-\x1f\x7f]/.test(name) ? `${name}:${line + 1}:${column + 1}` : null;
+}
+
+// ---------------------------------------------------------------------------------------------
+// Traces.
+// ---------------------------------------------------------------------------------------------
+
+// Each kind of line that is to stand in some trace.
+const KINDS = {
+  'a function or a method': /^ +at [\p{L}$.]+ \(/u,
+  'a place alone': /^ +at (https|file):[^ ]+$/,
+  '`new`': /^ +at new /,
+  '`[as x]`': /^ +at .* \[as \w+\] \(/,
+  'a symbol': /^ +at (async )?\[Symbol\.\w+\] \(/,
+  'a private method': /^ +at #\w+ \(/,
+  'a field of a class': /<instance_members_initializer>/,
+  '`async` before a function': /^ +at async [\w.]+ \((https|file)/,
+  '`async` before a place': /^ +at async (https|file)/,
+  '`async` before `Promise.all` or `Promise.any`': /^ +at async Promise\.a\w+ \(index \d\)$/,
+  'a function of V8': /^\s+at [\w. ]+ \(<anonymous>\)$/,
+  '`<anonymous>` alone': /^ +at <anonymous>$/,
+  'in a text that was evaluated': /\(eval at /,
+  'in such a text with a name': /\(https:\/\/example\.test\/made\.js/,
+  WebAssembly: /wasm-function\[1\]:0x/,
+  "one of node's own modules": /^ +at .*node:internal/,
+  "a worker's": /node:internal\/worker/,
+  'a `file:` module': /file:\/\/\/srv\/app\/waits/,
+  'a `data:` module': /^ +at data:/,
+  'a path that is no URL': /^ +at ([^(]+ \()?\/srv\/app\//,
+  'a path beyond ASCII': /größe\.cjs:\d+:\d+/,
+  'with a CR': /^ +at .*\r$/,
+  'behind a tab': /^\t at /,
+  'deeper, in a `cause`': /^ {6,}at /,
+  'a frame with something behind it': /^ +at .*:\d+\)[ ,]/,
+  'a line of a message': /^ {2}of a message$/,
+};
+
+const counts = Object.fromEntries(Object.keys(KINDS).map((kind) => [kind, 0]));
+
+function rewritten(text) {
+  const lines = text.split('\n');
+  const summary = { lines: lines.length - (lines.at(-1) === '' ? 1 : 0), frames: 0, mapped: 0 };
+  const written = lines.map((line) => {
+    for (const [kind, form] of Object.entries(KINDS)) counts[kind] += form.test(line) ? 1 : 0;
+    const frame = frameOf(line);
+    if (!frame) return line;
+    summary.frames += 1;
+    insist(`${frame.head}${frame.url}:${frame.line}:${frame.column}${frame.tail}` === line, `not a frame: ${line}`);
+    const original = originalOf(frame);
+    if (!original) return line;
+    summary.mapped += 1;
+    return `${frame.head}${original}${frame.tail}`;
+  });
+  return { text: written.join('\n'), summary };
+}
+
+// ---------------------------------------------------------------------------------------------
+// The file of rows.
+// ---------------------------------------------------------------------------------------------
+
+// Signs for the characters that a field of a row can't hold.
+const SIGNS = { '\n': '␊', '\r': '␍', '\t': '␉', '|': '¦' };
+
+function field(text) {
+  insist(!/"#|[␊␍␉¦]/.test(text), 'a text that is no field');
+  return text.replace(/[\n\r\t|]/g, (character) => SIGNS[character]);
+}
+
+function row(fields) {
+  return `${fields.map(field).join('|')}\n`;
+}
+
+const total = { lines: 0, frames: 0, mapped: 0 };
+const rows = TRACES.map((file) => {
+  const trace = fs.readFileSync(path.join(ROOT, file), 'utf8');
+  const { text, summary } = rewritten(trace);
+  for (const key of Object.keys(total)) total[key] += summary[key];
+  return row([Object.values(summary).join(' '), trace, text]);
+});
+const maps = MAPS.map(({ url, path: name, map }) => row([url, name, JSON.stringify(map)]));
+
+for (const [kind, count] of Object.entries(counts)) insist(count > 0, `there is no ${kind}`);
+
+fs.writeFileSync(
+  path.join(ROOT, 'crates', 'smap_tests', 'src', 'vectors', 'traces.rt'),
+  `//! Stack traces that node printed, and their maps. Written by \`tests/vectors/make-traces.js\`.
+//! In a text ␊ stands for LF, ␍ for CR, ␉ for a tab and ¦ for |.
+
+/// A URL, a path, and the map of what ran under the URL.
+pub const TRACE_MAPS: &str = r#"
+${maps.join('')}"#;
+
+/// How many lines a trace has, how many are frames, and how many of these are mapped; the trace; and what it becomes.
+pub const TRACES: &str = r#"
+${rows.join('')}"#;
+`,
+);
+console.log(`${rows.length} traces, ${total.lines} lines, ${total.frames} frames, ${total.mapped} mapped`);
+for (const [kind, count] of Object.entries(counts)) console.log(`${String(count).padStart(5)} ${kind}`);

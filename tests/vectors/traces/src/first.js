@@ -1,0 +1,7 @@
+import { fail } from './fail.js';
+
+globalThis.first = {
+  call(next) {
+    return next ? next() : fail('the first piece');
+  },
+};
