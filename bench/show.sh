@@ -31,14 +31,6 @@ map=$folder/map
 bytes=$(stat -c %s -- "$map")
 insist 'smap check' "$("$program" check "$map")" "$counts"
 
-# The greatest of the peaks of all runs, in KiB, is left in `peak`.
-measured() {
-    /usr/bin/time -f %M -o "$folder/peak" "$@"
-    local took
-    took=$(<"$folder/peak")
-    if ((took > peak)); then peak=$took; fi
-}
-
 show() { measured "$program" show "$map" >"$folder/by_smap"; }
 by_codec() {
     measured node "$root/bench/show-map.js" "$map" >"$folder/by_node" 2>"$folder/within"

@@ -56,3 +56,12 @@ best_of() {
         fi
     done
 }
+
+# Runs a command, and leaves the greatest of the peaks of its memory in all runs, in KiB, in `peak`. It needs the program
+# `time` (/usr/bin/time), and the scripts set `folder` and, before the first run, `peak`.
+measured() {
+    /usr/bin/time -f %M -o "$folder/peak" "$@"
+    local took
+    took=$(<"$folder/peak")
+    if ((took > peak)); then peak=$took; fi
+}
