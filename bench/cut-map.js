@@ -97,7 +97,10 @@ function make(total) {
   const text = new Text({ line: 0, column: 0 });
   const texts = [];
   const used = { index: 0, regular: 0 };
+  // At every 64th segment of a line.
+  const checkpoints = { index: 0, regular: 0 };
   let last = -1;
+  let onLast = 0;
   for (let i = 0; i < sectionCount; i++) {
     const begin = Math.floor((i * total) / sectionCount);
     const end = Math.floor(((i + 1) * total) / sectionCount);
@@ -105,6 +108,7 @@ function make(total) {
     const offset = i === 0 ? { line: 0, column: 0 } : { line: first.line, column: first.segment[0] };
     const own = { text: new Text(offset), sources: new Entries(map.sources), names: new Entries(map.names) };
     let lastOfOwn = -1;
+    let onLastOfOwn = 0;
     for (let place = begin; place < end; place++) {
       const { line, segment } = mappingAt(place);
       const [column, source, originalLine, originalColumn, name] = segment;
@@ -114,8 +118,18 @@ function make(total) {
       if (origin.length > 0) origin[0] += sources.length;
       if (origin.length > 3) origin[3] += names.length;
       text.push(line, column, origin);
-      if (line !== lastOfOwn) used.index += 1;
-      if (line !== last) used.regular += 1;
+      if (line !== lastOfOwn) {
+        used.index += 1;
+        onLastOfOwn = 0;
+      }
+      if (line !== last) {
+        used.regular += 1;
+        onLast = 0;
+      }
+      if (onLastOfOwn % 64 === 0) checkpoints.index += 1;
+      if (onLast % 64 === 0) checkpoints.regular += 1;
+      onLastOfOwn += 1;
+      onLast += 1;
       lastOfOwn = line;
       last = line;
     }
@@ -126,7 +140,7 @@ function make(total) {
     sections.push({ offset, map: { version: 3, ...entries, mappings: own.text.take() } });
   }
   const regular = { version: 3, sources, names, mappings: texts.join('') };
-  return { index: { version: 3, sections }, regular, used };
+  return { index: { version: 3, sections }, regular, used, checkpoints };
 }
 
 // As many segments as give so many bytes, by a try.
@@ -136,16 +150,16 @@ const made = make(total);
 fs.writeFileSync(toIndex, JSON.stringify(made.index));
 fs.writeFileSync(toRegular, JSON.stringify(made.regular));
 
-function counts(sections, used) {
+function counts(sections, used, checkpoints) {
   const { sources, names } = made.regular;
   return (
     `ok sections ${sections} sources ${sources.length} names ${names.length} ` +
-    `segments ${total} lines ${used} checkpoints ${total}`
+    `segments ${total} lines ${used} checkpoints ${checkpoints}`
   );
 }
 
-console.log(counts(sectionCount, made.used.index));
-console.log(counts(1, made.used.regular));
+console.log(counts(sectionCount, made.used.index, made.checkpoints.index));
+console.log(counts(1, made.used.regular, made.checkpoints.regular));
 
 // The last mapping but one that has a name where there is one, and its column for itself.
 function isAlone(place) {

@@ -28,9 +28,11 @@ fs.writeFileSync(to, JSON.stringify({ ...map, mappings: Array(copies).fill(copy)
 
 const segments = copies * lines.reduce((sum, line) => sum + line.length, 1);
 const used = copies * (1 + lines.filter((line) => line.length > 0).length);
+// At every 64th segment of a line.
+const checkpoints = copies * lines.reduce((sum, line) => sum + Math.ceil(line.length / 64), 1);
 console.log(
   `ok sections 1 sources ${map.sources.length} names ${map.names.length} ` +
-    `segments ${segments} lines ${used} checkpoints ${segments}`,
+    `segments ${segments} lines ${used} checkpoints ${checkpoints}`,
 );
 
 // The last mapping of the last copy that has a name where there is one, and its column for itself.

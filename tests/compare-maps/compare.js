@@ -151,10 +151,12 @@ function stateOf(file) {
   if (trimmed(lines) !== trimmed(own)) throw new Error(`the checker and the decoder read ${file} otherwise`);
   const segments = lines.reduce((sum, line) => sum + line.length, 0);
   const used = lines.filter((line) => line.length > 0).length;
+  // At every 64th segment of a line.
+  const checkpoints = lines.reduce((sum, line) => sum + Math.ceil(line.length / 64), 0);
   const names = (map.names ?? []).length;
   const counts =
     `ok sections 1 sources ${map.sources.length} names ${names} ` +
-    `segments ${segments} lines ${used} checkpoints ${segments}`;
+    `segments ${segments} lines ${used} checkpoints ${checkpoints}`;
   return { file, bytes: bytes.length, code, map, segments, counts, places: placesOf(lines) };
 }
 

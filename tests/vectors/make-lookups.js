@@ -165,10 +165,12 @@ writeConstant(
 );
 
 const used = lines.filter((line) => line.length > 0).length;
+// At every 64th segment of a line.
+const checkpoints = lines.reduce((sum, line) => sum + Math.ceil(line.length / 64), 0);
 console.log(`${NAME}: ${bytes.length} bytes`);
 console.log(
   `ok sections 1 sources ${map.sources.length} names ${map.names.length} ` +
-    `segments ${all.length} lines ${used} checkpoints ${all.length}`,
+    `segments ${all.length} lines ${used} checkpoints ${checkpoints}`,
 );
 console.log(`${rows.length} look-ups`);
 console.log(`trace-mapping agreed on ${counts.traced}, source-map's consumer on ${counts.consumed}`);
