@@ -1,20 +1,15 @@
 -- What `raw` tells of a text, by the tests that it passes.
-use Rattle.std.proofs.Common.{◌≡◌, ℕ, ◌+◌, ◌-◌, ◌<◌, ◌≤◌, Bool, true, false, not, cond, eqb, List, [], ◌∷◌, ◌++◌, length, get_or, map, Option, Some, None, refl, sym, ap, ◌∙◌, arith, le-ltb, lt-ltb, zero-add, subst, length-append, ⊎_elim}
+use Rattle.std.proofs.Common.{◌≡◌, ℕ, ◌+◌, ◌-◌, ◌<◌, ◌≤◌, not, eqb, List, ◌++◌, length, get_or, Option, Some, None, sym, ap, ◌∙◌, arith, le-ltb, lt-ltb, subst, length-append, ⊎_elim}
 use Rattle.std.specs.Prelude.{IfSome}
 use Rattle.std.specs.Io.KnownBytes.{IsAtEnd}
 use Rattle.smap_io.specs.Device.{Gives}
-use Rattle.std.specs.Option.{option_map}
 use Rattle.std.specs.Str.{IsUtf8, is_utf8}
 use Rattle.std.proofs.lemmas.Bool.{cond-true, cond-false, false_from_ne_true, cases_Bool, cases_lt}
 use Rattle.std.proofs.lemmas.List.{append-nil, length-take-le}
 use Rattle.std.proofs.lemmas.Str.{IsUtf8-from_is_utf8, is_utf8-from_IsUtf8}
 use Rattle.smap_mappings.specs.Faults.{first_fault}
 use Rattle.smap_mappings.specs.Mappings.{mappings_of}
-use Rattle.smap_mappings.specs.declared.mapping.Mapping.{Mapping}
-use Rattle.smap_mappings.specs.declared.mapping.Origin.{Origin}
 use Rattle.smap_index.specs.Answer.{answer_at_or_before}
-use Rattle.smap_index.specs.Parts.{placed_origin, placed_mapping, placed, joined}
-use Rattle.smap_index.specs.declared.part.Part.{Part}
 use Rattle.smap_answers.specs.Raw.{fault_or_answer, text_result, without_last_line_end, raw_result}
 use Rattle.smap_answers.specs.Outcome.{refusal}
 use Rattle.smap_answers.specs.Lines.{text_too_long_line, not_utf8_line}

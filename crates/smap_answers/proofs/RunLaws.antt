@@ -7,10 +7,9 @@ use Rattle.smap_io.specs.Device.{Gives}
 use Rattle.smap_answers.specs.Lines.{input_failed_line}
 use Rattle.smap_answers.specs.Outcome.{Telling, failure, out_of_memory, telling_of, telling_or_memory}
 use Rattle.smap_answers.specs.Raw.{raw_result}
-use Rattle.smap_answers.specs.Run.{IsRawTelling, RawTells, Tells, TellsAside}
+use Rattle.smap_answers.specs.Run.{IsRawTelling}
 use Rattle.smap_answers.specs.Files.{first_bytes, path_of, second_bytes}
-use Rattle.smap_answers.specs.Streams.{SinkSeen, SourceSeen, Work, work_seen}
-use Rattle.smap_answers.specs.declared.command.Command.{Command}
+use Rattle.smap_answers.specs.Streams.{Work}
 use Rattle.smap_answers.specs.declared.load.Loaded.{Loaded}
 use Rattle.smap_answers.specs.declared.outcome.Outcome.{Outcome}
 use Rattle.smap_answers.proofs.RawLaws.{raw_of_read}
@@ -93,10 +92,10 @@ files_told outcome telling IsTelling files first second outer inner base base2 l
 -- ---- `rewrite`
 
 -- where it tells an answer, standard output works
-pub rewritten_works : (base : Option Parts) (words : List (MapWord × List ℕ)) (before after : Work) (telling : Telling)
-    → RewriteTells base words before after telling → before.output.failed ≡ false → telling.status ≡ 0 → after.output.failed ≡ false
-rewritten_works base words before after telling (Err refused, gathers, tells) works done = ap (λ (work : Work). work.output.failed) tells.1 ∙ works
-rewritten_works base words before after telling (Ok maps, gathers, tells) works done = go tells.result tells.output_failed (ap (λ (t : Telling). t.status) (sym tells.told) ∙ done)
+pub rewritten_works : (base : Option Parts) (k : ℕ) (words : List (MapWord × List ℕ)) (before after : Work) (telling : Telling)
+    → RewriteTells base k words before after telling → before.output.failed ≡ false → telling.status ≡ 0 → after.output.failed ≡ false
+rewritten_works base k words before after telling (Err refused, gathers, tells) works done = ap (λ (work : Work). work.output.failed) tells.1 ∙ works
+rewritten_works base k words before after telling (Ok maps, gathers, tells) works done = go tells.result tells.output_failed (ap (λ (t : Telling). t.status) (sym tells.told) ∙ done)
   where
     go : (result : Result Summary RewriteFault) → after.output.failed ≡ is_write_fault result → (rewrite_telling result).status ≡ 0 → after.output.failed ≡ false
     go (Ok summary) failed done = failed

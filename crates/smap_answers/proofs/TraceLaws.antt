@@ -1,17 +1,15 @@
 -- What the words of `rewrite` come to, word by word.
-use Rattle.std.proofs.Common.{◌≡◌, ℕ, ◌+◌, ◌<◌, ◌≤◌, ◌⊎◌, min, List, [], ◌∷◌, length, get_or, drop, drop-cons, map, suc, refl, sym, ap, subst, ◌∙◌, inl, inr, arith, add-one}
+use Rattle.std.proofs.Common.{◌≡◌, ℕ, ◌+◌, ◌<◌, ◌⊎◌, min, List, [], ◌∷◌, length, get_or, drop, drop-cons, map, suc, refl, sym, ap, subst, ◌∙◌, inl, inr, arith, add-one}
 use Rattle.std.specs.List.{zip}
 use Rattle.std.specs.Prelude.{Option, Some, None, Result, Ok, Err, MatchOption, ⊤}
 use Rattle.std.proofs.lemmas.List.{drop_all, get_or-map, length-map}
 use Rattle.std.proofs.lemmas.Slice.Zip.{length-zip, get_or-zip}
-use Rattle.smap_record.specs.Record.{MapRecord, record_of}
-use Rattle.smap_record.specs.declared.refusal.MapRefusal.{MapRefusal}
+use Rattle.smap_record.specs.Record.{MapRecord}
 use Rattle.smap_trace.specs.Table.{IsWith, url_refusal}
 use Rattle.smap_trace.specs.declared.refusal.TableRefusal.{TableRefusal}
 use Rattle.smap_trace.specs.declared.refusal.TableRefusal.TheVariants.{Memory}
-use Rattle.smap_answers.specs.Map.{interval}
 use Rattle.smap_answers.specs.Outcome.{Telling, out_of_memory}
-use Rattle.smap_answers.specs.Trace.{Gathers, IsBaseUsed, IsFoundRefusal, IsReadAs, IsReadRefusal, Maps, MapWord, Puts, PutsRead, PutsWord, word_refusal}
+use Rattle.smap_answers.specs.Trace.{Gathers, IsReadAs, Maps, MapWord, Puts, PutsRead, PutsWord, word_refusal}
 use Rattle.url.specs.Parts.{Parts}
 
 -- ---- a map and the table
@@ -33,10 +31,10 @@ puts_refused maps word stated (Some first) refused telling result given is (inr 
 -- ---- a word
 
 -- its file gives a map
-pub word_of_map : (base : Option Parts) (maps : Maps) (word : MapWord) (bytes : List ℕ) (stated : MapRecord) (result : Result Maps Telling) → IsReadAs base word.url bytes (Ok stated)
-    → (result ≡ Err out_of_memory) ⊎ Puts maps word stated (url_refusal maps word.url) result → PutsWord base maps word bytes result
-word_of_map base maps word bytes stated result read (inl no_memory) = inl no_memory
-word_of_map base maps word bytes stated result read (inr puts) =
+pub word_of_map : (base : Option Parts) (k : ℕ) (maps : Maps) (word : MapWord) (bytes : List ℕ) (stated : MapRecord) (result : Result Maps Telling) → IsReadAs base k word.url bytes (Ok stated)
+    → (result ≡ Err out_of_memory) ⊎ Puts maps word stated (url_refusal maps word.url) result → PutsWord base k maps word bytes result
+word_of_map base k maps word bytes stated result read (inl no_memory) = inl no_memory
+word_of_map base k maps word bytes stated result read (inr puts) =
     inr (read.0, read.1, subst (λ found. PutsRead maps word found result) (sym read.2) (inr puts))
 
 -- ---- all words
@@ -61,15 +59,15 @@ no_pair_left word_in bytes_in words files i is =
     (omega (arith, is, length-zip (map word_in words) (map bytes_in files), length-map words word_in, length-map files bytes_in))
 
 -- the word at a place went into the table
-pub gathers_next : (base : Option Parts) (words rest : List (MapWord × List ℕ)) (maps more : Maps) (word : MapWord) (bytes : List ℕ) (result : Result Maps Telling)
-    → words ≡ (word, bytes) ∷ rest → PutsWord base maps word bytes (Ok more) → Gathers base more rest result → Gathers base maps words result
-gathers_next base words rest maps more word bytes result is puts gathers = subst (λ ws. Gathers base maps ws result) (sym is) (Ok more, puts, gathers)
+pub gathers_next : (base : Option Parts) (k : ℕ) (words rest : List (MapWord × List ℕ)) (maps more : Maps) (word : MapWord) (bytes : List ℕ) (result : Result Maps Telling)
+    → words ≡ (word, bytes) ∷ rest → PutsWord base k maps word bytes (Ok more) → Gathers base k more rest result → Gathers base k maps words result
+gathers_next base k words rest maps more word bytes result is puts gathers = subst (λ ws. Gathers base k maps ws result) (sym is) (Ok more, puts, gathers)
 
 -- or was refused
-pub gathers_refused : (base : Option Parts) (words rest : List (MapWord × List ℕ)) (maps : Maps) (word : MapWord) (bytes : List ℕ) (telling : Telling)
-    → words ≡ (word, bytes) ∷ rest → PutsWord base maps word bytes (Err telling) → Gathers base maps words (Err telling)
-gathers_refused base words rest maps word bytes telling is puts = subst (λ ws. Gathers base maps ws (Err telling)) (sym is) (Err telling, puts, refl)
+pub gathers_refused : (base : Option Parts) (k : ℕ) (words rest : List (MapWord × List ℕ)) (maps : Maps) (word : MapWord) (bytes : List ℕ) (telling : Telling)
+    → words ≡ (word, bytes) ∷ rest → PutsWord base k maps word bytes (Err telling) → Gathers base k maps words (Err telling)
+gathers_refused base k words rest maps word bytes telling is puts = subst (λ ws. Gathers base k maps ws (Err telling)) (sym is) (Err telling, puts, refl)
 
 -- no word is left
-pub gathers_end : (base : Option Parts) (words : List (MapWord × List ℕ)) (maps : Maps) → words ≡ [] → Gathers base maps words (Ok maps)
-gathers_end base words maps is = subst (λ ws. Gathers base maps ws (Ok maps)) (sym is) refl
+pub gathers_end : (base : Option Parts) (k : ℕ) (words : List (MapWord × List ℕ)) (maps : Maps) → words ≡ [] → Gathers base k maps words (Ok maps)
+gathers_end base k words maps is = subst (λ ws. Gathers base k maps ws (Ok maps)) (sym is) refl

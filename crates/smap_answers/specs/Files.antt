@@ -13,11 +13,11 @@ path_in word = string_bytes word.1
 
 -- the paths that a command names, in their order
 abbrev pub paths_of : Command → List (List ℕ)
-paths_of (Raw line column) = []
-paths_of (Check path base) = string_bytes path ∷ []
+paths_of (Raw line column interval) = []
+paths_of (Check path base interval) = string_bytes path ∷ []
 paths_of (Show path base) = string_bytes path ∷ []
-paths_of (Lookup path line column base) = string_bytes path ∷ []
-paths_of (Rewrite maps base) = map path_in maps.items
+paths_of (Lookup path line column base interval) = string_bytes path ∷ []
+paths_of (Rewrite maps base interval) = map path_in maps.items
 paths_of (Compose outer source inner base) = string_bytes outer ∷ string_bytes inner ∷ []
 
 -- the path of a file

@@ -7,9 +7,9 @@ use Rattle.smap_answers.specs.Lines.{map_refused_line}
 use Rattle.smap_answers.specs.Outcome.{Telling, answer, refusal}
 use Rattle.smap_answers.specs.Refusal.{refusal_text}
 
--- the interval of the checkpoints of a map that a command reads
-abbrev pub interval : ℕ
-interval = 1
+-- the interval of the checkpoints where none is asked for
+abbrev pub usual_interval : ℕ
+usual_interval = 64
 
 -- the map of the file at this path is refused
 abbrev pub refusal_result : (path : List ℕ) → MapRefusal → Telling

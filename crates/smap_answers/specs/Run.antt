@@ -1,11 +1,12 @@
 -- What a run of the program does to its streams, and the status with which it ends.
-use Rattle.std.specs.Prelude.{◌≡◌, ℕ, ◌⊎◌, Bool, true, false, List, String, Option, Result, map, zip, IfSome, string_bytes}
+use Rattle.std.specs.Prelude.{◌≡◌, ℕ, ◌⊎◌, Bool, true, false, List, String, map, zip, IfSome, string_bytes, ⊤}
+use Rattle.smap_index.specs.Faults.{is_interval}
 use Rattle.smap_answers.specs.Check.{check_line}
 use Rattle.smap_answers.specs.Compose.{IsComposeTelling}
 use Rattle.smap_answers.specs.Files.{first_bytes, second_bytes}
 use Rattle.smap_answers.specs.Lines.{input_failed_line}
 use Rattle.smap_answers.specs.Lookup.{lookup_text}
-use Rattle.smap_answers.specs.Map.{IsMapAnswer, IsMapTelling, interval}
+use Rattle.smap_answers.specs.Map.{IsMapAnswer, IsMapTelling, usual_interval}
 use Rattle.smap_answers.specs.Outcome.{Telling, failure, out_of_memory}
 use Rattle.smap_answers.specs.Raw.{raw_result}
 use Rattle.smap_answers.specs.Show.{show_result}
@@ -14,9 +15,7 @@ use Rattle.smap_answers.specs.Trace.{MapWord, RewriteTells}
 use Rattle.smap_answers.specs.declared.command.Command.{Command}
 use Rattle.smap_answers.specs.declared.command.Command.TheVariants.{Raw, Check, Show, Lookup, Rewrite, Compose}
 use Rattle.smap_answers.specs.declared.load.Loaded.{Loaded}
-use Rattle.smap_record.specs.Record.{MapRecord, record_of}
-use Rattle.smap_record.specs.declared.refusal.MapRefusal.{MapRefusal}
-use Rattle.url.specs.Parts.{Parts}
+use Rattle.smap_record.specs.Record.{record_of}
 
 -- ---- `raw`
 
@@ -35,10 +34,6 @@ pub record RawTells (line column : ℕ) (before after : Work) (telling : Telling
 
 -- ---- the commands that read map files
 
--- what the bytes of a command's file give
-abbrev pub found_in : List ℕ → Option Parts → Result MapRecord MapRefusal
-found_in bytes base = record_of bytes base interval
-
 -- such a command leaves standard input and output alone, and tells this, or that memory ran out
 abbrev pub TellsAside : (Telling → Type 0) → (before after : Work) → Telling → Type 0
 TellsAside IsTelling before after telling = (after ≡ before) × ((telling ≡ out_of_memory) ⊎ IsTelling telling)
@@ -49,20 +44,29 @@ word_of pair = record { url = string_bytes pair.0; path = string_bytes pair.1 }
 
 -- ---- all commands
 
+-- where a command has an interval, checkpoints may stand at it
+abbrev pub HasInterval : Command → Type 0
+HasInterval (Raw line column interval) = is_interval interval ≡ true
+HasInterval (Check path base interval) = is_interval interval ≡ true
+HasInterval (Show path base) = ⊤
+HasInterval (Lookup path line column base interval) = is_interval interval ≡ true
+HasInterval (Rewrite maps base interval) = is_interval interval ≡ true
+HasInterval (Compose outer source inner base) = ⊤
+
 -- what a command over the files of its paths tells, and what it does to standard input and output before it tells it
 abbrev pub Tells : Command → List Loaded → (before after : Work) → Telling → Type 0
-Tells (Raw line column) files = RawTells line column
-Tells (Check path base) files =
-    TellsAside (IsMapAnswer (check_line interval) (string_bytes path) (found_in (first_bytes files) base))
+Tells (Raw line column interval) files = RawTells line column
+Tells (Check path base interval) files =
+    TellsAside (IsMapAnswer (check_line interval) (string_bytes path) (record_of (first_bytes files) base interval))
 Tells (Show path base) files =
-    TellsAside (IsMapTelling show_result (string_bytes path) (found_in (first_bytes files) base))
-Tells (Lookup path line column base) files =
-    TellsAside (IsMapAnswer (lookup_text line column) (string_bytes path) (found_in (first_bytes files) base))
-Tells (Rewrite maps base) files =
-    RewriteTells base (zip (map word_of maps.items) (map (λ file. file.bytes.items) files))
+    TellsAside (IsMapTelling show_result (string_bytes path) (record_of (first_bytes files) base usual_interval))
+Tells (Lookup path line column base interval) files =
+    TellsAside (IsMapAnswer (lookup_text line column) (string_bytes path) (record_of (first_bytes files) base interval))
+Tells (Rewrite maps base interval) files =
+    RewriteTells base interval (zip (map word_of maps.items) (map (λ file. file.bytes.items) files))
 Tells (Compose outer source inner base) files =
-    TellsAside (IsComposeTelling source (string_bytes outer) (found_in (first_bytes files) base)
-    (string_bytes inner) (found_in (second_bytes files) base))
+    TellsAside (IsComposeTelling source (string_bytes outer) (record_of (first_bytes files) base usual_interval)
+    (string_bytes inner) (record_of (second_bytes files) base usual_interval))
 
 -- a run of a command, which ends with this status
 pub record Runs (command : Command) (files : List Loaded) (status : ℕ) (before after : Streams) : Type 0 where

@@ -13,7 +13,7 @@ use Rattle.smap_trace.specs.declared.outcome.Summary.{Summary}
 use Rattle.smap_trace.specs.declared.refusal.TableRefusal.{TableRefusal}
 use Rattle.smap_trace.specs.declared.refusal.TableRefusal.TheVariants.{BadUrl, Twice, Memory}
 use Rattle.smap_answers.specs.Lines.{bad_url_line, text_from, twice_line}
-use Rattle.smap_answers.specs.Map.{interval, refusal_result}
+use Rattle.smap_answers.specs.Map.{refusal_result}
 use Rattle.smap_answers.specs.Outcome.{Telling, answer, fault_telling, misuse, out_of_memory, telling_of}
 use Rattle.smap_answers.specs.Streams.{Work}
 use Rattle.smap_answers.specs.declared.outcome.Outcome.{Outcome}
@@ -65,11 +65,11 @@ PutsRead maps word (Err refused) result = result ≡ Err (refusal_result word.pa
 PutsRead maps word (Ok stated) result =
     (result ≡ Err (refusal_result word.path Url)) ⊎ Puts maps word stated (url_refusal maps word.url) result
 
--- the bytes of a word's file are read, and go into the table, unless memory runs out
-abbrev pub PutsWord : Option Parts → Maps → MapWord → (bytes : List ℕ) → Result Maps Telling → Type 0
-PutsWord base maps word bytes result =
+-- the bytes of a word's file are read, with checkpoints at the interval k, and go into the table, unless memory runs out
+abbrev pub PutsWord : Option Parts → (k : ℕ) → Maps → MapWord → (bytes : List ℕ) → Result Maps Telling → Type 0
+PutsWord base k maps word bytes result =
     (result ≡ Err out_of_memory)
-    ⊎ ((used : Option Parts) × IsBaseUsed base word.url used × PutsRead maps word (record_of bytes used interval) result)
+    ⊎ ((used : Option Parts) × IsBaseUsed base word.url used × PutsRead maps word (record_of bytes used k) result)
 
 -- behind a word: its refusal decides, or the next words do
 abbrev pub GathersOn : Result Maps Telling → (rest : Maps → Type 0) → Result Maps Telling → Type 0
@@ -77,24 +77,24 @@ GathersOn (Err refused) rest result = result ≡ Err refused
 GathersOn (Ok more) rest result = rest more
 
 -- the maps of these words, with the bytes of their files, go into the table one after another, up to the first refusal
-abbrev pub Gathers : Option Parts → Maps → List (MapWord × List ℕ) → Result Maps Telling → Type 0
-Gathers base maps [] result = result ≡ Ok maps
-Gathers base maps ((word, bytes) ∷ words) result =
-    (put : Result Maps Telling) × PutsWord base maps word bytes put × GathersOn put (λ more. Gathers base more words result) result
+abbrev pub Gathers : Option Parts → (k : ℕ) → Maps → List (MapWord × List ℕ) → Result Maps Telling → Type 0
+Gathers base k maps [] result = result ≡ Ok maps
+Gathers base k maps ((word, bytes) ∷ words) result =
+    (put : Result Maps Telling) × PutsWord base k maps word bytes put × GathersOn put (λ more. Gathers base k more words result) result
 
 -- ---- what the parts of the call give, which only contracts of private functions cite
 
 -- the file's bytes give this at the URL that is used
-abbrev pub IsReadAs : Option Parts → (url bytes : List ℕ) → Result MapRecord MapRefusal → Type 0
-IsReadAs base url bytes found = (used : Option Parts) × IsBaseUsed base url used × (record_of bytes used interval ≡ found)
+abbrev pub IsReadAs : Option Parts → (k : ℕ) → (url bytes : List ℕ) → Result MapRecord MapRefusal → Type 0
+IsReadAs base k url bytes found = (used : Option Parts) × IsBaseUsed base url used × (record_of bytes used k ≡ found)
 
 -- a file that gives this is refused so, or memory runs out; a source's URL that is too long refuses it too
 abbrev pub IsFoundRefusal : (path : List ℕ) → Result MapRecord MapRefusal → Telling → Type 0
 IsFoundRefusal path (Err refused) telling = (telling ≡ out_of_memory) ⊎ (telling ≡ refusal_result path refused)
 IsFoundRefusal path (Ok stated) telling = (telling ≡ out_of_memory) ⊎ (telling ≡ refusal_result path Url)
 
-abbrev pub IsReadRefusal : Option Parts → MapWord → (bytes : List ℕ) → Telling → Type 0
-IsReadRefusal base word bytes telling = (used : Option Parts) × IsBaseUsed base word.url used × IsFoundRefusal word.path (record_of bytes used interval) telling
+abbrev pub IsReadRefusal : Option Parts → (k : ℕ) → MapWord → (bytes : List ℕ) → Telling → Type 0
+IsReadRefusal base k word bytes telling = (used : Option Parts) × IsBaseUsed base word.url used × IsFoundRefusal word.path (record_of bytes used k) telling
 
 -- what a call that puts a map into a table gives
 abbrev pub put_seen : Result Unit Outcome → Maps → Result Maps Telling
@@ -135,7 +135,7 @@ abbrev pub GatheredTells : Result Maps Telling → (before after : Work) → Tel
 GatheredTells (Err refused) before after telling = (telling ≡ refused) × (after ≡ before)
 GatheredTells (Ok maps) before after telling = TraceTells maps before after telling
 
--- what `rewrite` tells, by its base, its words and the bytes of their files
-abbrev pub RewriteTells : Option Parts → List (MapWord × List ℕ) → (before after : Work) → Telling → Type 0
-RewriteTells base words before after telling =
-    (gathered : Result Maps Telling) × Gathers base [] words gathered × GatheredTells gathered before after telling
+-- what `rewrite` tells, by its base, its interval, its words and the bytes of their files
+abbrev pub RewriteTells : Option Parts → (k : ℕ) → List (MapWord × List ℕ) → (before after : Work) → Telling → Type 0
+RewriteTells base k words before after telling =
+    (gathered : Result Maps Telling) × Gathers base k [] words gathered × GatheredTells gathered before after telling

@@ -2,18 +2,21 @@
 
 use smap_record::Url;
 
-/// A command. Lines and columns count from 0 here, columns in UTF-16 code units.
+/// A command. Lines and columns count from 0 here, columns in UTF-16 code units. Where a command has an interval, the
+/// indices that it makes have a checkpoint at the segments of number 0, `interval`, 2 `interval` and so on of each line.
 #[derive(Drop)]
 pub enum Command {
     /// Looks up a generated line and column in the bare mappings text on standard input.
     Raw {
         line: u32,
         column: u32,
+        interval: u32,
     },
     /// Checks the source map in the file at this path. Its sources are resolved against the base.
     Check {
         path: String,
         base: Option<Url>,
+        interval: u32,
     },
     /// Writes the source map in the file at this path as one regular map. Its sources are resolved against the base.
     Show {
@@ -27,6 +30,7 @@ pub enum Command {
         line: u32,
         column: u32,
         base: Option<Url>,
+        interval: u32,
     },
     /// Rewrites the stack trace on standard input over maps: pairs of the URL that frames name and of the path of the
     /// map's file. A map's sources are resolved against the base or, where there is none, against the map's URL, where
@@ -34,6 +38,7 @@ pub enum Command {
     Rewrite {
         maps: Vec<(String, String)>,
         base: Option<Url>,
+        interval: u32,
     },
     /// Composes the source map in the file at the path `outer` with that of its source of this number, from 0, in the
     /// file at the path `inner`. The sources of both are resolved against the base.
@@ -45,5 +50,5 @@ pub enum Command {
     },
 }
 
-/// The interval of the checkpoints of a map that a command reads.
-pub const INTERVAL: u32 = 1;
+/// The interval of the checkpoints where none is asked for.
+pub const USUAL_INTERVAL: u32 = 64;

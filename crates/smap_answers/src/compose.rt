@@ -2,10 +2,10 @@
 ghost use Rattle.std.specs.Prelude.{◌≡◌, ◌++◌, ◌∷◌, [], option_copied, string_bytes, IfOk};
 ghost use Rattle.smap_record.specs.Record.{record_of};
 ghost use Rattle.smap_answers.specs.Compose.{IsComposeTelling, compose_result};
-ghost use Rattle.smap_answers.specs.Map.{interval};
+ghost use Rattle.smap_answers.specs.Map.{usual_interval};
 ghost use Rattle.smap_answers.specs.Outcome.{refusal, telling_of};
 
-use crate::command::INTERVAL;
+use crate::command::USUAL_INTERVAL;
 use crate::lines;
 use crate::load::Loaded;
 use crate::outcome::Outcome;
@@ -25,15 +25,15 @@ pub fn answer_compose(
     base: Option<&Url>,
 ) -> Result<Outcome, AllocError>
     ensures { IfOk result (λ outcome. IsComposeTelling source
-        (string_bytes outer.now.path) (record_of outer.now.bytes.items (option_copied base.entry) interval)
-        (string_bytes inner.now.path) (record_of inner.now.bytes.items (option_copied base.entry) interval)
+        (string_bytes outer.now.path) (record_of outer.now.bytes.items (option_copied base.entry) usual_interval)
+        (string_bytes inner.now.path) (record_of inner.now.bytes.items (option_copied base.entry) usual_interval)
         (telling_of outcome)) }
 {
-    let outer_map = match MapFile::read(alloc, &outer.bytes, base, INTERVAL) {
+    let outer_map = match MapFile::read(alloc, &outer.bytes, base, USUAL_INTERVAL) {
         Ok(map) => map,
         Err(refusal) => return refuse(alloc, &outer.path, refusal),
     };
-    match MapFile::read(alloc, &inner.bytes, base, INTERVAL) {
+    match MapFile::read(alloc, &inner.bytes, base, USUAL_INTERVAL) {
         Ok(inner_map) => composed_map(alloc, &outer_map, source, &inner_map),
         Err(refusal) => refuse(alloc, &inner.path, refusal),
     }

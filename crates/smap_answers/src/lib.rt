@@ -2,7 +2,7 @@
 //! over their bytes and standard input, and the lines that tell this.
 //!
 //! ```text
-//! let command = Command::Lookup { path, line: 0, column: 5 };
+//! let command = Command::Lookup { path, line: 0, column: 5, base: None, interval: USUAL_INTERVAL };
 //! let files = load_files(&rt, &command)?;
 //! let status = run(rt.alloc(), &command, &files, &mut input, &mut output, &mut errors);
 //! ```
@@ -22,7 +22,7 @@ mod show;
 mod telling;
 mod trace;
 
-pub use command::Command;
+pub use command::{Command, USUAL_INTERVAL};
 pub use lines::{BAD_BASE, no_pair_line};
 pub use load::{Loaded, load_files};
 pub use outcome::Outcome;

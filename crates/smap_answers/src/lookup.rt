@@ -4,10 +4,9 @@ ghost use Rattle.smap_record.specs.Record.{record_of};
 ghost use Rattle.smap_record.specs.Sources.{source_of};
 ghost use Rattle.smap_answers.specs.Lookup.{is_passed_over, lookup_text, origin_line, origin_text};
 ghost use Rattle.smap_answers.specs.Lookup.{source_excerpt, source_text};
-ghost use Rattle.smap_answers.specs.Map.{IsMapAnswer, interval};
+ghost use Rattle.smap_answers.specs.Map.{IsMapAnswer};
 ghost use Rattle.smap_answers.specs.Outcome.{telling_of};
 
-use crate::command::INTERVAL;
 use crate::lines;
 use crate::outcome::Outcome;
 use crate::refusal::refuse;
@@ -15,7 +14,8 @@ use smap_record::{Answer, MapFile, Meter, Origin, SourceEntry, Url};
 use smap_text::excerpt;
 use std::alloc::{AllocError, Global};
 
-/// Looks up a generated line and column, both from 0, in the map that the bytes of the file at this path are.
+/// Looks up a generated line and column, both from 0, in the map that the bytes of the file at this path are, over
+/// checkpoints at this interval.
 pub fn answer_lookup(
     alloc: Global,
     path: &str,
@@ -23,11 +23,12 @@ pub fn answer_lookup(
     base: Option<&Url>,
     line: u32,
     column: u32,
+    interval: u32,
 ) -> Result<Outcome, AllocError>
     ensures { IfOk result (λ outcome.
         IsMapAnswer (lookup_text line column) path.now (record_of bytes.now (option_copied base.entry) interval) (telling_of outcome)) }
 {
-    match MapFile::read(alloc, bytes, base, INTERVAL) {
+    match MapFile::read(alloc, bytes, base, interval) {
         Ok(map) => Ok(Outcome::Answer(lookup_text(alloc, &map, line, column)?)),
         Err(refusal) => refuse(alloc, path, refusal),
     }

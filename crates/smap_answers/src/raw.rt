@@ -1,16 +1,16 @@
 //! Looking a position up in a bare mappings text.
-ghost use Rattle.std.specs.Prelude.{◌≡◌, ◌≤◌, IfOk, length, string_bytes};
+ghost use Rattle.std.specs.Prelude.{◌≡◌, ◌≤◌, IfOk, length, string_bytes, true};
 ghost use Rattle.std.specs.List.{All};
 ghost use Rattle.smap_mappings.specs.Faults.{first_fault};
 ghost use Rattle.smap_mappings.specs.Mappings.{mappings_of};
 ghost use Rattle.smap_mappings.specs.Limits.{most_indices, most_text_bytes};
 ghost use Rattle.smap_mappings.specs.Within.{IsWithin};
 ghost use Rattle.smap_index.specs.Answer.{answer_at_or_before};
+ghost use Rattle.smap_index.specs.Faults.{is_interval};
 ghost use Rattle.smap_answers.specs.Outcome.{telling_of};
 ghost use Rattle.smap_answers.specs.Raw.{answer_line, fault_or_answer, raw_result, text_result};
 ghost use Rattle.smap_answers.specs.Raw.{without_last_line_end};
 
-use crate::command::INTERVAL;
 use crate::lines;
 use crate::outcome::Outcome;
 use smap_index::laws::one_text_is_its_mappings;
@@ -18,16 +18,19 @@ use smap_index::{Answer, BuildRefusal, Index, Part};
 use smap_mappings::{MOST_BYTES, MOST_INDICES, Meter, PackedText, TextRefusal};
 use std::alloc::{AllocError, Global};
 
-/// Looks up a generated line and column, both from 0, in the mappings text that the bytes are.
+/// Looks up a generated line and column, both from 0, in the mappings text that the bytes are, over checkpoints at this
+/// interval. The caller gives one at which they may stand.
 pub fn answer_raw(
     alloc: Global,
     bytes: Vec<u8>,
     line: u32,
     column: u32,
+    interval: u32,
 ) -> Result<Outcome, AllocError>
+    requires { is_interval interval ≡ true }
     ensures { IfOk result (λ outcome. telling_of outcome ≡ raw_result bytes.items line column) }
 {
-    answer_text(alloc, without_last_line_end(bytes), line, column)
+    answer_text(alloc, without_last_line_end(bytes), line, column, interval)
 }
 
 // Drops one LF at the very end.
@@ -42,14 +45,21 @@ fn without_last_line_end(mut bytes: Vec<u8>) -> Vec<u8>
 }
 
 // Looks the position up in the text, which may be too long, or not UTF-8.
-fn answer_text(alloc: Global, bytes: Vec<u8>, line: u32, column: u32) -> Result<Outcome, AllocError>
+fn answer_text(
+    alloc: Global,
+    bytes: Vec<u8>,
+    line: u32,
+    column: u32,
+    interval: u32,
+) -> Result<Outcome, AllocError>
+    requires { is_interval interval ≡ true }
     ensures { IfOk result (λ outcome. telling_of outcome ≡ text_result bytes.items line column) }
 {
     if bytes.len() > MOST_BYTES {
         return Ok(Outcome::Refusal(String::from_str(alloc, lines::TEXT_TOO_LONG)?));
     }
     match String::from_utf8(bytes) {
-        Ok(text) => answer_mappings(alloc, text, line, column),
+        Ok(text) => answer_mappings(alloc, text, line, column, interval),
         Err(_) => Ok(Outcome::Refusal(String::from_str(alloc, lines::NOT_UTF8)?)),
     }
 }
@@ -60,15 +70,17 @@ fn answer_mappings(
     text: String,
     line: u32,
     column: u32,
+    interval: u32,
 ) -> Result<Outcome, AllocError>
-    requires { length (string_bytes text) ≤ most_text_bytes }
+    requires short { length (string_bytes text) ≤ most_text_bytes }
+    requires may_stand { is_interval interval ≡ true }
     ensures { IfOk result (λ outcome. telling_of outcome
         ≡ fault_or_answer (first_fault (string_bytes text) most_indices most_indices)
         (answer_at_or_before (mappings_of (string_bytes text)) line column)) }
 {
     match PackedText::check(text, MOST_INDICES, MOST_INDICES) {
         Ok(packed) => {
-            let answer = look_up(alloc, packed, line, column)?;
+            let answer = look_up(alloc, packed, line, column, interval)?;
             Ok(Outcome::Answer(answer_line(alloc, &answer)?))
         }
         Err((TextRefusal::Fault(fault), _)) => {
@@ -81,8 +93,15 @@ fn answer_mappings(
 }
 
 // Looks the position up in a text that is the one part of its index.
-fn look_up(alloc: Global, text: PackedText, line: u32, column: u32) -> Result<Answer, AllocError>
-    requires { All (IsWithin most_indices most_indices) (mappings_of text) }
+fn look_up(
+    alloc: Global,
+    text: PackedText,
+    line: u32,
+    column: u32,
+    interval: u32,
+) -> Result<Answer, AllocError>
+    requires within { All (IsWithin most_indices most_indices) (mappings_of text) }
+    requires may_stand { is_interval interval ≡ true }
     ensures { IfOk result (λ answer. answer ≡ answer_at_or_before (mappings_of text) line column) }
 {
     let mut parts = Vec::new(alloc);
@@ -94,7 +113,7 @@ fn look_up(alloc: Global, text: PackedText, line: u32, column: u32) -> Result<An
         name_base: 0,
     })?;
     one_text_is_its_mappings();
-    match Index::build(alloc, parts, INTERVAL) {
+    match Index::build(alloc, parts, interval) {
         Ok(index) => {
             let mut meter = Meter::new(alloc);
             Ok(index.look_up(line, column, &mut meter))

@@ -1,8 +1,9 @@
 //! Running a command over its streams.
-ghost use Rattle.std.specs.Prelude.{◌≡◌, [], false, map};
+ghost use Rattle.std.specs.Prelude.{◌≡◌, [], false, map, true};
+ghost use Rattle.smap_index.specs.Faults.{is_interval};
 ghost use Rattle.smap_answers.specs.Files.{path_of, paths_of};
 ghost use Rattle.smap_answers.specs.Outcome.{telling_of, telling_or_memory};
-ghost use Rattle.smap_answers.specs.Run.{RawTells, Runs, Tells};
+ghost use Rattle.smap_answers.specs.Run.{HasInterval, RawTells, Runs, Tells};
 ghost use Rattle.smap_answers.specs.Streams.{SinkSeen, sink_seen, source_seen, streams_seen, work_seen};
 
 use crate::check::answer_check;
@@ -19,8 +20,8 @@ use smap_io::{ByteSink, ByteSource, ReadFailure, read_all};
 use smap_mappings::MOST_BYTES;
 use std::alloc::{AllocError, Global};
 
-/// Runs a command, and gives the exit status. The caller gives a `Loaded` for each path of the command, in their
-/// order, and devices that have not failed.
+/// Runs a command, and gives the exit status. The caller gives a command at whose interval checkpoints may stand, a
+/// `Loaded` for each path of the command, in their order, and devices that have not failed.
 pub fn run<R: ByteSource, W: ByteSink, E: ByteSink>(
     alloc: Global,
     command: &Command,
@@ -29,6 +30,7 @@ pub fn run<R: ByteSource, W: ByteSink, E: ByteSink>(
     output: &mut W,
     errors: &mut E,
 ) -> u8
+    requires interval { HasInterval command.now }
     requires loaded { map path_of files.now ≡ paths_of command.now }
     requires input_works { R.has_failed input.old ≡ false }
     requires output_works { W.has_failed output.old ≡ false }
@@ -53,6 +55,7 @@ fn outcome_of<R: ByteSource, W: ByteSink>(
     input: &mut R,
     output: &mut W,
 ) -> Outcome
+    requires interval { HasInterval command.now }
     requires loaded { map path_of files.now ≡ paths_of command.now }
     requires input_works { R.has_failed input.old ≡ false }
     requires output_works { W.has_failed output.old ≡ false }
@@ -63,10 +66,16 @@ fn outcome_of<R: ByteSource, W: ByteSink>(
     ensures output_works { (telling_of result).status ≡ 0 → W.has_failed output.new ≡ false }
 {
     match command {
-        Command::Raw { line, column } => outcome_of_raw(alloc, *line, *column, input),
-        Command::Check { path, base } => {
-            or_memory(answer_check(alloc, path, &files[0].bytes, base.as_ref()))
-        }
+        Command::Raw {
+            line,
+            column,
+            interval,
+        } => outcome_of_raw(alloc, *line, *column, *interval, input),
+        Command::Check {
+            path,
+            base,
+            interval,
+        } => or_memory(answer_check(alloc, path, &files[0].bytes, base.as_ref(), *interval)),
         Command::Show { path, base } => {
             or_memory(answer_show(alloc, path, &files[0].bytes, base.as_ref()))
         }
@@ -75,10 +84,21 @@ fn outcome_of<R: ByteSource, W: ByteSink>(
             line,
             column,
             base,
-        } => or_memory(answer_lookup(alloc, path, &files[0].bytes, base.as_ref(), *line, *column)),
-        Command::Rewrite { maps, base } => {
-            rewrite_trace(alloc, maps, base.as_ref(), files, input, output)
-        }
+            interval,
+        } => or_memory(answer_lookup(
+            alloc,
+            path,
+            &files[0].bytes,
+            base.as_ref(),
+            *line,
+            *column,
+            *interval,
+        )),
+        Command::Rewrite {
+            maps,
+            base,
+            interval,
+        } => rewrite_trace(alloc, maps, base.as_ref(), *interval, files, input, output),
         Command::Compose { source, base, .. } => or_memory(answer_compose(
             alloc,
             &files[0],
@@ -90,7 +110,14 @@ fn outcome_of<R: ByteSource, W: ByteSink>(
 }
 
 // What `raw` comes to.
-fn outcome_of_raw<R: ByteSource>(alloc: Global, line: u32, column: u32, input: &mut R) -> Outcome
+fn outcome_of_raw<R: ByteSource>(
+    alloc: Global,
+    line: u32,
+    column: u32,
+    interval: u32,
+    input: &mut R,
+) -> Outcome
+    requires may_stand { is_interval interval ≡ true }
     requires input_works { R.has_failed input.old ≡ false }
     ensures { (output : SinkSeen) → RawTells line column
         (work_seen (source_seen R.left R.has_failed input.old) output)
@@ -98,7 +125,7 @@ fn outcome_of_raw<R: ByteSource>(alloc: Global, line: u32, column: u32, input: &
 {
     // Two bytes more than a text may have: one of them may be the LF that is dropped.
     match read_all(alloc, input, MOST_BYTES + 2) {
-        Ok(bytes) => or_memory(answer_raw(alloc, bytes, line, column)),
+        Ok(bytes) => or_memory(answer_raw(alloc, bytes, line, column, interval)),
         Err(ReadFailure::Device) => Outcome::InputFailure,
         Err(ReadFailure::Memory) => Outcome::Memory,
     }

@@ -1,11 +1,11 @@
 //! Writing what a map file states as one regular map.
 ghost use Rattle.std.specs.Prelude.{◌≡◌, ◌++◌, ◌∷◌, [], option_copied, IfOk};
 ghost use Rattle.smap_record.specs.Record.{record_of};
-ghost use Rattle.smap_answers.specs.Map.{IsMapTelling, interval};
+ghost use Rattle.smap_answers.specs.Map.{IsMapTelling, usual_interval};
 ghost use Rattle.smap_answers.specs.Outcome.{telling_of};
 ghost use Rattle.smap_answers.specs.Show.{show_result};
 
-use crate::command::INTERVAL;
+use crate::command::USUAL_INTERVAL;
 use crate::lines;
 use crate::outcome::Outcome;
 use crate::refusal::refuse;
@@ -20,9 +20,9 @@ pub fn answer_show(
     base: Option<&Url>,
 ) -> Result<Outcome, AllocError>
     ensures { IfOk result (λ outcome.
-        IsMapTelling show_result path.now (record_of bytes.now (option_copied base.entry) interval) (telling_of outcome)) }
+        IsMapTelling show_result path.now (record_of bytes.now (option_copied base.entry) usual_interval) (telling_of outcome)) }
 {
-    match MapFile::read(alloc, bytes, base, INTERVAL) {
+    match MapFile::read(alloc, bytes, base, USUAL_INTERVAL) {
         Ok(map) => written_map(alloc, &map),
         Err(refusal) => refuse(alloc, path, refusal),
     }

@@ -1,7 +1,6 @@
 //! Rewriting the stack trace on standard input.
 ghost use Rattle.std.specs.Prelude.{◌≡◌, ◌⊎◌, [], false, map, option_copied, zip, IfErr, IfOk, None, Ok};
 ghost use Rattle.smap_answers.specs.Files.{path_in, path_of};
-ghost use Rattle.smap_answers.specs.Map.{interval};
 ghost use Rattle.smap_answers.specs.Outcome.{out_of_memory, telling_of};
 ghost use Rattle.smap_answers.specs.Run.{word_of};
 ghost use Rattle.smap_answers.specs.Streams.{sink_seen, source_seen, work_seen};
@@ -9,7 +8,6 @@ ghost use Rattle.smap_answers.specs.Trace.{Gathers, IsBaseUsed, IsFoundRefusal, 
 ghost use Rattle.smap_answers.specs.Trace.{PutsWord, RewriteTells, TraceTells, gathered, put_seen, word_refusal};
 ghost use Rattle.smap_record.specs.Record.{record_of};
 
-use crate::command::INTERVAL;
 use crate::lines;
 use crate::load::Loaded;
 use crate::outcome::Outcome;
@@ -20,12 +18,13 @@ use smap_trace::{Table, TableRefusal, rewrite};
 use std::alloc::{AllocError, Global};
 use url::ParseError;
 
-/// Reads the map of each word, which is a URL and a path, from its file, and rewrites the trace on standard input over
-/// them. The caller gives a file for each word, in their order, and devices that have not failed.
+/// Reads the map of each word, which is a URL and a path, from its file, with checkpoints at this interval, and rewrites
+/// the trace on standard input over them. The caller gives a file for each word, in their order, and devices that have not failed.
 pub fn rewrite_trace<R: ByteSource, W: ByteSink>(
     alloc: Global,
     words: &[(String, String)],
     base: Option<&Url>,
+    interval: u32,
     files: &[Loaded],
     input: &mut R,
     output: &mut W,
@@ -33,13 +32,13 @@ pub fn rewrite_trace<R: ByteSource, W: ByteSink>(
     requires loaded { map path_of files.now ≡ map path_in words.now }
     requires input_works { R.has_failed input.old ≡ false }
     requires output_works { W.has_failed output.old ≡ false }
-    ensures { RewriteTells (option_copied base.entry)
+    ensures { RewriteTells (option_copied base.entry) interval
         (zip (map word_of words.now) (map (λ file. file.bytes.items) files.now))
         (work_seen (source_seen R.left R.has_failed input.old) (sink_seen W.taken W.is_flushed W.has_failed output.old))
         (work_seen (source_seen R.left R.has_failed input.new) (sink_seen W.taken W.is_flushed W.has_failed output.new))
         (telling_of result) }
 {
-    match table_of(alloc, words, base, files) {
+    match table_of(alloc, words, base, interval, files) {
         Ok(table) => rewrite_over(alloc, &table, input, output),
         Err(outcome) => outcome,
     }
@@ -70,15 +69,16 @@ fn table_of(
     alloc: Global,
     words: &[(String, String)],
     base: Option<&Url>,
+    interval: u32,
     files: &[Loaded],
 ) -> Result<Table, Outcome>
     requires loaded { map path_of files.now ≡ map path_in words.now }
-    ensures { Gathers (option_copied base.entry) []
+    ensures { Gathers (option_copied base.entry) interval []
         (zip (map word_of words.now) (map (λ file. file.bytes.items) files.now)) (gathered result) }
 {
     let mut table = Table::new(alloc);
     for (word, file) in words.iter().zip(files) {
-        add_word(alloc, &mut table, word, &file.bytes, base)?;
+        add_word(alloc, &mut table, word, &file.bytes, base, interval)?;
     }
     Ok(table)
 }
@@ -90,12 +90,13 @@ fn add_word(
     word: &(String, String),
     bytes: &[u8],
     base: Option<&Url>,
+    interval: u32,
 ) -> Result<(), Outcome>
-    ensures { PutsWord (option_copied base.entry) table.old (word_of word.now) bytes.now
+    ensures { PutsWord (option_copied base.entry) interval table.old (word_of word.now) bytes.now
         (put_seen result table.new) }
 {
     let (url, path) = word;
-    let map = read_map(alloc, url, path, bytes, base)?;
+    let map = read_map(alloc, url, path, bytes, base, interval)?;
     let Ok(owned) = String::from_str(alloc, url) else {
         return Err(Outcome::Memory);
     };
@@ -112,15 +113,16 @@ fn read_map(
     path: &str,
     bytes: &[u8],
     base: Option<&Url>,
+    interval: u32,
 ) -> Result<MapFile, Outcome>
-    ensures read { IfOk result (λ map. IsReadAs (option_copied base.entry) url.now bytes.now (Ok map.stated)) }
-    ensures refused { IfErr result (λ outcome. IsReadRefusal (option_copied base.entry)
+    ensures read { IfOk result (λ map. IsReadAs (option_copied base.entry) interval url.now bytes.now (Ok map.stated)) }
+    ensures refused { IfErr result (λ outcome. IsReadRefusal (option_copied base.entry) interval
         (record { url = url.now; path = path.now }) bytes.now (telling_of outcome)) }
 {
     match base {
-        Some(base) => read_at(alloc, path, bytes, Some(base)),
+        Some(base) => read_at(alloc, path, bytes, Some(base), interval),
         None => match own_base(alloc, url) {
-            Ok(own) => read_at(alloc, path, bytes, own.as_ref()),
+            Ok(own) => read_at(alloc, path, bytes, own.as_ref(), interval),
             Err(_) => Err(Outcome::Memory),
         },
     }
@@ -138,13 +140,19 @@ fn own_base(alloc: Global, url: &str) -> Result<Option<Url>, AllocError>
 }
 
 // The map that the bytes of the file at this path are, or why it is refused.
-fn read_at(alloc: Global, path: &str, bytes: &[u8], base: Option<&Url>) -> Result<MapFile, Outcome>
+fn read_at(
+    alloc: Global,
+    path: &str,
+    bytes: &[u8],
+    base: Option<&Url>,
+    interval: u32,
+) -> Result<MapFile, Outcome>
     ensures read { IfOk result
         (λ map. record_of bytes.now (option_copied base.entry) interval ≡ Ok map.stated) }
     ensures refused { IfErr result (λ outcome. IsFoundRefusal path.now
         (record_of bytes.now (option_copied base.entry) interval) (telling_of outcome)) }
 {
-    match MapFile::read(alloc, bytes, base, INTERVAL) {
+    match MapFile::read(alloc, bytes, base, interval) {
         Ok(map) => Ok(map),
         Err(refusal) => match refuse(alloc, path, refusal) {
             Ok(outcome) => Err(outcome),

@@ -18,11 +18,11 @@ use Rattle.clap.specs.declared.builder.value_parser.ValueParser.{ValueParser}
 use Rattle.clap.specs.declared.builder.value_parser.ValueParser.TheVariants as parser
 use Rattle.clap.specs.declared.error.Error.{Error}
 use Rattle.clap.specs.declared.error.kind.ErrorKind.TheVariants.{DisplayHelp, DisplayVersion, OutOfMemory}
-use Rattle.smap_cli.specs.CommandLine.{compose, lookup, map_command, named, number, raw, rewrite, smap, source_number}
+use Rattle.smap_cli.specs.CommandLine.{base_rule, check, compose, interval_number, interval_rule, lookup, named, number, raw, rewrite, show, smap, source_number}
 use Rattle.smap_cli.specs.declared.words.Usage.{Usage}
 use Rattle.smap_cli.specs.declared.words.Usage.TheVariants.{Help, Words, Memory}
-use Rattle.smap_cli.specs.Words.{HasArguments, HasCommand, HasRequired, HasValue, IsNamedRefusal, IsUsageOf, IsRefusalOf, SubcommandTells}
-use Rattle.smap_cli.proofs.Rows.{AreReadRows, Keeps, first_none, given_value, help_keeps, long_option_keeps, more_values_keeps, no_default_keeps, second_none, settle_keeps, value_keeps, walk_keeps}
+use Rattle.smap_cli.specs.Words.{HasArguments, HasCommand, HasValue, HasValues, IsNamedRefusal, IsUsageOf, IsRefusalOf, SubcommandTells}
+use Rattle.smap_cli.proofs.Rows.{AreReadRows, Keeps, first_none, given_value, help_keeps, long_option_keeps, more_values_keeps, no_default_keeps, second_none, settle_keeps, text_value, value_keeps, walk_keeps}
 use Rattle.smap_cli.proofs.Stops.{IsNoHelp, walk_names}
 
 -- ---- the rules of a level
@@ -59,7 +59,7 @@ none_missing false false false true = λ none. cc
 module _ (parser_at : Text → ValueParser) where
   -- the argument has no default, and its values are read by the parser
   abbrev IsPlain : Rule → Type 0
-  IsPlain a = Keeps parser_at a × (a.defaults ≡ []) × (a.required ≡ true → parser_at a.id ≡ unwrap_or a.parser parser.String)
+  IsPlain a = Keeps parser_at a × (a.defaults ≡ []) × (parser_at a.id ≡ unwrap_or a.parser parser.String)
 
   finished_keeps : (rules : List Rule) (rows : List Row) → Each IsPlain rules → AreReadRows parser_at rows → AreReadRows parser_at (fold with_default rows rules)
   finished_keeps [] rows plain good = good
@@ -69,19 +69,20 @@ module _ (parser_at : Text → ValueParser) where
   each_keeps [] p plain = tt
   each_keeps (a ∷ rest) p plain = (λ passes. plain.0.0, each_keeps rest p plain.1)
 
-  required_given : (rules : List Rule) (rows : List Row) → Each IsPlain rules → AreReadRows parser_at rows
-      → list_any (λ a. a.required && not (is_given a.id rows)) rules ≡ false → HasRequired rules rows
-  required_given [] rows plain good none = tt
-  required_given (a ∷ rest) rows plain good none =
+  values_given : (rules : List Rule) (rows : List Row) → Each IsPlain rules → AreReadRows parser_at rows
+      → list_any (λ a. a.required && not (is_given a.id rows)) rules ≡ false → HasValues rules rows
+  values_given [] rows plain good none = tt
+  values_given (a ∷ rest) rows plain good none =
       let no = neither (a.required && not (is_given a.id rows)) _ none in (
-        λ required. subst (λ by. HasValue by rows a.id) (plain.0.2 required)
+        λ required. subst (λ by. HasValue by rows a.id) plain.0.2
             (given_value parser_at a.id rows good (given_if a.required (is_given a.id rows) required no.0)),
-        required_given rest rows plain.1 good no.1,
+        λ some. subst (λ by. HasValue by rows a.id) plain.0.2 (text_value parser_at a.id rows good some),
+        values_given rest rows plain.1 good no.1,
       )
 
   -- a level in which clap finds no fault has all that it requires
   level_gives : (s : Shape) → Each IsPlain s.rules → (words : List Text) → level_fault s [] nothing_held words false [] ≡ []
-      → HasRequired s.rules (rows_after s.rules [] words)
+      → HasValues s.rules (rows_after s.rules [] words)
   level_gives s plain words none =
       let keeps : (p : Rule → Bool) (a : Rule) → find p s.rules ≡ Some a → Keeps parser_at a = λ p a is. found_in (Keeps parser_at) p s.rules a (each_keeps s.rules p plain) is in
       let end = (walk s.rules [] nothing_held words).held in
@@ -92,54 +93,67 @@ module _ (parser_at : Text → ValueParser) where
       let walk_good = walk_keeps parser_at s [] keeps words (walk_from nothing_held) walked_none tt in
       let end_good = settle_keeps parser_at s.rules s.args_override_self keeps end settled_none walk_good in
       let rows = rows_after s.rules [] words in
-      required_given s.rules rows plain (finished_keeps s.rules (settled s.rules end).rows plain end_good)
+      values_given s.rules rows plain (finished_keeps s.rules (settled s.rules end).rows plain end_good)
       (none_missing _ _ s.subcommand_negates_reqs (list_any (λ a. a.required && not (is_given a.id rows)) s.rules) last)
 
   value : (i : ℕ) (id : Text) → IsPlain (with_index i (filled (record (new_rule id) { required = true; parser = Some (parser_at id) })))
-  value i id = (value_keeps parser_at i id true, refl, λ required. refl)
+  value i id = (value_keeps parser_at i id true, refl, refl)
 
   more_values : (i : ℕ) (id : Text) → IsPlain (with_index i (filled (record (new_rule id) { required = true; action = Some Append; parser = Some (parser_at id) })))
-  more_values i id = (more_values_keeps parser_at i id true, refl, λ required. refl)
+  more_values i id = (more_values_keeps parser_at i id true, refl, refl)
 
   option : (i : ℕ) (id long : Text) → IsPlain (with_index i (filled (record (new_rule id) { long = Some long; parser = Some (parser_at id) })))
-  option i id long = (long_option_keeps parser_at i id long, refl, λ required. cc)
+  option i id long = (long_option_keeps parser_at i id long, refl, refl)
 
-  help : IsPlain (filled help_rule)
-  help = (help_keeps parser_at, refl, λ required. cc)
+  help : parser_at (codes "help") ≡ parser.String → IsPlain (filled help_rule)
+  help any = (help_keeps parser_at, refl, any)
 
 -- ---- the commands of `smap`
 
--- lines, columns and sources are numbers, and the other arguments are any text
+-- lines, columns, sources and intervals are numbers, and the other arguments are any text
 abbrev at_argument : Text → ValueParser
 at_argument id = cond (bytes_eq id (codes "SOURCE")) source_number
-    (cond (bytes_eq id (codes "LINE") || bytes_eq id (codes "COLUMN")) number parser.String)
+    (cond (bytes_eq id (codes "K")) interval_number
+    (cond (bytes_eq id (codes "LINE") || bytes_eq id (codes "COLUMN")) number parser.String))
+
+base_plain : (i : ℕ) → IsPlain at_argument (with_index i (filled base_rule))
+base_plain i = option at_argument i (codes "URL") (codes "base")
+
+interval_plain : (i : ℕ) → IsPlain at_argument (with_index i (filled interval_rule))
+interval_plain i = option at_argument i (codes "K") (codes "interval")
+
+help_plain : IsPlain at_argument (filled help_rule)
+help_plain = help at_argument refl
 
 lookup_plain : Each (IsPlain at_argument) (built_leaf lookup.top).rules
 lookup_plain = (
   value at_argument 1 (codes "PATH"),
   (
     value at_argument 2 (codes "LINE"),
-    (value at_argument 3 (codes "COLUMN"), (option at_argument 4 (codes "URL") (codes "base"), (help at_argument, tt))),
+    (value at_argument 3 (codes "COLUMN"), (base_plain 4, (interval_plain 4, (help_plain, tt)))),
   ),
 )
 
 rewrite_plain : Each (IsPlain at_argument) (built_leaf rewrite.top).rules
-rewrite_plain = (more_values at_argument 1 (codes "URL=FILE"), (option at_argument 2 (codes "URL") (codes "base"), (help at_argument, tt)))
+rewrite_plain = (more_values at_argument 1 (codes "URL=FILE"), (base_plain 2, (interval_plain 2, (help_plain, tt))))
 
-map_plain : (name : Text) → Each (IsPlain at_argument) (built_leaf (map_command name).top).rules
-map_plain name = (value at_argument 1 (codes "PATH"), (option at_argument 2 (codes "URL") (codes "base"), (help at_argument, tt)))
+check_plain : Each (IsPlain at_argument) (built_leaf check.top).rules
+check_plain = (value at_argument 1 (codes "PATH"), (base_plain 2, (interval_plain 2, (help_plain, tt))))
+
+show_plain : Each (IsPlain at_argument) (built_leaf show.top).rules
+show_plain = (value at_argument 1 (codes "PATH"), (base_plain 2, (help_plain, tt)))
 
 compose_plain : Each (IsPlain at_argument) (built_leaf compose.top).rules
 compose_plain = (
   value at_argument 1 (codes "OUTER"),
   (
     value at_argument 2 (codes "SOURCE"),
-    (value at_argument 3 (codes "INNER"), (option at_argument 4 (codes "URL") (codes "base"), (help at_argument, tt))),
+    (value at_argument 3 (codes "INNER"), (base_plain 4, (help_plain, tt))),
   ),
 )
 
 raw_plain : Each (IsPlain at_argument) (built_leaf raw.top).rules
-raw_plain = (value at_argument 1 (codes "LINE"), (value at_argument 2 (codes "COLUMN"), (help at_argument, tt)))
+raw_plain = (value at_argument 1 (codes "LINE"), (value at_argument 2 (codes "COLUMN"), (interval_plain 3, (help_plain, tt))))
 
 -- where clap finds no fault in the words of the subcommand, it has its arguments
 abbrev Gives : Shape → Type 0
@@ -151,9 +165,9 @@ each_gives word no_help = (
   (
     λ answers. level_gives at_argument (built_leaf rewrite.top) rewrite_plain,
     (
-      λ answers. level_gives at_argument (built_leaf (map_command (codes "check")).top) (map_plain (codes "check")),
+      λ answers. level_gives at_argument (built_leaf check.top) check_plain,
       (
-        λ answers. level_gives at_argument (built_leaf (map_command (codes "show")).top) (map_plain (codes "show")),
+        λ answers. level_gives at_argument (built_leaf show.top) show_plain,
         (
           λ answers. level_gives at_argument (built_leaf compose.top) compose_plain,
           (

@@ -12,8 +12,8 @@ use Rattle.clap.specs.declared.parser.matches.ArgMatches.{ArgMatches}
 use Rattle.clap.specs.declared.parser.matches.ArgMatches.TheViews.{out-ArgMatches, out-SubCommand}
 use Rattle.clap.specs.declared.parser.matches.SubCommand.{SubCommand}
 use Rattle.smap_answers.specs.declared.command.Command.{Command}
-use Rattle.smap_cli.specs.CommandLine.{compose, lookup, map_command, named, number, raw, rewrite}
-use Rattle.smap_cli.specs.Words.{HasArguments, HasCommand, HasValue, IsNamedRefusal, NamedAsksFor, SubcommandAsksFor, SubcommandTells, TellsBadBase, TellsRefusal}
+use Rattle.smap_cli.specs.CommandLine.{check, compose, interval_number, lookup, named, number, raw, rewrite, show}
+use Rattle.smap_cli.specs.Words.{HasArguments, HasCommand, HasValue, HasValueIfGiven, IsNamedRefusal, NamedAsksFor, SubcommandAsksFor, SubcommandTells, TellsBadBase, TellsRefusal}
 use Rattle.smap_cli.specs.declared.words.Usage.{Usage}
 use Rattle.smap_cli.specs.declared.words.Usage.TheVariants.{Help, Words, Memory}
 
@@ -77,24 +77,19 @@ passed name s rest other = go (bytes_eq s.name name) refl
 
 abbrev pub IsRaw : Text → List Row → Type 0
 IsRaw name rows = (name ≡ codes "raw") × HasValue number rows (codes "LINE") × HasValue number rows (codes "COLUMN")
+    × HasValueIfGiven interval_number rows (codes "K")
 
 pub only_raw : (name : Text) (rows : List Row) → (name ≡ codes "lookup" → ⊥) → (name ≡ codes "rewrite" → ⊥) → (name ≡ codes "check" → ⊥)
     → (name ≡ codes "show" → ⊥) → (name ≡ codes "compose" → ⊥) → HasArguments (named name) rows → IsRaw name rows
 only_raw name rows no_lookup no_rewrite no_check no_show no_compose has =
     go (bytes_eq (codes "raw") name) refl (subst (λ o. HasArguments o rows) past has)
   where
-    check : Shape
-    check = (map_command (codes "check")).top
-
-    show : Shape
-    show = (map_command (codes "show")).top
-
     past : named name ≡ find (λ c. bytes_eq c.name name) (raw.top ∷ [])
-    past = passed name lookup.top (rewrite.top ∷ check ∷ show ∷ compose.top ∷ raw.top ∷ []) no_lookup
-        ∙ (passed name rewrite.top (check ∷ show ∷ compose.top ∷ raw.top ∷ []) no_rewrite
-        ∙ (passed name check (show ∷ compose.top ∷ raw.top ∷ []) no_check
-        ∙ (passed name show (compose.top ∷ raw.top ∷ []) no_show ∙ passed name compose.top (raw.top ∷ []) no_compose)))
+    past = passed name lookup.top (rewrite.top ∷ check.top ∷ show.top ∷ compose.top ∷ raw.top ∷ []) no_lookup
+        ∙ (passed name rewrite.top (check.top ∷ show.top ∷ compose.top ∷ raw.top ∷ []) no_rewrite
+        ∙ (passed name check.top (show.top ∷ compose.top ∷ raw.top ∷ []) no_check
+        ∙ (passed name show.top (compose.top ∷ raw.top ∷ []) no_show ∙ passed name compose.top (raw.top ∷ []) no_compose)))
 
     go : (b : Bool) → bytes_eq (codes "raw") name ≡ b → HasArguments (cond b (Some raw.top) None) rows → IsRaw name rows
-    go true is has = (sym ((bytes_eq-Decides (codes "raw") name).0 is), has.0 refl, has.1.0 refl)
+    go true is has = (sym ((bytes_eq-Decides (codes "raw") name).0 is), has.0 refl, has.2.0 refl, has.2.2.1)
     go false is has = absurd has

@@ -2,7 +2,7 @@
 use Rattle.std.proofs.Common.{◌≡◌, ◌++◌, ◌&&◌, ℕ, Bool, zero, suc, true, false, refl, sym, ap, subst, List, [], ◌∷◌, length, drop, not, fold, find, Option, Some, None, cond, is_some}
 use Rattle.std.specs.Prelude.{⊤, encode_utf8, option_and_then, slice_get}
 use Rattle.std.proofs.lemmas.Slice.Eq.{bytes_eq-Decides}
-use Rattle.std.specs.Option.{option_map_or}
+use Rattle.std.specs.Option.{IsSome, option_map_or}
 use Rattle.std.specs.Str.{bytes_eq, chars}
 use Rattle.clap.specs.ValueTests.{accepts}
 use Rattle.clap.specs.Walk.{Held, Names, Outcome, Row, Rule, Step, Text, Waiting, Walk, after_flag, after_step, arg_by_id, arg_by_index, arg_by_long, arg_by_short, at_row, attached_value, bundle_met, bundle_step, default_rows, has_row, is_pending, long_met, long_or_other, more_values, one_of, option_met, option_word, plain_word, positional_held, reacted, reading_by, row_text, settled, settled_rows, short_met, short_or_plain, subcommand_met, subcommand_or_other, takes_several, takes_values, to_positional, used, used_by_id, walk, walked, walked_from, with_default, with_values, without, word_met}
@@ -148,26 +148,38 @@ module _ (parser_at : Text → ValueParser) where
           subst (λ y. IsReadRow y × (y.id ≡ id)) here (good.0, (bytes_eq-Decides x.id id).0 same)
       go false same is later = later is
 
-  -- an argument that is given has a text that passed its parser
-  pub given_value : (id : Text) (rows : List Row) → AreReadRows rows → is_given id rows ≡ true
-      → (text : Text) × (one_of id rows ≡ Some (read_as (reading_of (parser_at id)) text)) × Accepts false (parser_at id) text
-  given_value id rows good given = go (find (λ r. bytes_eq r.id id) rows) refl given
-    where
-      Read : Option Text → Type 0
-      Read o = (text : Text) × (o ≡ Some (read_as (reading_of (parser_at id)) text)) × Accepts false (parser_at id) text
+  module _ (id : Text) (rows : List Row) (good : AreReadRows rows) where
+    -- this is a text that passed the parser of the argument
+    abbrev Read : Option Text → Type 0
+    Read o = (text : Text) × (o ≡ Some (read_as (reading_of (parser_at id)) text)) × Accepts false (parser_at id) text
 
-      read : (r : Row) (values : List Text) → r.values ≡ values → IsAccepted id values → r.reading ≡ reading_of (parser_at id) → Read (row_text r)
-      read r [] is accepted how = absurd accepted
-      read r (v ∷ vs) is accepted how = (v, rw (is, how) refl, accepts-Accepts false (parser_at id) v accepted)
+    read : (r : Row) (values : List Text) → r.values ≡ values → IsAccepted id values → r.reading ≡ reading_of (parser_at id) → Read (row_text r)
+    read r [] is accepted how = absurd accepted
+    read r (v ∷ vs) is accepted how = (v, rw (is, how) refl, accepts-Accepts false (parser_at id) v accepted)
 
-      go : (o : Option Row) → find (λ r. bytes_eq r.id id) rows ≡ o → option_map_or (λ r. explicit_source r.source) o false ≡ true
-          → Read (option_and_then row_text (find (λ r. bytes_eq r.id id) rows))
-      go None is given = cc
-      go (Some r) is given =
-          let found = found_row id rows r good is in
-          let accepted = subst (λ key. IsAccepted key r.values) found.1 found.0.0 in
-          let how = subst (λ key. r.reading ≡ reading_of (parser_at key)) found.1 found.0.1 in
-          subst Read (sym (ap (option_and_then row_text) is)) (read r r.values refl accepted how)
+    -- the row of the argument has one
+    row_value : (r : Row) → find (λ r. bytes_eq r.id id) rows ≡ Some r → Read (one_of id rows)
+    row_value r is =
+        let found = found_row id rows r good is in
+        let accepted = subst (λ key. IsAccepted key r.values) found.1 found.0.0 in
+        let how = subst (λ key. r.reading ≡ reading_of (parser_at key)) found.1 found.0.1 in
+        subst Read (sym (ap (option_and_then row_text) is)) (read r r.values refl accepted how)
+
+    -- so has an argument that is given by the words
+    pub given_value : is_given id rows ≡ true → Read (one_of id rows)
+    given_value given = go (find (λ r. bytes_eq r.id id) rows) refl given
+      where
+        go : (o : Option Row) → find (λ r. bytes_eq r.id id) rows ≡ o → option_map_or (λ r. explicit_source r.source) o false ≡ true → Read (one_of id rows)
+        go None is given = cc
+        go (Some r) is given = row_value r is
+
+    -- and one of which the rows have a text
+    pub text_value : IsSome (one_of id rows) → Read (one_of id rows)
+    text_value some = go (find (λ r. bytes_eq r.id id) rows) refl some
+      where
+        go : (o : Option Row) → find (λ r. bytes_eq r.id id) rows ≡ o → IsSome (option_and_then row_text o) → Read (one_of id rows)
+        go None is some = cc
+        go (Some r) is some = row_value r is
 
   -- ---- the walk over the words
 

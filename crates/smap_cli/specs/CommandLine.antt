@@ -3,6 +3,7 @@ use Rattle.std.specs.Prelude.{◌≡◌, ◌+◌, false, true, pos, codes, Optio
 use Rattle.std.specs.Prelude.{◌∷◌, find, fold}
 use Rattle.std.specs.Str.{bytes_eq}
 use Rattle.smap_mappings.specs.Limits.{limit}
+use Rattle.smap_index.specs.Faults.{most_interval}
 use Rattle.clap.specs.Simple.{on_top}
 use Rattle.clap.specs.Words.{App, Rule, Shape, Text, app_of, new_app, new_rule, rule_of, with_rule, with_subcommand}
 use Rattle.clap.specs.declared.builder.action.ArgAction.TheVariants.{Append}
@@ -22,6 +23,10 @@ number = parser.Signed (pos 1) (pos (limit + 1))
 abbrev pub source_number : ValueParser
 source_number = parser.Signed (pos 0) (pos 4294967295)
 
+-- an interval at which checkpoints may stand
+abbrev pub interval_number : ValueParser
+interval_number = parser.Signed (pos 1) (pos most_interval)
+
 -- a required argument that is of any text
 abbrev pub text_rule : Text → Rule
 text_rule name = record (new_rule name) { required = true }
@@ -38,6 +43,10 @@ pairs_rule = record (new_rule (codes "URL=FILE")) { required = true; action = So
 abbrev pub base_rule : Rule
 base_rule = record (new_rule (codes "URL")) { long = Some (codes "base") }
 
+-- the option that is an interval
+abbrev pub interval_rule : Rule
+interval_rule = record (new_rule (codes "K")) { long = Some (codes "interval"); parser = Some interval_number }
+
 -- clap's argument is the one described, and does not hold in subcommands too
 abbrev pub IsLocalArgument : Rule → ClapArgument → Type 0
 IsLocalArgument rule argument = (rule_of argument ≡ rule) × (argument.global ≡ false)
@@ -50,27 +59,29 @@ with_rules name rules = fold with_rule (new_app name) rules
 
 abbrev pub lookup : App
 lookup = with_rules (codes "lookup") (text_rule (codes "PATH") ∷ number_rule number (codes "LINE")
-    ∷ number_rule number (codes "COLUMN") ∷ base_rule ∷ [])
+    ∷ number_rule number (codes "COLUMN") ∷ base_rule ∷ interval_rule ∷ [])
 
 abbrev pub rewrite : App
-rewrite = with_rules (codes "rewrite") (pairs_rule ∷ base_rule ∷ [])
+rewrite = with_rules (codes "rewrite") (pairs_rule ∷ base_rule ∷ interval_rule ∷ [])
 
--- a command of this name that asks for one map file
-abbrev pub map_command : Text → App
-map_command name = with_rules name (text_rule (codes "PATH") ∷ base_rule ∷ [])
+abbrev pub check : App
+check = with_rules (codes "check") (text_rule (codes "PATH") ∷ base_rule ∷ interval_rule ∷ [])
+
+abbrev pub show : App
+show = with_rules (codes "show") (text_rule (codes "PATH") ∷ base_rule ∷ [])
 
 abbrev pub compose : App
 compose = with_rules (codes "compose") (text_rule (codes "OUTER") ∷ number_rule source_number (codes "SOURCE")
     ∷ text_rule (codes "INNER") ∷ base_rule ∷ [])
 
 abbrev pub raw : App
-raw = with_rules (codes "raw") (number_rule number (codes "LINE") ∷ number_rule number (codes "COLUMN") ∷ [])
+raw = with_rules (codes "raw") (number_rule number (codes "LINE") ∷ number_rule number (codes "COLUMN") ∷ interval_rule ∷ [])
 
 -- `smap`, which has a version and wants a subcommand
 abbrev pub smap : App
 smap = fold (λ above command. with_subcommand above command.top)
     (on_top (λ shape. record shape { subcommand_required = true; has_version = true }) (new_app (codes "smap")))
-    (lookup ∷ rewrite ∷ map_command (codes "check") ∷ map_command (codes "show") ∷ compose ∷ raw ∷ [])
+    (lookup ∷ rewrite ∷ check ∷ show ∷ compose ∷ raw ∷ [])
 
 -- clap's command is the one described, and no argument of it holds in subcommands too
 abbrev pub IsLocalCommand : App → ClapCommand → Type 0

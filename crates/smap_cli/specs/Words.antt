@@ -2,10 +2,13 @@
 use Rattle.std.specs.Prelude.{◌≡◌, ◌≢◌, ◌≤◌, ◌+◌, ◌++◌, ◌==◌, ◌⊎◌, ◌∷◌, ℕ, Bool, false, true, codes, List, []}
 use Rattle.std.specs.Prelude.{None, Ok, Option, Some, String, find, map, not, unwrap_or, ⊤}
 use Rattle.std.specs.List.{AllZip, list_any}
+use Rattle.std.specs.Option.{IsSome}
 use Rattle.std.specs.Str.Parse.{digits_value, without_leading_plus}
 use Rattle.std.specs.String.{string_bytes}
 use Rattle.smap_mappings.specs.Limits.{limit}
 use Rattle.smap_answers.specs.Lines.{bad_base_line, no_pair_line}
+use Rattle.smap_answers.specs.Map.{usual_interval}
+use Rattle.smap_answers.specs.Run.{HasInterval}
 use Rattle.url.specs.Parser.{parse_url}
 use Rattle.url.specs.Parts.{Parts}
 use Rattle.clap.specs.Faults.{fault_of}
@@ -23,13 +26,17 @@ use Rattle.smap_cli.specs.declared.words.Usage.{Usage}
 use Rattle.smap_cli.specs.declared.words.Usage.TheVariants.{Help, Words, Memory}
 
 -- the lines and columns are ones that there can be, counted from 0
+abbrev pub HasPlace : Command → Type 0
+HasPlace (Raw line column interval) = (line ≤ limit) × (column ≤ limit)
+HasPlace (Check path base interval) = ⊤
+HasPlace (Show path base) = ⊤
+HasPlace (Lookup path line column base interval) = (line ≤ limit) × (column ≤ limit)
+HasPlace (Rewrite maps base interval) = ⊤
+HasPlace (Compose outer source inner base) = ⊤
+
+-- the same, and checkpoints may stand at its interval
 abbrev pub IsInRange : Command → Type 0
-IsInRange (Raw line column) = (line ≤ limit) × (column ≤ limit)
-IsInRange (Check path base) = ⊤
-IsInRange (Show path base) = ⊤
-IsInRange (Lookup path line column base) = (line ≤ limit) × (column ≤ limit)
-IsInRange (Rewrite maps base) = ⊤
-IsInRange (Compose outer source inner base) = ⊤
+IsInRange command = HasPlace command × HasInterval command
 
 -- the words as text
 abbrev pub texts : {A : Type 0} → List (String A) → List Text
@@ -41,6 +48,10 @@ texts = map (λ word. string_bytes word)
 abbrev pub HasValue : ValueParser → List Row → (name : Text) → Type 0
 HasValue parser rows name =
     (text : Text) × (one_of name rows ≡ Some (read_as (reading_of parser) text)) × Accepts false parser text
+
+-- the same, where they have a text
+abbrev pub HasValueIfGiven : ValueParser → List Row → (name : Text) → Type 0
+HasValueIfGiven parser rows name = IsSome (one_of name rows) → HasValue parser rows name
 
 -- it is the number n
 abbrev pub GivesNumber : List Row → (name : Text) → ℕ → Type 0
@@ -59,6 +70,15 @@ GivesUrl (Some text) base = (url : Parts) × (parse_url None text ≡ Ok url) ×
 -- the base
 abbrev pub GivesBase : List Row → Option Parts → Type 0
 GivesBase rows = GivesUrl (first_of (codes "URL") rows)
+
+-- the text, where it is given, is the number of this interval; else this is the usual one
+abbrev pub IsIntervalOf : Option Text → ℕ → Type 0
+IsIntervalOf None interval = interval ≡ usual_interval
+IsIntervalOf (Some text) interval = digits_value 10 (without_leading_plus text) ≡ interval
+
+-- the interval
+abbrev pub GivesInterval : List Row → ℕ → Type 0
+GivesInterval rows = IsIntervalOf (one_of (codes "K") rows)
 
 -- ---- the words of `rewrite`
 
@@ -86,22 +106,24 @@ first_without = find (λ word. not (has_equals_sign word))
 
 -- how the command is called
 abbrev pub name_of : Command → Text
-name_of (Raw line column) = codes "raw"
-name_of (Check path base) = codes "check"
+name_of (Raw line column interval) = codes "raw"
+name_of (Check path base interval) = codes "check"
 name_of (Show path base) = codes "show"
-name_of (Lookup path line column base) = codes "lookup"
-name_of (Rewrite maps base) = codes "rewrite"
+name_of (Lookup path line column base interval) = codes "lookup"
+name_of (Rewrite maps base interval) = codes "rewrite"
 name_of (Compose outer source inner base) = codes "compose"
 
 -- what clap reads for the arguments of a command asks for it, with lines and columns counted from 1
 abbrev pub RowsAskFor : List Row → Command → Type 0
-RowsAskFor rows (Raw line column) =
-    GivesNumber rows (codes "LINE") (line + 1) × GivesNumber rows (codes "COLUMN") (column + 1)
-RowsAskFor rows (Check path base) = GivesText rows (codes "PATH") (string_bytes path) × GivesBase rows base
+RowsAskFor rows (Raw line column interval) = GivesNumber rows (codes "LINE") (line + 1)
+    × GivesNumber rows (codes "COLUMN") (column + 1) × GivesInterval rows interval
+RowsAskFor rows (Check path base interval) =
+    GivesText rows (codes "PATH") (string_bytes path) × GivesBase rows base × GivesInterval rows interval
 RowsAskFor rows (Show path base) = GivesText rows (codes "PATH") (string_bytes path) × GivesBase rows base
-RowsAskFor rows (Lookup path line column base) = GivesText rows (codes "PATH") (string_bytes path)
+RowsAskFor rows (Lookup path line column base interval) = GivesText rows (codes "PATH") (string_bytes path)
     × GivesNumber rows (codes "LINE") (line + 1) × GivesNumber rows (codes "COLUMN") (column + 1) × GivesBase rows base
-RowsAskFor rows (Rewrite maps base) = GivesPairs rows maps.items × GivesBase rows base
+    × GivesInterval rows interval
+RowsAskFor rows (Rewrite maps base interval) = GivesPairs rows maps.items × GivesBase rows base × GivesInterval rows interval
 RowsAskFor rows (Compose outer source inner base) = GivesText rows (codes "OUTER") (string_bytes outer)
     × GivesNumber rows (codes "SOURCE") source × GivesText rows (codes "INNER") (string_bytes inner) × GivesBase rows base
 
@@ -121,16 +143,17 @@ WordsAskFor words command =
 
 -- ---- what the rows have where clap finds no fault
 
--- a value for each of these arguments that is required
-abbrev pub HasRequired : List Rule → List Row → Type 0
-HasRequired [] rows = ⊤
-HasRequired (rule ∷ rules) rows =
-    (rule.required ≡ true → HasValue (unwrap_or rule.parser parser.String) rows rule.id) × HasRequired rules rows
+-- a value for each of these arguments that is required, and for each that is given
+abbrev pub HasValues : List Rule → List Row → Type 0
+HasValues [] rows = ⊤
+HasValues (rule ∷ rules) rows =
+    let parser = unwrap_or rule.parser parser.String in
+    (rule.required ≡ true → HasValue parser rows rule.id) × HasValueIfGiven parser rows rule.id × HasValues rules rows
 
 -- the same, of the arguments of a command, as clap fills them in
 abbrev pub HasArguments : Option Shape → List Row → Type 0
 HasArguments None rows = ⊥
-HasArguments (Some command) rows = HasRequired (built_leaf command).rules rows
+HasArguments (Some command) rows = HasValues (built_leaf command).rules rows
 
 -- the subcommand is one of `smap`, and has its arguments
 abbrev pub HasCommand : Option (Text × List Row) → Type 0

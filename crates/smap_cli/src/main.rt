@@ -9,6 +9,7 @@ mod words;
 
 ghost use Rattle.std.specs.Prelude.{◌≡◌, map, IfOk};
 ghost use Rattle.smap_answers.specs.Files.{path_of, paths_of};
+ghost use Rattle.smap_answers.specs.Run.{HasInterval};
 
 use smap_answers::{Command, Loaded, Outcome, load_files, run, tell};
 use smap_io::FromStd;
@@ -37,7 +38,8 @@ fn main(rt: HostRuntime) -> ExitCode {
 // What the command line asks for, and the files that it names; or what is told where there is no such command, or a
 // file can't be read.
 fn command_with_files(rt: &HostRuntime) -> Result<(Command, Vec<Loaded>), Outcome>
-    ensures { IfOk result (λ asked. map path_of asked.1.items ≡ paths_of asked.0) }
+    ensures loaded { IfOk result (λ asked. map path_of asked.1.items ≡ paths_of asked.0) }
+    ensures interval { IfOk result (λ asked. HasInterval asked.0) }
 {
     let command = command_of(rt)?;
     let files = load_files(rt, &command)?;
@@ -45,7 +47,9 @@ fn command_with_files(rt: &HostRuntime) -> Result<(Command, Vec<Loaded>), Outcom
 }
 
 // The command that the command line asks for.
-fn command_of(rt: &HostRuntime) -> Result<Command, Outcome> {
+fn command_of(rt: &HostRuntime) -> Result<Command, Outcome>
+    ensures { IfOk result HasInterval }
+{
     let words = match words_of(rt) {
         Ok(words) => words,
         Err(error) if error.kind() == io::ErrorKind::OutOfMemory => return Err(Outcome::Memory),

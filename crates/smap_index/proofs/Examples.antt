@@ -61,9 +61,22 @@ no_fault : build_fault (at 0 0 (codes "AAAA,UAAA") ∷ at 0 10 (codes "AAAA") �
 unfolding build_fault part_fault order_fault overlap_fault range_fault at placed mappings_of mapping_after moves_of values_on pieces_of pieces_from pieces_on fields_of number_of unsigned_of digit_of
 no_fault = refl
 
-other_interval : build_fault (at 0 10 [] ∷ at 0 0 [] ∷ []) 2 ≡ Some Interval
+no_fault_at_64 : build_fault (at 0 0 (codes "AAAA,UAAA") ∷ at 0 10 (codes "AAAA") ∷ []) 64 ≡ None
+unfolding build_fault part_fault order_fault overlap_fault range_fault at placed mappings_of mapping_after moves_of values_on pieces_of pieces_from pieces_on fields_of number_of unsigned_of digit_of
+no_fault_at_64 = refl
+
+greatest_interval : build_fault (at 0 0 [] ∷ []) 4096 ≡ None
+unfolding build_fault part_fault order_fault overlap_fault range_fault at placed mappings_of mapping_after moves_of values_on pieces_of pieces_from pieces_on fields_of number_of unsigned_of digit_of
+greatest_interval = refl
+
+-- the interval is asked first
+no_interval : build_fault (at 0 10 [] ∷ at 0 0 [] ∷ []) 0 ≡ Some Interval
 unfolding build_fault at
-other_interval = refl
+no_interval = refl
+
+past_the_greatest_interval : build_fault (at 0 10 [] ∷ at 0 0 [] ∷ []) 4097 ≡ Some Interval
+unfolding build_fault at
+past_the_greatest_interval = refl
 
 out_of_order : build_fault (at 0 10 [] ∷ at 0 10 [] ∷ at 0 9 [] ∷ []) 1 ≡ Some (SectionOrder 2)
 unfolding build_fault part_fault order_fault at

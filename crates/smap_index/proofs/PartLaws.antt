@@ -1,16 +1,18 @@
 -- A walk over the parts adds one part more at each step.
-use Rattle.std.proofs.Common.{◌≡◌, ℕ, ◌+◌, ◌<◌, ◌≤◌, List, [], ◌∷◌, ◌++◌, cond, length, take, map, sym, ap, subst, eqb, ◌∙◌, get_or, arith}
-use Rattle.std.specs.List.{AllByRecursion, list_any}
+use Rattle.std.proofs.Common.{◌≡◌, ℕ, ◌+◌, ◌<◌, ◌≤◌, List, [], ◌∷◌, ◌++◌, Some, cond, length, take, map, sym, ap, subst, eqb, ◌∙◌, get_or, arith}
+use Rattle.std.specs.List.{AllByRecursion, AllZip, list_any, slice_get}
 use Rattle.std.proofs.lemmas.List.{append-nil, append_assoc, take_more, length-map, length-take-le}
+use Rattle.std.proofs.lemmas.Option.{slice_get-get_or}
 use Rattle.smap_mappings.specs.Counts.{segments_of, used_lines_of, new_lines}
 use Rattle.smap_mappings.specs.Mappings.{Move, move_of, moves_of}
 use Rattle.smap_mappings.specs.Pieces.{pieces_of}
 use Rattle.std.proofs.lemmas.Bool.{cond_both}
 use Rattle.smap_index.specs.Parts.{placed, joined, bytes_in}
-use Rattle.smap_index.specs.Marks.{used_lines_in}
-use Rattle.smap_index.specs.Walk.{checkpoint_in, checkpoints_from}
+use Rattle.smap_index.specs.Marks.{Mark, mark_in, marked_segments, marks_from, marks, IsCheckpointIn, IsCheckpointOf, used_lines_in}
 use Rattle.smap_index.specs.declared.part.Part.{Part}
 use Rattle.smap_index.specs.declared.table.Checkpoint.{Checkpoint}
+use Rattle.smap_index.proofs.CountingLaws.{IsMarked}
+use Rattle.smap_index.proofs.MarkLaws.{AllZip-append}
 
 joined-push : (parts : List Part) (part : Part) → joined (parts ++ part ∷ []) ≡ joined parts ++ placed part
 joined-push [] part = append-nil (placed part)
@@ -24,11 +26,16 @@ bytes_in-push : (parts : List Part) (part : Part) → bytes_in (parts ++ part �
 bytes_in-push [] part = omega arith
 bytes_in-push (p ∷ parts) part = let rest = bytes_in-push parts part in omega arith
 
-checkpoints_from-push : (i n : ℕ) (parts : List Part) (part : Part) → n ≡ i + length parts → checkpoints_from i (parts ++ part ∷ []) ≡ checkpoints_from i parts ++ map (checkpoint_in n) (placed part)
-checkpoints_from-push i n [] part is = let e : i ≡ n = omega arith in append-nil (map (checkpoint_in i) (placed part)) ∙ ap (λ i. map (checkpoint_in i) (placed part)) e
-checkpoints_from-push i n (p ∷ parts) part is =
-    ap (λ rest. map (checkpoint_in i) (placed p) ++ rest) (checkpoints_from-push (i + 1) n parts part (omega arith))
-    ∙ sym (append_assoc (map (checkpoint_in i) (placed p)) (checkpoints_from (i + 1) parts) (map (checkpoint_in n) (placed part)))
+marks_from-push : (i n : ℕ) (parts : List Part) (part : Part) (k : ℕ) → n ≡ i + length parts → marks_from i (parts ++ part ∷ []) k ≡ marks_from i parts k ++ map (mark_in n) (marked_segments k [] (placed part))
+marks_from-push i n [] part k is = let e : i ≡ n = omega arith in append-nil (map (mark_in i) (marked_segments k [] (placed part))) ∙ ap (λ i. map (mark_in i) (marked_segments k [] (placed part))) e
+marks_from-push i n (p ∷ parts) part k is =
+    let here = marked_segments k [] (placed p) in
+    ap (λ rest. map (mark_in i) here ++ rest) (marks_from-push (i + 1) n parts part k (omega arith))
+    ∙ sym (append_assoc (map (mark_in i) here) (marks_from (i + 1) parts k) (map (mark_in n) (marked_segments k [] (placed part))))
+
+-- the table is its start and one checkpoint for each of these marks
+abbrev pub IsFilled : List Part → List Mark → List Checkpoint → List Checkpoint → Type 0
+IsFilled parts marks start table = (added : List Checkpoint) × (table ≡ start ++ added) × AllZip (IsCheckpointOf parts) marks added
 
 All-push : (P : Part → Type 0) (parts : List Part) (part : Part) → AllByRecursion P parts → P part → AllByRecursion P (parts ++ part ∷ [])
 All-push P [] part all here = (here, tt)
@@ -47,11 +54,26 @@ module _ (parts : List Part) (i : ℕ) (part : Part) (within : i < length parts)
   pub bytes_next : bytes_in (take (i + 1) parts) ≡ bytes_in (take i parts) + length part.text
   bytes_next = ap bytes_in taken ∙ bytes_in-push (take i parts) part
 
-  pub checkpoints_next : (start old new : List Checkpoint) → old ≡ start ++ checkpoints_from 0 (take i parts) → new ≡ old ++ map (checkpoint_in i) (placed part) → new ≡ start ++ checkpoints_from 0 (take (i + 1) parts)
-  checkpoints_next start old new so_far added =
-      added ∙ ap (λ front. front ++ map (checkpoint_in i) (placed part)) so_far
-      ∙ append_assoc start (checkpoints_from 0 (take i parts)) (map (checkpoint_in i) (placed part))
-      ∙ ap (λ list. start ++ list) (sym (ap (checkpoints_from 0) taken ∙ checkpoints_from-push 0 i (take i parts) part (omega (arith, length-take-le i parts (omega arith)))))
+  part_at : slice_get parts i ≡ Some part
+  part_at = slice_get-get_or parts i part within ∙ ap Some (sym is)
+
+  -- the checkpoints of marked segments of the part are those of its marks
+  marks_of_part : (segments : List ℕ) (added : List Checkpoint) → AllZip (IsCheckpointIn part i) segments added → AllZip (IsCheckpointOf parts) (map (mark_in i) segments) added
+  marks_of_part [] [] zip = tt
+  marks_of_part [] (c ∷ added) zip = absurd zip
+  marks_of_part (segment ∷ segments) [] zip = absurd zip
+  marks_of_part (segment ∷ segments) (c ∷ added) zip = (record { part = part; part_is = part_at; inside = zip.0 }, marks_of_part segments added zip.1)
+
+  pub marks_next : (k : ℕ) (start old new : List Checkpoint) → IsFilled parts (marks (take i parts) k) start old → IsMarked part i k (placed part) old new → IsFilled parts (marks (take (i + 1) parts) k) start new
+  marks_next k start old new (front, front_is, front_zip) (added, added_is, added_zip) =
+      let segments = marked_segments k [] (placed part) in
+      let IsHere : List Mark → List Checkpoint → Type 0 = AllZip (IsCheckpointOf parts) in
+      let longer : marks (take (i + 1) parts) k ≡ marks (take i parts) k ++ map (mark_in i) segments = ap (λ parts. marks parts k) taken ∙ marks_from-push 0 i (take i parts) part k (omega (arith, length-take-le i parts (omega arith))) in (
+        front ++ added,
+        added_is ∙ ap (λ list. list ++ added) front_is ∙ append_assoc start front added,
+        subst (λ marks. IsHere marks (front ++ added)) (sym longer)
+            (AllZip-append (IsCheckpointOf parts) (marks (take i parts) k) (map (mark_in i) segments) front added front_zip (marks_of_part segments added added_zip)),
+      )
 
   pub All_next : (P : Part → Type 0) → AllByRecursion P (take i parts) → P part → AllByRecursion P (take (i + 1) parts)
   All_next P all here = let Q : List Part → Type 0 = AllByRecursion P in subst Q (sym taken) (All-push P (take i parts) part all here)

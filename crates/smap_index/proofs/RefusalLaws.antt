@@ -1,15 +1,15 @@
 -- Which refusal the faults of some parts give.
-use Rattle.std.proofs.Common.{◌≡◌, ℕ, ◌+◌, ◌<◌, List, [], ◌∷◌, length, suc, zero, Bool, false, Option, Some, None, refl, ap, sym, ◌∙◌, arith, get_or, eqb, ⊎_elim}
+use Rattle.std.proofs.Common.{◌≡◌, ℕ, ◌+◌, ◌<◌, List, [], ◌∷◌, length, suc, zero, Bool, true, false, Option, Some, None, refl, ap, sym, ◌∙◌, arith, get_or, ⊎_elim}
 use Rattle.std.specs.Prelude.{option_map}
 use Rattle.std.specs.List.{list_any, position_from}
 use Rattle.std.specs.Option.{option_or}
-use Rattle.std.proofs.lemmas.Bool.{cases_Bool, cond-true, cond-false, eqb-true, eq-eqb, ne_eqb, or_parts, or_from}
+use Rattle.std.proofs.lemmas.Bool.{cases_Bool, cond-true, cond-false, or_parts, or_from}
 use Rattle.std.proofs.lemmas.List.Folds.{list_any-append}
 use Rattle.smap_index.specs.declared.part.Part.{Part}
 use Rattle.smap_index.specs.declared.refusal.BuildRefusal.{BuildRefusal}
 use Rattle.smap_index.specs.declared.refusal.BuildRefusal.TheVariants.{Interval, SectionOrder, SectionOverlap, PositionRange}
 use Rattle.smap_index.specs.Parts.{placed, joined}
-use Rattle.smap_index.specs.Faults.{is_part_past_limit, order_fault, overlap_fault, range_fault, part_fault, build_fault}
+use Rattle.smap_index.specs.Faults.{is_interval, is_part_past_limit, order_fault, overlap_fault, range_fault, part_fault, build_fault}
 use Rattle.smap_mappings.specs.Range.{is_mapping_past_limit}
 use Rattle.smap_index.proofs.FaultLaws.{none_from}
 
@@ -25,7 +25,7 @@ unmapped f (Some i) none = absurd (cc)
 
 -- what parts without a fault meet
 pub record IsFaultless (parts : List Part) (k : ℕ) : Type 0 where
-  pub interval : k ≡ 1
+  pub interval : is_interval k ≡ true
   pub order : order_fault parts ≡ None
   pub overlap : overlap_fault parts ≡ None
   pub range : range_fault parts ≡ None
@@ -35,11 +35,11 @@ unfolding build_fault part_fault
 faultless parts k none =
     ⊎_elim
     (λ one.
-    let order = neither SectionOrder (order_fault parts) _ (sym (cond-true (eqb k 1) (part_fault parts) (Some Interval) one) ∙ none) in
+    let order = neither SectionOrder (order_fault parts) _ (sym (cond-true (is_interval k) (part_fault parts) (Some Interval) one) ∙ none) in
     let overlap = neither SectionOverlap (overlap_fault parts) _ order.1 in
-    record { interval = eqb-true k 1 one; order = order.0; overlap = overlap.0; range = unmapped PositionRange (range_fault parts) overlap.1 })
-    (λ other. absurd (let e = cond-false (eqb k 1) (part_fault parts) (Some Interval) other in cc (e, none)))
-    (cases_Bool (eqb k 1))
+    record { interval = one; order = order.0; overlap = overlap.0; range = unmapped PositionRange (range_fault parts) overlap.1 })
+    (λ other. absurd (let e = cond-false (is_interval k) (part_fault parts) (Some Interval) other in cc (e, none)))
+    (cases_Bool (is_interval k))
 
 none_at : (test : Part → Bool) (i : ℕ) (parts : List Part) (k : ℕ) (part : Part) → position_from test i parts ≡ None → k < length parts → part ≡ get_or parts k part → test part ≡ false
 none_at test i [] k part none within is = absurd (omega arith)
@@ -63,22 +63,22 @@ joined_in_range parts none = none_joined 0 parts none
 
 -- ---- the first fault
 
-pub at_interval : (parts : List Part) (k : ℕ) → (k ≡ 1 → ⊥) → build_fault parts k ≡ Some Interval
+pub at_interval : (parts : List Part) (k : ℕ) → is_interval k ≡ false → build_fault parts k ≡ Some Interval
 unfolding build_fault
-at_interval parts k other = cond-false _ _ _ (ne_eqb k 1 other)
+at_interval parts k other = cond-false _ _ _ other
 
-module _ (parts : List Part) (k : ℕ) (one : k ≡ 1) where
-  at_one : build_fault parts k ≡ part_fault parts
+module _ (parts : List Part) (k : ℕ) (in_range : is_interval k ≡ true) where
+  of_parts : build_fault parts k ≡ part_fault parts
   unfolding build_fault
-  at_one = cond-true _ _ _ (eq-eqb k 1 one)
+  of_parts = cond-true _ _ _ in_range
 
   pub at_order : (i : ℕ) → order_fault parts ≡ Some i → build_fault parts k ≡ Some (SectionOrder i)
   unfolding part_fault
-  at_order i is = at_one ∙ ap (λ o. option_or (option_map SectionOrder o) (option_or (option_map SectionOverlap (overlap_fault parts)) (option_map PositionRange (range_fault parts)))) is
+  at_order i is = of_parts ∙ ap (λ o. option_or (option_map SectionOrder o) (option_or (option_map SectionOverlap (overlap_fault parts)) (option_map PositionRange (range_fault parts)))) is
 
   after_order : order_fault parts ≡ None → build_fault parts k ≡ option_or (option_map SectionOverlap (overlap_fault parts)) (option_map PositionRange (range_fault parts))
   unfolding part_fault
-  after_order none = at_one ∙ ap (λ o. option_or (option_map SectionOrder o) (option_or (option_map SectionOverlap (overlap_fault parts)) (option_map PositionRange (range_fault parts)))) none
+  after_order none = of_parts ∙ ap (λ o. option_or (option_map SectionOrder o) (option_or (option_map SectionOverlap (overlap_fault parts)) (option_map PositionRange (range_fault parts)))) none
 
   pub at_overlap : (i : ℕ) → order_fault parts ≡ None → overlap_fault parts ≡ Some i → build_fault parts k ≡ Some (SectionOverlap i)
   at_overlap i none is = after_order none ∙ ap (λ o. option_or (option_map SectionOverlap o) (option_map PositionRange (range_fault parts))) is

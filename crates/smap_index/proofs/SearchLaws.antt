@@ -38,7 +38,7 @@ module _ (line column : ℕ) where
 
   -- ---- the front
 
-  head_passes : (a : Mapping) (xs : List Mapping) (i : ℕ) (m : Mapping) → IsInOrder (a ∷ xs) → slice_get xs i ≡ Some m → is_not_after line column m ≡ true → is_not_after line column a ≡ true
+  pub head_passes : (a : Mapping) (xs : List Mapping) (i : ℕ) (m : Mapping) → IsInOrder (a ∷ xs) → slice_get xs i ≡ Some m → is_not_after line column m ≡ true → is_not_after line column a ≡ true
   head_passes a [] i m order there is = absurd (cc)
   head_passes a (b ∷ xs) zero m order there is = let e : b ≡ m = cc in passes_back a b order.0 (ap (is_not_after line column) e ∙ is)
   head_passes a (b ∷ xs) (suc i) m order there is = passes_back a b order.0 (head_passes b xs i m order.1 there is)

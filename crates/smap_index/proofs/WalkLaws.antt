@@ -1,9 +1,9 @@
 -- A walk through a text takes one mapping more at each step.
-use Rattle.std.proofs.Common.{◌≡◌, ℕ, ◌+◌, List, [], ◌∷◌, ◌++◌, ◌||◌, Bool, true, false, Option, Some, None, take, map, cond, suc, zero, length, refl, arith, sym, ap, subst, ◌∙◌, ⊎_elim}
+use Rattle.std.proofs.Common.{◌≡◌, ℕ, ◌+◌, List, [], ◌∷◌, ◌++◌, ◌||◌, Bool, true, false, Option, Some, None, take, cond, suc, zero, length, refl, arith, sym, ap, subst, ◌∙◌, ⊎_elim}
 use Rattle.std.specs.Prelude.{option_map}
 use Rattle.std.specs.List.{last_or, list_any, slice_get}
 use Rattle.std.proofs.lemmas.Bool.{or_parts, cases_Bool, cond-true, cond-false}
-use Rattle.std.proofs.lemmas.List.{append_assoc, map-append, length-map, take_all}
+use Rattle.std.proofs.lemmas.List.{append_assoc, length-map, take_all}
 use Rattle.std.proofs.lemmas.List.Folds.{list_any-append}
 use Rattle.std.proofs.lemmas.Option.{slice_get-map}
 use Rattle.smap_mappings.specs.Counts.{segments_of}
@@ -48,11 +48,19 @@ or_more false true c = refl
 or_more false false true = refl
 or_more false false false = refl
 
+-- a mapping that has its place is there
+pub same_place : (m there : Mapping) → cond (is_mapping_past_limit m) None (Some m) ≡ Some there → m ≡ there
+same_place m there is =
+    ⊎_elim
+    (λ past. absurd (let e = cond-true (is_mapping_past_limit m) None (Some m) past in cc (e, is)))
+    (λ within. let e = cond-false (is_mapping_past_limit m) None (Some m) within in cc (e, is))
+    (cases_Bool (is_mapping_past_limit m))
+
 module _ (part : Part) (j n : ℕ) (m : Mapping) (behind : Cursor) (next : IsNext part.text j m behind) (counted : n ≡ j + 1) where
   pub after_next : (state : Cursor) → behind ≡ state → IsAfter part.text n state
   after_next state is = subst (IsAfter part.text n) is (subst (λ n. IsAfter part.text n behind) (sym counted) next.behind)
 
-  placed_next : take n (placed part) ≡ take j (placed part) ++ placed_mapping part m ∷ []
+  pub placed_next : take n (placed part) ≡ take j (placed part) ++ placed_mapping part m ∷ []
   unfolding placed
   placed_next =
       ap (λ n. take n (placed part)) counted
@@ -63,12 +71,7 @@ module _ (part : Part) (j n : ℕ) (m : Mapping) (behind : Cursor) (next : IsNex
       is ∙ sym (last_or-push None (take j (mappings_of part.text)) m)
       ∙ ap (last_or None) (sym (take_next (mappings_of part.text) j m next.mapping_is) ∙ ap (λ n. take n (mappings_of part.text)) (sym counted))
 
-  -- the placed mappings so far and one more, under any function and any test
-  pub listed_next : {X : Type 0} (f : Mapping → X) (start old new : List X) → old ≡ start ++ map f (take j (placed part)) → new ≡ old ++ f (placed_mapping part m) ∷ [] → new ≡ start ++ map f (take n (placed part))
-  listed_next f start old new listed pushed =
-      pushed ∙ ap (λ front. front ++ f (placed_mapping part m) ∷ []) listed ∙ append_assoc start (map f (take j (placed part))) (f (placed_mapping part m) ∷ [])
-      ∙ ap (λ list. start ++ list) (sym (ap (map f) placed_next ∙ map-append f (take j (placed part)) (placed_mapping part m ∷ [])))
-
+  -- the placed mappings so far and one more, under any test
   pub any_next : (test : Mapping → Bool) (offset old new : Bool) → old ≡ (offset || list_any test (take j (placed part))) → new ≡ (old || test (placed_mapping part m)) → new ≡ (offset || list_any test (take n (placed part)))
   any_next test offset old new so_far is =
       is ∙ ap (λ b. b || test (placed_mapping part m)) so_far
@@ -76,11 +79,7 @@ module _ (part : Part) (j n : ℕ) (m : Mapping) (behind : Cursor) (next : IsNex
 
   pub pushed_next : (start old new : List Mapping) (there : Mapping) → old ≡ start ++ take j (placed part) → cond (is_mapping_past_limit (placed_mapping part m)) None (Some (placed_mapping part m)) ≡ Some there → new ≡ old ++ there ∷ [] → new ≡ start ++ take n (placed part)
   pushed_next start old new there listed is pushed =
-      let same : placed_mapping part m ≡ there =
-      ⊎_elim
-      (λ past. absurd (let e = cond-true (is_mapping_past_limit (placed_mapping part m)) None (Some (placed_mapping part m)) past in cc (e, is)))
-      (λ within. let e = cond-false (is_mapping_past_limit (placed_mapping part m)) None (Some (placed_mapping part m)) within in cc (e, is))
-      (cases_Bool (is_mapping_past_limit (placed_mapping part m))) in
+      let same = same_place (placed_mapping part m) there is in
       pushed ∙ ap (λ front. front ++ there ∷ []) listed ∙ append_assoc start (take j (placed part)) (there ∷ [])
       ∙ ap (λ list. start ++ list) (ap (λ m. take j (placed part) ++ m ∷ []) (sym same) ∙ sym placed_next)
 

@@ -2,7 +2,7 @@
 -- reaches past the next one's offset. This project's own are: that a mapping may stand at the next offset, the limit
 -- 2147483647 for all that is placed, the order of the refusals, and that one of them refuses all parts. The numbers
 -- of parts count from 0.
-use Rattle.std.specs.Prelude.{ℕ, List, [], ◌∷◌, Option, Some, Bool, ◌&&◌, ◌||◌, ◌==◌, nat_lt, if◌then◌else◌, option_map}
+use Rattle.std.specs.Prelude.{ℕ, List, [], ◌∷◌, Option, Some, Bool, ◌&&◌, ◌||◌, ◌==◌, nat_lt, nat_le, if◌then◌else◌, option_map}
 use Rattle.std.specs.List.{list_any, position_from}
 use Rattle.std.specs.Option.{option_or}
 use Rattle.smap_mappings.specs.declared.mapping.Mapping.{Mapping}
@@ -61,9 +61,13 @@ part_fault parts =
     (option_or (option_map SectionOverlap (overlap_fault parts))
     (option_map PositionRange (range_fault parts)))
 
--- the interval is one at which checkpoints may stand: for now it has to be 1
+-- the greatest interval at which checkpoints may stand
+abbrev pub most_interval : ℕ
+most_interval = 4096
+
+-- checkpoints may stand at this interval
 abbrev pub is_interval : ℕ → Bool
-is_interval k = k == 1
+is_interval k = nat_le 1 k && nat_le k most_interval
 
 -- the first refusal of these parts at the interval k, if there is one
 unfoldable pub build_fault : List Part → ℕ → Option BuildRefusal

@@ -2,6 +2,7 @@
 use Rattle.std.specs.Prelude.{◌≡◌, ℕ, ◌+◌, ◌%◌, List, [], ◌∷◌, ◌++◌, Some, ◌==◌, if◌then◌else◌, length, map, filter, slice_get}
 use Rattle.std.specs.List.{AllZip}
 use Rattle.smap_mappings.specs.Counts.{used_lines_of}
+use Rattle.smap_mappings.specs.State.{IsAfter}
 use Rattle.smap_mappings.specs.declared.mapping.Mapping.{Mapping}
 use Rattle.smap_index.specs.declared.part.Part.{Part}
 use Rattle.smap_index.specs.declared.table.Checkpoint.{Checkpoint}
@@ -36,13 +37,18 @@ marks_from i (part ∷ parts) k = map (mark_in i) (marked_segments k [] (placed 
 abbrev pub marks : List Part → ℕ → List Mark
 marks parts k = marks_from 0 parts k
 
--- the checkpoint is of this mark: it has the number of the mark's part, and its mapping is that of the mark's segment,
--- at its place
+-- the checkpoint is of this segment of the part that has this number: its mapping is the segment's, at its place, and
+-- its state is the one behind the segment
+pub record IsCheckpointIn (part : Part) (number segment : ℕ) (checkpoint : Checkpoint) : Type 0 where
+  pub number_is : checkpoint.part ≡ number
+  pub mapping_is : slice_get (placed part) segment ≡ Some checkpoint.mapping
+  pub state_is : IsAfter part.text (segment + 1) checkpoint.state
+
+-- the checkpoint is of this mark
 pub record IsCheckpointOf (parts : List Part) (mark : Mark) (checkpoint : Checkpoint) : Type 0 where
   pub part : Part
   pub part_is : slice_get parts mark.part ≡ Some part
-  pub number_is : checkpoint.part ≡ mark.part
-  pub mapping_is : slice_get (placed part) mark.segment ≡ Some checkpoint.mapping
+  pub inside : IsCheckpointIn part mark.part mark.segment checkpoint
 
 -- the table has, in order, one checkpoint for each mark and no other
 abbrev pub IsTableOf : List Part → ℕ → List Checkpoint → Type 0

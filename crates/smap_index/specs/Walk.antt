@@ -1,22 +1,23 @@
--- What a walk through the parts finds, and what it puts into a table at the interval 1. Only contracts of private
--- functions cite it.
-use Rattle.std.specs.Prelude.{ℕ, ◌+◌, List, [], ◌∷◌, ◌++◌, Option, Some, None, Bool, false, map}
+-- What a walk through the parts finds, and how it counts the segments of a line. Only contracts of private functions
+-- cite it.
+use Rattle.std.specs.Prelude.{ℕ, ◌+◌, Option, Some, None, Bool, false, ◌&&◌, ◌==◌, nat_lt, if◌then◌else◌}
 use Rattle.smap_mappings.specs.Mappings.{mappings_of}
 use Rattle.smap_mappings.specs.Order.{IsInOrder}
 use Rattle.smap_mappings.specs.declared.mapping.Mapping.{Mapping}
+use Rattle.smap_mappings.specs.declared.cursor.Cursor.{Cursor}
 use Rattle.smap_index.specs.declared.part.Part.{Part}
 use Rattle.smap_index.specs.declared.table.Checkpoint.{Checkpoint}
-use Rattle.smap_index.specs.Parts.{placed}
 use Rattle.smap_index.specs.Faults.{is_overlapping}
 
--- the checkpoint of a mapping, at its place, of the part of this number
-abbrev pub checkpoint_in : ℕ → Mapping → Checkpoint
-checkpoint_in part mapping = record { part = part; mapping = mapping }
+-- the checkpoint of a mapping of the part that has this number, with the state behind its segment
+abbrev pub checkpoint_at : ℕ → Mapping → Cursor → Checkpoint
+checkpoint_at part mapping state = record { part = part; mapping = mapping; state = state }
 
--- the checkpoints of all segments of these parts, the first of which has this number
-abbrev pub checkpoints_from : ℕ → List Part → List Checkpoint
-checkpoints_from i [] = []
-checkpoints_from i (part ∷ parts) = map (checkpoint_in i) (placed part) ++ checkpoints_from (i + 1) parts
+-- the number of a mapping on its line, counted from 0 anew at each checkpoint of the line, where this mapping with this
+-- number stands before it
+abbrev pub number_behind : ℕ → Option Mapping → ℕ → Mapping → ℕ
+number_behind k None number mapping = 0
+number_behind k (Some last) number mapping = if last.line == mapping.line && nat_lt (number + 1) k then number + 1 else 0
 
 -- the mappings of the part's text are in order
 abbrev pub IsTextInOrder : Part → Type 0

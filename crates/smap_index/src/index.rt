@@ -18,13 +18,15 @@ ghost use Rattle.smap_index.specs.Answer.{answer_at_or_before};
 use crate::answer::{Answer, answer_of};
 use crate::decode::decode_part;
 use crate::encode::{length_of_parts, write_parts};
+use crate::interval::is_interval;
 use crate::mark::mark_parts;
 use crate::order::first_out_of_order;
 use crate::part::Part;
 use crate::refusal::{BuildRefusal, EncodeAllRefusal};
-use crate::search::last_not_after;
+use crate::resume::last_behind;
+use crate::search::last_checkpoint;
 use crate::table::Table;
-use crate::totals::totals_of;
+use crate::totals::{most_checkpoints, totals_of};
 use smap_mappings::laws::lists_in_order_have_no_fault;
 use smap_mappings::{Mapping, Meter};
 use std::alloc::{AllocError, Global};
@@ -66,7 +68,7 @@ impl Index {
             build_fault parts.items k ≡ Some refusal → result ≡ Err refusal }
         ensures memory { build_fault parts.items k ≡ None → IsOkUnless result BuildRefusal.Memory }
     {
-        if k != 1 {
+        if !is_interval(k) {
             return Err(BuildRefusal::Interval);
         }
         if let Some(i) = first_out_of_order(&parts) {
@@ -74,8 +76,8 @@ impl Index {
         }
         let totals = totals_of(&parts);
         let mut table = Table::new(alloc);
-        let has_room = table.reserve(totals.segments as usize).is_ok();
-        let walk = mark_parts(alloc, &parts, has_room, &mut table);
+        let has_room = table.reserve(most_checkpoints(&totals, k)).is_ok();
+        let walk = mark_parts(alloc, &parts, k, has_room, &mut table);
         if let Some(i) = walk.overlap {
             return Err(BuildRefusal::SectionOverlap(i));
         }
@@ -107,8 +109,11 @@ impl Index {
         ensures onward { (meter.old.comparisons ≤ meter.new.comparisons)
             × (meter.old.segments ≤ meter.new.segments) }
     {
-        match last_not_after(&self.table, line, column, meter) {
-            Some(mapping) if mapping.line == line => answer_of(&mapping),
+        match last_checkpoint(&self.table, line, column, meter) {
+            Some(checkpoint) if checkpoint.mapping.line == line => {
+                let part = &self.parts[checkpoint.part as usize];
+                answer_of(&last_behind(part, &checkpoint, self.k - 1, line, column, meter))
+            }
             _ => Answer::Nothing,
         }
     }
@@ -177,4 +182,20 @@ impl Index {
             Err(_) => Err(EncodeAllRefusal::Memory),
         }
     }
+}
+
+// A further field would not compile.
+#[test]
+fn an_index_has_these_fields_alone(rt: HostRuntime) -> Result<(), std::test::Fail> {
+    let index = Index::build(rt.alloc(), Vec::new(rt.alloc()), 2)?;
+    let Index {
+        parts,
+        table,
+        k,
+        segments,
+        used_lines,
+    } = &index;
+    assert!(&rt; parts.is_empty() && table.len() == 0);
+    assert!(&rt; *k == 2 && *segments == 0 && *used_lines == 0);
+    Ok(())
 }

@@ -2,7 +2,7 @@
 //! look-ups from them. Lines and columns count from 0, columns in UTF-16 code units.
 //!
 //! ```text
-//! let index = Index::build(alloc, parts, 1)?;
+//! let index = Index::build(alloc, parts, 64)?;
 //! match index.look_up(line, column, &mut meter) {
 //!     Answer::Found { column, origin } => ..,
 //!     Answer::Unmapped { column } => ..,
@@ -15,17 +15,20 @@ mod answer;
 mod decode;
 mod encode;
 mod index;
+mod interval;
 pub mod laws;
 mod mark;
 mod order;
 mod part;
 mod place;
 mod refusal;
+mod resume;
 mod search;
 mod table;
 mod totals;
 
 pub use answer::Answer;
 pub use index::Index;
+pub use interval::MOST_INTERVAL;
 pub use part::Part;
 pub use refusal::{BuildRefusal, EncodeAllRefusal};

@@ -4,7 +4,7 @@
 /// the least of its kind.
 #[derive(Clone, Copy, Debug, PartialEq, Eq)]
 pub enum BuildRefusal {
-    /// B1: the interval is not 1, which is the only one so far.
+    /// B1: the interval is not 1 to 4096.
     Interval,
     /// B2: the offset of this part stands before that of the part before it.
     SectionOrder(u64),

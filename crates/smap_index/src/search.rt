@@ -3,17 +3,22 @@
 ghost use Rattle.std.specs.Prelude.{◌≡◌, ℕ, ◌+◌, ◌^◌, ◌<◌, ◌≤◌, length};
 ghost use Rattle.smap_mappings.specs.Meter.{HasRoom};
 ghost use Rattle.smap_mappings.specs.Order.{IsInOrder};
-ghost use Rattle.smap_index.specs.Search.{mappings_at, is_not_after, last_not_after};
+ghost use Rattle.smap_index.specs.Search.{mappings_at, is_not_after, last_checkpoint};
 
-use crate::table::Table;
+use crate::table::{Checkpoint, Table};
 use smap_mappings::{Mapping, Meter};
 
-// The last mapping of the table that stands at the position or before it, if there is one. The search halves, so
-// that it reads at most b of fewer than 2 ^ b checkpoints.
-pub fn last_not_after(table: &Table, line: u32, column: u32, meter: &mut Meter) -> Option<Mapping>
+// The last checkpoint of the table whose mapping stands at the position or before it, if there is one. The search
+// halves, so that it reads at most b of fewer than 2 ^ b checkpoints.
+pub fn last_checkpoint(
+    table: &Table,
+    line: u32,
+    column: u32,
+    meter: &mut Meter,
+) -> Option<Checkpoint>
     requires ordered { IsInOrder (mappings_at table.now) }
     requires room { HasRoom meter.old }
-    ensures last { result ≡ last_not_after line column (mappings_at table.now) }
+    ensures last { result ≡ last_checkpoint line column table.now }
     ensures onward { meter.old.comparisons ≤ meter.new.comparisons }
     ensures few { (b : ℕ) → length table.now < 2 ^ b → meter.new.comparisons ≤ meter.old.comparisons + b }
     ensures none_decoded { meter.new.segments ≡ meter.old.segments }
@@ -25,7 +30,7 @@ pub fn last_not_after(table: &Table, line: u32, column: u32, meter: &mut Meter) 
         let middle = low + (high - low) / 2;
         let checkpoint = table.at(middle, meter);
         if is_not_after(&checkpoint.mapping, line, column) {
-            best = Some(checkpoint.mapping);
+            best = Some(checkpoint);
             low = middle + 1;
         } else {
             high = middle;
@@ -35,7 +40,7 @@ pub fn last_not_after(table: &Table, line: u32, column: u32, meter: &mut Meter) 
 }
 
 // Whether the mapping stands at the position or before it.
-fn is_not_after(mapping: &Mapping, line: u32, column: u32) -> bool
+pub fn is_not_after(mapping: &Mapping, line: u32, column: u32) -> bool
     ensures { result ≡ is_not_after line column mapping.now }
 {
     mapping.line < line || (mapping.line == line && mapping.column <= column)

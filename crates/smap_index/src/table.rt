@@ -2,15 +2,17 @@
 
 ghost use Rattle.std.specs.Prelude.{◌≡◌, ◌+◌, ◌<◌, [], ◌∷◌, ◌++◌, Some, length, slice_get, IfOk};
 
-use smap_mappings::{Mapping, Meter};
+use smap_mappings::{Mapping, Meter, State};
 use std::alloc::{AllocError, Global};
 use std::marker::Model;
 
-// A mapping from which a look-up can begin, at its place in the joined list, and the number of its part, from 0.
+// A segment from which a look-up can begin: the number of its part, from 0, its mapping at its place in the joined
+// list, and the state behind it in the part's text.
 #[derive(Clone, Copy)]
 pub struct Checkpoint {
     pub part: u32,
     pub mapping: Mapping,
+    pub state: State,
 }
 
 // The checkpoints of an index, in order. One is read only by a call that counts it.
@@ -70,4 +72,12 @@ impl Table {
         meter.count_comparison();
         self.checkpoints[i]
     }
+}
+
+// A further field would not compile.
+#[test]
+fn a_table_has_its_checkpoints_alone(rt: HostRuntime) {
+    let table = Table::new(rt.alloc());
+    let Table { checkpoints } = &table;
+    assert!(&rt; checkpoints.is_empty());
 }

@@ -1,7 +1,8 @@
 //! What the texts of all parts hold together.
 
-ghost use Rattle.std.specs.Prelude.{◌≡◌, ◌+◌, ◌*◌, ◌≤◌, length};
+ghost use Rattle.std.specs.Prelude.{◌≡◌, ◌+◌, ◌*◌, ◌/◌, ◌≤◌, min, true, length};
 ghost use Rattle.smap_index.specs.Parts.{joined, most_parts, bytes_in};
+ghost use Rattle.smap_index.specs.Faults.{is_interval};
 ghost use Rattle.smap_index.specs.Marks.{used_lines_in};
 
 use crate::part::Part;
@@ -31,4 +32,15 @@ pub fn totals_of(parts: &[Part]) -> Totals
         totals.used_lines += part.text.used_lines();
     }
     totals
+}
+
+// For how many checkpoints to make room: no more than there are segments, and no more than one a line and one for each
+// `k` segments.
+pub fn most_checkpoints(totals: &Totals, k: u32) -> usize
+    requires interval { is_interval k ≡ true }
+    ensures { let segments = totals.now.segments in
+        result ≡ min (segments / k + totals.now.used_lines) segments }
+{
+    let most = (totals.segments / k as u64).saturating_add(totals.used_lines);
+    most.min(totals.segments) as usize
 }

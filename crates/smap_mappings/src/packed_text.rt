@@ -175,3 +175,16 @@ fn next_segment(bytes: &[u8], cursor: &Cursor) -> Option<(Mapping, Cursor)>
     }
     Some(checked_step(bytes, &at))
 }
+
+// A further field would not compile.
+#[test]
+fn a_text_has_these_fields_alone(rt: HostRuntime) -> Result<(), std::test::Fail> {
+    let packed = PackedText::check(String::from_str(rt.alloc(), "AAAA")?, 1, 0)?;
+    let PackedText {
+        text,
+        segments,
+        used_lines,
+    } = &packed;
+    assert!(&rt; text.as_str() == "AAAA" && *segments == 1 && *used_lines == 1);
+    Ok(())
+}

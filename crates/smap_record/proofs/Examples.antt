@@ -191,13 +191,17 @@ faulty_mappings : refusals_of (codes "{\"version\":3,\"sources\":[\"a.js\"],\"ma
 unfolding record_on_literals
 faulty_mappings = refl
 
-other_interval : record_of (codes "{\"version\":3,\"sources\":[\"a.ts\"],\"mappings\":\"AAAA,CAAC\"}") None 2 ≡ Err (refusals.Build Interval)
+no_interval : record_of (codes "{\"version\":3,\"sources\":[\"a.ts\"],\"mappings\":\"AAAA,CAAC\"}") None 0 ≡ Err (refusals.Build Interval)
 unfolding record_on_literals
-other_interval = refl
+no_interval = refl
 
-other_interval_comes_last : record_of (codes "{\"version\":3,\"sources\":[],\"mappings\":7}") None 2 ≡ Err refusals.Mappings
+too_great_interval : record_of (codes "{\"version\":3,\"sources\":[\"a.ts\"],\"mappings\":\"AAAA,CAAC\"}") None 4097 ≡ Err (refusals.Build Interval)
 unfolding record_on_literals
-other_interval_comes_last = refl
+too_great_interval = refl
+
+interval_comes_last : record_of (codes "{\"version\":3,\"sources\":[],\"mappings\":7}") None 4097 ≡ Err refusals.Mappings
+unfolding record_on_literals
+interval_comes_last = refl
 
 -- ---- look-ups
 

@@ -54,9 +54,9 @@ impl Model for MapFile {
 
 impl MapFile {
     /// Reads the bytes of a map file (ECMA-426, Source map format) that stands at this URL. Its index has a checkpoint
-    /// at the segments of number 0, `k`, 2`k` and so on of each line of a section; any `k` but 1 is refused so far,
-    /// before the sources get their names. `Url` comes after all other refusals. After a
-    /// refusal nothing is kept.
+    /// at the segments of number 0, `k`, 2`k` and so on of each line of a section; `k` is 1 to 4096, and any other is
+    /// refused before the sources get their names. `Url` comes after all other refusals. After a refusal nothing is
+    /// kept.
     pub fn read(
         alloc: Global,
         bytes: &[u8],
@@ -203,4 +203,20 @@ impl MapFile {
         let bytes = write_owned(alloc, &self.sources, &self.names, self.file(), mappings)?;
         Ok(bytes)
     }
+}
+
+// A further field would not compile.
+#[test]
+fn a_map_has_these_fields_alone(rt: HostRuntime) -> Result<(), std::test::Fail> {
+    let map = MapFile::read(rt.alloc(), br#"{"version":3,"sections":[]}"#, None, 2)?;
+    let MapFile {
+        index,
+        sources,
+        names,
+        file,
+        sections,
+    } = &map;
+    assert!(&rt; sources.is_empty() && names.is_empty() && file.is_none());
+    assert!(&rt; index.checkpoints() == 0 && *sections == 0);
+    Ok(())
 }

@@ -1,6 +1,6 @@
 //! `compose` over maps in memory.
-use crate::composing::{INNER, OUTER, ROWS, THREE};
-use crate::rows::{assert_same, halves};
+use crate::composing::{INNER, OUTER, ROWS, THREES};
+use crate::rows::{assert_same, halves, rows_of};
 use crate::running::{ALL_SOUND, Device, Devices, SOUND, run_compose, run_compose_at};
 use crate::vectors::composed_maps::COMPOSED_MAPS;
 use smap_record::Url;
@@ -27,7 +27,7 @@ fn composed_maps_are_written_or_refused(rt: HostRuntime) -> Result<(), Fail> {
 
 #[test]
 fn real_maps_compose_as_by_others(rt: HostRuntime) -> Result<(), Fail> {
-    for row in COMPOSED_MAPS.trim().lines() {
+    for row in rows_of(&rt, COMPOSED_MAPS, 9).lines() {
         let (outer, rest) = halves(row);
         let (source, rest) = halves(rest);
         let (inner, written) = halves(rest);
@@ -36,30 +36,6 @@ fn real_maps_compose_as_by_others(rt: HostRuntime) -> Result<(), Fail> {
     }
     Ok(())
 }
-
-// Three maps, the source of the first that the second is of, the source of the second that the third is of, how many
-// sources the first has, and what they all compose to.
-const THREES: &[(&str, u32, &str, u32, &str, u32, &str)] = &[
-    (
-        OUTER,
-        0,
-        INNER,
-        0,
-        r#"{"version":3,"sources":["t.ts"],"mappings":"AAAA;CAAC"}"#,
-        1,
-        r#"{"mappings":"AEAA,KAAC","names":[],"sources":["mid.js","a.ts","t.ts"],"version":3}"#,
-    ),
-    // The second source of each, and a name of the second map.
-    (
-        THREE,
-        1,
-        r#"{"version":3,"sources":["p.ts","q.ts"],"names":["n"],"mappings":"ACAAA"}"#,
-        1,
-        r#"{"version":3,"sources":["r.ts"],"mappings":"AAEC"}"#,
-        3,
-        r#"{"file":"o.js","mappings":"AAAA,CKECA,CHFD","names":["n"],"sources":["x.js","y.js","z.js","p.ts","q.ts","r.ts"],"version":3}"#,
-    ),
-];
 
 // The map that was written, of all that `compose` left.
 fn written(left: &str) -> &str {

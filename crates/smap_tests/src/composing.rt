@@ -1,6 +1,8 @@
 //! Two maps composed: what is written, and why they are refused.
-use crate::rows::assert_same;
+use crate::intervals::INTERVALS;
+use crate::rows::{assert_same, halves};
 use crate::shown::held_text;
+use crate::vectors::composed_maps::COMPOSED_MAPS;
 use smap_compose::{ComposeRefusal, Composed, compose};
 use smap_record::{MapFile, MapRefusal};
 use std::alloc::{AllocError, Global};
@@ -106,8 +108,32 @@ pub const ROWS: &[(&str, u32, &str, &str)] = &[
     (FAR, 0, INNER, "TooLarge"),
 ];
 
-fn map_of(alloc: Global, text: &str) -> Result<MapFile, MapRefusal> {
-    MapFile::read(alloc, text.as_bytes(), None, 1)
+/// Three maps, the source of the first that the second is of, the source of the second that the third is of, how many
+/// sources the first has, and what they all compose to.
+pub const THREES: &[(&str, u32, &str, u32, &str, u32, &str)] = &[
+    (
+        OUTER,
+        0,
+        INNER,
+        0,
+        r#"{"version":3,"sources":["t.ts"],"mappings":"AAAA;CAAC"}"#,
+        1,
+        r#"{"mappings":"AEAA,KAAC","names":[],"sources":["mid.js","a.ts","t.ts"],"version":3}"#,
+    ),
+    // The second source of each, and a name of the second map.
+    (
+        THREE,
+        1,
+        r#"{"version":3,"sources":["p.ts","q.ts"],"names":["n"],"mappings":"ACAAA"}"#,
+        1,
+        r#"{"version":3,"sources":["r.ts"],"mappings":"AAEC"}"#,
+        3,
+        r#"{"file":"o.js","mappings":"AAAA,CKECA,CHFD","names":["n"],"sources":["x.js","y.js","z.js","p.ts","q.ts","r.ts"],"version":3}"#,
+    ),
+];
+
+fn map_of(alloc: Global, text: &str, interval: u32) -> Result<MapFile, MapRefusal> {
+    MapFile::read(alloc, text.as_bytes(), None, interval)
 }
 
 // What is written of a composed map, or why there is none.
@@ -121,28 +147,68 @@ fn text_of(
     }
 }
 
-// What two maps compose to.
-fn composed_text(alloc: Global, outer: &str, source: u32, inner: &str) -> Result<String, Fail> {
-    let outer = map_of(alloc, outer)?;
-    let inner = map_of(alloc, inner)?;
+// What two maps compose to that are read at this interval.
+fn composed_text(
+    alloc: Global,
+    outer: &str,
+    source: u32,
+    inner: &str,
+    interval: u32,
+) -> Result<String, Fail> {
+    let outer = map_of(alloc, outer, interval)?;
+    let inner = map_of(alloc, inner, interval)?;
     Ok(text_of(alloc, &compose(alloc, &outer, source, &inner))?)
 }
 
 #[test]
 fn maps_are_composed_or_refused(rt: HostRuntime) -> Result<(), Fail> {
     for (outer, source, inner, wanted) in ROWS {
-        let text = composed_text(rt.alloc(), outer, *source, inner)?;
-        assert_same(&rt, inner, &text, wanted);
+        for interval in INTERVALS {
+            let text = composed_text(rt.alloc(), outer, *source, inner, *interval)?;
+            assert_same(&rt, inner, &text, wanted);
+        }
+    }
+    Ok(())
+}
+
+#[test]
+fn real_maps_compose_at_each_interval(rt: HostRuntime) -> Result<(), Fail> {
+    for row in COMPOSED_MAPS.trim().lines() {
+        let (outer, rest) = halves(row);
+        let (source, rest) = halves(rest);
+        let (inner, wanted) = halves(rest);
+        for interval in INTERVALS {
+            let text = composed_text(rt.alloc(), outer, source.parse()?, inner, *interval)?;
+            assert_same(&rt, inner, &text, wanted);
+        }
+    }
+    Ok(())
+}
+
+#[test]
+fn three_maps_compose_at_each_interval(rt: HostRuntime) -> Result<(), Fail> {
+    for (first, source, second, behind, third, sources, wanted) in THREES {
+        let place = sources.saturating_add(*behind);
+        for interval in INTERVALS {
+            let first_two = composed_text(rt.alloc(), first, *source, second, *interval)?;
+            let last_two = composed_text(rt.alloc(), second, *behind, third, *interval)?;
+            let one = composed_text(rt.alloc(), &first_two, place, third, *interval)?;
+            let other = composed_text(rt.alloc(), first, *source, &last_two, *interval)?;
+            assert_same(&rt, "the first two first", &one, wanted);
+            assert_same(&rt, "the last two first", &other, wanted);
+        }
     }
     Ok(())
 }
 
 #[test]
 fn mappings_are_the_followed_ones(rt: HostRuntime) -> Result<(), Fail> {
-    let outer = map_of(rt.alloc(), OUTER)?;
-    let inner = map_of(rt.alloc(), INNER)?;
-    let composed = compose(rt.alloc(), &outer, 0, &inner)?;
-    let text = held_text(rt.alloc(), 2, 1, composed.mappings())?;
-    assert_same(&rt, OUTER, &text, "2|1|0,0,1,0,0 0,5,1,1,4");
+    for interval in INTERVALS {
+        let outer = map_of(rt.alloc(), OUTER, *interval)?;
+        let inner = map_of(rt.alloc(), INNER, *interval)?;
+        let composed = compose(rt.alloc(), &outer, 0, &inner)?;
+        let text = held_text(rt.alloc(), 2, 1, composed.mappings())?;
+        assert_same(&rt, OUTER, &text, "2|1|0,0,1,0,0 0,5,1,1,4");
+    }
     Ok(())
 }

@@ -1,8 +1,10 @@
 //! `rewrite` over devices that fail, and over a trace without end.
+use crate::commands;
+use crate::intervals::INTERVALS;
 use crate::rewriting::{APP, MAP, MOST_TAKEN, named, run_rewrite};
 use crate::rows::assert_same;
 use crate::running::{Device, Devices, SOUND, left_text};
-use smap_answers::{Command, run};
+use smap_answers::run;
 use smap_io::{FromStd, MemorySink};
 use std::alloc::{AllocError, Global};
 use std::io;
@@ -15,19 +17,23 @@ const REWRITTEN: &str =
     "0|    at f (https://ex.test/a.ts:1:2)\n    at f (https://ex.test/a.ts:1:2)\n|";
 
 // What is left of that trace of 76 bytes, which becomes one of 72, where one call of a stream fails.
-fn left_by(alloc: Global, devices: Devices) -> Result<String, AllocError> {
-    run_rewrite(alloc, APP, None, TWICE.as_bytes(), devices)
+fn left_by(alloc: Global, interval: u32, devices: Devices) -> Result<String, AllocError> {
+    run_rewrite(alloc, APP, None, TWICE.as_bytes(), interval, devices)
 }
 
 // The input gives ten bytes a call: eight times, and the ninth call finds the end. Nothing is written before it.
 #[test]
 fn each_read_may_fail(rt: HostRuntime) -> Result<(), Fail> {
-    for call in 1..=9 {
-        let left = left_by(rt.alloc(), Devices(Device(10, call), SOUND, SOUND))?;
-        assert_same(&rt, "a read", &left, "3||device: X1 Read\n");
+    for interval in INTERVALS {
+        for call in 1..=9 {
+            let devices = Devices(Device(10, call), SOUND, SOUND);
+            let left = left_by(rt.alloc(), *interval, devices)?;
+            assert_same(&rt, "a read", &left, "3||device: X1 Read\n");
+        }
+        let devices = Devices(Device(10, 10), SOUND, SOUND);
+        let left = left_by(rt.alloc(), *interval, devices)?;
+        assert_same(&rt, "no read", &left, REWRITTEN);
     }
-    let left = left_by(rt.alloc(), Devices(Device(10, 10), SOUND, SOUND))?;
-    assert_same(&rt, "no read", &left, REWRITTEN);
     Ok(())
 }
 
@@ -64,8 +70,11 @@ const UNWRITTEN: &[(u64, &str)] = &[
 #[test]
 fn each_write_may_fail(rt: HostRuntime) -> Result<(), Fail> {
     for (call, wanted) in UNWRITTEN {
-        let left = left_by(rt.alloc(), Devices(SOUND, Device(10, *call), SOUND))?;
-        assert_same(&rt, wanted, &left, wanted);
+        for interval in INTERVALS {
+            let devices = Devices(SOUND, Device(10, *call), SOUND);
+            let left = left_by(rt.alloc(), *interval, devices)?;
+            assert_same(&rt, wanted, &left, wanted);
+        }
     }
     Ok(())
 }
@@ -88,10 +97,13 @@ const UNTOLD: &[((u64, u64, u64), &str)] = &[
 fn an_error_stream_that_fails_changes_no_status(rt: HostRuntime) -> Result<(), Fail> {
     for ((read, write, tell), wanted) in UNTOLD {
         let devices = Devices(Device(10, *read), Device(10, *write), Device(10, *tell));
-        assert_same(&rt, wanted, &left_by(rt.alloc(), devices)?, wanted);
+        for interval in INTERVALS {
+            let left = left_by(rt.alloc(), *interval, devices)?;
+            assert_same(&rt, wanted, &left, wanted);
+        }
     }
     let devices = Devices(SOUND, SOUND, Device(10, 1));
-    let left = run_rewrite(rt.alloc(), &[("", "a.map", MAP)], None, b"", devices)?;
+    let left = run_rewrite(rt.alloc(), &[("", "a.map", MAP)], None, b"", 64, devices)?;
     assert_same(&rt, "a refused word", &left, "2||");
     Ok(())
 }
@@ -112,7 +124,7 @@ impl io::Read for Endless {
 fn a_trace_without_end_is_too_much(rt: HostRuntime) -> Result<(), Fail> {
     let alloc = rt.alloc();
     let (maps, files) = named(alloc, APP)?;
-    let command = Command::Rewrite { maps, base: None };
+    let command = commands::rewrite(maps, None, 64);
     let mut reader = Endless;
     let mut output = MemorySink::new(Vec::with_capacity(alloc, MOST_TAKEN)?, 1, 1);
     let mut errors = MemorySink::new(Vec::with_capacity(alloc, MOST_TAKEN)?, 1, 0);

@@ -1,5 +1,6 @@
 //! `check` and `lookup` over maps in memory.
-use crate::rows::{assert_same, caret_text, halves};
+use crate::intervals::INTERVALS;
+use crate::rows::{assert_same, caret_text, halves, rows_of};
 use crate::running::{ALL_SOUND, Device, Devices, SOUND, run_check, run_lookup, run_lookup_at};
 use crate::vectors::example_map::EXAMPLE_MAP;
 use crate::vectors::lookups::LOOKUPS;
@@ -9,24 +10,42 @@ use std::test::Fail;
 
 const APP: &str = r#"{"version":3,"sources":["a.ts"],"mappings":"AAAA,CAAC"}"#;
 
-// Maps, and what `check` leaves.
-const CHECKS: &[(&str, &str)] = &[
+// Maps, what `check` tells of each, and how many checkpoints each has at each of the intervals.
+const ACCEPTED: &[(&str, &str, &[u64])] = &[
     (
         APP,
-        "0|ok sections 1 sources 1 names 0 segments 2 lines 1 checkpoints 2\n|",
+        "sections 1 sources 1 names 0 segments 2 lines 1",
+        &[2, 1, 1, 1, 1],
     ),
     (
         ")]}'\n{\"version\":3,\"sources\":[\"a.ts\"],\"mappings\":\"AAAA,CAAC\"}",
-        "0|ok sections 1 sources 1 names 0 segments 2 lines 1 checkpoints 2\n|",
+        "sections 1 sources 1 names 0 segments 2 lines 1",
+        &[2, 1, 1, 1, 1],
     ),
     (
         r#"{"version":3,"sources":[],"mappings":""}"#,
-        "0|ok sections 1 sources 0 names 0 segments 0 lines 0 checkpoints 0\n|",
+        "sections 1 sources 0 names 0 segments 0 lines 0",
+        &[0, 0, 0, 0, 0],
     ),
     (
         r#"{"version":3,"sources":["a.ts",null,"b.ts"],"names":["f","g"],"mappings":"AAAA,CAAC;;ACAAA,CCAC,C"}"#,
-        "0|ok sections 1 sources 3 names 2 segments 5 lines 2 checkpoints 5\n|",
+        "sections 1 sources 3 names 2 segments 5 lines 2",
+        &[5, 3, 2, 2, 2],
     ),
+    (
+        r#"{"version":3,"sections":[{"offset":{"line":0,"column":0},"map":{"version":3,"sources":["a.js"],"mappings":"AAAA"}},{"offset":{"line":0,"column":10},"map":{"version":3,"sources":["b.js"],"mappings":"AAAA"}}]}"#,
+        "sections 2 sources 2 names 0 segments 2 lines 2",
+        &[2, 2, 2, 2, 2],
+    ),
+    (
+        r#"{"version":3,"sections":[]}"#,
+        "sections 0 sources 0 names 0 segments 0 lines 0",
+        &[0, 0, 0, 0, 0],
+    ),
+];
+
+// Maps, and why `check` refuses them.
+const REFUSED: &[(&str, &str)] = &[
     ("", "1||refused: m.map: M2 NotJson\n"),
     (r#"{"version":3,"#, "1||refused: m.map: M2 NotJson\n"),
     (")]}'", "1||refused: m.map: M2 NotJson\n"),
@@ -38,16 +57,8 @@ const CHECKS: &[(&str, &str)] = &[
     ("[]", "1||refused: m.map: M3 NotObject\n"),
     (r#"{"version":2}"#, "1||refused: m.map: M4 Version\n"),
     (
-        r#"{"version":3,"sections":[{"offset":{"line":0,"column":0},"map":{"version":3,"sources":["a.js"],"mappings":"AAAA"}},{"offset":{"line":0,"column":10},"map":{"version":3,"sources":["b.js"],"mappings":"AAAA"}}]}"#,
-        "0|ok sections 2 sources 2 names 0 segments 2 lines 2 checkpoints 2\n|",
-    ),
-    (
         r#"{"version":3,"sections":[{"offset":{"line":0,"column":0},"map":{"version":3,"sources":["a.js"],"mappings":"AAAA,WAAA"}},{"offset":{"line":0,"column":10},"map":{"version":3,"sources":["b.js"],"mappings":"AAAA"}}]}"#,
         "1||refused: m.map: M15 Build B3 SectionOverlap 1\n",
-    ),
-    (
-        r#"{"version":3,"sections":[]}"#,
-        "0|ok sections 0 sources 0 names 0 segments 0 lines 0 checkpoints 0\n|",
     ),
     (
         r#"{"version":3,"sections":[7]}"#,
@@ -300,10 +311,24 @@ const PLACES: &[(&str, u32, u32, &str)] = &[
 ];
 
 #[test]
-fn maps_are_counted_or_refused(rt: HostRuntime) -> Result<(), Fail> {
-    for (map, wanted) in CHECKS {
-        let left = run_check(rt.alloc(), "m.map", map.as_bytes(), ALL_SOUND)?;
-        assert_same(&rt, map, &left, wanted);
+fn maps_are_counted(rt: HostRuntime) -> Result<(), Fail> {
+    for (map, counts, checkpoints) in ACCEPTED {
+        for (interval, checkpoints) in INTERVALS.iter().zip(*checkpoints) {
+            let left = run_check(rt.alloc(), "m.map", map.as_bytes(), *interval, ALL_SOUND)?;
+            let wanted = format!(in rt.alloc(); "0|ok {counts} checkpoints {checkpoints}\n|")?;
+            assert_same(&rt, map, &left, &wanted);
+        }
+    }
+    Ok(())
+}
+
+#[test]
+fn maps_are_refused(rt: HostRuntime) -> Result<(), Fail> {
+    for (map, wanted) in REFUSED {
+        for interval in INTERVALS {
+            let left = run_check(rt.alloc(), "m.map", map.as_bytes(), *interval, ALL_SOUND)?;
+            assert_same(&rt, map, &left, wanted);
+        }
     }
     Ok(())
 }
@@ -311,8 +336,10 @@ fn maps_are_counted_or_refused(rt: HostRuntime) -> Result<(), Fail> {
 #[test]
 fn places_are_found(rt: HostRuntime) -> Result<(), Fail> {
     for (map, line, column, wanted) in PLACES {
-        let left = run_lookup(rt.alloc(), map, *line, *column, ALL_SOUND)?;
-        assert_same(&rt, map, &left, wanted);
+        for interval in INTERVALS {
+            let left = run_lookup(rt.alloc(), map, *line, *column, *interval, ALL_SOUND)?;
+            assert_same(&rt, map, &left, wanted);
+        }
     }
     Ok(())
 }
@@ -329,7 +356,7 @@ fn printed_text(alloc: Global, row: &str) -> Result<String, Fail> {
 
 // What `lookup` leaves for a row of the vectors, which has the line, the column and what is printed, and what it is to
 // leave.
-fn row_leaves(alloc: Global, row: &str) -> Result<(String, String), Fail> {
+fn row_leaves(alloc: Global, row: &str, interval: u32) -> Result<(String, String), Fail> {
     let (line, rest) = halves(row);
     let (column, printed) = halves(rest);
     let left = run_lookup(
@@ -337,6 +364,7 @@ fn row_leaves(alloc: Global, row: &str) -> Result<(String, String), Fail> {
         EXAMPLE_MAP,
         line.parse()?,
         column.parse()?,
+        interval,
         ALL_SOUND,
     )?;
     Ok((left, printed_text(alloc, printed)?))
@@ -344,9 +372,11 @@ fn row_leaves(alloc: Global, row: &str) -> Result<(String, String), Fail> {
 
 #[test]
 fn places_of_the_example_are_found(rt: HostRuntime) -> Result<(), Fail> {
-    for row in LOOKUPS.trim().lines() {
-        let (left, wanted) = row_leaves(rt.alloc(), row)?;
-        assert_same(&rt, row, &left, &wanted);
+    for row in rows_of(&rt, LOOKUPS, 63).lines() {
+        for interval in INTERVALS {
+            let (left, wanted) = row_leaves(rt.alloc(), row, *interval)?;
+            assert_same(&rt, row, &left, &wanted);
+        }
     }
     Ok(())
 }
@@ -378,7 +408,7 @@ const OTHER_FILES: &[(&str, u8, usize, &str)] = &[
 fn run_on_bytes(alloc: Global, path: &str, byte: u8, count: usize) -> Result<String, AllocError> {
     let mut bytes = Vec::new(alloc);
     bytes.resize(count, byte)?;
-    run_check(alloc, path, &bytes, ALL_SOUND)
+    run_check(alloc, path, &bytes, 64, ALL_SOUND)
 }
 
 #[test]
@@ -410,14 +440,12 @@ const FAILING: &[(u64, &str, &str)] = &[
 fn an_output_may_fail(rt: HostRuntime) -> Result<(), Fail> {
     for (fails_at, place, counts) in FAILING {
         let devices = Devices(SOUND, Device(7, *fails_at), SOUND);
-        assert_same(
-            &rt,
-            place,
-            &run_lookup(rt.alloc(), APP, 1, 6, devices)?,
-            place,
-        );
-        let left = run_check(rt.alloc(), "m.map", APP.as_bytes(), devices)?;
-        assert_same(&rt, counts, &left, counts);
+        for interval in INTERVALS {
+            let left = run_lookup(rt.alloc(), APP, 1, 6, *interval, devices)?;
+            assert_same(&rt, place, &left, place);
+            let left = run_check(rt.alloc(), "m.map", APP.as_bytes(), *interval, devices)?;
+            assert_same(&rt, counts, &left, counts);
+        }
     }
     Ok(())
 }
@@ -436,9 +464,11 @@ const BASES: &[(&str, &str)] = &[
 fn sources_are_resolved_against_the_base(rt: HostRuntime) -> Result<(), Fail> {
     let map = r#"{"version":3,"sourceRoot":"src","sources":["a.ts"],"mappings":"AAAA"}"#;
     for (base, wanted) in BASES {
-        let url = Url::parse(rt.alloc(), base)?;
-        let left = run_lookup_at(rt.alloc(), Some(url), map, 1, 1, ALL_SOUND)?;
-        assert_same(&rt, base, &left, wanted);
+        for interval in INTERVALS {
+            let url = Url::parse(rt.alloc(), base)?;
+            let left = run_lookup_at(rt.alloc(), Some(url), map, 1, 1, *interval, ALL_SOUND)?;
+            assert_same(&rt, base, &left, wanted);
+        }
     }
     Ok(())
 }

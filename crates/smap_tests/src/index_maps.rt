@@ -1,9 +1,13 @@
-//! Index maps: their sections joined, as other readers join them.
-use crate::rows::{assert_same, halves};
+//! Index maps: their sections joined, as other readers join them, and what answers at each position.
+use crate::intervals::{INTERVALS, assert_few};
+use crate::rows::{assert_same, halves, rows_of};
 use crate::shown::held_text;
 use crate::vectors::index_maps::INDEX_MAPS;
+use smap_index::Answer;
+use smap_mappings::{Mapping, Meter};
 use smap_record::MapFile;
 use std::alloc::{AllocError, Global};
+use std::process::Abort;
 use std::test::Fail;
 
 // No map of the table has so many sources, or so many names.
@@ -58,10 +62,93 @@ fn joined_text(alloc: Global, map: &MapFile) -> Result<String, AllocError> {
 
 #[test]
 fn sections_are_joined(rt: HostRuntime) -> Result<(), Fail> {
-    for row in INDEX_MAPS.trim().lines() {
+    for row in rows_of(&rt, INDEX_MAPS, 55).lines() {
         let (text, wanted) = halves(row);
-        let map = MapFile::read(rt.alloc(), text.as_bytes(), None, 1)?;
-        assert_same(&rt, text, &joined_text(rt.alloc(), &map)?, wanted);
+        for interval in INTERVALS {
+            let map = MapFile::read(rt.alloc(), text.as_bytes(), None, *interval)?;
+            assert_same(&rt, text, &joined_text(rt.alloc(), &map)?, wanted);
+        }
+    }
+    Ok(())
+}
+
+// Three sections. The second begins on the last line of the first, and the third on the last line of the second, at the
+// column of its last mapping.
+const INSIDE: &str =
+    r#"{"version":3,"sections":[{"offset":{"line":0,"column":2},"map":{"sources":["a.js"],"mappings":"AAAA,CAAC,CAAC,C;;AACA,CAAC,CAAC"}},{"offset":{"line":2,"column":4},"map":{"sources":["b.js"],"mappings":"C,CAAA,CAAC,CAAC;AACA,C"}},{"offset":{"line":3,"column":1},"map":{"sources":["c.js"],"mappings":"AAAA,AACA,CAAC,CAAC,CAAC,C;A"}}]}"#;
+
+// What that map holds, and how many checkpoints it has at each of the intervals.
+const INSIDE_HOLDS: &str =
+    "20|6|0,2,0,0,0 0,3,0,0,1 0,4,0,0,2 0,5 2,0,0,1,2 2,1,0,1,3 2,2,0,1,4 2,5 2,6,1,0,0 2,7,1,0,1 2,8,1,0,2 3,0,1,1,2 3,1 3,1,2,0,0 3,1,2,1,0 3,2,2,1,1 3,3,2,1,2 3,4,2,1,3 3,5 4,0|a.js,b.js,c.js|";
+
+const INSIDE_CHECKPOINTS: &[u64] = &[20, 11, 9, 6, 6];
+
+// What the last of these mappings answers that stands on the line and whose column is not after this one.
+fn answer_among(list: &[Mapping], line: u32, column: u32) -> Answer {
+    let mut answer = Answer::Nothing;
+    for mapping in list {
+        if mapping.line == line && mapping.column <= column {
+            let column = mapping.column;
+            answer = match mapping.origin {
+                Some(origin) => Answer::Found { column, origin },
+                None => Answer::Unmapped { column },
+            };
+        }
+    }
+    answer
+}
+
+// The greatest line and the greatest column of these mappings.
+fn greatest(list: &[Mapping]) -> (u32, u32) {
+    let (mut line, mut column) = (0, 0);
+    for mapping in list {
+        line = mapping.line.max(line);
+        column = mapping.column.max(column);
+    }
+    (line, column)
+}
+
+// Looks up each position up to one line and one column more than the map has. The list has its mappings.
+fn assert_answers(rt: &impl Abort, alloc: Global, map: &MapFile, list: &[Mapping], interval: u32) {
+    let (most_line, most_column) = greatest(list);
+    for line in 0..=most_line.saturating_add(1) {
+        for column in 0..=most_column.saturating_add(1) {
+            let mut meter = Meter::new(alloc);
+            let answer = map.look_up(line, column, &mut meter);
+            assert!(rt;
+                answer == answer_among(list, line, column),
+                "at {line} {column}"
+            );
+            assert_few(rt, &meter, map.checkpoints(), interval);
+        }
+    }
+}
+
+// Each position of a map is answered by its list of mappings at each interval. What the list holds is shown above.
+fn assert_all_answers(rt: &impl Abort, alloc: Global, text: &str) -> Result<(), Fail> {
+    for interval in INTERVALS {
+        let map = MapFile::read(alloc, text.as_bytes(), None, *interval)?;
+        let list = map.decode_all(alloc)?;
+        assert_answers(rt, alloc, &map, &list, *interval);
+    }
+    Ok(())
+}
+
+#[test]
+fn a_section_may_begin_inside_a_line(rt: HostRuntime) -> Result<(), Fail> {
+    for (interval, checkpoints) in INTERVALS.iter().zip(INSIDE_CHECKPOINTS) {
+        let map = MapFile::read(rt.alloc(), INSIDE.as_bytes(), None, *interval)?;
+        assert_same(&rt, INSIDE, &joined_text(rt.alloc(), &map)?, INSIDE_HOLDS);
+        assert!(&rt; map.checkpoints() == *checkpoints, "at {interval}");
+    }
+    assert_all_answers(&rt, rt.alloc(), INSIDE)
+}
+
+#[test]
+fn each_position_of_joined_sections_is_answered(rt: HostRuntime) -> Result<(), Fail> {
+    for row in INDEX_MAPS.trim().lines() {
+        let (text, _) = halves(row);
+        assert_all_answers(&rt, rt.alloc(), text)?;
     }
     Ok(())
 }

@@ -2,6 +2,8 @@
 #![tactic(auto)]
 
 #[cfg(test)]
+mod commands;
+#[cfg(test)]
 mod compose;
 #[cfg(test)]
 mod composing;
@@ -17,6 +19,8 @@ mod files;
 mod index_maps;
 #[cfg(test)]
 mod indexes;
+#[cfg(test)]
+mod intervals;
 #[cfg(test)]
 mod loading;
 #[cfg(test)]

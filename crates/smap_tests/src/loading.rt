@@ -1,4 +1,5 @@
 //! Loading the files that a command names.
+use crate::commands;
 use crate::rows::assert_same;
 use crate::shown::push_number;
 use smap_answers::{Command, load_files};
@@ -38,7 +39,7 @@ const PATHS: &[(&str, &str)] = &[
 fn files_are_loaded_or_named(rt: HostRuntime) -> Result<(), Fail> {
     for (path, wanted) in PATHS {
         let path = String::from_str(rt.alloc(), path)?;
-        let left = loaded(&rt, &Command::Check { path, base: None })?;
+        let left = loaded(&rt, &commands::check(path, None, 64))?;
         assert_same(&rt, wanted, &left, wanted);
     }
     Ok(())
@@ -46,7 +47,7 @@ fn files_are_loaded_or_named(rt: HostRuntime) -> Result<(), Fail> {
 
 #[test]
 fn raw_has_no_file(rt: HostRuntime) -> Result<(), Fail> {
-    let command = Command::Raw { line: 0, column: 0 };
+    let command = commands::raw(1, 1, 64);
     assert_same(&rt, "raw", &loaded(&rt, &command)?, "");
     Ok(())
 }

@@ -1,4 +1,5 @@
 //! Map files: what is read, and what the ones that no command can ask are refused for.
+use crate::intervals::INTERVALS;
 use crate::rows::assert_same;
 use crate::shown::held_text;
 use smap_record::{MapFile, SourceEntry};
@@ -54,13 +55,15 @@ fn entries(alloc: Global, map: &MapFile) -> Result<String, AllocError> {
 
 #[test]
 fn every_entry_has_its_place(rt: HostRuntime) -> Result<(), Fail> {
-    let map = MapFile::read(rt.alloc(), FULL.as_bytes(), None, 1)?;
-    assert_same(
-        &rt,
-        FULL,
-        &entries(rt.alloc(), &map)?,
-        "o.js | src/a.ts None false, none Some(\"x\") true, src/c.ts Some(\"y\") false, | fg------- | 2|2|0,0,0,0,0,1 1,0,1,2,3,0",
-    );
+    for interval in INTERVALS {
+        let map = MapFile::read(rt.alloc(), FULL.as_bytes(), None, *interval)?;
+        assert_same(
+            &rt,
+            FULL,
+            &entries(rt.alloc(), &map)?,
+            "o.js | src/a.ts None false, none Some(\"x\") true, src/c.ts Some(\"y\") false, | fg------- | 2|2|0,0,0,0,0,1 1,0,1,2,3,0",
+        );
+    }
     Ok(())
 }
 
@@ -74,7 +77,7 @@ fn refusal(alloc: Global, bytes: &[u8], interval: u32) -> Result<String, AllocEr
 
 #[test]
 fn other_intervals_are_refused(rt: HostRuntime) -> Result<(), Fail> {
-    for interval in [0, 2, 4_096, 4_097] {
+    for interval in [0, 4_097] {
         let refusal = refusal(rt.alloc(), EMPTY.as_bytes(), interval)?;
         assert_same(&rt, EMPTY, &refusal, "Build(Interval)");
     }
@@ -85,13 +88,12 @@ fn other_intervals_are_refused(rt: HostRuntime) -> Result<(), Fail> {
 fn the_largest_file_and_one_that_is_too_large(rt: HostRuntime) -> Result<(), Fail> {
     let mut bytes = EMPTY.as_bytes().to_vec(rt.alloc())?;
     bytes.resize(67_108_864, b' ')?;
-    assert_same(&rt, "most", &refusal(rt.alloc(), &bytes, 1)?, "accepted");
+    let most = refusal(rt.alloc(), &bytes, 64)?;
+    assert_same(&rt, "most", &most, "accepted");
     bytes.push(b' ')?;
-    assert_same(
-        &rt,
-        "one more",
-        &refusal(rt.alloc(), &bytes, 1)?,
-        "TooLarge",
-    );
+    for interval in INTERVALS {
+        let more = refusal(rt.alloc(), &bytes, *interval)?;
+        assert_same(&rt, "one more", &more, "TooLarge");
+    }
     Ok(())
 }

@@ -1,7 +1,8 @@
 //! Stack traces that node printed, rewritten as other readers of maps have them.
+use crate::intervals::INTERVALS;
 use crate::rewriting::{MOST_TAKEN, Word, run_rewrite};
-use crate::rows::{assert_same, halves};
-use crate::running::{Device, Devices, SOUND};
+use crate::rows::{assert_same, halves, rows_of};
+use crate::running::{ALL_SOUND, Device, Devices, SOUND};
 use crate::vectors::traces::{TRACE_MAPS, TRACES};
 use smap_io::{MemorySink, MemorySource};
 use smap_record::{MapFile, Url};
@@ -54,11 +55,17 @@ fn texts(alloc: Global, row: &str) -> Result<(String, String), AllocError> {
 #[test]
 fn traces_of_node_are_rewritten(rt: HostRuntime) -> Result<(), Fail> {
     let words = words(rt.alloc())?;
-    for row in TRACES.trim().lines() {
+    assert!(&rt; words.len() == 6);
+    for row in rows_of(&rt, TRACES, 7).lines() {
         let (counts, row) = halves(row);
         let (trace, wanted) = texts(rt.alloc(), row)?;
         for devices in PIECES {
-            let left = run_rewrite(rt.alloc(), &words, None, trace.as_bytes(), *devices)?;
+            let left = run_rewrite(rt.alloc(), &words, None, trace.as_bytes(), 64, *devices)?;
+            assert_same(&rt, counts, &left, &wanted);
+        }
+        for interval in INTERVALS {
+            let bytes = trace.as_bytes();
+            let left = run_rewrite(rt.alloc(), &words, None, bytes, *interval, ALL_SOUND)?;
             assert_same(&rt, counts, &left, &wanted);
         }
     }
@@ -66,11 +73,11 @@ fn traces_of_node_are_rewritten(rt: HostRuntime) -> Result<(), Fail> {
 }
 
 // The table of all maps, each of which stands at its URL, where that is one.
-fn table_of(alloc: Global, words: &[Word]) -> Result<Table, Fail> {
+fn table_of(alloc: Global, words: &[Word], interval: u32) -> Result<Table, Fail> {
     let mut table = Table::new(alloc);
     for (url, _, map) in words {
         let base = Url::parse(alloc, url).ok();
-        let map = MapFile::read(alloc, map.as_bytes(), base.as_ref(), 1)?;
+        let map = MapFile::read(alloc, map.as_bytes(), base.as_ref(), interval)?;
         if let Err((refusal, _, _)) = table.add(String::from_str(alloc, url)?, map) {
             return Err(Fail::from(refusal));
         }
@@ -94,10 +101,13 @@ fn counts_text(alloc: Global, table: &Table, row: &str) -> Result<String, Fail> 
 
 #[test]
 fn lines_and_frames_of_traces_are_counted(rt: HostRuntime) -> Result<(), Fail> {
-    let table = table_of(rt.alloc(), &words(rt.alloc())?)?;
-    for row in TRACES.trim().lines() {
-        let (wanted, row) = halves(row);
-        assert_same(&rt, row, &counts_text(rt.alloc(), &table, row)?, wanted);
+    let words = words(rt.alloc())?;
+    for interval in INTERVALS {
+        let table = table_of(rt.alloc(), &words, *interval)?;
+        for row in TRACES.trim().lines() {
+            let (wanted, row) = halves(row);
+            assert_same(&rt, row, &counts_text(rt.alloc(), &table, row)?, wanted);
+        }
     }
     Ok(())
 }

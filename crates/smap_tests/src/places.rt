@@ -1,5 +1,5 @@
 //! Lines of texts, UTF-16 places in them, and excerpts, as node has them.
-use crate::rows::{assert_same, caret_text, halves};
+use crate::rows::{assert_same, caret_text, halves, rows_of};
 use crate::vectors::places::{EXCERPTS, PLACES};
 use smap_text::{excerpt, line_at, unit_place, units};
 use std::alloc::{AllocError, Global};
@@ -54,7 +54,7 @@ fn place_of_row(alloc: Global, row: &str) -> Result<(String, String), Fail> {
 
 #[test]
 fn lines_and_places_are_those_of_node(rt: HostRuntime) -> Result<(), Fail> {
-    for row in PLACES.trim().lines() {
+    for row in rows_of(&rt, PLACES, 116).lines() {
         let (found, wanted) = place_of_row(rt.alloc(), row)?;
         assert_same(&rt, row, &found, &wanted);
     }
@@ -82,7 +82,7 @@ fn excerpt_of_row(alloc: Global, row: &str) -> Result<(String, String), Fail> {
 
 #[test]
 fn excerpts_are_those_of_node(rt: HostRuntime) -> Result<(), Fail> {
-    for row in EXCERPTS.trim().lines() {
+    for row in rows_of(&rt, EXCERPTS, 61).lines() {
         let (shown, wanted) = excerpt_of_row(rt.alloc(), row)?;
         assert_same(&rt, row, &shown, &wanted);
     }

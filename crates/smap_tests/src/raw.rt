@@ -1,5 +1,6 @@
 //! `raw` over devices in memory.
-use crate::rows::{assert_same, halves};
+use crate::intervals::INTERVALS;
+use crate::rows::{assert_same, halves, rows_of};
 use crate::running::{ALL_SOUND, Device, Devices, SOUND, run_raw};
 use crate::vectors::answers::ANSWERS;
 use crate::vectors::refusals::REFUSALS;
@@ -7,8 +8,8 @@ use std::alloc::{AllocError, Global};
 use std::process::Abort;
 use std::test::Fail;
 
-// Puts a row of the vectors to `raw`: the line, the column, the text and what is printed. What is left is that, with
-// these texts around it.
+// Puts a row of the vectors to `raw` at each interval: the line, the column, the text and what is printed. What is left
+// is that, with these texts around it.
 fn assert_row(
     rt: &impl Abort,
     alloc: Global,
@@ -20,15 +21,17 @@ fn assert_row(
     let (column, rest) = halves(rest);
     let (text, printed) = halves(rest);
     let (line, column) = (line.parse()?, column.parse()?);
-    let left = run_raw(alloc, text.as_bytes(), line, column, ALL_SOUND)?;
     let wanted = format!(in alloc; "{before}{printed}{behind}")?;
-    assert_same(rt, row, &left, &wanted);
+    for interval in INTERVALS {
+        let left = run_raw(alloc, text.as_bytes(), line, column, *interval, ALL_SOUND)?;
+        assert_same(rt, row, &left, &wanted);
+    }
     Ok(())
 }
 
 #[test]
 fn each_row_is_answered(rt: HostRuntime) -> Result<(), Fail> {
-    for row in ANSWERS.trim().lines() {
+    for row in rows_of(&rt, ANSWERS, 325).lines() {
         assert_row(&rt, rt.alloc(), row, "0|", "\n|")?;
     }
     Ok(())
@@ -36,7 +39,7 @@ fn each_row_is_answered(rt: HostRuntime) -> Result<(), Fail> {
 
 #[test]
 fn each_row_is_refused(rt: HostRuntime) -> Result<(), Fail> {
-    for row in REFUSALS.trim().lines() {
+    for row in rows_of(&rt, REFUSALS, 108).lines() {
         assert_row(&rt, rt.alloc(), row, "1||", "\n")?;
     }
     Ok(())
@@ -52,8 +55,10 @@ const OTHER_TEXTS: &[(&[u8], &str)] = &[
 #[test]
 fn one_line_end_is_dropped(rt: HostRuntime) -> Result<(), Fail> {
     for (text, wanted) in OTHER_TEXTS {
-        let left = run_raw(rt.alloc(), text, 1, 1, ALL_SOUND)?;
-        assert_same(&rt, wanted, &left, wanted);
+        for interval in INTERVALS {
+            let left = run_raw(rt.alloc(), text, 1, 1, *interval, ALL_SOUND)?;
+            assert_same(&rt, wanted, &left, wanted);
+        }
     }
     Ok(())
 }
@@ -77,7 +82,7 @@ fn run_long(alloc: Global, before: &str, count: usize, behind: &str) -> Result<S
     let mut text = before.as_bytes().to_vec(alloc)?;
     text.resize(before.len().saturating_add(count), b',')?;
     text.extend_from_slice(behind.as_bytes())?;
-    run_raw(alloc, &text, 1, 1, ALL_SOUND)
+    run_raw(alloc, &text, 1, 1, 64, ALL_SOUND)
 }
 
 #[test]
@@ -136,8 +141,10 @@ const FAILING: &[(Devices, &str, &str)] = &[
 #[test]
 fn each_device_may_fail(rt: HostRuntime) -> Result<(), Fail> {
     for (devices, text, wanted) in FAILING {
-        let left = run_raw(rt.alloc(), text.as_bytes(), 1, 6, *devices)?;
-        assert_same(&rt, wanted, &left, wanted);
+        for interval in INTERVALS {
+            let left = run_raw(rt.alloc(), text.as_bytes(), 1, 6, *interval, *devices)?;
+            assert_same(&rt, wanted, &left, wanted);
+        }
     }
     Ok(())
 }
@@ -149,8 +156,10 @@ fn pieces_make_no_difference(rt: HostRuntime) -> Result<(), Fail> {
     for piece in [1, 7, 8_192] {
         let device = Device(piece, 0);
         let devices = Devices(device, device, device);
-        let left = run_raw(rt.alloc(), text.as_bytes(), 1, 1999, devices)?;
-        assert_same(&rt, "pieces", &left, "0|source 0 line 1 column 1999\n|");
+        for interval in INTERVALS {
+            let left = run_raw(rt.alloc(), text.as_bytes(), 1, 1999, *interval, devices)?;
+            assert_same(&rt, "pieces", &left, "0|source 0 line 1 column 1999\n|");
+        }
     }
     Ok(())
 }

@@ -2,9 +2,11 @@
 ghost use Rattle.std.specs.Prelude.{◌≡◌, ◌++◌, ◌∷◌, [], map, string_bytes, IfOk, OnOk};
 ghost use Rattle.smap_answers.specs.Files.{path_of};
 
+use crate::commands;
+use crate::intervals::INTERVALS;
 use crate::rows::assert_same;
 use crate::running::{ALL_SOUND, Device, Devices, left_text};
-use smap_answers::{Command, Loaded, run};
+use smap_answers::{Loaded, run};
 use smap_io::{MemorySink, MemorySource};
 use smap_record::Url;
 use std::alloc::{AllocError, Global};
@@ -45,6 +47,7 @@ pub fn run_rewrite(
     table: &[Word],
     base: Option<Url>,
     trace: &[u8],
+    interval: u32,
     devices: Devices,
 ) -> Result<String, AllocError> {
     let Devices(Device(reads, read_fails), Device(writes, write_fails), Device(tells, tell_fails)) =
@@ -53,7 +56,7 @@ pub fn run_rewrite(
         return String::from_str(alloc, "a device that moves nothing");
     }
     let (maps, files) = named(alloc, table)?;
-    let command = Command::Rewrite { maps, base };
+    let command = commands::rewrite(maps, base, interval);
     let mut input = MemorySource::new(trace.to_vec(alloc)?, reads, read_fails);
     let mut output = MemorySink::new(Vec::with_capacity(alloc, MOST_TAKEN)?, writes, write_fails);
     let mut errors = MemorySink::new(Vec::with_capacity(alloc, MOST_TAKEN)?, tells, tell_fails);
@@ -143,8 +146,11 @@ const LINES: &[(&str, &str)] = &[
 #[test]
 fn traces_are_rewritten_over_a_map(rt: HostRuntime) -> Result<(), Fail> {
     for (trace, wanted) in LINES {
-        let left = run_rewrite(rt.alloc(), APP, None, trace.as_bytes(), ALL_SOUND)?;
-        assert_same(&rt, trace, &left, wanted);
+        for interval in INTERVALS {
+            let bytes = trace.as_bytes();
+            let left = run_rewrite(rt.alloc(), APP, None, bytes, *interval, ALL_SOUND)?;
+            assert_same(&rt, trace, &left, wanted);
+        }
     }
     Ok(())
 }
@@ -153,9 +159,11 @@ fn traces_are_rewritten_over_a_map(rt: HostRuntime) -> Result<(), Fail> {
 #[test]
 fn a_trace_need_not_be_utf_8(rt: HostRuntime) -> Result<(), Fail> {
     let trace = b"\xFF\n    at \xFE (https://ex.test/app.js:1:6)\n\x00";
-    let left = run_rewrite(rt.alloc(), APP, None, trace, ALL_SOUND)?;
     let wanted = "0|\u{FFFD}\n    at \u{FFFD} (https://ex.test/a.ts:1:2)\n\0|";
-    assert_same(&rt, "bytes", &left, wanted);
+    for interval in INTERVALS {
+        let left = run_rewrite(rt.alloc(), APP, None, trace, *interval, ALL_SOUND)?;
+        assert_same(&rt, "bytes", &left, wanted);
+    }
     Ok(())
 }
 
@@ -245,9 +253,12 @@ fn base_of(alloc: Global, text: &str) -> Result<Option<Url>, Fail> {
 #[test]
 fn sources_are_resolved_against_a_base_or_the_url(rt: HostRuntime) -> Result<(), Fail> {
     for (words, base, trace, wanted) in NAMES {
-        let base = base_of(rt.alloc(), base)?;
-        let left = run_rewrite(rt.alloc(), words, base, trace.as_bytes(), ALL_SOUND)?;
-        assert_same(&rt, trace, &left, wanted);
+        for interval in INTERVALS {
+            let base = base_of(rt.alloc(), base)?;
+            let bytes = trace.as_bytes();
+            let left = run_rewrite(rt.alloc(), words, base, bytes, *interval, ALL_SOUND)?;
+            assert_same(&rt, trace, &left, wanted);
+        }
     }
     Ok(())
 }
@@ -325,8 +336,10 @@ const UNASKED: Devices = Devices(Device(1, 1), Device(1, 1), Device(7, 0));
 #[test]
 fn words_are_refused_one_by_one(rt: HostRuntime) -> Result<(), Fail> {
     for (words, wanted) in REFUSED {
-        let left = run_rewrite(rt.alloc(), words, None, b"at u:1:1\n", UNASKED)?;
-        assert_same(&rt, wanted, &left, wanted);
+        for interval in INTERVALS {
+            let left = run_rewrite(rt.alloc(), words, None, b"at u:1:1\n", *interval, UNASKED)?;
+            assert_same(&rt, wanted, &left, wanted);
+        }
     }
     Ok(())
 }

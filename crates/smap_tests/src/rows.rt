@@ -8,6 +8,13 @@ pub fn assert_same(rt: &impl Abort, asked: &str, got: &str, wanted: &str) {
     assert_eq!(rt; got, wanted, "of {asked}");
 }
 
+/// The rows of a text, which are this many: a loop over no rows would pass.
+pub fn rows_of<'a>(rt: &impl Abort, text: &'a str, count: usize) -> &'a str {
+    let rows = text.trim();
+    assert_eq!(rt; rows.lines().count(), count);
+    rows
+}
+
 /// What stands before the first `|` of a row, and what stands behind it.
 pub fn halves(row: &str) -> (&str, &str) {
     match row.split_once('|') {

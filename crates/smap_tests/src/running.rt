@@ -1,7 +1,9 @@
 //! Running a command over devices in memory, and all that a run leaves as one text.
 ghost use Rattle.std.specs.Prelude.{◌≡◌, ◌∷◌, [], false, map, IfOk};
 ghost use Rattle.smap_answers.specs.Files.{path_of, paths_of};
+ghost use Rattle.smap_answers.specs.Run.{HasInterval};
 
+use crate::commands;
 use smap_answers::{Command, Loaded, run};
 use smap_io::{MemorySink, MemorySource};
 use smap_record::Url;
@@ -48,6 +50,7 @@ fn run_over(
     input: &[u8],
     devices: Devices,
 ) -> Result<String, AllocError>
+    requires interval { HasInterval command.now }
     requires loaded { map path_of files.now ≡ paths_of command.now }
 {
     let Devices(Device(reads, read_fails), Device(writes, write_fails), Device(tells, tell_fails)) =
@@ -80,12 +83,10 @@ pub fn run_raw(
     text: &[u8],
     line: u32,
     column: u32,
+    interval: u32,
     devices: Devices,
 ) -> Result<String, AllocError> {
-    let command = Command::Raw {
-        line: line.saturating_sub(1),
-        column: column.saturating_sub(1),
-    };
+    let command = commands::raw(line, column, interval);
     run_over(alloc, &command, &[], text, devices)
 }
 
@@ -97,6 +98,7 @@ fn run_on_file(
     bytes: &[u8],
     devices: Devices,
 ) -> Result<String, AllocError>
+    requires interval { HasInterval command.now }
     requires its_path { paths_of command.now ≡ path.now ∷ [] }
 {
     let file = loaded(alloc, path, bytes)?;
@@ -118,12 +120,10 @@ pub fn run_check(
     alloc: Global,
     path: &str,
     bytes: &[u8],
+    interval: u32,
     devices: Devices,
 ) -> Result<String, AllocError> {
-    let command = Command::Check {
-        path: String::from_str(alloc, path)?,
-        base: None,
-    };
+    let command = commands::check(String::from_str(alloc, path)?, None, interval);
     run_on_file(alloc, &command, path, bytes, devices)
 }
 
@@ -133,9 +133,10 @@ pub fn run_lookup(
     map: &str,
     line: u32,
     column: u32,
+    interval: u32,
     devices: Devices,
 ) -> Result<String, AllocError> {
-    run_lookup_at(alloc, None, map, line, column, devices)
+    run_lookup_at(alloc, None, map, line, column, interval, devices)
 }
 
 /// What `lookup` leaves in a map at `m.map`, whose sources are resolved against the base.
@@ -145,14 +146,11 @@ pub fn run_lookup_at(
     map: &str,
     line: u32,
     column: u32,
+    interval: u32,
     devices: Devices,
 ) -> Result<String, AllocError> {
-    let command = Command::Lookup {
-        path: String::from_str(alloc, "m.map")?,
-        line: line.saturating_sub(1),
-        column: column.saturating_sub(1),
-        base,
-    };
+    let path = String::from_str(alloc, "m.map")?;
+    let command = commands::lookup(path, line, column, base, interval);
     run_on_file(alloc, &command, "m.map", map.as_bytes(), devices)
 }
 

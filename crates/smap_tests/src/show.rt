@@ -1,10 +1,11 @@
 //! `show` over maps in memory.
-use crate::rows::{assert_same, halves};
+use crate::intervals::INTERVALS;
+use crate::rows::{assert_same, halves, rows_of};
 use crate::running::{ALL_SOUND, Device, Devices, SOUND, run_show, run_show_at};
 use crate::vectors::example_map::EXAMPLE_MAP;
 use crate::vectors::index_maps::INDEX_MAPS;
 use crate::vectors::written_maps::WRITTEN_MAPS;
-use smap_record::Url;
+use smap_record::{MapFile, MapRefusal, Url, WriteRefusal};
 use std::alloc::{AllocError, Global};
 use std::test::Fail;
 
@@ -43,9 +44,50 @@ fn maps_are_written_or_refused(rt: HostRuntime) -> Result<(), Fail> {
     Ok(())
 }
 
+// What `show` would leave of a map that is read at this interval, made of the calls behind it.
+fn left_at(alloc: Global, map: &str, interval: u32) -> Result<String, Fail> {
+    let map = match MapFile::read(alloc, map.as_bytes(), None, interval) {
+        Ok(map) => map,
+        Err(MapRefusal::NotObject) => {
+            return Ok(String::from_str(alloc, "1||refused: m.map: M3 NotObject\n")?);
+        }
+        Err(refusal) => return Err(Fail::from(refusal)),
+    };
+    match map.write(alloc) {
+        Ok(bytes) => {
+            let text = String::from_utf8_lossy(alloc, &bytes)?;
+            Ok(["0|", &text, "\n|"].concat(alloc)?)
+        }
+        Err(WriteRefusal::TextTooLong) => Ok(String::from_str(
+            alloc,
+            "1||refused: O1 TextTooLong\n",
+        )?),
+        Err(WriteRefusal::Memory) => Err(Fail::new("no room for a map")),
+    }
+}
+
+#[test]
+fn intervals_make_no_difference(rt: HostRuntime) -> Result<(), Fail> {
+    for interval in INTERVALS {
+        for (map, wanted) in MAPS {
+            assert_same(&rt, map, &left_at(rt.alloc(), map, *interval)?, wanted);
+        }
+        for (row, written) in INDEX_MAPS.trim().lines().zip(WRITTEN_MAPS.trim().lines()) {
+            let (map, _) = halves(row);
+            let wanted = ["0|", written, "\n|"].concat(rt.alloc())?;
+            assert_same(&rt, map, &left_at(rt.alloc(), map, *interval)?, &wanted);
+        }
+    }
+    Ok(())
+}
+
 #[test]
 fn index_maps_are_written_as_by_others(rt: HostRuntime) -> Result<(), Fail> {
-    for (row, written) in INDEX_MAPS.trim().lines().zip(WRITTEN_MAPS.trim().lines()) {
+    for (row, written) in INDEX_MAPS
+        .trim()
+        .lines()
+        .zip(rows_of(&rt, WRITTEN_MAPS, 55).lines())
+    {
         let (map, _) = halves(row);
         let wanted = ["0|", written, "\n|"].concat(rt.alloc())?;
         assert_same(&rt, map, &run_show(rt.alloc(), map, ALL_SOUND)?, &wanted);

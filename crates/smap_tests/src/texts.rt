@@ -1,6 +1,7 @@
 //! Mappings texts: what is refused, and what the accepted ones hold.
 use crate::indexes::{held, index_of};
-use crate::rows::{assert_same, halves};
+use crate::intervals::INTERVALS;
+use crate::rows::{assert_same, halves, rows_of};
 use crate::shown::{held_text, push_number};
 use crate::vectors::mappings::MAPPINGS;
 use smap_mappings::{Meter, PackedText, TextRefusal};
@@ -108,15 +109,39 @@ fn walked(alloc: Global, packed: &PackedText) -> Result<String, AllocError> {
     held_text(alloc, meter.segments(), packed.used_lines(), &list)
 }
 
+// Rows by hand, as those of the vectors.
+const BY_HAND: &str = r#"
+AAAA,CAAC,CAAC,CAAC,CAAC|5|1|0,0,0,0,0 0,1,0,0,1 0,2,0,0,2 0,3,0,0,3 0,4,0,0,4
+AAAA,CAAC;AACA,CAAC,CAAC,CAAC,C|7|2|0,0,0,0,0 0,1,0,0,1 1,0,0,1,1 1,1,0,1,2 1,2,0,1,3 1,3,0,1,4 1,4
+"#;
+
 #[test]
 fn each_text_has_its_mappings(rt: HostRuntime) -> Result<(), Fail> {
-    for row in MAPPINGS.trim().lines() {
+    for row in rows_of(&rt, MAPPINGS, 116)
+        .lines()
+        .chain(BY_HAND.trim().lines())
+    {
         let (text, wanted) = halves(row);
         let packed = packed(rt.alloc(), text)?;
         assert_same(&rt, text, &decoded(rt.alloc(), &packed)?, wanted);
         assert_same(&rt, text, &walked(rt.alloc(), &packed)?, wanted);
-        let index = index_of(rt.alloc(), packed)?;
-        assert_same(&rt, text, &held(rt.alloc(), &index)?, wanted);
+    }
+    Ok(())
+}
+
+// What the index of a text at this interval holds.
+fn indexed(alloc: Global, text: &str, interval: u32) -> Result<String, Fail> {
+    let index = index_of(alloc, packed(alloc, text)?, interval)?;
+    Ok(held(alloc, &index)?)
+}
+
+#[test]
+fn each_index_has_the_mappings_of_its_text(rt: HostRuntime) -> Result<(), Fail> {
+    for row in MAPPINGS.trim().lines().chain(BY_HAND.trim().lines()) {
+        let (text, wanted) = halves(row);
+        for interval in INTERVALS {
+            assert_same(&rt, text, &indexed(rt.alloc(), text, *interval)?, wanted);
+        }
     }
     Ok(())
 }

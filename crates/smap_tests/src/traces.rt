@@ -1,9 +1,11 @@
 //! Stack traces: which lines are frames, what a trace becomes, what a table refuses, and devices that fail.
-use crate::rows::assert_same;
+use crate::intervals::INTERVALS;
+use crate::rows::{assert_same, halves};
 use smap_io::{MemorySink, MemorySource};
 use smap_record::{MapFile, Url};
 use smap_trace::{RewriteFault, Summary, Table, frame, rewrite};
 use std::alloc::{AllocError, Global};
+use std::process::Abort;
 use std::test::Fail;
 
 const MAP: &str = r#"{"version":3,"sources":["a.ts"],"mappings":"AAAA,CAAC"}"#;
@@ -102,9 +104,9 @@ fn a_longer_line_is_no_frame(rt: HostRuntime) -> Result<(), Fail> {
 }
 
 // The table of one map, which stands at its URL, if that is a URL.
-fn table_of(alloc: Global, url: &str, map: &str) -> Result<Table, Fail> {
+fn table_of(alloc: Global, url: &str, map: &str, interval: u32) -> Result<Table, Fail> {
     let base = Url::parse(alloc, url).ok();
-    let map = MapFile::read(alloc, map.as_bytes(), base.as_ref(), 1)?;
+    let map = MapFile::read(alloc, map.as_bytes(), base.as_ref(), interval)?;
     let mut table = Table::new(alloc);
     match table.add(String::from_str(alloc, url)?, map) {
         Ok(()) => Ok(table),
@@ -193,13 +195,26 @@ const TRACES: &[(&str, &str)] = &[
 
 const PIECES: &[(usize, usize)] = &[(8_192, 8_192), (1, 1), (7, 1), (8_192, 1), (7, 8_192)];
 
+// Puts the rows of traces to a table, over devices that move at most so many bytes a call.
+fn assert_traces(
+    rt: &impl Abort,
+    alloc: Global,
+    table: &Table,
+    pieces: (usize, usize),
+) -> Result<(), Fail> {
+    for (trace, wanted) in TRACES {
+        let got = rewritten(alloc, table, trace, pieces, (0, 0))?;
+        assert_same(rt, trace, &got, wanted);
+    }
+    Ok(())
+}
+
 #[test]
 fn traces_are_rewritten(rt: HostRuntime) -> Result<(), Fail> {
-    let table = table_of(rt.alloc(), APP, MAP)?;
-    for (trace, wanted) in TRACES {
+    for interval in INTERVALS {
+        let table = table_of(rt.alloc(), APP, MAP, *interval)?;
         for pieces in PIECES {
-            let got = rewritten(rt.alloc(), &table, trace, *pieces, (0, 0))?;
-            assert_same(&rt, trace, &got, wanted);
+            assert_traces(&rt, rt.alloc(), &table, *pieces)?;
         }
     }
     Ok(())
@@ -242,16 +257,20 @@ const NAMES: &[(&str, &str)] = &[
     ),
 ];
 
+// What `at u:1:6` becomes over this map of `u`, behind the counts of the trace and a `|`.
+fn line_of(alloc: Global, map: &str, interval: u32) -> Result<String, Fail> {
+    let table = table_of(alloc, "u", map, interval)?;
+    Ok(rewritten(alloc, &table, "at u:1:6", (99, 99), (0, 0))?)
+}
+
 #[test]
 fn names_that_do_not_print_leave_the_line(rt: HostRuntime) -> Result<(), Fail> {
     for (map, wanted) in NAMES {
-        let table = table_of(rt.alloc(), "u", map)?;
-        let got = rewritten(rt.alloc(), &table, "at u:1:6", (99, 99), (0, 0))?;
-        let got = match got.as_str().split_once('|') {
-            Some((_, line)) => line,
-            None => "",
-        };
-        assert_same(&rt, map, got, wanted);
+        for interval in INTERVALS {
+            let got = line_of(rt.alloc(), map, *interval)?;
+            let (_, line) = halves(&got);
+            assert_same(&rt, map, line, wanted);
+        }
     }
     Ok(())
 }
@@ -273,11 +292,13 @@ const FAILURES: &[((u64, u64), &str)] = &[
 
 #[test]
 fn a_failing_device_ends_a_trace(rt: HostRuntime) -> Result<(), Fail> {
-    let table = table_of(rt.alloc(), APP, MAP)?;
     let trace = "    at f (https://ex.test/app.js:1:6)\n    at f (https://ex.test/app.js:1:6)\n";
-    for (fails_at, wanted) in FAILURES {
-        let got = rewritten(rt.alloc(), &table, trace, (10, 10), *fails_at)?;
-        assert_same(&rt, "a failing device", &got, wanted);
+    for interval in INTERVALS {
+        let table = table_of(rt.alloc(), APP, MAP, *interval)?;
+        for (fails_at, wanted) in FAILURES {
+            let got = rewritten(rt.alloc(), &table, trace, (10, 10), *fails_at)?;
+            assert_same(&rt, "a failing device", &got, wanted);
+        }
     }
     Ok(())
 }
@@ -299,8 +320,8 @@ const ADDED: &[(&str, &str)] = &[
 ];
 
 // How adding a map under a URL ends; the URL that comes back stands behind a refusal.
-fn added_text(alloc: Global, table: &mut Table, url: &str) -> Result<String, Fail> {
-    let map = MapFile::read(alloc, MAP.as_bytes(), None, 1)?;
+fn added_text(alloc: Global, table: &mut Table, url: &str, interval: u32) -> Result<String, Fail> {
+    let map = MapFile::read(alloc, MAP.as_bytes(), None, interval)?;
     match table.add(String::from_str(alloc, url)?, map) {
         Ok(()) => Ok(String::from_str(alloc, "added")?),
         Err((refusal, back, _map)) => Ok(format!(in alloc; "{refusal:?} {back}")?),
@@ -309,12 +330,14 @@ fn added_text(alloc: Global, table: &mut Table, url: &str) -> Result<String, Fai
 
 #[test]
 fn a_table_takes_each_url_once(rt: HostRuntime) -> Result<(), Fail> {
-    let mut table = Table::new(rt.alloc());
-    for (url, wanted) in ADDED {
-        let got = added_text(rt.alloc(), &mut table, url)?;
-        assert_same(&rt, url, &got, wanted);
+    for interval in INTERVALS {
+        let mut table = Table::new(rt.alloc());
+        for (url, wanted) in ADDED {
+            let got = added_text(rt.alloc(), &mut table, url, *interval)?;
+            assert_same(&rt, url, &got, wanted);
+        }
+        let got = rewritten(rt.alloc(), &table, "at v:1:1\nat w:1:1", (99, 99), (0, 0))?;
+        assert_same(&rt, "a table of five", &got, "2 2 1|at a.ts:1:1\nat w:1:1");
     }
-    let got = rewritten(rt.alloc(), &table, "at v:1:1\nat w:1:1", (99, 99), (0, 0))?;
-    assert_same(&rt, "a table of five", &got, "2 2 1|at a.ts:1:1\nat w:1:1");
     Ok(())
 }

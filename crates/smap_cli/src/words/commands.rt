@@ -1,17 +1,19 @@
 //! The command that the words ask for, read from what clap found in them.
-ghost use Rattle.std.specs.Prelude.{◌≡◌, ◌≤◌, ◌+◌, ◌∷◌, [], IfErr, IfOk, codes, map, string_bytes};
+ghost use Rattle.std.specs.Prelude.{◌≡◌, ◌≤◌, ◌+◌, ◌∷◌, [], IfErr, IfOk, codes, map, string_bytes, true};
 ghost use Rattle.clap.specs.Words.{all_of, found_of, rows_of, subcommand_rows_of};
 ghost use Rattle.smap_mappings.specs.Limits.{limit};
-ghost use Rattle.smap_cli.specs.CommandLine.{named, number, source_number};
-ghost use Rattle.smap_cli.specs.Words.{ArePairs, GivesBase, GivesNumber, GivesText, HasArguments};
-ghost use Rattle.smap_cli.specs.Words.{HasCommand, HasValue, IsInRange, IsNamedRefusal, IsPair};
+ghost use Rattle.smap_index.specs.Faults.{is_interval};
+ghost use Rattle.smap_cli.specs.CommandLine.{interval_number, named, number, source_number};
+ghost use Rattle.smap_cli.specs.Words.{ArePairs, GivesBase, GivesInterval, GivesNumber, GivesText};
+ghost use Rattle.smap_cli.specs.Words.{HasArguments, HasCommand, HasValue, HasValueIfGiven};
+ghost use Rattle.smap_cli.specs.Words.{IsInRange, IsNamedRefusal, IsPair};
 ghost use Rattle.smap_cli.specs.Words.{NamedAsksFor, SubcommandAsksFor, SubcommandTells, TellsBadBase};
 ghost use Rattle.smap_cli.specs.Words.{TellsNoPair, TellsRefusal};
 ghost use Rattle.clap.specs.declared.builder.value_parser.ValueParser.TheVariants as parser;
 
 use super::Usage;
 use clap::ArgMatches;
-use smap_answers::{BAD_BASE, Command, no_pair_line};
+use smap_answers::{BAD_BASE, Command, USUAL_INTERVAL, no_pair_line};
 use smap_record::Url;
 use std::alloc::{AllocError, Global};
 use url::ParseError;
@@ -60,6 +62,7 @@ fn lookup_in(
     requires path { HasValue parser.String (rows_of (found_of matches.now)) (codes "PATH") }
     requires line { HasValue number (rows_of (found_of matches.now)) (codes "LINE") }
     requires column { HasValue number (rows_of (found_of matches.now)) (codes "COLUMN") }
+    requires interval { HasValueIfGiven interval_number (rows_of (found_of matches.now)) (codes "K") }
     requires given { GivesBase (rows_of (found_of matches.now)) base }
     ensures asked { IfOk result (NamedAsksFor (codes "lookup") (rows_of (found_of matches.now))) }
     ensures in_range { IfOk result IsInRange }
@@ -69,12 +72,14 @@ fn lookup_in(
         line: place_in(matches, "LINE"),
         column: place_in(matches, "COLUMN"),
         base,
+        interval: interval_in(matches),
     })
 }
 
 // What `rewrite` is asked.
 fn rewrite_in(alloc: Global, matches: &ArgMatches<'_>, base: Option<Url>) -> Result<Command, Usage>
     requires words { HasValue parser.String (rows_of (found_of matches.now)) (codes "URL=FILE") }
+    requires interval { HasValueIfGiven interval_number (rows_of (found_of matches.now)) (codes "K") }
     requires given { GivesBase (rows_of (found_of matches.now)) base }
     ensures asked { IfOk result (NamedAsksFor (codes "rewrite") (rows_of (found_of matches.now))) }
     ensures in_range { IfOk result IsInRange }
@@ -84,6 +89,7 @@ fn rewrite_in(alloc: Global, matches: &ArgMatches<'_>, base: Option<Url>) -> Res
     Ok(Command::Rewrite {
         maps: pairs_of(alloc, words)?,
         base,
+        interval: interval_in(matches),
     })
 }
 
@@ -94,6 +100,7 @@ fn check_in(
     base: Option<Url>,
 ) -> Result<Command, AllocError>
     requires path { HasValue parser.String (rows_of (found_of matches.now)) (codes "PATH") }
+    requires interval { HasValueIfGiven interval_number (rows_of (found_of matches.now)) (codes "K") }
     requires given { GivesBase (rows_of (found_of matches.now)) base }
     ensures asked { IfOk result (NamedAsksFor (codes "check") (rows_of (found_of matches.now))) }
     ensures in_range { IfOk result IsInRange }
@@ -101,6 +108,7 @@ fn check_in(
     Ok(Command::Check {
         path: text_in(alloc, matches, "PATH")?,
         base,
+        interval: interval_in(matches),
     })
 }
 
@@ -146,11 +154,16 @@ fn compose_in(
 fn raw_in(matches: &ArgMatches<'_>) -> Command
     requires line { HasValue number (rows_of (found_of matches.now)) (codes "LINE") }
     requires column { HasValue number (rows_of (found_of matches.now)) (codes "COLUMN") }
+    requires interval { HasValueIfGiven interval_number (rows_of (found_of matches.now)) (codes "K") }
     ensures asked { NamedAsksFor (codes "raw") (rows_of (found_of matches.now)) result }
     ensures in_range { IsInRange result }
 {
     let (line, column) = (place_in(matches, "LINE"), place_in(matches, "COLUMN"));
-    Command::Raw { line, column }
+    Command::Raw {
+        line,
+        column,
+        interval: interval_in(matches),
+    }
 }
 
 // The text of an argument.
@@ -176,6 +189,18 @@ fn source_in(matches: &ArgMatches<'_>) -> u32
     ensures { GivesNumber (rows_of (found_of matches.now)) (codes "SOURCE") result }
 {
     matches.get_one::<u32>("SOURCE").unwrap()
+}
+
+// The interval of the option `--interval`, or the usual one where it is not given.
+fn interval_in(matches: &ArgMatches<'_>) -> u32
+    requires { HasValueIfGiven interval_number (rows_of (found_of matches.now)) (codes "K") }
+    ensures given { GivesInterval (rows_of (found_of matches.now)) result }
+    ensures in_range { is_interval result ≡ true }
+{
+    match matches.get_one::<u32>("K") {
+        Some(interval) => interval,
+        None => USUAL_INTERVAL,
+    }
 }
 
 // The URL of the option `--base`, where it is given.

@@ -1,11 +1,12 @@
 //! The command line as clap gets it, with the texts of its help.
 ghost use Rattle.std.specs.Prelude.{◌≡◌, All, IfOk, codes, false, map};
 ghost use Rattle.clap.specs.Words.{app_of, rule_of};
-ghost use Rattle.smap_cli.specs.CommandLine.{IsLocalArgument, IsLocalCommand, base_rule, compose, lookup, map_command};
-ghost use Rattle.smap_cli.specs.CommandLine.{number, number_rule, pairs_rule, raw, rewrite, smap};
-ghost use Rattle.smap_cli.specs.CommandLine.{source_number, text_rule, with_rules};
+ghost use Rattle.smap_cli.specs.CommandLine.{IsLocalArgument, IsLocalCommand, base_rule, check, compose};
+ghost use Rattle.smap_cli.specs.CommandLine.{interval_rule, lookup, number, number_rule, pairs_rule, raw, rewrite};
+ghost use Rattle.smap_cli.specs.CommandLine.{show, smap, source_number, text_rule, with_rules};
 
 use clap::{Arg, ArgAction, Command, value_parser};
+use smap_index::MOST_INTERVAL;
 use smap_mappings::LIMIT;
 use std::alloc::{AllocError, Global};
 
@@ -102,6 +103,10 @@ const SOURCE_HELP: &str = "Number of the source of OUTER that INNER is the map o
 
 const INNER_HELP: &str = "Path of the source map file of the step before";
 
+const INTERVAL_HELP: &str = "\
+Checkpoints in the index stand at every K-th segment of a line, 1 to 4096, else 64. A
+smaller K answers look-ups faster and takes more memory; their answers are the same";
+
 /// The command line of `smap`. Its lifetime is the caller's, since clap keeps its texts and the words under one.
 pub fn command_line<'a>(alloc: Global) -> Result<Command<'a>, AllocError>
     ensures { IfOk result (λ command. app_of command ≡ smap) }
@@ -109,8 +114,8 @@ pub fn command_line<'a>(alloc: Global) -> Result<Command<'a>, AllocError>
     let commands = vec![in alloc;
         lookup_words(alloc)?,
         rewrite_words(alloc)?,
-        map_words(alloc, "check", CHECK_ABOUT, CHECK_NOTES)?,
-        map_words(alloc, "show", SHOW_ABOUT, SHOW_NOTES)?,
+        check_words(alloc)?,
+        show_words(alloc)?,
         compose_words(alloc)?,
         raw_words(alloc)?,
     ]?;
@@ -132,6 +137,7 @@ fn lookup_words<'a>(alloc: Global) -> Result<Command<'a>, AllocError>
         place(alloc, "LINE", LINE_HELP),
         place(alloc, "COLUMN", COLUMN_HELP),
         base_url(alloc),
+        interval(alloc),
     ]?;
     described(alloc, "lookup", LOOKUP_ABOUT, LOOKUP_NOTES, arguments)
 }
@@ -140,21 +146,28 @@ fn lookup_words<'a>(alloc: Global) -> Result<Command<'a>, AllocError>
 fn rewrite_words<'a>(alloc: Global) -> Result<Command<'a>, AllocError>
     ensures { IfOk result (IsLocalCommand rewrite) }
 {
-    let arguments = vec![in alloc; pairs(alloc), base_url(alloc)]?;
+    let arguments = vec![in alloc; pairs(alloc), base_url(alloc), interval(alloc)]?;
     described(alloc, "rewrite", REWRITE_ABOUT, REWRITE_NOTES, arguments)
 }
 
-// The words of a command that asks for one map file.
-fn map_words<'a>(
-    alloc: Global,
-    name: &'a str,
-    about: &'a str,
-    notes: &'a str,
-) -> Result<Command<'a>, AllocError>
-    ensures { IfOk result (IsLocalCommand (map_command name.entry.now)) }
+// The words of `check`.
+fn check_words<'a>(alloc: Global) -> Result<Command<'a>, AllocError>
+    ensures { IfOk result (IsLocalCommand check) }
+{
+    let arguments = vec![in alloc;
+        text(alloc, "PATH", PATH_HELP),
+        base_url(alloc),
+        interval(alloc),
+    ]?;
+    described(alloc, "check", CHECK_ABOUT, CHECK_NOTES, arguments)
+}
+
+// The words of `show`.
+fn show_words<'a>(alloc: Global) -> Result<Command<'a>, AllocError>
+    ensures { IfOk result (IsLocalCommand show) }
 {
     let arguments = vec![in alloc; text(alloc, "PATH", PATH_HELP), base_url(alloc)]?;
-    described(alloc, name, about, notes, arguments)
+    described(alloc, "show", SHOW_ABOUT, SHOW_NOTES, arguments)
 }
 
 // The words of `compose`.
@@ -177,6 +190,7 @@ fn raw_words<'a>(alloc: Global) -> Result<Command<'a>, AllocError>
     let arguments = vec![in alloc;
         place(alloc, "LINE", LINE_HELP),
         place(alloc, "COLUMN", COLUMN_HELP),
+        interval(alloc),
     ]?;
     described(alloc, "raw", RAW_ABOUT, RAW_NOTES, arguments)
 }
@@ -242,4 +256,14 @@ fn base_url<'a>(alloc: Global) -> Arg<'a>
     Arg::new(alloc, "URL")
         .long("base")
         .help("URL against which the names of sources are resolved")
+}
+
+// The option that is the interval of the checkpoints.
+fn interval<'a>(alloc: Global) -> Arg<'a>
+    ensures { IsLocalArgument interval_rule result }
+{
+    Arg::new(alloc, "K")
+        .long("interval")
+        .value_parser(value_parser!(u32).range(1..=i64::from(MOST_INTERVAL)))
+        .help(INTERVAL_HELP)
 }

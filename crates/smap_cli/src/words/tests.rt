@@ -12,10 +12,22 @@ fn read(alloc: Global, words: &[&str]) -> Result<String, AllocError> {
         owned.push(String::from_str(alloc, word)?)?;
     }
     match parse(alloc, owned) {
-        Ok(Command::Raw { line, column }) => format!(in alloc; "raw {line} {column}"),
-        Ok(Command::Check { path, base }) => {
+        Ok(
+            Command::Raw {
+                line,
+                column,
+                interval,
+            },
+        ) => format!(in alloc; "raw {line} {column} every {interval}"),
+        Ok(
+            Command::Check {
+                path,
+                base,
+                interval,
+            },
+        ) => {
             let base = base_text(&base);
-            format!(in alloc; "check {path}{base}")
+            format!(in alloc; "check {path}{base} every {interval}")
         }
         Ok(Command::Show { path, base }) => {
             let base = base_text(&base);
@@ -27,13 +39,21 @@ fn read(alloc: Global, words: &[&str]) -> Result<String, AllocError> {
                 line,
                 column,
                 base,
+                interval,
             },
         ) => {
             let base = base_text(&base);
-            format!(in alloc; "lookup {path} {line} {column}{base}")
+            format!(in alloc; "lookup {path} {line} {column}{base} every {interval}")
         }
-        Ok(Command::Rewrite { maps, base }) => {
-            let mut told = format!(in alloc; "rewrite{}", base_text(&base))?;
+        Ok(
+            Command::Rewrite {
+                maps,
+                base,
+                interval,
+            },
+        ) => {
+            let base = base_text(&base);
+            let mut told = format!(in alloc; "rewrite{base} every {interval}")?;
             for (url, path) in maps {
                 told = format!(in alloc; "{told} [{url}][{path}]")?;
             }
@@ -70,22 +90,25 @@ fn read_usage(alloc: Global, usage: &Usage) -> Result<String, AllocError> {
 }
 
 // Words, and the command that they give, with lines and columns from 0.
-const COMMANDS: [(&[&str], &str); 31] = [
-    (&["smap", "raw", "1", "6"], "raw 0 5"),
-    (&["smap", "raw", "1", "1"], "raw 0 0"),
-    (&["./smap", "raw", "007", "+2"], "raw 6 1"),
+const COMMANDS: [(&[&str], &str); 38] = [
+    (&["smap", "raw", "1", "6"], "raw 0 5 every 64"),
+    (&["smap", "raw", "1", "1"], "raw 0 0 every 64"),
+    (&["./smap", "raw", "007", "+2"], "raw 6 1 every 64"),
     (
         &["smap", "raw", "2147483648", "2147483648"],
-        "raw 2147483647 2147483647",
+        "raw 2147483647 2147483647 every 64",
     ),
-    (&["smap", "check", "app.js.map"], "check app.js.map"),
+    (
+        &["smap", "check", "app.js.map"],
+        "check app.js.map every 64",
+    ),
     (
         &["./smap", "check", "maps/größe 1.map"],
-        "check maps/größe 1.map",
+        "check maps/größe 1.map every 64",
     ),
-    (&["smap", "check", ""], "check "),
-    (&["smap", "check", "-"], "check -"),
-    (&["smap", "check", "--", "--help"], "check --help"),
+    (&["smap", "check", ""], "check  every 64"),
+    (&["smap", "check", "-"], "check - every 64"),
+    (&["smap", "check", "--", "--help"], "check --help every 64"),
     (&["smap", "show", "app.js.map"], "show app.js.map"),
     (&["smap", "show", "--", "-x"], "show -x"),
     (
@@ -94,14 +117,17 @@ const COMMANDS: [(&[&str], &str); 31] = [
     ),
     (
         &["smap", "lookup", "app.js.map", "1", "6"],
-        "lookup app.js.map 0 5",
+        "lookup app.js.map 0 5 every 64",
     ),
-    (&["smap", "lookup", "7", "8", "9"], "lookup 7 7 8"),
-    (&["smap", "lookup", "-", "007", "+2"], "lookup - 6 1"),
-    (&["smap", "lookup", "", "1", "1"], "lookup  0 0"),
+    (&["smap", "lookup", "7", "8", "9"], "lookup 7 7 8 every 64"),
+    (
+        &["smap", "lookup", "-", "007", "+2"],
+        "lookup - 6 1 every 64",
+    ),
+    (&["smap", "lookup", "", "1", "1"], "lookup  0 0 every 64"),
     (
         &["smap", "lookup", "--", "-x", "2147483648", "2147483648"],
-        "lookup -x 2147483647 2147483647",
+        "lookup -x 2147483647 2147483647 every 64",
     ),
     (
         &[
@@ -111,33 +137,36 @@ const COMMANDS: [(&[&str], &str); 31] = [
             "HTTPS://ex.test/js/app.js",
             "r.map",
         ],
-        "check r.maphttps://ex.test/js/app.js",
+        "check r.maphttps://ex.test/js/app.js every 64",
     ),
     (
         &["smap", "check", "r.map", "--base=https://ex.test/a/../b"],
-        "check r.maphttps://ex.test/b",
+        "check r.maphttps://ex.test/b every 64",
     ),
     (
         &["smap", "lookup", "--base", "file:///x", "r.map", "1", "1"],
-        "lookup r.map 0 0file:///x",
+        "lookup r.map 0 0file:///x every 64",
     ),
     (
         &["smap", "lookup", "r.map", "1", "1", "--base", "webpack:a"],
-        "lookup r.map 0 0webpack:a",
+        "lookup r.map 0 0webpack:a every 64",
     ),
     (
         &["smap", "rewrite", "https://ex.test/app.js=app.map"],
-        "rewrite [https://ex.test/app.js][app.map]",
+        "rewrite every 64 [https://ex.test/app.js][app.map]",
     ),
     (
         &["smap", "rewrite", "https://ex.test/app.js?v=1=maps/app.map"],
-        "rewrite [https://ex.test/app.js?v=1][maps/app.map]",
+        "rewrite every 64 [https://ex.test/app.js?v=1][maps/app.map]",
     ),
-    (&["smap", "rewrite", "=app.map"], "rewrite [][app.map]"),
-    (&["smap", "rewrite", "u="], "rewrite [u][]"),
+    (
+        &["smap", "rewrite", "=app.map"],
+        "rewrite every 64 [][app.map]",
+    ),
+    (&["smap", "rewrite", "u="], "rewrite every 64 [u][]"),
     (
         &["smap", "rewrite", "u=1.map", "v=2.map", "u=1.map"],
-        "rewrite [u][1.map] [v][2.map] [u][1.map]",
+        "rewrite every 64 [u][1.map] [v][2.map] [u][1.map]",
     ),
     (
         &[
@@ -148,11 +177,11 @@ const COMMANDS: [(&[&str], &str); 31] = [
             "https://ex.test/",
             "v=2.map",
         ],
-        "rewritehttps://ex.test/ [u][1.map] [v][2.map]",
+        "rewritehttps://ex.test/ every 64 [u][1.map] [v][2.map]",
     ),
     (
         &["smap", "rewrite", "--", "--base=u"],
-        "rewrite [--base][u]",
+        "rewrite every 64 [--base][u]",
     ),
     (
         &["smap", "compose", "o.map", "0", "i.map"],
@@ -173,6 +202,49 @@ const COMMANDS: [(&[&str], &str); 31] = [
         ],
         "compose o.map 1 i.maphttps://ex.test/",
     ),
+    (
+        &["smap", "raw", "--interval", "1", "1", "6"],
+        "raw 0 5 every 1",
+    ),
+    (
+        &["smap", "raw", "1", "6", "--interval=4096"],
+        "raw 0 5 every 4096",
+    ),
+    (
+        &["smap", "check", "--interval", "64", "r.map"],
+        "check r.map every 64",
+    ),
+    (
+        &[
+            "smap",
+            "check",
+            "--interval",
+            "+007",
+            "--base",
+            "https://ex.test/",
+            "r.map",
+        ],
+        "check r.maphttps://ex.test/ every 7",
+    ),
+    (
+        &["smap", "lookup", "r.map", "3", "4", "--interval", "2"],
+        "lookup r.map 2 3 every 2",
+    ),
+    (
+        &[
+            "smap",
+            "rewrite",
+            "u=1.map",
+            "--interval",
+            "4095",
+            "v=2.map",
+        ],
+        "rewrite every 4095 [u][1.map] [v][2.map]",
+    ),
+    (
+        &["smap", "rewrite", "--", "--interval=7"],
+        "rewrite every 64 [--interval][7]",
+    ),
 ];
 
 #[test]
@@ -185,7 +257,7 @@ fn reads_commands(rt: HostRuntime) -> Result<(), Fail> {
 }
 
 // Words that are no command, and how the text for them begins.
-const MISTAKES: [(&[&str], &str); 45] = [
+const MISTAKES: [(&[&str], &str); 55] = [
     (
         &["smap", "check", "--base", "nope", "r.map"],
         "usage: bad base URL\n",
@@ -363,6 +435,62 @@ const MISTAKES: [(&[&str], &str); 45] = [
         &["smap", "compose", "--base", "", "o.map", "0", "i.map"],
         "usage: bad base URL\n",
     ),
+    (
+        &["smap", "check", "--interval", "0", "r.map"],
+        "error: invalid value '0' for '--interval <K>': 0 is not in 1..=4096\n",
+    ),
+    (
+        &["smap", "lookup", "r.map", "1", "1", "--interval=4097"],
+        "error: invalid value '4097' for '--interval <K>': 4097 is not in 1..=4096\n",
+    ),
+    (
+        &["smap", "raw", "--interval=-1", "1", "1"],
+        "error: invalid value '-1' for '--interval <K>': -1 is not in 1..=4096\n",
+    ),
+    (
+        &["smap", "rewrite", "--interval", "x", "u=1.map"],
+        "error: invalid value 'x' for '--interval <K>': invalid digit found in string\n",
+    ),
+    (
+        &["smap", "rewrite", "u=1.map", "--interval"],
+        "error: a value is required for '--interval <K>' but none was supplied\n",
+    ),
+    (
+        &[
+            "smap",
+            "check",
+            "--interval",
+            "1",
+            "--interval",
+            "1",
+            "r.map",
+        ],
+        "error: the argument '--interval <K>' cannot be used multiple times\n",
+    ),
+    (
+        &[
+            "smap",
+            "check",
+            "--base",
+            "nope",
+            "--interval",
+            "0",
+            "r.map",
+        ],
+        "error: invalid value '0' for '--interval <K>': 0 is not in 1..=4096\n",
+    ),
+    (
+        &["smap", "show", "--interval", "1", "r.map"],
+        "error: unexpected argument '--interval' found\n",
+    ),
+    (
+        &["smap", "compose", "--interval", "1", "o.map", "0", "i.map"],
+        "error: unexpected argument '--interval' found\n",
+    ),
+    (
+        &["smap", "--interval", "1", "check", "r.map"],
+        "error: unexpected argument '--interval' found\n",
+    ),
 ];
 
 #[test]
@@ -400,22 +528,22 @@ const REQUESTS: [(&[&str], &str, &str); 19] = [
     (&["smap", "help"], "smap <COMMAND>", LOOKUP_EXAMPLE),
     (
         &["smap", "help", "raw"],
-        "smap raw <LINE> <COLUMN>",
+        "smap raw [OPTIONS] <LINE> <COLUMN>",
         RAW_EXAMPLE,
     ),
     (
         &["smap", "raw", "--help"],
-        "smap raw <LINE> <COLUMN>",
+        "smap raw [OPTIONS] <LINE> <COLUMN>",
         RAW_EXAMPLE,
     ),
     (
         &["smap", "raw", "-h"],
-        "smap raw <LINE> <COLUMN>",
+        "smap raw [OPTIONS] <LINE> <COLUMN>",
         RAW_EXAMPLE,
     ),
     (
         &["smap", "raw", "1", "6", "--help"],
-        "smap raw <LINE> <COLUMN>",
+        "smap raw [OPTIONS] <LINE> <COLUMN>",
         RAW_EXAMPLE,
     ),
     (

@@ -1,4 +1,5 @@
 use Rattle.std.proofs.Common.{ap, ◌∙◌, [], ◌∷◌, ◌++◌}
+use Rattle.std.proofs.lemmas.Bool.{cond-true}
 use Rattle.smap_mappings.specs.Limits.{most_indices}
 use Rattle.smap_index.specs.Answer.{answer_at_or_before}
 use Rattle.smap_index.specs.Faults.{build_fault, part_fault}
@@ -9,7 +10,7 @@ pub no_memory-requires : goal.no_memory-requires
 unfolding build_fault
 no_memory-requires c =
     let parts = c.in_ok-push.ensures.items ∙ ap (λ list. list ++ whole_text c.args.text ∷ []) c.new-parts.ensures.items in
-    c.in-Err.ensures.memory (ap part_fault parts ∙ c.one_text_is_its_mappings.ensures.sound c.args.text most_indices most_indices c.requires)
+    c.in-Err.ensures.memory (cond-true _ _ _ c.requires.may_stand ∙ ap part_fault parts ∙ c.one_text_is_its_mappings.ensures.sound c.args.text most_indices most_indices c.requires.within)
 
 pub returns-in-Ok : goal.returns-in-Ok
 returns-in-Ok c =

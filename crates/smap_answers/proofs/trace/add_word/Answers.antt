@@ -11,9 +11,9 @@ returns c =
       | in-Ok-add w ↦
           let added = rw url_is at w.in-Ok-add.ensures.added in
           let free = rw url_is at w.in-Ok-add.ensures.refused in
-          rw w.result-is (word_of_map _ _ _ _ _ _ read (inr (puts_taken _ _ _ _ _ added free)))
+          rw w.result-is (word_of_map _ _ _ _ _ _ _ read (inr (puts_taken _ _ _ _ _ added free)))
       | in-Err w ↦
           let refused = rw url_is at w.in-Err.ensures.refused in
           let told = rw (w.deref-in-Err.ensures, w.deref-in-Err-2.ensures) at w.refused_word.ensures in
-          rw w.result-is (word_of_map _ _ _ _ _ _ read (puts_refused _ _ _ _ _ _ _ refl refused told))
+          rw w.result-is (word_of_map _ _ _ _ _ _ _ read (puts_refused _ _ _ _ _ _ _ refl refused told))
     ]

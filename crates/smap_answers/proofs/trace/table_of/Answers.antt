@@ -13,7 +13,7 @@ loop-word-preserved c =
     let turn = zip_turn c.args.words.now c.args.files.now c.loop-word.yielded _ _ c.next.new.self _ (cc) (cc) c.loop-word.yielded_by (c.in-Some.word, c.in-Some.file) c.in-Some.is c.next.ensures.steps in
     let next = next_pair word_of (λ file. file.bytes.items) _ _ _ c.in-Some.word.now c.in-Some.file.now turn in
     let puts = rw c.deref.ensures.value at c.in_ok-add_word.ensures in
-    λ result gathers. c.loop-word.invariant result (gathers_next _ _ _ _ _ _ _ result next puts (rw length_push at gathers))
+    λ result gathers. c.loop-word.invariant result (gathers_next _ _ _ _ _ _ _ _ result next puts (rw length_push at gathers))
 
 pub returns-in_err-add_word : goal.returns-in_err-add_word
 returns-in_err-add_word c =
@@ -21,9 +21,9 @@ returns-in_err-add_word c =
     let next = next_pair word_of (λ file. file.bytes.items) _ _ _ c.in-Some.word.now c.in-Some.file.now turn in
     let puts = rw c.deref.ensures.value at c.in_err-add_word.ensures in
     let p = err_from_is_err_and c.from_residual.result c.from_residual.ensures.1 in
-    rw (p.1, p.2) (c.loop-word.invariant _ (gathers_refused _ _ _ _ _ _ _ next puts))
+    rw (p.1, p.2) (c.loop-word.invariant _ (gathers_refused _ _ _ _ _ _ _ _ next puts))
 
 pub returns : goal.returns
 returns c =
     let end = zip_end c.args.words.now c.args.files.now c.loop-word.yielded _ _ c.next.new.self _ (cc) (cc) c.loop-word.yielded_by c.in-None.is c.next.ensures.steps in
-    c.loop-word.invariant _ (gathers_end _ _ _ (no_pair_left word_of (λ file. file.bytes.items) _ _ _ end))
+    c.loop-word.invariant _ (gathers_end _ _ _ _ (no_pair_left word_of (λ file. file.bytes.items) _ _ _ end))

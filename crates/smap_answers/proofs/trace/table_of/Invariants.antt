@@ -10,4 +10,4 @@ use Rattle.smap_answers.proofs.trace.table_of.Given as goal
 abbrev pub invariant-loop-word : goal.invariant-loop-word
 invariant-loop-word l =
     let words = zip (map word_of l.words) (map (λ file. file.bytes.items) l.files) in
-    (result : Result Maps Telling) → Gathers (option_copied l.base) l.table (drop (length l.yielded) words) result → Gathers (option_copied l.base) [] words result
+    (result : Result Maps Telling) → Gathers (option_copied l.base) l.interval l.table (drop (length l.yielded) words) result → Gathers (option_copied l.base) l.interval [] words result

@@ -1,9 +1,9 @@
-use Rattle.std.proofs.Common.{◌++◌, ◌||◌, map, sym, ◌∙◌, ap, arith}
+use Rattle.std.proofs.Common.{◌||◌, subst, sym, ◌∙◌, ap, arith}
 use Rattle.std.specs.List.{last_or, list_any}
-use Rattle.std.proofs.lemmas.Bool.{or_parts}
+use Rattle.std.proofs.lemmas.Bool.{or_parts, and_parts, leb-true}
 use Rattle.smap_mappings.specs.Range.{is_number_past_limit, is_mapping_past_limit}
-use Rattle.smap_index.specs.Walk.{checkpoint_in}
-use Rattle.smap_index.proofs.WalkLaws.{all_taken, all_placed, after_next, last_next, any_next, listed_next}
+use Rattle.smap_index.proofs.WalkLaws.{all_taken, all_placed, after_next, last_next, any_next}
+use Rattle.smap_index.proofs.CountingLaws.{IsMarked, counting_next, number_there, marked_next}
 use Rattle.smap_index.proofs.mark.mark_part.Goals as goal
 
 pub next-requires-clause-room : goal.next-requires-clause-room
@@ -17,15 +17,19 @@ loop-mapping-preserved c =
     let m = c.in-Some.mapping in
     let next = c.in-Some.ensures.some j c.loop-mapping.invariant.after in
     let counted = ap (λ m. m.segments) c.in-Some.ensures.counted in
+    let some = leb-true 1 c.args.k (and_parts _ _ c.requires.interval).0 in
+    let ordered = c.start-state.ensures.ordered in
     record {
       after = after_next part j n m c.in-Some.behind next counted _ (cc);
       last = last_next part j n m c.in-Some.behind next counted _ c.mark_mapping-walk.ensures.last;
       past_limit = any_next part j n m c.in-Some.behind next counted is_mapping_past_limit _ _ _ c.loop-mapping.invariant.past_limit c.mark_mapping-walk.ensures.past_limit;
       room = λ has. c.loop-mapping.invariant.room (c.mark_mapping-walk.ensures.room has);
+      counting = counting_next part j n m c.in-Some.behind next counted c.args.k c.loop-mapping.walk.last _ c.loop-mapping.walk.number _ some ordered c.loop-mapping.invariant.counting c.mark_mapping-walk.ensures.last c.mark_mapping-walk.ensures.number;
       marked = λ none has.
           let before = or_parts _ _ (sym c.mark_mapping-walk.ensures.past_limit ∙ none) in
-          listed_next part j n m c.in-Some.behind next counted (checkpoint_in c.args.number) c.args.table.now c.loop-mapping.table c.mark_mapping-walk.new.table
-          (c.loop-mapping.invariant.marked before.0 (c.mark_mapping-walk.ensures.room has)) (c.mark_mapping-walk.ensures.marked none has);
+          marked_next part j n m c.in-Some.behind next counted c.args.k c.args.number c.args.table.now c.loop-mapping.table c.mark_mapping-walk.new.table c.mark_mapping-walk.result.number _ (cc)
+          (number_there part j n m c.in-Some.behind next counted c.args.k c.loop-mapping.walk.last c.loop-mapping.walk.number _ ordered c.loop-mapping.invariant.counting c.mark_mapping-walk.ensures.number)
+          (c.mark_mapping-walk.ensures.marked none has) (c.loop-mapping.invariant.marked before.0 (c.mark_mapping-walk.ensures.room has));
     }
 
 pub returns-clause-last : goal.returns-clause-last
@@ -38,5 +42,5 @@ returns-clause-past_limit c =
 
 pub returns-clause-marked : goal.returns-clause-marked
 returns-clause-marked c none has =
-    c.loop-mapping.invariant.marked none has
-    ∙ ap (λ list. c.args.table.now ++ map (checkpoint_in c.args.number) list) (all_placed c.args.part.now _ (c.in_default.ensures.none _ c.loop-mapping.invariant.after))
+    subst (λ list. IsMarked c.args.part.now c.args.number c.args.k list c.args.table.now c.loop-mapping.table) (all_placed c.args.part.now _ (c.in_default.ensures.none _ c.loop-mapping.invariant.after))
+    (c.loop-mapping.invariant.marked none has)

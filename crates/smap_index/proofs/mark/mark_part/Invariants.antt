@@ -1,22 +1,23 @@
-use Rattle.std.proofs.Common.{◌≡◌, ◌++◌, ◌-◌, ◌||◌, true, false, None, length, map, take}
+use Rattle.std.proofs.Common.{◌≡◌, ◌-◌, ◌||◌, true, false, None, length, take}
 use Rattle.std.specs.List.{last_or, list_any}
 use Rattle.smap_mappings.specs.Pieces.{pieces_of}
 use Rattle.smap_mappings.specs.Mappings.{mappings_of}
 use Rattle.smap_mappings.specs.State.{IsAfter}
 use Rattle.smap_index.specs.Parts.{placed}
 use Rattle.smap_mappings.specs.Range.{is_number_past_limit, is_mapping_past_limit}
-use Rattle.smap_index.specs.Walk.{checkpoint_in}
+use Rattle.smap_index.proofs.CountingLaws.{IsCounting, IsMarked}
 use Rattle.smap_index.proofs.mark.mark_part.Given as goal
 
--- the segments so far are those that were counted: the walk has seen them, and the table has their checkpoints while
--- nothing was past the limit and there was room
+-- the segments so far are those that were counted: the walk has seen them, and the table has the checkpoints of those
+-- that are marked while nothing was past the limit and there was room
 abbrev pub invariant-loop-mapping : goal.invariant-loop-mapping
 invariant-loop-mapping l = record {
   after : IsAfter l.part.text l.meter.segments l.state;
   last : l.walk.last ≡ last_or None (take l.meter.segments (mappings_of l.part.text));
+  counting : IsCounting l.k l.walk.last l.walk.number (take l.meter.segments (mappings_of l.part.text));
   past_limit : l.walk.is_past_limit ≡ (is_number_past_limit l.part.line || is_number_past_limit l.part.column || list_any is_mapping_past_limit (take l.meter.segments (placed l.part)));
   room : l.walk.has_room ≡ true → l.fn.has_room ≡ true;
-  marked : l.walk.is_past_limit ≡ false → l.walk.has_room ≡ true → l.table ≡ l.fn.table ++ map (checkpoint_in l.number) (take l.meter.segments (placed l.part));
+  marked : l.walk.is_past_limit ≡ false → l.walk.has_room ≡ true → IsMarked l.part l.number l.k (take l.meter.segments (placed l.part)) l.fn.table l.table;
 }
 
 abbrev pub decreases-loop-mapping : goal.decreases-loop-mapping

@@ -1,11 +1,11 @@
-use Rattle.std.proofs.Common.{◌+◌, Some, refl, sym, ap, ◌∙◌, arith, cond, drop, append-nil}
+use Rattle.std.proofs.Common.{◌+◌, [], Some, refl, sym, ap, ◌∙◌, arith, cond, drop, append-nil}
 use Rattle.std.proofs.lemmas.Bool.{cond-false}
 use Rattle.std.specs.List.{position_from}
 use Rattle.std.specs.Option.{option_or}
 use Rattle.smap_index.specs.Faults.{is_part_past_limit, overlap_fault, range_fault}
 use Rattle.smap_index.specs.Walk.{IsTextInOrder, is_overlapping_next}
 use Rattle.smap_index.proofs.FaultLaws.{drop_at, first_or, none_so_far, copied_get, overlap_step}
-use Rattle.smap_index.proofs.PartLaws.{checkpoints_next, All_next}
+use Rattle.smap_index.proofs.PartLaws.{marks_next, All_next}
 use Rattle.smap_index.proofs.mark.mark_parts.Goals as goal
 
 pub loop-i-init : goal.loop-i-init
@@ -13,7 +13,7 @@ unfolding overlap_fault range_fault
 loop-i-init c = record {
   overlap = refl;
   past_limit = refl;
-  marked = λ none has. sym (append-nil c.args.table.now);
+  marked = λ none has. ([], sym (append-nil c.args.table.now), tt);
   ordered = tt;
 }
 
@@ -37,7 +37,7 @@ loop-i-preserved c =
           ∙ c.loop-i.invariant.past_limit;
       marked = λ none has.
           let none_here = none_so_far before passes i (sym past ∙ none) in
-          checkpoints_next parts i part (omega arith) c.index-parts-i.is c.args.table.now c.loop-i.table c.mark_part-walk.new.table
+          marks_next parts i part (omega arith) c.index-parts-i.is c.args.k c.args.table.now c.loop-i.table c.mark_part-walk.new.table
           (c.loop-i.invariant.marked none_here.0 (c.mark_part-walk.ensures.room has)) (c.mark_part-walk.ensures.marked none_here.1 has);
       ordered = All_next parts i part (omega arith) c.index-parts-i.is IsTextInOrder c.loop-i.invariant.ordered c.mark_part-walk.ensures.ordered;
     }

@@ -13,6 +13,11 @@ raw_in-requires-clause-column c =
     let no = c.in_default in
     (only_raw c.args.name.now (rows_of (found_of c.args.matches.now)) no.not-lookup no.not-rewrite no.not-check no.not-show no.not-compose c.requires.required).2
 
+pub raw_in-requires-clause-interval : goal.raw_in-requires-clause-interval
+raw_in-requires-clause-interval c =
+    let no = c.in_default in
+    (only_raw c.args.name.now (rows_of (found_of c.args.matches.now)) no.not-lookup no.not-rewrite no.not-check no.not-show no.not-compose c.requires.required).3
+
 pub returns-in_default-clause-asked : goal.returns-in_default-clause-asked
 returns-in_default-clause-asked c =
     let no = c.in_default in

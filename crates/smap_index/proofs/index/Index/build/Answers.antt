@@ -1,4 +1,4 @@
-use Rattle.std.proofs.Common.{subst, ◌∙◌}
+use Rattle.std.proofs.Common.{subst, sym, ◌∙◌}
 use Rattle.std.specs.List.{AllByRecursion}
 use Rattle.std.proofs.lemmas.Bool.{not-false}
 use Rattle.smap_index.specs.Faults.{order_fault, overlap_fault, range_fault}
@@ -8,40 +8,40 @@ use Rattle.smap_index.proofs.OrderLaws.{joined_in_order}
 use Rattle.smap_index.proofs.MarkLaws.{index_made}
 use Rattle.smap_index.proofs.index.Index.build.Goals as goal
 
-pub returns-then-k-ne1-clause-fault : goal.returns-then-k-ne1-clause-fault
-returns-then-k-ne1-clause-fault c refusal is =
-    let known = at_interval c.args.parts.items c.args.k c.if-k-ne1.true in
+pub returns-then-not-is_interval-clause-fault : goal.returns-then-not-is_interval-clause-fault
+returns-then-not-is_interval-clause-fault c refusal is =
+    let known = at_interval c.args.parts.items c.args.k (sym c.is_interval.ensures ∙ c.if-not-is_interval.true) in
     cc (known, is)
 
-pub returns-then-k-ne1-clause-memory : goal.returns-then-k-ne1-clause-memory
-returns-then-k-ne1-clause-memory c none =
-    let known = at_interval c.args.parts.items c.args.k c.if-k-ne1.true in
+pub returns-then-not-is_interval-clause-memory : goal.returns-then-not-is_interval-clause-memory
+returns-then-not-is_interval-clause-memory c none =
+    let known = at_interval c.args.parts.items c.args.k (sym c.is_interval.ensures ∙ c.if-not-is_interval.true) in
     absurd (cc (known, none))
 
 pub returns-in-Some-clause-fault : goal.returns-in-Some-clause-fault
 returns-in-Some-clause-fault c refusal is =
     let order = seen order_fault _ _ _ _ c.deref.ensures.value c.first_out_of_order.ensures c.in-Some.is in
-    let known = at_order c.args.parts.items c.args.k c.if-k-ne1.false _ order in
+    let known = at_order c.args.parts.items c.args.k (sym c.is_interval.ensures ∙ c.if-not-is_interval.false) _ order in
     cc (known, is)
 
 pub returns-in-Some-clause-memory : goal.returns-in-Some-clause-memory
 returns-in-Some-clause-memory c none =
     let order = seen order_fault _ _ _ _ c.deref.ensures.value c.first_out_of_order.ensures c.in-Some.is in
-    let known = at_order c.args.parts.items c.args.k c.if-k-ne1.false _ order in
+    let known = at_order c.args.parts.items c.args.k (sym c.is_interval.ensures ∙ c.if-not-is_interval.false) _ order in
     absurd (cc (known, none))
 
 pub returns-in-Some-overlap-clause-fault : goal.returns-in-Some-overlap-clause-fault
 returns-in-Some-overlap-clause-fault c refusal is =
     let order = seen order_fault _ _ _ _ c.deref.ensures.value c.first_out_of_order.ensures c.in_default.is in
     let overlap = seen overlap_fault _ _ _ _ c.deref-3.ensures.value c.mark_parts-walk.ensures.overlap c.in-Some-overlap.is in
-    let known = at_overlap c.args.parts.items c.args.k c.if-k-ne1.false _ order overlap in
+    let known = at_overlap c.args.parts.items c.args.k (sym c.is_interval.ensures ∙ c.if-not-is_interval.false) _ order overlap in
     cc (known, is)
 
 pub returns-in-Some-overlap-clause-memory : goal.returns-in-Some-overlap-clause-memory
 returns-in-Some-overlap-clause-memory c none =
     let order = seen order_fault _ _ _ _ c.deref.ensures.value c.first_out_of_order.ensures c.in_default.is in
     let overlap = seen overlap_fault _ _ _ _ c.deref-3.ensures.value c.mark_parts-walk.ensures.overlap c.in-Some-overlap.is in
-    let known = at_overlap c.args.parts.items c.args.k c.if-k-ne1.false _ order overlap in
+    let known = at_overlap c.args.parts.items c.args.k (sym c.is_interval.ensures ∙ c.if-not-is_interval.false) _ order overlap in
     absurd (cc (known, none))
 
 pub returns-in-Some-past_limit-clause-fault : goal.returns-in-Some-past_limit-clause-fault
@@ -49,7 +49,7 @@ returns-in-Some-past_limit-clause-fault c refusal is =
     let order = seen order_fault _ _ _ _ c.deref.ensures.value c.first_out_of_order.ensures c.in_default.is in
     let overlap = seen overlap_fault _ _ _ _ c.deref-3.ensures.value c.mark_parts-walk.ensures.overlap c.in_default-overlap.is in
     let range = seen range_fault _ _ _ _ c.deref-3.ensures.value (c.mark_parts-walk.ensures.past_limit c.in_default-overlap.is) c.in-Some-past_limit.is in
-    let known = at_range c.args.parts.items c.args.k c.if-k-ne1.false _ order overlap range in
+    let known = at_range c.args.parts.items c.args.k (sym c.is_interval.ensures ∙ c.if-not-is_interval.false) _ order overlap range in
     cc (known, is)
 
 pub returns-in-Some-past_limit-clause-memory : goal.returns-in-Some-past_limit-clause-memory
@@ -57,7 +57,7 @@ returns-in-Some-past_limit-clause-memory c none =
     let order = seen order_fault _ _ _ _ c.deref.ensures.value c.first_out_of_order.ensures c.in_default.is in
     let overlap = seen overlap_fault _ _ _ _ c.deref-3.ensures.value c.mark_parts-walk.ensures.overlap c.in_default-overlap.is in
     let range = seen range_fault _ _ _ _ c.deref-3.ensures.value (c.mark_parts-walk.ensures.past_limit c.in_default-overlap.is) c.in-Some-past_limit.is in
-    let known = at_range c.args.parts.items c.args.k c.if-k-ne1.false _ order overlap range in
+    let known = at_range c.args.parts.items c.args.k (sym c.is_interval.ensures ∙ c.if-not-is_interval.false) _ order overlap range in
     absurd (cc (known, none))
 
 pub returns-then-not-walk-clause-fault : goal.returns-then-not-walk-clause-fault
@@ -65,7 +65,7 @@ returns-then-not-walk-clause-fault c refusal is =
     let order = seen order_fault _ _ _ _ c.deref.ensures.value c.first_out_of_order.ensures c.in_default.is in
     let overlap = seen overlap_fault _ _ _ _ c.deref-3.ensures.value c.mark_parts-walk.ensures.overlap c.in_default-overlap.is in
     let range = seen range_fault _ _ _ _ c.deref-3.ensures.value (c.mark_parts-walk.ensures.past_limit c.in_default-overlap.is) c.in_default-past_limit.is in
-    let known = at_none c.args.parts.items c.args.k c.if-k-ne1.false order overlap range in
+    let known = at_none c.args.parts.items c.args.k (sym c.is_interval.ensures ∙ c.if-not-is_interval.false) order overlap range in
     absurd (cc (known, is))
 
 pub returns-clause-fault : goal.returns-clause-fault
@@ -73,7 +73,7 @@ returns-clause-fault c refusal is =
     let order = seen order_fault _ _ _ _ c.deref.ensures.value c.first_out_of_order.ensures c.in_default.is in
     let overlap = seen overlap_fault _ _ _ _ c.deref-3.ensures.value c.mark_parts-walk.ensures.overlap c.in_default-overlap.is in
     let range = seen range_fault _ _ _ _ c.deref-3.ensures.value (c.mark_parts-walk.ensures.past_limit c.in_default-overlap.is) c.in_default-past_limit.is in
-    let known = at_none c.args.parts.items c.args.k c.if-k-ne1.false order overlap range in
+    let known = at_none c.args.parts.items c.args.k (sym c.is_interval.ensures ∙ c.if-not-is_interval.false) order overlap range in
     absurd (cc (known, is))
 
 pub returns-clause-sound : goal.returns-clause-sound
@@ -81,7 +81,7 @@ returns-clause-sound c =
     let order = seen order_fault _ _ _ _ c.deref.ensures.value c.first_out_of_order.ensures c.in_default.is in
     let overlap = seen overlap_fault _ _ _ _ c.deref-3.ensures.value c.mark_parts-walk.ensures.overlap c.in_default-overlap.is in
     let range = seen range_fault _ _ _ _ c.deref-3.ensures.value (c.mark_parts-walk.ensures.past_limit c.in_default-overlap.is) c.in_default-past_limit.is in
-    at_none c.args.parts.items c.args.k c.if-k-ne1.false order overlap range
+    at_none c.args.parts.items c.args.k (sym c.is_interval.ensures ∙ c.if-not-is_interval.false) order overlap range
 
 pub returns-clause-built : goal.returns-clause-built
 returns-clause-built c =
@@ -89,7 +89,7 @@ returns-clause-built c =
     let overlap = seen overlap_fault _ _ _ _ c.deref-3.ensures.value c.mark_parts-walk.ensures.overlap c.in_default-overlap.is in
     let range = seen range_fault _ _ _ _ c.deref-3.ensures.value (c.mark_parts-walk.ensures.past_limit c.in_default-overlap.is) c.in_default-past_limit.is in
     let texts = let P = AllByRecursion IsTextInOrder in subst P c.deref-3.ensures.value (c.mark_parts-walk.ensures.ordered c.in_default-overlap.is) in
-    index_made c.deref-2.result.now c.deref-3.result.now c.args.parts.items c.args.k c.reserve.new.self c.mark_parts-walk.new.table c.totals_of-totals.result.segments c.totals_of-totals.result.used_lines c.deref-2.ensures.value c.deref-3.ensures.value c.if-k-ne1.false (c.reserve.ensures ∙ c.new-table.ensures)
+    index_made c.deref-2.result.now c.deref-3.result.now c.args.parts.items c.args.k c.reserve.new.self c.mark_parts-walk.new.table c.totals_of-totals.result.segments c.totals_of-totals.result.used_lines c.deref-2.ensures.value c.deref-3.ensures.value (c.reserve.ensures ∙ c.new-table.ensures)
     (c.mark_parts-walk.ensures.marked c.in_default-overlap.is c.in_default-past_limit.is (not-false _ c.if-not-walk.false)) c.totals_of-totals.ensures.segments c.totals_of-totals.ensures.used_lines c.totals_of-totals.ensures.few
     (joined_in_order c.args.parts.items order overlap texts) (joined_in_range c.args.parts.items range)
 
@@ -100,8 +100,8 @@ invariant_of-result c =
     let range = seen range_fault _ _ _ _ c.deref-3.ensures.value (c.mark_parts-walk.ensures.past_limit c.in_default-overlap.is) c.in_default-past_limit.is in
     let texts = let P = AllByRecursion IsTextInOrder in subst P c.deref-3.ensures.value (c.mark_parts-walk.ensures.ordered c.in_default-overlap.is) in
     record {
-      sound = at_none c.args.parts.items c.args.k c.if-k-ne1.false order overlap range;
-      holds = index_made c.deref-2.result.now c.deref-3.result.now c.args.parts.items c.args.k c.reserve.new.self c.mark_parts-walk.new.table c.totals_of-totals.result.segments c.totals_of-totals.result.used_lines c.deref-2.ensures.value c.deref-3.ensures.value c.if-k-ne1.false (c.reserve.ensures ∙ c.new-table.ensures)
+      sound = at_none c.args.parts.items c.args.k (sym c.is_interval.ensures ∙ c.if-not-is_interval.false) order overlap range;
+      holds = index_made c.deref-2.result.now c.deref-3.result.now c.args.parts.items c.args.k c.reserve.new.self c.mark_parts-walk.new.table c.totals_of-totals.result.segments c.totals_of-totals.result.used_lines c.deref-2.ensures.value c.deref-3.ensures.value (c.reserve.ensures ∙ c.new-table.ensures)
           (c.mark_parts-walk.ensures.marked c.in_default-overlap.is c.in_default-past_limit.is (not-false _ c.if-not-walk.false)) c.totals_of-totals.ensures.segments c.totals_of-totals.ensures.used_lines c.totals_of-totals.ensures.few
           (joined_in_order c.args.parts.items order overlap texts) (joined_in_range c.args.parts.items range);
     }

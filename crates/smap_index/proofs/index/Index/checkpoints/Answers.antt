@@ -1,5 +1,5 @@
 use Rattle.std.proofs.Common.{◌∙◌}
-use Rattle.smap_index.proofs.MarkLaws.{as_many, bounded}
+use Rattle.smap_index.proofs.IndexLaws.{as_many, bounded}
 use Rattle.smap_index.proofs.index.Index.checkpoints.Goals as goal
 
 pub returns-clause-count : goal.returns-clause-count

@@ -1,34 +1,43 @@
-use Rattle.std.proofs.Common.{sym, ◌∙◌, ap}
-use Rattle.smap_index.specs.Parts.{joined}
-use Rattle.smap_index.specs.Answer.{answer_at_or_before}
-use Rattle.smap_index.specs.Index.{IndexContents}
-use Rattle.smap_index.proofs.MarkLaws.{table_is_joined, table_in_order, compared}
-use Rattle.smap_index.proofs.SearchLaws.{found_on_line, not_on_line, none_before}
+use Rattle.std.proofs.Common.{sym, ◌∙◌, arith}
+use Rattle.smap_index.proofs.IndexLaws.{interval_within, index_in_order, compared, none_at_or_before, none_on_its_line, part_within, state_between, part_in_range, last_answers_behind}
 use Rattle.smap_index.proofs.index.Index.look_up.Goals as goal
 
-pub last_not_after-requires-clause-ordered : goal.last_not_after-requires-clause-ordered
-last_not_after-requires-clause-ordered c = table_in_order _ c.self.invariant
+pub last_checkpoint-requires-clause-ordered : goal.last_checkpoint-requires-clause-ordered
+last_checkpoint-requires-clause-ordered c = index_in_order _ c.self.invariant
+
+pub index-part-requires : goal.index-part-requires
+index-part-requires c = omega (arith, part_within _ c.self.invariant c.args.line c.args.column _ c.in-Some.ensures.last)
+
+pub overflow_sub-self-inside : goal.overflow_sub-self-inside
+overflow_sub-self-inside c = (interval_within _ c.self.invariant).0
+
+pub last_behind-requires-clause-state : goal.last_behind-requires-clause-state
+last_behind-requires-clause-state c = state_between _ c.self.invariant c.args.line c.args.column _ c.in-Some.ensures.last c.index-part.result.now c.index-part.ensures
+
+pub last_behind-requires-clause-in_range : goal.last_behind-requires-clause-in_range
+last_behind-requires-clause-in_range c = part_in_range _ c.self.invariant c.args.line c.args.column _ c.in-Some.ensures.last c.index-part.result.now c.index-part.ensures
+
+pub last_behind-requires-clause-room : goal.last_behind-requires-clause-room
+last_behind-requires-clause-room c = omega (arith, (interval_within _ c.self.invariant).1, c.in-Some.ensures.none_decoded, c.requires.room.1)
 
 pub returns-in-Some-clause-answer : goal.returns-in-Some-clause-answer
 returns-in-Some-clause-answer c =
-    c.answer_of.ensures ∙ sym (found_on_line c.args.line c.args.column _ c.in-Some.mapping (table_in_order _ c.self.invariant) (sym c.in-Some.ensures.last) c.if-mapping-line.true)
-    ∙ ap (λ list. answer_at_or_before list c.args.line c.args.column) (table_is_joined _ c.self.invariant ∙ ap (λ (index : IndexContents). joined index.parts) c.self.view_is)
-
-pub returns-in_default-clause-answer : goal.returns-in_default-clause-answer
-returns-in_default-clause-answer c =
-    sym (not_on_line c.args.line c.args.column _ c.in-Some.mapping (table_in_order _ c.self.invariant) (sym c.in-Some.ensures.last) c.if-mapping-line.false)
-    ∙ ap (λ list. answer_at_or_before list c.args.line c.args.column) (table_is_joined _ c.self.invariant ∙ ap (λ (index : IndexContents). joined index.parts) c.self.view_is)
-
-pub returns-in_default-2-clause-answer : goal.returns-in_default-2-clause-answer
-returns-in_default-2-clause-answer c =
-    sym (none_before c.args.line c.args.column _ (table_in_order _ c.self.invariant) (sym c.in_default.ensures.last))
-    ∙ ap (λ list. answer_at_or_before list c.args.line c.args.column) (table_is_joined _ c.self.invariant ∙ ap (λ (index : IndexContents). joined index.parts) c.self.view_is)
+    c.answer_of.ensures
+    ∙ last_answers_behind _ c.self.invariant c.args.line c.args.column _ c.in-Some.ensures.last c.index-part.result.now c.index-part.ensures _ c.self.view_is c.if-checkpoint-line.true c.last_behind.result c.last_behind.ensures.last
 
 pub returns-in-Some-clause-compared : goal.returns-in-Some-clause-compared
-returns-in-Some-clause-compared c = compared _ c.self.invariant _ c.self.view_is _ _ c.in-Some.ensures.few
+returns-in-Some-clause-compared c b below =
+    let few = compared _ c.self.invariant _ c.self.view_is _ _ c.in-Some.ensures.few b below in
+    omega (arith, few, c.last_behind.ensures.none_compared)
+
+pub returns-in_default-clause-answer : goal.returns-in_default-clause-answer
+returns-in_default-clause-answer c = sym (none_on_its_line _ c.self.invariant c.args.line c.args.column _ c.in-Some.ensures.last _ c.self.view_is c.if-checkpoint-line.false)
 
 pub returns-in_default-clause-compared : goal.returns-in_default-clause-compared
 returns-in_default-clause-compared c = compared _ c.self.invariant _ c.self.view_is _ _ c.in-Some.ensures.few
+
+pub returns-in_default-2-clause-answer : goal.returns-in_default-2-clause-answer
+returns-in_default-2-clause-answer c = sym (none_at_or_before _ c.self.invariant c.args.line c.args.column _ c.self.view_is (sym c.in_default.ensures.last))
 
 pub returns-in_default-2-clause-compared : goal.returns-in_default-2-clause-compared
 returns-in_default-2-clause-compared c = compared _ c.self.invariant _ c.self.view_is _ _ c.in_default.ensures.few

@@ -3,7 +3,7 @@ use Rattle.smap_index.specs.Search.{mappings_at}
 use Rattle.smap_index.proofs.Halving.{one_more}
 use Rattle.smap_index.proofs.ListLaws.{last_taken}
 use Rattle.smap_index.proofs.SearchLaws.{in_front, ends_front, front_within, read_mapping}
-use Rattle.smap_index.proofs.search.last_not_after.Goals as goal
+use Rattle.smap_index.proofs.search.last_checkpoint.Goals as goal
 
 pub loop-low-init : goal.loop-low-init
 loop-low-init c = record {
@@ -29,7 +29,7 @@ loop-low-preserved-then-is_not_after c =
       low = in_front c.args.line c.args.column (mappings_at c.args.table.now) _ c.at-checkpoint.result.mapping c.requires.ordered there (sym c.is_not_after.ensures ∙ c.if-is_not_after.true);
       high = c.loop-low.invariant.high;
       inside = c.loop-low.invariant.inside;
-      best = sym (last_taken None (mappings_at c.args.table.now) _ c.at-checkpoint.result.mapping there);
+      best = sym (last_taken None c.args.table.now _ c.at-checkpoint.result c.at-checkpoint.ensures.read);
       onward = omega (arith, c.loop-low.invariant.onward);
       few = λ b below. one_more _ _ _ b _ _ (omega arith) (omega arith) counted (c.loop-low.invariant.few b below);
       none_decoded = ap (λ m. m.segments) c.at-checkpoint.ensures.counted ∙ c.loop-low.invariant.none_decoded;

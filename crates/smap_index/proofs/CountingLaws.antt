@@ -1,0 +1,142 @@
+-- How a walk counts the segments of a line, from 0 anew at each checkpoint: the number that it gives is the mapping's
+-- number on its line, but for multiples of k. And what one mapping more adds to the marks of a part.
+use Rattle.std.proofs.Common.{◌≡◌, ℕ, ◌+◌, ◌%◌, ◌<◌, List, [], ◌∷◌, ◌++◌, ◌&&◌, Bool, true, false, Option, Some, length, map, take, drop, cond, suc, refl, ap, sym, subst, ◌∙◌, arith, eqb, ltb, ⊎_elim}
+use Rattle.std.specs.Prelude.{option_map}
+use Rattle.std.specs.List.{AllZip, slice_get}
+use Rattle.std.proofs.Math.Nat.{zero-mod}
+use Rattle.std.proofs.lemmas.Bool.{cases_Bool, cond-true, cond-false, lt-ltb, le-ltb, eq-eqb, ne_eqb, eqb-true, eqb-false}
+use Rattle.std.proofs.lemmas.List.{append-nil, append_assoc, take-append-drop, length-take-le, take-map}
+use Rattle.std.proofs.lemmas.Option.{slice_get-map}
+use Rattle.smap_mappings.specs.Mappings.{mappings_of}
+use Rattle.smap_mappings.specs.Order.{IsInOrder}
+use Rattle.smap_mappings.specs.State.{IsAfter, IsNext}
+use Rattle.smap_mappings.specs.declared.cursor.Cursor.{Cursor}
+use Rattle.smap_mappings.specs.declared.mapping.Mapping.{Mapping}
+use Rattle.smap_index.specs.Parts.{placed_mapping, placed}
+use Rattle.smap_index.specs.Marks.{number_on_line, marked_segments, IsCheckpointIn}
+use Rattle.smap_index.specs.Walk.{checkpoint_at, number_behind}
+use Rattle.smap_index.specs.declared.part.Part.{Part}
+use Rattle.smap_index.specs.declared.table.Checkpoint.{Checkpoint}
+use Rattle.smap_index.proofs.ListLaws.{take_next}
+use Rattle.smap_index.proofs.MarkLaws.{AllZip-append}
+use Rattle.smap_index.proofs.NumberLaws.{next_remainder, front_in_order, next_number}
+use Rattle.smap_index.proofs.WalkLaws.{length-placed, placed_next}
+
+-- ---- numbers but for multiples of k
+
+one_more : (k n number : ℕ) → 0 < k → number ≡ n % k → cond (ltb (number + 1) k) (number + 1) 0 ≡ (n + 1) % k
+one_more k n number some is =
+    ⊎_elim
+    (λ more. cond-true (ltb (number + 1) k) (number + 1) 0 (lt-ltb (number + 1) k (omega (arith, is, more.1))) ∙ ap (λ n. n + 1) is ∙ sym more.0)
+    (λ none. cond-false (ltb (number + 1) k) (number + 1) 0 (le-ltb (number + 1) k (omega (arith, is, none.1))) ∙ sym none.0)
+    (next_remainder n k some)
+
+-- ---- the count of a walk
+
+-- behind these mappings, the walk gives each mapping that can follow its number on its line, but for multiples of k
+abbrev pub IsCounting : ℕ → Option Mapping → ℕ → List Mapping → Type 0
+IsCounting k last number before = (m : Mapping) → IsInOrder (before ++ m ∷ []) → number_behind k last number m ≡ number_on_line before m % k
+
+counting_more : (k : ℕ) (last : Option Mapping) (number after : ℕ) (before : List Mapping) (m : Mapping) → 0 < k → IsInOrder (before ++ m ∷ []) → IsCounting k last number before → after ≡ number_behind k last number m → IsCounting k (Some m) after (before ++ m ∷ [])
+counting_more k last number after before m some order so_far is follows ordered =
+    let here : after ≡ number_on_line before m % k = is ∙ so_far m order in
+    let counted = next_number before m follows (subst IsInOrder (append_assoc before (m ∷ []) (follows ∷ [])) ordered) in
+    let within = ltb (after + 1) k in
+    ⊎_elim
+    (λ yes.
+    ap (λ b. cond (b && within) (after + 1) 0) yes ∙ one_more k (number_on_line before m) after some here
+    ∙ ap (λ n. n % k) (sym (counted ∙ cond-true (eqb m.line follows.line) (number_on_line before m + 1) 0 yes)))
+    (λ no.
+    ap (λ b. cond (b && within) (after + 1) 0) no ∙ sym (zero-mod k)
+    ∙ ap (λ n. n % k) (sym (counted ∙ cond-false (eqb m.line follows.line) (number_on_line before m + 1) 0 no)))
+    (cases_Bool (eqb m.line follows.line))
+
+-- ---- numbers at their places
+
+same_line : (base a b : ℕ) → eqb (base + a) (base + b) ≡ eqb a b
+same_line base a b =
+    ⊎_elim
+    (λ yes. eq-eqb (base + a) (base + b) (ap (λ n. base + n) (eqb-true a b yes)) ∙ sym yes)
+    (λ no. ne_eqb (base + a) (base + b) (λ (same : base + a ≡ base + b). eqb-false a b no (omega (arith, same))) ∙ sym no)
+    (cases_Bool (eqb a b))
+
+as_many : (b c : Bool) (x y : Mapping) (xs ys : List Mapping) → b ≡ c → length xs ≡ length ys → length (cond b (x ∷ xs) xs) ≡ length (cond c (y ∷ ys) ys)
+as_many b true x y xs ys is same = ap (λ b. length (cond b (x ∷ xs) xs)) is ∙ ap suc same
+as_many b false x y xs ys is same = ap (λ b. length (cond b (x ∷ xs) xs)) is ∙ same
+
+-- a part moves its lines alike
+number_placed : (part : Part) (before : List Mapping) (m : Mapping) → number_on_line (map (placed_mapping part) before) (placed_mapping part m) ≡ number_on_line before m
+number_placed part [] m = refl
+number_placed part (a ∷ before) m = as_many _ _ _ _ _ _ (same_line part.line a.line m.line) (number_placed part before m)
+
+-- ---- marked segments
+
+-- the segment number of a mapping behind these, if it is marked
+abbrev pub marked_at : ℕ → List Mapping → Mapping → List ℕ
+marked_at k before m = cond (eqb (number_on_line before m % k) 0) (length before ∷ []) []
+
+behind_both : (b : Bool) (n : ℕ) (all front added : List ℕ) → all ≡ front ++ added → cond b (n ∷ all) all ≡ cond b (n ∷ front) front ++ added
+behind_both true n all front added is = ap (λ list. n ∷ list) is
+behind_both false n all front added is = is
+
+pub marked_segments-push : (k : ℕ) (before xs : List Mapping) (m : Mapping) → marked_segments k before (xs ++ m ∷ []) ≡ marked_segments k before xs ++ marked_at k (before ++ xs) m
+marked_segments-push k before [] m = ap (λ front. marked_at k front m) (sym (append-nil before))
+marked_segments-push k before (x ∷ xs) m =
+    behind_both (eqb (number_on_line before x % k) 0) (length before) _ _ _
+    (marked_segments-push k (before ++ x ∷ []) xs m ∙ ap (λ front. marked_segments k (before ++ x ∷ []) xs ++ marked_at k front m) (append_assoc before (x ∷ []) xs))
+
+-- the table is its start and one checkpoint for each marked segment of these that a part begins with
+abbrev pub IsMarked : Part → ℕ → ℕ → List Mapping → List Checkpoint → List Checkpoint → Type 0
+IsMarked part number k front start table = (added : List Checkpoint) × (table ≡ start ++ added) × AllZip (IsCheckpointIn part number) (marked_segments k [] front) added
+
+module _ (part : Part) (j n : ℕ) (m : Mapping) (behind : Cursor) (next : IsNext part.text j m behind) (counted : n ≡ j + 1) where
+  ordered_to : IsInOrder (mappings_of part.text) → IsInOrder (take j (mappings_of part.text) ++ m ∷ [])
+  ordered_to ordered =
+      let list = mappings_of part.text in
+      subst IsInOrder (take_next list j m next.mapping_is) (front_in_order (take (j + 1) list) (drop (j + 1) list) (subst IsInOrder (sym (take-append-drop (j + 1) list)) ordered))
+
+  pub counting_next : (k : ℕ) (last new_last : Option Mapping) (number new_number : ℕ) → 0 < k → IsInOrder (mappings_of part.text) → IsCounting k last number (take j (mappings_of part.text)) → new_last ≡ Some m → new_number ≡ number_behind k last number m → IsCounting k new_last new_number (take n (mappings_of part.text))
+  counting_next k last new_last number new_number some ordered so_far last_is number_is =
+      let list = mappings_of part.text in
+      let longer : take n list ≡ take j list ++ m ∷ [] = ap (λ n. take n list) counted ∙ take_next list j m next.mapping_is in
+      let there = counting_more k last number new_number (take j list) m some (ordered_to ordered) so_far number_is in
+      subst (λ front. IsCounting k new_last new_number front) (sym longer) (subst (λ last. IsCounting k last new_number (take j list ++ m ∷ [])) (sym last_is) there)
+
+  -- the number of the walk is that of the mapping at its place
+  pub number_there : (k : ℕ) (last : Option Mapping) (number new_number : ℕ) → IsInOrder (mappings_of part.text) → IsCounting k last number (take j (mappings_of part.text)) → new_number ≡ number_behind k last number m → number_on_line (take j (placed part)) (placed_mapping part m) % k ≡ new_number
+  unfolding placed
+  number_there k last number new_number ordered so_far number_is =
+      let list = mappings_of part.text in
+      ap (λ n. n % k) (ap (λ front. number_on_line front (placed_mapping part m)) (take-map (placed_mapping part) j list) ∙ number_placed part (take j list) m)
+      ∙ sym (number_is ∙ so_far m (ordered_to ordered))
+
+  there : slice_get (placed part) j ≡ Some (placed_mapping part m)
+  unfolding placed
+  there = slice_get-map (placed_mapping part) (mappings_of part.text) j ∙ ap (option_map (placed_mapping part)) next.mapping_is
+
+  pub marked_next : (k number : ℕ) (start old new : List Checkpoint) (new_number : ℕ) (state : Cursor) → behind ≡ state → number_on_line (take j (placed part)) (placed_mapping part m) % k ≡ new_number → new ≡ cond (eqb new_number 0) (old ++ checkpoint_at number (placed_mapping part m) state ∷ []) old → IsMarked part number k (take j (placed part)) start old → IsMarked part number k (take n (placed part)) start new
+  marked_next k number start old new new_number state same number_is pushed (added, is, zip) =
+      let front = take j (placed part) in
+      let here = placed_mapping part m in
+      let point = checkpoint_at number here state in
+      let IsHere : List ℕ → List Checkpoint → Type 0 = AllZip (IsCheckpointIn part number) in
+      let length_is : length front ≡ j = length-take-le j (placed part) (omega (arith, next.more, length-placed part)) in
+      let longer : marked_segments k [] (take n (placed part)) ≡ marked_segments k [] front ++ marked_at k front here = ap (marked_segments k []) (placed_next part j n m behind next counted) ∙ marked_segments-push k [] front here in
+      ⊎_elim
+      (λ zero_is.
+      let e = ap (λ n. eqb n 0) number_is ∙ zero_is in
+      let one : marked_at k front here ≡ j ∷ [] = cond-true _ (length front ∷ []) [] e ∙ ap (λ n. n ∷ []) length_is in
+      let inside : IsCheckpointIn part number j point = record { number_is = refl; mapping_is = there; state_is = subst (IsAfter part.text (j + 1)) same next.behind } in (
+        added ++ point ∷ [],
+        pushed ∙ cond-true _ _ _ zero_is ∙ ap (λ list. list ++ point ∷ []) is ∙ append_assoc start added (point ∷ []),
+        subst (λ segments. IsHere segments (added ++ point ∷ [])) (sym (longer ∙ ap (λ last. marked_segments k [] front ++ last) one))
+            (AllZip-append (IsCheckpointIn part number) (marked_segments k [] front) (j ∷ []) added (point ∷ []) zip (inside, tt)),
+      ))
+      (λ other.
+      let e = ap (λ n. eqb n 0) number_is ∙ other in
+      let none : marked_at k front here ≡ [] = cond-false _ (length front ∷ []) [] e in (
+        added,
+        pushed ∙ cond-false _ _ _ other ∙ is,
+        subst (λ segments. IsHere segments added) (sym (longer ∙ ap (λ last. marked_segments k [] front ++ last) none ∙ append-nil (marked_segments k [] front))) zip,
+      ))
+      (cases_Bool (eqb new_number 0))

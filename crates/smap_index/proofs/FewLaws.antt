@@ -1,0 +1,132 @@
+-- There are few marks: at most one for each k segments, and one for each line that holds a segment.
+use Rattle.std.proofs.Common.{◌≡◌, ℕ, ◌+◌, ◌*◌, ◌/◌, ◌%◌, ◌<◌, ◌≤◌, suc, List, [], ◌∷◌, ◌++◌, length, map, filter, cond, true, refl, ap, sym, subst, ◌∙◌, arith, eqb, eq-eqb, ⊎_elim, inl, inr, ◌⊎◌}
+use Rattle.std.proofs.Math.Nat.{mod-le, mul-le-mul_left, add-mul-div_left}
+use Rattle.std.proofs.lemmas.Nat.{le-div}
+use Rattle.std.proofs.lemmas.Bool.{cond-true, cond-false, cond_both, cases_Bool, eqb-true, or_cases, false_from_ne_true}
+use Rattle.std.proofs.lemmas.List.{append_assoc, length-append, length-map}
+use Rattle.std.proofs.lemmas.List.Elements.{filter-append}
+use Rattle.std.proofs.lemmas.List.Folds.{list_any-append}
+use Rattle.smap_mappings.specs.Counts.{new_lines, used_lines_of}
+use Rattle.smap_mappings.specs.Mappings.{Move, moves_of, has_segment_on, mapping_after, mappings_after, mappings_of}
+use Rattle.smap_mappings.specs.Order.{IsInOrder}
+use Rattle.smap_mappings.specs.declared.mapping.Mapping.{Mapping}
+use Rattle.smap_index.specs.declared.part.Part.{Part}
+use Rattle.smap_index.specs.Parts.{placed_mapping, placed, joined}
+use Rattle.smap_index.specs.Marks.{mark_in, number_on_line, marked_segments, marks_from, marks, used_lines_in}
+use Rattle.smap_index.proofs.NumberLaws.{next_remainder, front_in_order, back_in_order, next_number}
+
+-- ---- one segment more, in numbers alone
+
+-- the remainder grows by one at most, and falls to 0 only from the greatest
+grows : (j k : ℕ) → 0 < k → ((j + 1) % k ≤ j % k + 1) × ((j + 1) % k ≡ 0 → k ≤ j % k + 1)
+grows j k positive =
+    ⊎_elim
+    (λ more. (omega (arith, more.0), λ (none : (j + 1) % k ≡ 0). absurd (omega (arith, more.0, none))))
+    (λ none. (omega (arith, none.0), λ _. omega (arith, none.1)))
+    (next_remainder j k positive)
+
+-- Segment x has the number next: it stands behind number j on one line, or it is the first of a new line. k times the
+-- marks is at most the segments, the remainder at the segment before them, and k times the new lines: where this holds
+-- of the n segments behind x, it holds from x on.
+one_more : (k j next n lines new x : ℕ) (marked : List ℕ) → 0 < k → (next ≡ j + 1) ⊎ ((next ≡ 0) × (new ≡ 1)) → k * length marked ≤ n + next % k + k * lines
+    → k * length (cond (eqb (next % k) 0) (x ∷ marked) marked) ≤ suc n + j % k + k * (new + lines)
+one_more k j next n lines new x marked positive which few =
+    let all = λ (list : List ℕ). k * length list ≤ suc n + j % k + k * (new + lines) in
+    ⊎_elim
+    (λ (same : next ≡ j + 1).
+    let number : next % k ≡ (j + 1) % k = ap (λ n. n % k) same in
+    let grown = grows j k positive in
+    let more : k * lines ≤ k * (new + lines) = mul-le-mul_left k (omega arith) in
+    cond_both (eqb (next % k) 0) (x ∷ marked) marked all
+    (λ is. let none : next % k ≡ 0 = eqb-true _ _ is in let most = grown.1 (sym number ∙ none) in omega (arith, few, none, most, more))
+    (λ is_not. omega (arith, few, number, grown.0, more)))
+    (λ first.
+    let none : next % k ≤ 0 = subst (λ n. n % k ≤ 0) (sym first.0) (mod-le 0 k) in
+    let more : k * (new + lines) ≡ k + k * lines = ap (λ n. k * (n + lines)) first.1 ∙ omega arith in
+    cond_both (eqb (next % k) 0) (x ∷ marked) marked all (λ is. omega (arith, few, none, more)) (λ is_not. omega (arith, few, none, more)))
+    which
+
+-- ---- the lines of a text and of its part
+
+-- where a line of the text holds one of these segments, the part's line holds one of these mappings
+abbrev HoldsToo : Part → List Move → List Mapping → Type 0
+HoldsToo part moves mappings = (line : ℕ) → has_segment_on line moves ≡ true → 0 < length (filter (λ (e : Mapping). eqb e.line (part.line + line)) mappings)
+
+holds_next : (part : Part) (moves : List Move) (mappings : List Mapping) (move : Move) (mapping : Mapping) → mapping.line ≡ part.line + move.line → HoldsToo part moves mappings → HoldsToo part (moves ++ move ∷ []) (mappings ++ mapping ∷ [])
+holds_next part moves mappings move mapping line_is holds line has =
+    let on = λ (e : Mapping). eqb e.line (part.line + line) in
+    let both : length (filter on (mappings ++ mapping ∷ [])) ≡ length (filter on mappings) + length (filter on (mapping ∷ [])) = ap length (filter-append on mappings (mapping ∷ [])) ∙ length-append _ _ in
+    ⊎_elim
+    (λ earlier. let some = holds line earlier in omega (arith, both, some))
+    (λ last. ⊎_elim
+    (λ is.
+    let same : move.line ≡ line = eqb-true _ _ is in
+    let one : length (filter on (mapping ∷ [])) ≡ 1 = ap length (cond-true (on mapping) (mapping ∷ []) [] (eq-eqb _ _ (line_is ∙ ap (λ line. part.line + line) same))) in
+    omega (arith, both, one))
+    (λ is_not. absurd (cc))
+    (or_cases _ _ last))
+    (or_cases _ _ (sym (list_any-append (λ (e : Move). eqb e.line line) moves (move ∷ [])) ∙ has))
+
+-- ---- the marks of a part
+
+module _ (part : Part) (k : ℕ) (positive : 0 < k) where
+  -- the placed mappings of these segments of the part's text, which stand after those before
+  abbrev behind : List Move → List Move → List Mapping
+  behind before moves = map (placed_mapping part) (mappings_after before moves)
+
+  few_behind : (before : List Mapping) (last : Mapping) (earlier moves : List Move) → HoldsToo part earlier (before ++ last ∷ []) → IsInOrder (before ++ last ∷ behind earlier moves)
+      → k * length (marked_segments k (before ++ last ∷ []) (behind earlier moves)) ≤ length (behind earlier moves) + number_on_line before last % k + k * new_lines earlier moves
+  unfolding mapping_after
+  few_behind before last earlier [] holds order = omega arith
+  few_behind before last earlier (move ∷ moves) holds order =
+      let front = before ++ last ∷ [] in
+      let next = placed_mapping part (mapping_after earlier move) in
+      let rest = behind (earlier ++ move ∷ []) moves in
+      let ordered : IsInOrder (front ++ next ∷ rest) = subst IsInOrder (sym (append_assoc before (last ∷ []) (next ∷ rest))) order in
+      let up_to_next : IsInOrder (before ++ last ∷ next ∷ []) = front_in_order (before ++ last ∷ next ∷ []) rest (subst IsInOrder (sym (append_assoc before (last ∷ next ∷ []) rest)) order) in
+      let number = next_number before last next up_to_next in
+      one_more k (number_on_line before last) (number_on_line front next) (length rest) (new_lines (earlier ++ move ∷ []) moves) (cond (has_segment_on move.line earlier) 0 1) (length front) (marked_segments k (front ++ next ∷ []) rest) positive
+      (⊎_elim
+      (λ same. inl (number ∙ cond-true _ _ _ same))
+      (λ other.
+      let first : number_on_line front next ≡ 0 = number ∙ cond-false _ _ _ other in
+      inr (first, cond-false _ _ _ (false_from_ne_true _ (λ held. let some = holds move.line held in omega (arith, first, some)))))
+      (cases_Bool (eqb last.line next.line)))
+      (few_behind front next (earlier ++ move ∷ []) moves (holds_next part earlier front move next refl holds) ordered)
+
+  few_of : (moves : List Move) → IsInOrder (behind [] moves) → k * length (marked_segments k [] (behind [] moves)) ≤ length (behind [] moves) + k * new_lines [] moves
+  unfolding mapping_after
+  few_of [] order = omega arith
+  few_of (move ∷ moves) order =
+      let first = placed_mapping part (mapping_after [] move) in
+      let rest = behind (move ∷ []) moves in
+      let none = mod-le 0 k in
+      let more =
+      one_more k 0 0 (length rest) (new_lines (move ∷ []) moves) 1 0 (marked_segments k (first ∷ []) rest) positive (inr (refl, refl))
+      (few_behind [] first (move ∷ []) moves (holds_next part [] [] move first refl (λ line has. absurd (cc))) order) in
+      omega (arith, more, none)
+
+  few_in_part : IsInOrder (placed part) → k * length (marked_segments k [] (placed part)) ≤ length (placed part) + k * used_lines_of part.text
+  unfolding placed mappings_of used_lines_of
+  few_in_part order = few_of (moves_of part.text) order
+
+-- ---- the marks of all parts
+
+few_from : (i : ℕ) (parts : List Part) (k : ℕ) → 0 < k → IsInOrder (joined parts) → k * length (marks_from i parts k) ≤ length (joined parts) + k * used_lines_in parts
+few_from i [] k positive order = omega arith
+few_from i (part ∷ parts) k positive order =
+    let here = few_in_part part k positive (front_in_order (placed part) (joined parts) order) in
+    let rest = few_from (i + 1) parts k positive (back_in_order (placed part) (joined parts) order) in
+    let segments = length-append (placed part) (joined parts) in
+    let number : length (marks_from i (part ∷ parts) k) ≡ length (marked_segments k [] (placed part)) + length (marks_from (i + 1) parts k) =
+    length-append (map (mark_in i) (marked_segments k [] (placed part))) (marks_from (i + 1) parts k) ∙ ap (λ n. n + length (marks_from (i + 1) parts k)) (length-map (marked_segments k [] (placed part)) (mark_in i)) in
+    let all = ap (λ n. k * n) number in
+    omega (arith, here, rest, segments, all)
+
+-- at most one mark for each k segments, and one for each line that holds a segment
+pub few_marks : (parts : List Part) (k : ℕ) → 0 < k → IsInOrder (joined parts) → length (marks parts k) ≤ length (joined parts) / k + used_lines_in parts
+few_marks parts k positive order =
+    let few = few_from 0 parts k positive order in
+    let quotient = le-div (length (marks parts k)) (length (joined parts) + k * used_lines_in parts) k positive (omega (arith, few)) in
+    let split = add-mul-div_left (length (joined parts)) (used_lines_in parts) positive in
+    omega (arith, quotient, split)

@@ -1,0 +1,97 @@
+-- What the table of every index meets.
+use Rattle.std.proofs.Common.{◌≡◌, ℕ, ◌+◌, ◌-◌, ◌/◌, ◌^◌, ◌<◌, ◌≤◌, length, take, drop, Some, None, false, refl, sym, ap, subst, ◌∙◌, arith, get_or}
+use Rattle.std.specs.List.{list_any}
+use Rattle.std.proofs.lemmas.Bool.{and_parts, leb-true}
+use Rattle.std.proofs.lemmas.Option.{slice_get_within, get_or_from_slice_get}
+use Rattle.std.proofs.lemmas.Slice.Zip.{AllZip-long}
+use Rattle.smap_mappings.specs.Order.{IsInOrder}
+use Rattle.smap_mappings.specs.Range.{is_mapping_past_limit}
+use Rattle.smap_mappings.specs.State.{IsAfter, IsBetween}
+use Rattle.smap_mappings.specs.declared.mapping.Mapping.{Mapping}
+use Rattle.smap_index.specs.Parts.{placed, joined}
+use Rattle.smap_index.specs.Answer.{answer_of, answer_at_or_before}
+use Rattle.smap_index.specs.Faults.{most_interval}
+use Rattle.smap_index.specs.Marks.{marks, IsCheckpointOf, used_lines_in}
+use Rattle.smap_index.specs.Search.{mappings_at, last_from, last_checkpoint}
+use Rattle.smap_index.specs.Index.{IndexContents, IsIndex}
+use Rattle.smap_index.specs.declared.answer.Answer.TheVariants.{Nothing}
+use Rattle.smap_index.specs.declared.part.Part.{Part}
+use Rattle.smap_index.specs.declared.table.Checkpoint.{Checkpoint}
+use Rattle.smap_index.proofs.RefusalLaws.{faultless, all_in_range}
+use Rattle.smap_index.proofs.Tiles.{IsTiled}
+use Rattle.smap_index.proofs.TileLaws.{tiled, table_in_order}
+use Rattle.smap_index.proofs.FewLaws.{few_marks}
+use Rattle.smap_index.proofs.ResumeLaws.{IsResumed, resumed, none_answers, none_on_line, last_answers_on_line}
+
+module _ (index : IndexContents) (is : IsIndex index) where
+  -- its interval is one at which checkpoints may stand
+  pub interval_within : (1 ≤ index.k) × (index.k ≤ most_interval)
+  interval_within =
+      let parts = and_parts _ _ (faultless index.parts index.k is.sound).interval in
+      (leb-true 1 index.k parts.0, leb-true index.k most_interval parts.1)
+
+  -- the checkpoints lie on the joined list as tiles
+  pub table_tiled : IsTiled index.parts index.k (joined index.parts) index.checkpoints
+  table_tiled = tiled index.parts index.k interval_within.0 is.holds.ordered index.checkpoints is.holds.marked
+
+  pub index_in_order : IsInOrder (mappings_at index.checkpoints)
+  index_in_order = table_in_order index.parts index.k (joined index.parts) index.checkpoints is.holds.ordered table_tiled
+
+  -- there are as many checkpoints as marks
+  pub as_many : (seen : IndexContents) → index ≡ seen → length index.checkpoints ≡ length (marks seen.parts seen.k)
+  as_many seen same = AllZip-long (IsCheckpointOf index.parts) (marks index.parts index.k) index.checkpoints is.holds.marked ∙ ap (λ (i : IndexContents). length (marks i.parts i.k)) same
+
+  -- they are few
+  pub bounded : (seen : IndexContents) → index ≡ seen → (count : ℕ) → count ≡ length index.checkpoints → count ≤ length (joined seen.parts) / seen.k + used_lines_in seen.parts
+  bounded seen same count is_length =
+      let few = few_marks index.parts index.k interval_within.0 is.holds.ordered in
+      let here : count ≤ length (joined index.parts) / index.k + used_lines_in index.parts = omega (arith, few, is_length ∙ as_many index refl) in
+      subst (λ (i : IndexContents). count ≤ length (joined i.parts) / i.k + used_lines_in i.parts) same here
+
+  -- so what is compared is bounded by the number of marks
+  pub compared : (seen : IndexContents) → index ≡ seen → (next count : ℕ) → ((b : ℕ) → length index.checkpoints < 2 ^ b → next ≤ count + b) → (b : ℕ) → length (marks seen.parts seen.k) < 2 ^ b → next ≤ count + b
+  compared seen same next count few b below = few b (subst (λ n. n < 2 ^ b) (sym (as_many seen same)) below)
+
+  -- ---- the last checkpoint
+
+  module _ (line column : ℕ) where
+    -- nothing answers, where there is none
+    pub none_at_or_before : (seen : IndexContents) → index ≡ seen → last_checkpoint line column index.checkpoints ≡ None → answer_at_or_before (joined seen.parts) line column ≡ Nothing
+    none_at_or_before seen same none =
+        ap (λ (i : IndexContents). answer_at_or_before (joined i.parts) line column) (sym same)
+        ∙ none_answers line column index.parts index.k (joined index.parts) index.checkpoints is.holds.ordered table_tiled none
+
+    module _ (checkpoint : Checkpoint) (last : Some checkpoint ≡ last_checkpoint line column index.checkpoints) where
+      found : IsResumed line column index.parts index.k (joined index.parts) checkpoint
+      found = resumed line column index.parts index.k (joined index.parts) index.checkpoints checkpoint is.holds.ordered table_tiled (sym last)
+
+      pub part_within : checkpoint.part < length index.parts
+      part_within = slice_get_within index.parts checkpoint.part found.part found.part_is
+
+      -- nothing answers, where it stands on another line
+      pub none_on_its_line : (seen : IndexContents) → index ≡ seen → (checkpoint.mapping.line ≡ line → ⊥) → answer_at_or_before (joined seen.parts) line column ≡ Nothing
+      none_on_its_line seen same other =
+          ap (λ (i : IndexContents). answer_at_or_before (joined i.parts) line column) (sym same)
+          ∙ none_on_line line column index.parts index.k (joined index.parts) checkpoint is.holds.ordered found other
+
+      module _ (part : Part) (read : part ≡ get_or index.parts checkpoint.part part) where
+        -- the part that is read is the checkpoint's
+        same_part : found.part ≡ part
+        same_part = sym (get_or_from_slice_get index.parts checkpoint.part found.part part found.part_is) ∙ sym read
+
+        pub state_between : IsBetween part.text checkpoint.state
+        state_between = subst (λ (part : Part). IsBetween part.text checkpoint.state) same_part (found.segment + 1, found.state_is)
+
+        -- no mapping of its part is past the limit
+        pub part_in_range : list_any is_mapping_past_limit (placed part) ≡ false
+        part_in_range = all_in_range index.parts checkpoint.part part (faultless index.parts index.k is.sound).range part_within read
+
+        -- what is last behind it answers, where it stands on the line
+        pub last_answers_behind : (seen : IndexContents) → index ≡ seen → checkpoint.mapping.line ≡ line → (m : Mapping)
+            → ((j : ℕ) → IsAfter part.text j checkpoint.state → Some m ≡ last_from line column (Some checkpoint.mapping) (take (index.k - 1) (drop j (placed part))))
+            → answer_of m ≡ answer_at_or_before (joined seen.parts) line column
+        last_answers_behind seen same on_line m is_last =
+            let is_here = is_last (found.segment + 1) (subst (λ (part : Part). IsAfter part.text (found.segment + 1) checkpoint.state) same_part found.state_is) in
+            let moved = ap (λ (part : Part). last_from line column (Some checkpoint.mapping) (take (index.k - 1) (drop (found.segment + 1) (placed part)))) (sym same_part) in
+            sym (last_answers_on_line line column index.parts index.k (joined index.parts) checkpoint is.holds.ordered found on_line m (is_here ∙ moved))
+            ∙ ap (λ (i : IndexContents). answer_at_or_before (joined i.parts) line column) same

@@ -1,0 +1,72 @@
+-- The last mapping at the front of a list, one mapping of the list after another.
+use Rattle.std.proofs.Common.{◌≡◌, ℕ, ◌+◌, ◌-◌, ◌<◌, suc, zero, List, [], ◌∷◌, length, take, drop, Option, Some, None, cond, false, true, refl, ap, sym, ◌∙◌, arith, one-add}
+use Rattle.std.specs.Prelude.{option_map}
+use Rattle.std.specs.List.{slice_get, last_or}
+use Rattle.std.proofs.lemmas.Bool.{cond-true, cond-false}
+use Rattle.std.proofs.lemmas.Option.{slice_get-map}
+use Rattle.smap_mappings.specs.State.{IsNext}
+use Rattle.smap_mappings.specs.Counts.{segments_of}
+use Rattle.smap_mappings.specs.Mappings.{mappings_of}
+use Rattle.smap_mappings.specs.Range.{is_mapping_past_limit}
+use Rattle.smap_mappings.specs.declared.cursor.Cursor.{Cursor}
+use Rattle.smap_mappings.specs.declared.mapping.Mapping.{Mapping}
+use Rattle.smap_index.specs.Parts.{placed_mapping, placed}
+use Rattle.smap_index.specs.Search.{is_not_after, front_not_after, last_from}
+use Rattle.smap_index.specs.declared.part.Part.{Part}
+use Rattle.smap_index.proofs.WalkLaws.{length-placed, same_place}
+
+module _ (line column : ℕ) where
+  pub passes : (m : Mapping) (xs : List Mapping) → is_not_after line column m ≡ true → front_not_after line column (m ∷ xs) ≡ suc (front_not_after line column xs)
+  passes m xs reached = cond-true (is_not_after line column m) (1 + front_not_after line column xs) 0 reached ∙ one-add (front_not_after line column xs)
+
+  pub stops : (m : Mapping) (xs : List Mapping) → is_not_after line column m ≡ false → front_not_after line column (m ∷ xs) ≡ 0
+  stops m xs past = cond-false (is_not_after line column m) (1 + front_not_after line column xs) 0 past
+
+  pub last_passes : (e : Option Mapping) (m : Mapping) (xs : List Mapping) → is_not_after line column m ≡ true → last_from line column e (m ∷ xs) ≡ last_from line column (Some m) xs
+  last_passes e m xs reached = ap (λ n. last_or e (take n (m ∷ xs))) (passes m xs reached)
+
+  pub last_stops : (e : Option Mapping) (m : Mapping) (xs : List Mapping) → is_not_after line column m ≡ false → last_from line column e (m ∷ xs) ≡ e
+  last_stops e m xs past = ap (λ n. last_or e (take n (m ∷ xs))) (stops m xs past)
+
+drop_next : {A : Type 0} (xs : List A) (n : ℕ) (m : A) → slice_get xs n ≡ Some m → drop n xs ≡ m ∷ drop (n + 1) xs
+drop_next [] n m there = absurd (cc)
+drop_next (x ∷ xs) zero m there = let e : x ≡ m = cc in ap (λ x. x ∷ xs) e
+drop_next (x ∷ xs) (suc n) m there = let more : suc n + 1 ≡ suc (n + 1) = omega arith in drop_next xs n m there ∙ ap (λ k. m ∷ drop k (x ∷ xs)) (sym more)
+
+drop_all : {A : Type 0} (xs : List A) → drop (length xs) xs ≡ []
+drop_all [] = refl
+drop_all (x ∷ xs) = drop_all xs
+
+-- the mapping of the next segment is the first that is left
+pub next_left : (part : Part) (n : ℕ) (m : Mapping) (behind : Cursor) → IsNext part.text n m behind → drop n (placed part) ≡ placed_mapping part m ∷ drop (n + 1) (placed part)
+unfolding placed
+next_left part n m behind next =
+    drop_next (placed part) n (placed_mapping part m) (slice_get-map (placed_mapping part) (mappings_of part.text) n ∙ ap (option_map (placed_mapping part)) next.mapping_is)
+
+-- behind the last segment none is left
+pub none_left : (part : Part) (n : ℕ) → n ≡ segments_of part.text → drop n (placed part) ≡ []
+none_left part n all = ap (λ n. drop n (placed part)) (all ∙ sym (length-placed part)) ∙ drop_all (placed part)
+
+take_one : {A : Type 0} (left : ℕ) (x : A) (xs : List A) → 0 < left → take left (x ∷ xs) ≡ x ∷ take (left - 1) xs
+take_one zero x xs some = absurd (omega arith)
+take_one (suc left) x xs some = let same : left ≡ suc left - 1 = omega arith in ap (λ n. x ∷ take n xs) same
+
+take_none : (left : ℕ) → take {A = Mapping} left [] ≡ []
+take_none zero = refl
+take_none (suc left) = refl
+
+module _ (line column : ℕ) (part : Part) (n left : ℕ) (e : Option Mapping) where
+  module _ (m : Mapping) (behind : Cursor) (next : IsNext part.text n m behind) (some : 0 < left) (there : Mapping) (is : cond (is_mapping_past_limit (placed_mapping part m)) None (Some (placed_mapping part m)) ≡ Some there) where
+    one_left : take left (drop n (placed part)) ≡ there ∷ take (left - 1) (drop (n + 1) (placed part))
+    one_left =
+        ap (take left) (next_left part n m behind next) ∙ take_one left (placed_mapping part m) (drop (n + 1) (placed part)) some
+        ∙ ap (λ m. m ∷ take (left - 1) (drop (n + 1) (placed part))) (same_place (placed_mapping part m) there is)
+
+    pub goes_on : is_not_after line column there ≡ true → last_from line column e (take left (drop n (placed part))) ≡ last_from line column (Some there) (take (left - 1) (drop (n + 1) (placed part)))
+    goes_on reached = ap (last_from line column e) one_left ∙ last_passes line column e there _ reached
+
+    pub ends : is_not_after line column there ≡ false → last_from line column e (take left (drop n (placed part))) ≡ e
+    ends past = ap (last_from line column e) one_left ∙ last_stops line column e there _ past
+
+  pub ends_with_part : n ≡ segments_of part.text → last_from line column e (take left (drop n (placed part))) ≡ e
+  ends_with_part all = ap (λ list. last_from line column e (take left list)) (none_left part n all) ∙ ap (last_from line column e) (take_none left)

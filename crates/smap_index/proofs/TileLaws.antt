@@ -1,0 +1,165 @@
+-- The checkpoints of a table that has one for each mark lie on the joined list as tiles.
+use Rattle.std.proofs.Common.{◌≡◌, ℕ, ◌+◌, ◌%◌, ◌<◌, List, [], ◌∷◌, ◌++◌, Some, length, map, drop, refl, ap, sym, subst, ◌∙◌, arith, eqb, inl, inr, ⊎_elim}
+use Rattle.std.specs.List.{AllByRecursion, AllZip, slice_get}
+use Rattle.std.proofs.Math.Nat.{zero-mod}
+use Rattle.std.proofs.lemmas.Bool.{cond-true, cond-false, cases_Bool, eqb-true, eqb-false, eq-eqb}
+use Rattle.std.proofs.lemmas.List.{append_assoc, length-append, drop_at}
+use Rattle.std.proofs.lemmas.Nat.{mod_below}
+use Rattle.smap_mappings.specs.Order.{IsAtOrBefore, IsInOrder}
+use Rattle.smap_mappings.specs.declared.mapping.Mapping.{Mapping}
+use Rattle.smap_index.specs.Parts.{placed, joined}
+use Rattle.smap_index.specs.Marks.{Mark, mark_in, number_on_line, marked_segments, marks_from, IsCheckpointIn, IsCheckpointOf, IsTableOf}
+use Rattle.smap_index.specs.Search.{mappings_at}
+use Rattle.smap_index.specs.declared.part.Part.{Part}
+use Rattle.smap_index.specs.declared.table.Checkpoint.{Checkpoint}
+use Rattle.smap_index.proofs.ListLaws.{tail_in_order}
+use Rattle.smap_index.proofs.MarkLaws.{slice_get-behind}
+use Rattle.smap_index.proofs.NumberLaws.{next_remainder, front_in_order, back_in_order, next_number}
+use Rattle.smap_index.proofs.Tiles.{IsTile, IsTiled}
+
+-- ---- the table is in order
+
+at_or_before : (a b c : Mapping) → IsAtOrBefore a b → IsAtOrBefore b c → IsAtOrBefore a c
+at_or_before a b c first second =
+    ⊎_elim
+    (λ (above : a.line < b.line). inl (⊎_elim (λ (further : b.line < c.line). omega arith) (λ same. omega (arith, same.0)) second))
+    (λ equal. ⊎_elim (λ (further : b.line < c.line). inl (omega (arith, equal.0))) (λ same. inr (omega (arith, equal.0, same.0), omega (arith, equal.1, same.1))) second)
+    first
+
+-- a list without its second mapping is in order
+without_second : (a b : Mapping) (rest : List Mapping) → IsAtOrBefore a b → IsInOrder (b ∷ rest) → IsInOrder (a ∷ rest)
+without_second a b [] first order = tt
+without_second a b (c ∷ rest) first order = (at_or_before a b c first order.0, order.1)
+
+without_behind : (a : Mapping) (behind rest : List Mapping) → IsInOrder (a ∷ behind ++ rest) → IsInOrder (a ∷ rest)
+without_behind a [] rest order = order
+without_behind a (b ∷ behind) rest order = without_second a b rest order.0 (without_behind b behind rest order.1)
+
+pub table_in_order : (parts : List Part) (k : ℕ) (list : List Mapping) (table : List Checkpoint) → IsInOrder list → IsTiled parts k list table → IsInOrder (mappings_at table)
+table_in_order parts k list [] order tiled = tt
+table_in_order parts k list (c ∷ []) order tiled = tt
+table_in_order parts k list (c ∷ d ∷ table) order tiled =
+    let ahead : IsInOrder (c.mapping ∷ tiled.0) = without_behind c.mapping tiled.1.behind tiled.0 (subst IsInOrder tiled.1.list_is order) in
+    let next : IsInOrder (c.mapping ∷ d.mapping ∷ tiled.2.1.behind ++ tiled.2.0) = subst (λ (rest : List Mapping). IsInOrder (c.mapping ∷ rest)) tiled.2.1.list_is ahead in
+    (next.0, table_in_order parts k tiled.0 (d ∷ table) (tail_in_order c.mapping tiled.0 ahead) tiled.2)
+
+-- ---- the tiles of a part
+
+-- Behind a mapping stand those up to the next mark, and then the tiles of the rest. Those up to the mark are on the
+-- mapping's line and, counted on from the remainder of its number, fewer than the interval.
+record IsRun (parts : List Part) (k : ℕ) (later before : List Mapping) (mapping : Mapping) (mappings : List Mapping) (table : List Checkpoint) : Type 0 where
+  behind : List Mapping
+  part_rest : List Mapping
+  split : mappings ≡ behind ++ part_rest
+  on_line : AllByRecursion (λ (m : Mapping). m.line ≡ mapping.line) behind
+  few : length behind + number_on_line before mapping % k < k
+  tiles : IsTiled parts k (part_rest ++ later) table
+
+-- behind the part stand the later mappings, which the later marks tile
+module _ (parts : List Part) (k : ℕ) (positive : 0 < k) (i : ℕ) (part : Part) (part_is : slice_get parts i ≡ Some part) (order : IsInOrder (placed part)) (later : List Mapping) (later_marks : List Mark) (later_tiled : (table : List Checkpoint) → AllZip (IsCheckpointOf parts) later_marks table → IsTiled parts k later table) where
+  -- the table's front is of these segments of the part, and the rest of the later marks
+  abbrev IsMarked : List ℕ → List Checkpoint → Type 0
+  IsMarked segments table = AllZip (IsCheckpointOf parts) (map (mark_in i) segments ++ later_marks) table
+
+  tile : (before : List Mapping) (m : Mapping) (mappings : List Mapping) (c : Checkpoint) (table : List Checkpoint) → before ++ m ∷ mappings ≡ placed part → number_on_line before m % k ≡ 0 → IsCheckpointOf parts (mark_in i (length before)) c → IsRun parts k later before m mappings table → IsTiled parts k (m ∷ mappings ++ later) (c ∷ table)
+  tile before m mappings c table whole marked is run =
+      let same : is.part ≡ part = cc (is.part_is, part_is) in
+      let inside : IsCheckpointIn part i (length before) c = subst (λ (p : Part). IsCheckpointIn p i (length before) c) same is.inside in
+      let there : slice_get (placed part) (length before) ≡ Some m = ap (λ list. slice_get list (length before)) (sym whole) ∙ slice_get-behind before m mappings in
+      let mapping : m ≡ c.mapping = cc (there, inside.mapping_is) in
+      let dropped : drop (length before + 1) (placed part) ≡ mappings =
+      ap (drop (length before + 1)) (sym whole ∙ sym (append_assoc before (m ∷ []) mappings)) ∙ drop_at (before ++ m ∷ []) mappings (length before + 1) (length-append before (m ∷ [])) in
+      let here : IsTile parts k (m ∷ mappings ++ later) c (run.part_rest ++ later) = record {
+        part = part;
+        segment = length before;
+        part_is = ap (slice_get parts) inside.number_is ∙ part_is;
+        mapping_is = inside.mapping_is;
+        state_is = inside.state_is;
+        behind = run.behind;
+        few = omega (arith, run.few, marked);
+        on_line = subst (λ (mapping : Mapping). AllByRecursion (λ (m : Mapping). m.line ≡ mapping.line) run.behind) mapping run.on_line;
+        list_is = (λ j. mapping j ∷ run.split j ++ later) ∙ ap (λ list. c.mapping ∷ list) (append_assoc run.behind run.part_rest later);
+        part_rest = run.part_rest;
+        later = later;
+        part_behind = dropped ∙ run.split;
+        rest_is = refl;
+      } in
+      (run.part_rest ++ later, here, run.tiles)
+
+  -- a mark begins a tile
+  with_mark : (before : List Mapping) (m : Mapping) (mappings : List Mapping) (behind : List ℕ) (table : List Checkpoint) → before ++ m ∷ mappings ≡ placed part → number_on_line before m % k ≡ 0 → IsMarked (length before ∷ behind) table → ((table : List Checkpoint) → IsMarked behind table → IsRun parts k later before m mappings table) → IsTiled parts k (m ∷ mappings ++ later) table
+  with_mark before m mappings behind [] whole marked zip run = absurd zip
+  with_mark before m mappings behind (c ∷ table) whole marked zip run = tile before m mappings c table whole marked zip.0 (run table zip.1)
+
+  from_mark : (before : List Mapping) (m : Mapping) (mappings : List Mapping) (table : List Checkpoint) → before ++ m ∷ mappings ≡ placed part → number_on_line before m % k ≡ 0 → IsMarked (marked_segments k before (m ∷ mappings)) table → ((table : List Checkpoint) → IsMarked (marked_segments k (before ++ m ∷ []) mappings) table → IsRun parts k later before m mappings table) → IsTiled parts k (m ∷ mappings ++ later) table
+  from_mark before m mappings table whole marked zip run =
+      let behind = marked_segments k (before ++ m ∷ []) mappings in
+      with_mark before m mappings behind table whole marked (subst (λ segments. IsMarked segments table) (cond-true (eqb (number_on_line before m % k) 0) (length before ∷ behind) behind (eq-eqb _ _ marked)) zip) run
+
+  run_behind : (before : List Mapping) (m : Mapping) (mappings : List Mapping) (table : List Checkpoint) → before ++ m ∷ mappings ≡ placed part → IsMarked (marked_segments k (before ++ m ∷ []) mappings) table → IsRun parts k later before m mappings table
+  run_behind before m [] table whole zip = record {
+    behind = [];
+    part_rest = [];
+    split = refl;
+    on_line = tt;
+    few = let below = mod_below (number_on_line before m) k positive in omega arith;
+    tiles = later_tiled table zip;
+  }
+  run_behind before m (next ∷ mappings) table whole zip =
+      let number = number_on_line (before ++ m ∷ []) next in
+      let behind = marked_segments k ((before ++ m ∷ []) ++ next ∷ []) mappings in
+      let further : (before ++ m ∷ []) ++ next ∷ mappings ≡ placed part = append_assoc before (m ∷ []) (next ∷ mappings) ∙ whole in
+      let front : IsInOrder (before ++ m ∷ next ∷ []) = front_in_order (before ++ m ∷ next ∷ []) mappings (subst IsInOrder (sym whole ∙ sym (append_assoc before (m ∷ next ∷ []) mappings)) order) in
+      let counted = next_number before m next front in
+      ⊎_elim
+      (λ yes. record {
+        behind = [];
+        part_rest = next ∷ mappings;
+        split = refl;
+        on_line = tt;
+        few = let below = mod_below (number_on_line before m) k positive in omega arith;
+        tiles = from_mark (before ++ m ∷ []) next mappings table further (eqb-true _ _ yes) zip (λ table zip. run_behind (before ++ m ∷ []) next mappings table further zip);
+      })
+      (λ no.
+      let other : number % k ≡ 0 → ⊥ = eqb-false _ _ no in
+      let rest = run_behind (before ++ m ∷ []) next mappings table further (subst (λ segments. IsMarked segments table) (cond-false (eqb (number % k) 0) (length (before ++ m ∷ []) ∷ behind) behind no) zip) in
+      ⊎_elim
+      (λ same.
+      let one_more : number ≡ number_on_line before m + 1 = counted ∙ cond-true (eqb m.line next.line) _ _ same in
+      let remainder : number % k ≡ number_on_line before m % k + 1 = ap (λ n. n % k) one_more ∙ ⊎_elim
+      (λ more. more.0)
+      (λ none. absurd (other (ap (λ n. n % k) one_more ∙ none.0)))
+      (next_remainder (number_on_line before m) k positive) in
+      let line : next.line ≡ m.line = sym (eqb-true m.line next.line same) in
+      record {
+        behind = next ∷ rest.behind;
+        part_rest = rest.part_rest;
+        split = ap (λ list. next ∷ list) rest.split;
+        on_line = (line, subst (λ line. AllByRecursion (λ (m : Mapping). m.line ≡ line) rest.behind) line rest.on_line);
+        few = omega (arith, rest.few, remainder);
+        tiles = rest.tiles;
+      })
+      (λ different. absurd (other (ap (λ n. n % k) (counted ∙ cond-false (eqb m.line next.line) _ _ different) ∙ zero-mod k)))
+      (cases_Bool (eqb m.line next.line)))
+      (cases_Bool (eqb (number % k) 0))
+
+  -- a part that has a mapping has its first mark there
+  part_tiled : (list : List Mapping) (table : List Checkpoint) → list ≡ placed part → IsMarked (marked_segments k [] list) table → IsTiled parts k (list ++ later) table
+  part_tiled [] table whole zip = later_tiled table zip
+  part_tiled (m ∷ mappings) table whole zip = from_mark [] m mappings table whole (zero-mod k) zip (λ table zip. run_behind [] m mappings table whole zip)
+
+-- ---- the tiles of all parts
+
+parts_tiled : (all : List Part) (k : ℕ) → 0 < k → (front parts : List Part) → front ++ parts ≡ all → IsInOrder (joined parts) → (table : List Checkpoint) → AllZip (IsCheckpointOf all) (marks_from (length front) parts k) table → IsTiled all k (joined parts) table
+parts_tiled all k positive front [] whole order [] zip = refl
+parts_tiled all k positive front [] whole order (c ∷ table) zip = absurd zip
+parts_tiled all k positive front (part ∷ parts) whole order table zip =
+    let part_is = ap (λ parts. slice_get parts (length front)) (sym whole) ∙ slice_get-behind front part parts in
+    let later_tiled : (table : List Checkpoint) → AllZip (IsCheckpointOf all) (marks_from (length front + 1) parts k) table → IsTiled all k (joined parts) table =
+    λ table zip.
+    parts_tiled all k positive (front ++ part ∷ []) parts (append_assoc front (part ∷ []) parts ∙ whole) (back_in_order (placed part) (joined parts) order) table
+    (subst (λ i. AllZip (IsCheckpointOf all) (marks_from i parts k) table) (sym (length-append front (part ∷ []))) zip) in
+    part_tiled all k positive (length front) part part_is (front_in_order (placed part) (joined parts) order) (joined parts) (marks_from (length front + 1) parts k) later_tiled (placed part) table refl zip
+
+pub tiled : (parts : List Part) (k : ℕ) → 0 < k → IsInOrder (joined parts) → (table : List Checkpoint) → IsTableOf parts k table → IsTiled parts k (joined parts) table
+tiled parts k positive order table is = parts_tiled parts k positive [] parts refl order table is

@@ -1,0 +1,31 @@
+-- How the checkpoints of a table lie on a list of mappings: each has the mappings up to the next one behind it, which
+-- stand on its line in its part, and are fewer than the interval.
+use Rattle.std.proofs.Common.{◌≡◌, ℕ, ◌+◌, ◌<◌, List, [], ◌∷◌, ◌++◌, Some, length, drop}
+use Rattle.std.specs.List.{AllByRecursion, slice_get}
+use Rattle.smap_mappings.specs.State.{IsAfter}
+use Rattle.smap_mappings.specs.declared.mapping.Mapping.{Mapping}
+use Rattle.smap_index.specs.Parts.{placed}
+use Rattle.smap_index.specs.declared.part.Part.{Part}
+use Rattle.smap_index.specs.declared.table.Checkpoint.{Checkpoint}
+
+-- the list begins with this checkpoint's mapping, behind which stand those up to the next checkpoint, and then the rest
+pub record IsTile (parts : List Part) (k : ℕ) (list : List Mapping) (checkpoint : Checkpoint) (rest : List Mapping) : Type 0 where
+  pub part : Part
+  pub segment : ℕ
+  pub part_is : slice_get parts checkpoint.part ≡ Some part
+  pub mapping_is : slice_get (placed part) segment ≡ Some checkpoint.mapping
+  pub state_is : IsAfter part.text (segment + 1) checkpoint.state
+  pub behind : List Mapping
+  pub few : length behind < k
+  pub on_line : AllByRecursion (λ (m : Mapping). m.line ≡ checkpoint.mapping.line) behind
+  pub list_is : list ≡ checkpoint.mapping ∷ behind ++ rest
+  -- what the part holds behind them begins the rest
+  pub part_rest : List Mapping
+  pub later : List Mapping
+  pub part_behind : drop (segment + 1) (placed part) ≡ behind ++ part_rest
+  pub rest_is : rest ≡ part_rest ++ later
+
+-- the tiles of a table's checkpoints are, one behind the other, the list
+abbrev pub IsTiled : List Part → ℕ → List Mapping → List Checkpoint → Type 0
+IsTiled parts k list [] = list ≡ []
+IsTiled parts k list (checkpoint ∷ table) = (rest : List Mapping) × IsTile parts k list checkpoint rest × IsTiled parts k rest table

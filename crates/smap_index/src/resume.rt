@@ -1,0 +1,53 @@
+//! The walk behind a checkpoint, which decodes the segments up to the position that is asked for.
+
+ghost use Rattle.std.specs.Prelude.{◌≡◌, ℕ, ◌+◌, ◌<◌, ◌≤◌, Some, false, take, drop};
+ghost use Rattle.std.specs.List.{list_any};
+ghost use Rattle.smap_mappings.specs.Range.{is_mapping_past_limit};
+ghost use Rattle.smap_mappings.specs.State.{IsAfter, IsBetween};
+ghost use Rattle.smap_index.specs.Parts.{placed};
+ghost use Rattle.smap_index.specs.Search.{last_from};
+
+use crate::part::Part;
+use crate::place::place;
+use crate::search::is_not_after;
+use crate::table::Checkpoint;
+use smap_mappings::{Mapping, Meter};
+
+// Of a checkpoint's mapping and at most this many behind it in its part: the last of those at the front that stand at
+// the position or before it, and the checkpoint's where none does.
+pub fn last_behind(
+    part: &Part,
+    checkpoint: &Checkpoint,
+    most: u32,
+    line: u32,
+    column: u32,
+    meter: &mut Meter,
+) -> Mapping
+    requires state { IsBetween part.now.text checkpoint.now.state }
+    requires in_range { list_any is_mapping_past_limit (placed part.now) ≡ false }
+    requires room { meter.old.segments + most ≤ u64.MAX }
+    ensures last { (j : ℕ) → IsAfter part.now.text j checkpoint.now.state →
+        Some result ≡ last_from line column (Some checkpoint.now.mapping) (take most (drop j (placed part.now))) }
+    ensures few { meter.new.segments ≤ meter.old.segments + most }
+    ensures onward { meter.old.segments ≤ meter.new.segments }
+    ensures none_compared { meter.new.comparisons ≡ meter.old.comparisons }
+{
+    let mut last = checkpoint.mapping;
+    let mut state = checkpoint.state;
+    let mut left = most;
+    while left > 0 {
+        let Some((mapping, behind)) = part.text.next(&state, meter) else {
+            return last;
+        };
+        let Some(placed) = place(part, &mapping) else {
+            unreachable!("no mapping of an index is past the limit");
+        };
+        if !is_not_after(&placed, line, column) {
+            return last;
+        }
+        last = placed;
+        state = behind;
+        left -= 1;
+    }
+    last
+}

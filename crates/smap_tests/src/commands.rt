@@ -1,0 +1,66 @@
+//! The commands that take an interval, each made here alone.
+ghost use Rattle.std.specs.Prelude.{◌≡◌, ◌∷◌, [], map, string_bytes, true};
+ghost use Rattle.smap_index.specs.Faults.{is_interval};
+ghost use Rattle.smap_answers.specs.Files.{path_in, paths_of};
+ghost use Rattle.smap_answers.specs.Run.{HasInterval};
+
+use smap_answers::Command;
+use smap_index::MOST_INTERVAL;
+use smap_record::Url;
+
+// The interval, or the nearest one at which checkpoints may stand.
+fn in_range(interval: u32) -> u32
+    ensures { is_interval result ≡ true }
+{
+    interval.max(1).min(MOST_INTERVAL)
+}
+
+/// `raw` at a line and a column that count from 1.
+pub fn raw(line: u32, column: u32, interval: u32) -> Command
+    ensures paths { paths_of result ≡ [] }
+    ensures interval { HasInterval result }
+{
+    Command::Raw {
+        line: line.saturating_sub(1),
+        column: column.saturating_sub(1),
+        interval: in_range(interval),
+    }
+}
+
+/// `check` of the file at this path.
+pub fn check(path: String, base: Option<Url>, interval: u32) -> Command
+    ensures paths { paths_of result ≡ string_bytes path ∷ [] }
+    ensures interval { HasInterval result }
+{
+    Command::Check {
+        path,
+        base,
+        interval: in_range(interval),
+    }
+}
+
+/// `lookup` in the file at this path, at a line and a column that count from 1.
+pub fn lookup(path: String, line: u32, column: u32, base: Option<Url>, interval: u32) -> Command
+    ensures paths { paths_of result ≡ string_bytes path ∷ [] }
+    ensures interval { HasInterval result }
+{
+    Command::Lookup {
+        path,
+        line: line.saturating_sub(1),
+        column: column.saturating_sub(1),
+        base,
+        interval: in_range(interval),
+    }
+}
+
+/// `rewrite` over maps: pairs of a URL and a path.
+pub fn rewrite(maps: Vec<(String, String)>, base: Option<Url>, interval: u32) -> Command
+    ensures paths { paths_of result ≡ map path_in maps.items }
+    ensures interval { HasInterval result }
+{
+    Command::Rewrite {
+        maps,
+        base,
+        interval: in_range(interval),
+    }
+}
