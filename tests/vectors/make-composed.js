@@ -1,7 +1,7 @@
 #!/usr/bin/env node
 // Writes the vectors for `smap compose`, of the maps in examples/. README.md beside this file says what they are.
 //
-//   node make-composed.js      writes composed_maps.rt of smap_tests and prints the counts
+//   node make-composed.js      writes composed_maps.rt of smap_vectors and prints the counts
 //
 // Nothing here is made from smap's own code or output.
 'use strict';
@@ -13,7 +13,7 @@ const { composedMap } = require('./compose.js');
 const { linesOf } = require('./lookup.js');
 
 const ROOT = path.join(__dirname, '..', '..');
-const VECTORS = path.join(ROOT, 'crates', 'smap_tests', 'src', 'vectors');
+const VECTORS = path.join(ROOT, 'crates', 'smap_vectors', 'src');
 
 // The test's output holds so many bytes.
 const MOST_BYTES = 8000;

@@ -1,7 +1,7 @@
 #!/usr/bin/env node
 // Writes the vectors for encoding and for `smap show`. README.md beside this file says what they are.
 //
-//   node make-encodings.js     writes encodings.rt and written_maps.rt of smap_tests and prints the counts
+//   node make-encodings.js     writes encodings.rt and written_maps.rt of smap_vectors and prints the counts
 //
 // The strings and the index maps are those of mappings.rt and index_maps.rt, which make.js and make-index-maps.js
 // write. Nothing here is made from smap's own code or output.
@@ -12,7 +12,7 @@ const path = require('path');
 const codec = require('@jridgewell/sourcemap-codec');
 const { linesOf } = require('./lookup.js');
 
-const FOLDER = path.join(__dirname, '..', '..', 'crates', 'smap_tests', 'src', 'vectors');
+const FOLDER = path.join(__dirname, '..', '..', 'crates', 'smap_vectors', 'src');
 
 function insist(holds, what) {
   if (!holds) throw new Error(what);

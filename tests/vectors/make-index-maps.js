@@ -2,7 +2,7 @@
 // Writes the vectors of index maps, made of pieces of the real maps in examples/. README.md beside this file says
 // what they are.
 //
-//   node make-index-maps.js       writes src/vectors/ of smap_tests and prints the counts
+//   node make-index-maps.js       writes its files in src/ of smap_vectors and prints the counts
 //
 // Nothing here is made from smap's own code or output.
 'use strict';
@@ -390,7 +390,7 @@ const file = [
   '',
 ].join('\n');
 insist(file.length < MOST_BYTES, `${file.length} bytes`);
-const FOLDER = path.join(ROOT, 'crates', 'smap_tests', 'src', 'vectors');
+const FOLDER = path.join(ROOT, 'crates', 'smap_vectors', 'src');
 fs.mkdirSync(FOLDER, { recursive: true });
 fs.writeFileSync(path.join(FOLDER, 'index_maps.rt'), file);
 

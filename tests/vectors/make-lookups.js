@@ -2,7 +2,7 @@
 // Writes the vectors for `smap lookup`, which are all of one map, that of examples/. README.md beside
 // this file says what they are.
 //
-//   node make-lookups.js       writes src/vectors/ of smap_tests and prints the counts
+//   node make-lookups.js       writes its files in src/ of smap_vectors and prints the counts
 //
 // Nothing here is made from smap's own code or output.
 'use strict';
@@ -136,7 +136,7 @@ for (const [kind, places] of Object.entries(ASKED)) {
   }
 }
 
-const folder = path.join(__dirname, '..', '..', 'crates', 'smap_tests', 'src', 'vectors');
+const folder = path.join(__dirname, '..', '..', 'crates', 'smap_vectors', 'src');
 fs.mkdirSync(folder, { recursive: true });
 
 function writeConstant(file, what, constant) {

@@ -1,7 +1,7 @@
 #!/usr/bin/env node
 // Writes the vectors for the names of sources. README.md beside this file says what they are.
 //
-//   node make-names.js       writes src/names/answers.rt of smap_tests and prints the counts
+//   node make-names.js       writes src/names.rt of smap_vectors and prints the counts
 //
 // The answers are those of node's `new URL`; nothing here is made from smap's own code or output.
 'use strict';
@@ -109,14 +109,14 @@ const rows = asked.map(([root, source, base]) => {
 insist(new Set(rows).size === rows.length, 'a row stands twice');
 insist(rows.every((row) => !row.includes('"#')), 'a row that ends the constant');
 
-const folder = path.join(__dirname, '..', '..', 'crates', 'smap_tests', 'src', 'names');
+const folder = path.join(__dirname, '..', '..', 'crates', 'smap_vectors', 'src');
 fs.mkdirSync(folder, { recursive: true });
 fs.writeFileSync(
-  path.join(folder, 'answers.rt'),
+  path.join(folder, 'names.rt'),
   `//! Names of sources, a row a line: root, source, base, name, and whether that is a URL or the text, with | between two.
 //! A root or a base that is absent is a -. Written by \`tests/vectors/make-names.js\`.
 
-pub const ANSWERS: &str = r#"
+pub const NAMES: &str = r#"
 ${rows.join('\n')}
 "#;
 `,

@@ -1,7 +1,7 @@
 #!/usr/bin/env node
 // Writes the vectors for lines, UTF-16 places and excerpts. README.md beside this file says what they are.
 //
-//   node make-places.js       writes src/vectors/places.rt of smap_tests and prints the counts
+//   node make-places.js       writes src/places.rt of smap_vectors and prints the counts
 //
 // The answers are those of node's own strings: `split`, `length`, `codePointAt` and `Array.from`; nothing here is made from
 // smap's own code or output.
@@ -138,6 +138,6 @@ for (const rows of [places, excerpts]) {
   for (const row of [rows[0], rows[rows.length - 1]]) insist(row === row.trim(), 'a row that is trimmed');
   for (const row of rows) insist(row !== '' && !row.includes('"#'), 'a row that ends the list');
 }
-const file = path.join(__dirname, '..', '..', 'crates', 'smap_tests', 'src', 'vectors', 'places.rt');
+const file = path.join(__dirname, '..', '..', 'crates', 'smap_vectors', 'src', 'places.rt');
 fs.writeFileSync(file, `${HEAD}${places.join('\n')}${BETWEEN}${excerpts.join('\n')}\n"#;\n`);
 console.log(`places ${places.length} excerpts ${excerpts.length}`);

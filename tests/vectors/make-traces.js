@@ -2,7 +2,7 @@
 // Writes the vectors for stack traces, of the traces and maps in traces/ and of the one in examples/. README.md beside
 // this file says what they are.
 //
-//   node make-traces.js       writes src/vectors/traces.rt of smap_tests and prints the counts
+//   node make-traces.js       writes src/traces.rt of smap_vectors and prints the counts
 //
 // Nothing here is made from smap's own code or output.
 'use strict';
@@ -214,7 +214,7 @@ const maps = MAPS.map(({ url, path: name, map }) => row([url, name, JSON.stringi
 for (const [kind, count] of Object.entries(counts)) insist(count > 0, `there is no ${kind}`);
 
 fs.writeFileSync(
-  path.join(ROOT, 'crates', 'smap_tests', 'src', 'vectors', 'traces.rt'),
+  path.join(ROOT, 'crates', 'smap_vectors', 'src', 'traces.rt'),
   `//! Stack traces that node printed, and their maps. Written by \`tests/vectors/make-traces.js\`.
 //! In a text ␊ stands for LF, ␍ for CR, ␉ for a tab and ¦ for |.
 

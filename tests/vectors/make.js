@@ -1,7 +1,7 @@
 #!/usr/bin/env node
 // Writes the vectors for `smap raw`. README.md beside this file says what they are.
 //
-//   node make.js               writes src/vectors/ of smap_tests and prints the counts
+//   node make.js               writes its files in src/ of smap_vectors and prints the counts
 //   node make.js check FILE    says whether the mappings text in FILE is accepted
 //
 // Nothing here is made from smap's own code or output.
@@ -417,7 +417,7 @@ makeAnswers();
 const answers = rows.length;
 makeRefusals();
 
-const FOLDER = path.join(__dirname, '..', '..', 'crates', 'smap_tests', 'src', 'vectors');
+const FOLDER = path.join(__dirname, '..', '..', 'crates', 'smap_vectors', 'src');
 
 // One constant a file: a row a line, as it stands.
 function writeRows(file, name, what, some) {

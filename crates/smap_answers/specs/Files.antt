@@ -3,8 +3,8 @@ use Rattle.std.specs.Prelude.{◌≡◌, ℕ, ◌⊎◌, List, [], ◌∷◌, St
 use Rattle.std.specs.List.{Contains}
 use Rattle.smap_answers.specs.Lines.{file_failed_line}
 use Rattle.smap_answers.specs.Outcome.{Telling, failure, out_of_memory}
-use Rattle.smap_answers.specs.declared.command.Command.{Command}
-use Rattle.smap_answers.specs.declared.command.Command.TheVariants.{Raw, Check, Show, Lookup, Rewrite, Compose}
+use Rattle.smap_command.specs.declared.command.Command.{Command}
+use Rattle.smap_command.specs.declared.command.Command.TheVariants.{Raw, Check, Show, Lookup, Rewrite, Compose}
 use Rattle.smap_answers.specs.declared.load.Loaded.{Loaded}
 
 -- the path in a word of `rewrite`, which is a URL and a path

@@ -1,10 +1,10 @@
 -- The lines that the program prints, and the texts that they are made of.
-use Rattle.std.specs.Prelude.{ℕ, ◌+◌, codes, Bool, if◌then◌else◌, Option, None, Some, List, [], ◌∷◌, ◌++◌, map}
-use Rattle.std.specs.Char.{is_ascii_control}
+use Rattle.std.specs.Prelude.{ℕ, ◌+◌, codes, Bool, if◌then◌else◌, Option, None, Some, List, [], ◌∷◌, ◌++◌}
 use Rattle.std.specs.Fmt.{decimal}
 use Rattle.smap_mappings.specs.declared.fault.Fault.{Fault}
 use Rattle.smap_mappings.specs.declared.fault.FaultKind.{FaultKind}
 use Rattle.smap_mappings.specs.declared.fault.FaultKind.TheVariants.{BadDigit, Unended, TooLong, TooLarge, NegativeZero, FieldCount, Negative, PastLimit, ColumnFalls, SourceIndex, NameIndex}
+use Rattle.smap_command.specs.Shown.{shown}
 use Rattle.smap_answers.specs.declared.lines.MapCounts.{MapCounts}
 
 -- the pieces one after the other
@@ -17,16 +17,6 @@ text_from (piece ∷ next ∷ pieces) = piece ++ text_from (next ∷ pieces)
 abbrev pub line_from : List (List ℕ) → List ℕ
 line_from [] = 10 ∷ []
 line_from (piece ∷ pieces) = piece ++ line_from pieces
-
--- ---- texts that are not the program's own
-
--- a byte as it prints: an ASCII control character as `?`
-abbrev pub shown_byte : ℕ → ℕ
-shown_byte byte = if is_ascii_control byte then 63 else byte
-
--- a text as it prints
-unfoldable pub shown : List ℕ → List ℕ
-shown text = map shown_byte text
 
 -- ---- standard output
 
@@ -132,9 +122,6 @@ output_failed_line = line_from (codes "device: write" ∷ [])
 abbrev pub memory_line : List ℕ
 memory_line = line_from (codes "memory" ∷ [])
 
-abbrev pub bad_base_line : List ℕ
-bad_base_line = line_from (codes "usage: bad base URL" ∷ [])
-
 abbrev pub words_not_utf8_line : List ℕ
 words_not_utf8_line = line_from (codes "error: a word of the command line is not UTF-8" ∷ [])
 
@@ -144,10 +131,6 @@ bad_url_line word = line_from (codes "usage: A1 BadUrl: " ∷ shown word ∷ [])
 
 abbrev pub twice_line : (word : List ℕ) → List ℕ
 twice_line word = line_from (codes "usage: A2 Twice: " ∷ shown word ∷ [])
-
--- a word of `rewrite` without `=`
-abbrev pub no_pair_line : (word : List ℕ) → List ℕ
-no_pair_line word = line_from (codes "usage: no URL=FILE: " ∷ shown word ∷ [])
 
 -- why a trace was not rewritten to its end
 abbrev pub trace_unread_line : List ℕ

@@ -8,7 +8,8 @@ use Rattle.smap_resolve.specs.SourceName.{Name, name_text}
 use Rattle.smap_record.specs.Sources.{StatedSource}
 use Rattle.smap_record.specs.Record.{MapRecord, answer_of_map}
 use Rattle.smap_text.specs.Excerpt.{excerpt_of}
-use Rattle.smap_answers.specs.Lines.{shown, line_from, none_line, unmapped_line, place_line}
+use Rattle.smap_command.specs.Shown.{shown}
+use Rattle.smap_answers.specs.Lines.{line_from, none_line, unmapped_line, place_line}
 
 -- how a source of this index prints: by its name or, where it has none, by its index in brackets
 abbrev pub name_or_index : Option Name → ℕ → List ℕ

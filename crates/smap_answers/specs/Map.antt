@@ -7,10 +7,6 @@ use Rattle.smap_answers.specs.Lines.{map_refused_line}
 use Rattle.smap_answers.specs.Outcome.{Telling, answer, refusal}
 use Rattle.smap_answers.specs.Refusal.{refusal_text}
 
--- the interval of the checkpoints where none is asked for
-abbrev pub usual_interval : ℕ
-usual_interval = 64
-
 -- the map of the file at this path is refused
 abbrev pub refusal_result : (path : List ℕ) → MapRefusal → Telling
 refusal_result path refused = refusal (map_refused_line path (refusal_text refused))

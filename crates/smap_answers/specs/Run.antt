@@ -1,19 +1,20 @@
 -- What a run of the program does to its streams, and the status with which it ends.
-use Rattle.std.specs.Prelude.{◌≡◌, ℕ, ◌⊎◌, Bool, true, false, List, String, map, zip, IfSome, string_bytes, ⊤}
-use Rattle.smap_index.specs.Faults.{is_interval}
+use Rattle.std.specs.Prelude.{◌≡◌, ℕ, ◌⊎◌, Bool, true, false, List, String, map, zip, IfSome, string_bytes}
+pub use Rattle.smap_command.specs.Interval.{HasInterval}
+use Rattle.smap_command.specs.Limits.{usual_interval}
 use Rattle.smap_answers.specs.Check.{check_line}
 use Rattle.smap_answers.specs.Compose.{IsComposeTelling}
 use Rattle.smap_answers.specs.Files.{first_bytes, second_bytes}
 use Rattle.smap_answers.specs.Lines.{input_failed_line}
 use Rattle.smap_answers.specs.Lookup.{lookup_text}
-use Rattle.smap_answers.specs.Map.{IsMapAnswer, IsMapTelling, usual_interval}
+use Rattle.smap_answers.specs.Map.{IsMapAnswer, IsMapTelling}
 use Rattle.smap_answers.specs.Outcome.{Telling, failure, out_of_memory}
 use Rattle.smap_answers.specs.Raw.{raw_result}
 use Rattle.smap_answers.specs.Show.{show_result}
 use Rattle.smap_answers.specs.Streams.{SinkSeen, Streams, Work, Ends, sinks_seen, work_seen}
 use Rattle.smap_answers.specs.Trace.{MapWord, RewriteTells}
-use Rattle.smap_answers.specs.declared.command.Command.{Command}
-use Rattle.smap_answers.specs.declared.command.Command.TheVariants.{Raw, Check, Show, Lookup, Rewrite, Compose}
+use Rattle.smap_command.specs.declared.command.Command.{Command}
+use Rattle.smap_command.specs.declared.command.Command.TheVariants.{Raw, Check, Show, Lookup, Rewrite, Compose}
 use Rattle.smap_answers.specs.declared.load.Loaded.{Loaded}
 use Rattle.smap_record.specs.Record.{record_of}
 
@@ -43,15 +44,6 @@ abbrev pub word_of : {A : Type 0} → String A × String A → MapWord
 word_of pair = record { url = string_bytes pair.0; path = string_bytes pair.1 }
 
 -- ---- all commands
-
--- where a command has an interval, checkpoints may stand at it
-abbrev pub HasInterval : Command → Type 0
-HasInterval (Raw line column interval) = is_interval interval ≡ true
-HasInterval (Check path base interval) = is_interval interval ≡ true
-HasInterval (Show path base) = ⊤
-HasInterval (Lookup path line column base interval) = is_interval interval ≡ true
-HasInterval (Rewrite maps base interval) = is_interval interval ≡ true
-HasInterval (Compose outer source inner base) = ⊤
 
 -- what a command over the files of its paths tells, and what it does to standard input and output before it tells it
 abbrev pub Tells : Command → List Loaded → (before after : Work) → Telling → Type 0

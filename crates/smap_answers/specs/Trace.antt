@@ -6,9 +6,11 @@ use Rattle.url.specs.Parts.{Parts}
 use Rattle.smap_record.specs.Record.{MapRecord, record_of}
 use Rattle.smap_record.specs.declared.refusal.MapRefusal.{MapRefusal}
 use Rattle.smap_record.specs.declared.refusal.MapRefusal.TheVariants.{Url}
-use Rattle.smap_trace.specs.Rewriting.{Rewrites, RewritesFront, Streams, is_read_fault, is_write_fault}
+use Rattle.smap_lines.specs.Editing.{Streams}
+use Rattle.smap_trace.specs.Rewriting.{Rewrites, RewritesFront, is_read_fault, is_write_fault}
 use Rattle.smap_trace.specs.Table.{IsWith, url_refusal}
 use Rattle.smap_trace.specs.declared.outcome.RewriteFault.{RewriteFault}
+use Rattle.smap_trace.specs.declared.outcome.RewriteFault.TheVariants as fault
 use Rattle.smap_trace.specs.declared.outcome.Summary.{Summary}
 use Rattle.smap_trace.specs.declared.refusal.TableRefusal.{TableRefusal}
 use Rattle.smap_trace.specs.declared.refusal.TableRefusal.TheVariants.{BadUrl, Twice, Memory}
@@ -122,12 +124,13 @@ abbrev pub rewrite_telling : Result Summary RewriteFault → Telling
 rewrite_telling (Ok summary) = answer []
 rewrite_telling (Err fault) = fault_telling fault
 
--- rewriting the trace on standard input over these maps tells this
+-- rewriting the trace on standard input over these maps tells this; where memory was wanting, neither stream was asked
 pub record TraceTells (maps : Maps) (before after : Work) (telling : Telling) : Type 0 where
   pub result : Result Summary RewriteFault
   pub rewritten : IsRewritten maps (trace_seen before) (trace_seen after) result
   pub input_failed : after.input.failed ≡ is_read_fault result
   pub output_failed : after.output.failed ≡ is_write_fault result
+  pub untouched : result ≡ Err fault.Memory → after ≡ before
   pub told : telling ≡ rewrite_telling result
 
 -- where a word is refused, this is told, and standard input and output stay as they are

@@ -2,15 +2,15 @@
 ghost use Rattle.std.specs.Prelude.{◌≡◌, ◌++◌, ◌∷◌, [], option_copied, string_bytes, IfOk};
 ghost use Rattle.smap_record.specs.Record.{record_of};
 ghost use Rattle.smap_answers.specs.Compose.{IsComposeTelling, compose_result};
-ghost use Rattle.smap_answers.specs.Map.{usual_interval};
 ghost use Rattle.smap_answers.specs.Outcome.{refusal, telling_of};
+ghost use Rattle.smap_command.specs.Limits.{usual_interval};
 
-use crate::command::USUAL_INTERVAL;
 use crate::lines;
 use crate::load::Loaded;
 use crate::outcome::Outcome;
 use crate::refusal::refuse;
 use crate::show::line_of;
+use smap_command::USUAL_INTERVAL;
 use smap_compose::{ComposeRefusal, compose};
 use smap_record::{MapFile, Url};
 use std::alloc::{AllocError, Global};

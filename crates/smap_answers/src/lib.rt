@@ -1,5 +1,5 @@
-//! What the program answers, apart from its words: each command as a value, the files that it names, what it comes to
-//! over their bytes and standard input, and the lines that tell this.
+//! What the program answers, apart from its words: the files that a command names, what it comes to over their bytes and
+//! standard input, and the lines that tell this.
 //!
 //! ```text
 //! let command = Command::Lookup { path, line: 0, column: 5, base: None, interval: USUAL_INTERVAL };
@@ -9,8 +9,8 @@
 #![tactic(auto)]
 
 mod check;
-mod command;
 mod compose;
+mod limits;
 mod lines;
 mod load;
 mod lookup;
@@ -22,9 +22,8 @@ mod show;
 mod telling;
 mod trace;
 
-pub use command::{Command, USUAL_INTERVAL};
-pub use lines::{BAD_BASE, no_pair_line};
 pub use load::{Loaded, load_files};
 pub use outcome::Outcome;
 pub use running::run;
+pub use smap_command::{Command, USUAL_INTERVAL};
 pub use telling::tell;

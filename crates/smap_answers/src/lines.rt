@@ -2,10 +2,12 @@
 ghost use Rattle.std.specs.Prelude.{◌≡◌, ◌+◌, option_map, string_bytes, IfOk};
 ghost use Rattle.smap_answers.specs.Lines.{counts_line, fault_text, file_failed_line, found_line};
 ghost use Rattle.smap_answers.specs.Lines.{ignored_text, kind_text, lists_text, map_refused_line};
-ghost use Rattle.smap_answers.specs.Lines.{mappings_text, name_suffix, place_line, refused_line, shown};
-ghost use Rattle.smap_answers.specs.Lines.{bad_url_line, no_pair_line, shown_byte, twice_line};
+ghost use Rattle.smap_answers.specs.Lines.{mappings_text, name_suffix, place_line, refused_line};
+ghost use Rattle.smap_answers.specs.Lines.{bad_url_line, twice_line};
 ghost use Rattle.smap_answers.specs.Trace.{word_text};
+ghost use Rattle.smap_command.specs.Shown.{shown};
 
+use smap_command::shown;
 use smap_mappings::{Fault, FaultKind};
 use std::alloc::{AllocError, Global};
 
@@ -26,9 +28,6 @@ pub const NOT_UTF8: &str = "refused: NotUtf8\n";
 
 /// Standard error: a word of the command line is not UTF-8.
 pub const WORDS_NOT_UTF8: &str = "error: a word of the command line is not UTF-8\n";
-
-/// Standard error: the base is no URL.
-pub const BAD_BASE: &str = "usage: bad base URL\n";
 
 /// Standard error: the outer map has no source of this number.
 pub const NO_SOURCE: &str = "refused: C1 SourceIndex\n";
@@ -200,28 +199,6 @@ fn shown_word(alloc: Global, url: &str, path: &str) -> Result<String, AllocError
 {
     let (url, path) = (shown(alloc, url)?, shown(alloc, path)?);
     format!(in alloc; "{url}={path}")
-}
-
-/// Standard error: a word of `rewrite` without `=`.
-pub fn no_pair_line(alloc: Global, word: &str) -> Result<String, AllocError>
-    ensures { IfOk result (λ text. string_bytes text ≡ no_pair_line word.now) }
-{
-    let word = shown(alloc, word)?;
-    format!(in alloc; "usage: no URL=FILE: {word}\n")
-}
-
-/// A text of the user's, for one line: a `?` stands for each ASCII control character.
-pub fn shown(alloc: Global, text: &str) -> Result<String, AllocError>
-    ensures { IfOk result (λ clean. string_bytes clean ≡ shown text.now) }
-{
-    text.chars().map(shown_char).collect(alloc)
-}
-
-// A character as it prints.
-fn shown_char(char: char) -> char
-    ensures { result ≡ shown_byte char }
-{
-    if char.is_ascii_control() { '?' } else { char }
 }
 
 /// Standard error: a mappings text that is refused, with the text of its first fault.

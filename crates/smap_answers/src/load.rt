@@ -3,9 +3,9 @@ ghost use Rattle.std.specs.Prelude.{◌≡◌, ◌++◌, ◌∷◌, [], map, IfE
 ghost use Rattle.smap_answers.specs.Files.{IsUnread, IsUnreadAt, IsUnreadOf, path_in, path_of, paths_of};
 ghost use Rattle.smap_answers.specs.Outcome.{telling_of};
 
-use crate::command::Command;
 use crate::lines;
 use crate::outcome::Outcome;
+use smap_command::Command;
 use smap_io::{FromStd, ReadFailure, read_all};
 use smap_record::MOST_FILE_BYTES;
 use std::alloc::Global;

@@ -10,6 +10,7 @@ ghost use Rattle.smap_answers.specs.Outcome.{telling_of};
 use crate::lines;
 use crate::outcome::Outcome;
 use crate::refusal::refuse;
+use smap_command::shown;
 use smap_record::{Answer, MapFile, Meter, Origin, SourceEntry, Url};
 use smap_text::excerpt;
 use std::alloc::{AllocError, Global};
@@ -107,7 +108,7 @@ fn source_text(alloc: Global, entry: Option<&SourceEntry>, index: u32) -> Result
                 name: Some(name),
                 ..
             },
-        ) => lines::shown(alloc, name.text()),
+        ) => shown(alloc, name.text()),
         _ => format!(in alloc; "[{index}]"),
     }
 }

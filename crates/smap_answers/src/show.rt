@@ -1,14 +1,15 @@
 //! Writing what a map file states as one regular map.
 ghost use Rattle.std.specs.Prelude.{◌≡◌, ◌++◌, ◌∷◌, [], option_copied, IfOk};
 ghost use Rattle.smap_record.specs.Record.{record_of};
-ghost use Rattle.smap_answers.specs.Map.{IsMapTelling, usual_interval};
+ghost use Rattle.smap_answers.specs.Map.{IsMapTelling};
 ghost use Rattle.smap_answers.specs.Outcome.{telling_of};
 ghost use Rattle.smap_answers.specs.Show.{show_result};
+ghost use Rattle.smap_command.specs.Limits.{usual_interval};
 
-use crate::command::USUAL_INTERVAL;
 use crate::lines;
 use crate::outcome::Outcome;
 use crate::refusal::refuse;
+use smap_command::USUAL_INTERVAL;
 use smap_record::{MapFile, Url, WriteRefusal};
 use std::alloc::{AllocError, Global};
 

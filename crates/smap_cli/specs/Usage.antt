@@ -1,8 +1,8 @@
 -- What is told where the words give no command.
 use Rattle.std.specs.Prelude.{string_bytes}
 use Rattle.smap_answers.specs.Outcome.{Telling, answer, misuse, out_of_memory}
-use Rattle.smap_cli.specs.declared.words.Usage.{Usage}
-use Rattle.smap_cli.specs.declared.words.Usage.TheVariants.{Help, Words, Memory}
+use Rattle.smap_words.specs.declared.usage.Usage.{Usage}
+use Rattle.smap_words.specs.declared.usage.Usage.TheVariants.{Help, Words, Memory}
 
 -- help is what was asked for; other words are a mistake
 abbrev pub telling_of_usage : Usage → Telling

@@ -5,17 +5,19 @@
 //! up in the bare mappings text on its standard input.
 #![tactic(auto)]
 
-mod words;
+mod usage;
 
 ghost use Rattle.std.specs.Prelude.{◌≡◌, map, IfOk};
 ghost use Rattle.smap_answers.specs.Files.{path_of, paths_of};
-ghost use Rattle.smap_answers.specs.Run.{HasInterval};
+ghost use Rattle.smap_command.specs.Interval.{HasInterval};
 
-use smap_answers::{Command, Loaded, Outcome, load_files, run, tell};
+use smap_answers::{Loaded, Outcome, load_files, run, tell};
+pub use smap_command::Command;
 use smap_io::FromStd;
+pub use smap_words::{Usage, parse};
 use std::io;
 use std::process::ExitCode;
-use words::parse;
+use usage::outcome_of;
 
 fn main(rt: HostRuntime) -> ExitCode {
     let mut input = FromStd::new(rt.stdin());
@@ -57,7 +59,7 @@ fn command_of(rt: &HostRuntime) -> Result<Command, Outcome>
     };
     match parse(rt.alloc(), words) {
         Ok(command) => Ok(command),
-        Err(usage) => Err(usage.outcome()),
+        Err(usage) => Err(outcome_of(usage)),
     }
 }
 

@@ -8,6 +8,7 @@ use Rattle.smap_mappings.specs.Order.{IsInOrder}
 use Rattle.smap_mappings.specs.Range.{is_mapping_past_limit}
 use Rattle.smap_mappings.specs.State.{IsAfter, IsBetween}
 use Rattle.smap_mappings.specs.declared.mapping.Mapping.{Mapping}
+use Rattle.smap_index.specs.Checkpoint.{mapping_of, state_of}
 use Rattle.smap_index.specs.Parts.{placed, joined}
 use Rattle.smap_index.specs.Answer.{answer_of, answer_at_or_before}
 use Rattle.smap_index.specs.Faults.{most_interval}
@@ -16,7 +17,7 @@ use Rattle.smap_index.specs.Search.{mappings_at, last_from, last_checkpoint}
 use Rattle.smap_index.specs.Index.{IndexContents, IsIndex}
 use Rattle.smap_index.specs.declared.answer.Answer.TheVariants.{Nothing}
 use Rattle.smap_index.specs.declared.part.Part.{Part}
-use Rattle.smap_index.specs.declared.table.Checkpoint.{Checkpoint}
+use Rattle.smap_index.specs.declared.checkpoint.Checkpoint.{Checkpoint}
 use Rattle.smap_index.proofs.RefusalLaws.{faultless, all_in_range}
 use Rattle.smap_index.proofs.Tiles.{IsTiled}
 use Rattle.smap_index.proofs.TileLaws.{tiled, table_in_order}
@@ -69,7 +70,7 @@ module _ (index : IndexContents) (is : IsIndex index) where
       part_within = slice_get_within index.parts checkpoint.part found.part found.part_is
 
       -- nothing answers, where it stands on another line
-      pub none_on_its_line : (seen : IndexContents) → index ≡ seen → (checkpoint.mapping.line ≡ line → ⊥) → answer_at_or_before (joined seen.parts) line column ≡ Nothing
+      pub none_on_its_line : (seen : IndexContents) → index ≡ seen → ((mapping_of checkpoint).line ≡ line → ⊥) → answer_at_or_before (joined seen.parts) line column ≡ Nothing
       none_on_its_line seen same other =
           ap (λ (i : IndexContents). answer_at_or_before (joined i.parts) line column) (sym same)
           ∙ none_on_line line column index.parts index.k (joined index.parts) checkpoint is.holds.ordered found other
@@ -79,19 +80,19 @@ module _ (index : IndexContents) (is : IsIndex index) where
         same_part : found.part ≡ part
         same_part = sym (get_or_from_slice_get index.parts checkpoint.part found.part part found.part_is) ∙ sym read
 
-        pub state_between : IsBetween part.text checkpoint.state
-        state_between = subst (λ (part : Part). IsBetween part.text checkpoint.state) same_part (found.segment + 1, found.state_is)
+        pub state_between : IsBetween part.text (state_of part checkpoint)
+        state_between = subst (λ (part : Part). IsBetween part.text (state_of part checkpoint)) same_part (found.segment + 1, found.state_is)
 
         -- no mapping of its part is past the limit
         pub part_in_range : list_any is_mapping_past_limit (placed part) ≡ false
         part_in_range = all_in_range index.parts checkpoint.part part (faultless index.parts index.k is.sound).range part_within read
 
         -- what is last behind it answers, where it stands on the line
-        pub last_answers_behind : (seen : IndexContents) → index ≡ seen → checkpoint.mapping.line ≡ line → (m : Mapping)
-            → ((j : ℕ) → IsAfter part.text j checkpoint.state → Some m ≡ last_from line column (Some checkpoint.mapping) (take (index.k - 1) (drop j (placed part))))
+        pub last_answers_behind : (seen : IndexContents) → index ≡ seen → (mapping_of checkpoint).line ≡ line → (m : Mapping)
+            → ((j : ℕ) → IsAfter part.text j (state_of part checkpoint) → Some m ≡ last_from line column (Some (mapping_of checkpoint)) (take (index.k - 1) (drop j (placed part))))
             → answer_of m ≡ answer_at_or_before (joined seen.parts) line column
         last_answers_behind seen same on_line m is_last =
-            let is_here = is_last (found.segment + 1) (subst (λ (part : Part). IsAfter part.text (found.segment + 1) checkpoint.state) same_part found.state_is) in
-            let moved = ap (λ (part : Part). last_from line column (Some checkpoint.mapping) (take (index.k - 1) (drop (found.segment + 1) (placed part)))) (sym same_part) in
+            let is_here = is_last (found.segment + 1) (subst (λ (part : Part). IsAfter part.text (found.segment + 1) (state_of part checkpoint)) same_part found.state_is) in
+            let moved = ap (λ (part : Part). last_from line column (Some (mapping_of checkpoint)) (take (index.k - 1) (drop (found.segment + 1) (placed part)))) (sym same_part) in
             sym (last_answers_on_line line column index.parts index.k (joined index.parts) checkpoint is.holds.ordered found on_line m (is_here ∙ moved))
             ∙ ap (λ (i : IndexContents). answer_at_or_before (joined i.parts) line column) same

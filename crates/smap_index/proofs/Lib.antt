@@ -2,6 +2,8 @@ pub mod Halving
 pub mod LastLaws
 pub mod ListLaws
 pub mod NumberLaws
+pub mod CheckpointLaws
+pub mod FitLaws
 pub mod SearchLaws
 pub mod MarkLaws
 pub mod CountingLaws
@@ -14,6 +16,7 @@ pub mod FaultLaws
 pub mod RefusalLaws
 pub mod OrderLaws
 pub mod WalkLaws
+pub mod JoinedLaws
 pub mod PartLaws
 pub mod WholeTextLaws
 pub mod SameLimits

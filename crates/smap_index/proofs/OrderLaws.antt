@@ -1,17 +1,21 @@
 -- Parts without a fault give a joined list in order.
 use Rattle.std.proofs.Common.{◌≡◌, ℕ, ◌+◌, ◌<◌, ◌≤◌, List, [], ◌∷◌, ◌++◌, map, cond, ◌||◌, Bool, true, false, Option, Some, None, refl, ap, sym, subst, ◌∙◌, arith, eqb, ⊎_elim, inl, inr, ◌⊎◌}
-use Rattle.std.specs.Prelude.{option_map}
+use Rattle.std.specs.Prelude.{option_map, IfSome, length}
 use Rattle.std.specs.List.{AllByRecursion, last_or, list_any, position_from}
 use Rattle.std.proofs.lemmas.Bool.{cond_both, cases_eq, cases_lt, ltb-true, ltb-false, eqb-true, eqb-false, lt-ltb, eq-eqb, or_parts, or_cases, or_left, or_right, and_parts, and_cases, and_from}
 use Rattle.std.proofs.lemmas.List.{append-nil}
 use Rattle.smap_mappings.specs.Mappings.{mappings_of}
+use Rattle.smap_mappings.specs.Counts.{segments_of}
 use Rattle.smap_mappings.specs.Order.{IsAtOrBefore, IsInOrder}
+use Rattle.smap_mappings.specs.State.{IsMappingAt}
+use Rattle.smap_mappings.specs.declared.cursor.Cursor.{Cursor}
 use Rattle.smap_mappings.specs.declared.mapping.Mapping.{Mapping}
 use Rattle.smap_index.specs.declared.part.Part.{Part}
 use Rattle.smap_index.specs.Parts.{placed_mapping, placed, joined}
 use Rattle.smap_index.specs.Faults.{neighbours, is_out_of_order, is_after_offset, is_overlapping, order_fault, overlap_fault}
-use Rattle.smap_index.specs.Walk.{IsTextInOrder}
+use Rattle.smap_index.specs.Walk.{position_of, IsTextInOrder}
 use Rattle.smap_index.proofs.FaultLaws.{none_from}
+use Rattle.smap_index.proofs.WalkLaws.{length-mappings_of}
 
 -- ---- positions beside an offset
 
@@ -180,12 +184,30 @@ module _ (part next : Part) where
   none_of (m ∷ list) is = absurd (never_none m list is)
 
   -- whether a mapping of the part stands after the next offset is what the last one says
-  pub overlapping_at_last : (last : Mapping) → IsTextInOrder part → Some last ≡ last_or None (mappings_of part.text) → is_overlapping (part, next) ≡ is_after_offset next (placed_mapping part last)
+  overlapping_at_last : (last : Mapping) → IsTextInOrder part → Some last ≡ last_or None (mappings_of part.text) → is_overlapping (part, next) ≡ is_after_offset next (placed_mapping part last)
   unfolding placed
   overlapping_at_last last order is =
       last_of (placed_mapping part last) (placed part) (places_in_order part (mappings_of part.text) order)
       (last-map (placed_mapping part) None (mappings_of part.text) ∙ ap (option_map (placed_mapping part)) (sym is))
 
-  pub overlapping_nothing : None ≡ last_or None (mappings_of part.text) → is_overlapping (part, next) ≡ false
+  overlapping_nothing : None ≡ last_or None (mappings_of part.text) → is_overlapping (part, next) ≡ false
   unfolding placed
   overlapping_nothing is = ap (λ list. list_any (is_after_offset next) (map (placed_mapping part) list)) (none_of (mappings_of part.text) (sym is))
+
+  at_position : (m : Mapping) (state : Cursor) → IsMappingAt state m → is_after_offset next (placed_mapping part m) ≡ is_after_offset next (placed_mapping part (position_of state))
+  at_position m state at = λ i. is_after_offset next (placed_mapping part (record { line = at.line i; column = at.column i; origin = None }))
+
+  overlapping_at : (last : Option Mapping) (state : Cursor) → IsTextInOrder part → last ≡ last_or None (mappings_of part.text) → IfSome last (IsMappingAt state) → (segments_of part.text ≡ 0 → ⊥) → is_overlapping (part, next) ≡ is_after_offset next (placed_mapping part (position_of state))
+  overlapping_at None state order is at some = absurd (some (sym (length-mappings_of part.text) ∙ ap length (none_of (mappings_of part.text) (sym is))))
+  overlapping_at (Some last) state order is at some = overlapping_at_last last order is ∙ at_position last state at
+
+  -- where the part has a mapping, these are the last one's values
+  pub overlapping_at_state : (state : Cursor) → IsTextInOrder part → IfSome (last_or None (mappings_of part.text)) (IsMappingAt state) → (segments_of part.text ≡ 0 → ⊥) → is_overlapping (part, next) ≡ is_after_offset next (placed_mapping part (position_of state))
+  overlapping_at_state state order at some = overlapping_at (last_or None (mappings_of part.text)) state order refl at some
+
+  no_last : (list : List Mapping) → length list ≡ 0 → None ≡ last_or None list
+  no_last [] none = refl
+  no_last (m ∷ list) none = absurd (omega arith)
+
+  pub overlapping_none : segments_of part.text ≡ 0 → is_overlapping (part, next) ≡ false
+  overlapping_none none = overlapping_nothing (no_last (mappings_of part.text) (length-mappings_of part.text ∙ none))

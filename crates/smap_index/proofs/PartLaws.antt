@@ -10,7 +10,7 @@ use Rattle.std.proofs.lemmas.Bool.{cond_both}
 use Rattle.smap_index.specs.Parts.{placed, joined, bytes_in}
 use Rattle.smap_index.specs.Marks.{Mark, mark_in, marked_segments, marks_from, marks, IsCheckpointIn, IsCheckpointOf, used_lines_in}
 use Rattle.smap_index.specs.declared.part.Part.{Part}
-use Rattle.smap_index.specs.declared.table.Checkpoint.{Checkpoint}
+use Rattle.smap_index.specs.declared.checkpoint.Checkpoint.{Checkpoint}
 use Rattle.smap_index.proofs.CountingLaws.{IsMarked}
 use Rattle.smap_index.proofs.MarkLaws.{AllZip-append}
 

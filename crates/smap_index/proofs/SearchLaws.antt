@@ -8,7 +8,8 @@ use Rattle.smap_mappings.specs.Order.{IsAtOrBefore, IsInOrder}
 use Rattle.smap_mappings.specs.declared.mapping.Mapping.{Mapping}
 use Rattle.smap_index.specs.Answer.{is_on_line_at_or_before, answer_of, answer_of_last, answer_at_or_before}
 use Rattle.smap_index.specs.declared.answer.Answer.TheVariants.{Nothing}
-use Rattle.smap_index.specs.declared.table.Checkpoint.{Checkpoint}
+use Rattle.smap_index.specs.declared.checkpoint.Checkpoint.{Checkpoint}
+use Rattle.smap_index.specs.Checkpoint.{mapping_of}
 use Rattle.smap_index.proofs.ListLaws.{tail_in_order}
 use Rattle.smap_index.specs.Search.{mappings_at, is_not_after, front_not_after, last_not_after}
 
@@ -148,9 +149,9 @@ front_within line column [] = omega arith
 front_within line column (a ∷ table) =
     let rest = front_within line column table in
     ⊎_elim
-    (λ passes. let counted = cond-true (is_not_after line column a.mapping) (1 + front_not_after line column (mappings_at table)) 0 passes in omega arith)
-    (λ stops. let counted = cond-false (is_not_after line column a.mapping) (1 + front_not_after line column (mappings_at table)) 0 stops in omega arith)
-    (cases_Bool (is_not_after line column a.mapping))
+    (λ passes. let counted = cond-true (is_not_after line column (mapping_of a)) (1 + front_not_after line column (mappings_at table)) 0 passes in omega arith)
+    (λ stops. let counted = cond-false (is_not_after line column (mapping_of a)) (1 + front_not_after line column (mappings_at table)) 0 stops in omega arith)
+    (cases_Bool (is_not_after line column (mapping_of a)))
 
-pub read_mapping : (table : List Checkpoint) (i : ℕ) (checkpoint : Checkpoint) → slice_get table i ≡ Some checkpoint → slice_get (mappings_at table) i ≡ Some checkpoint.mapping
-read_mapping table i checkpoint there = slice_get-map (λ checkpoint. checkpoint.mapping) table i ∙ ap (option_map (λ checkpoint. checkpoint.mapping)) there
+pub read_mapping : (table : List Checkpoint) (i : ℕ) (checkpoint : Checkpoint) → slice_get table i ≡ Some checkpoint → slice_get (mappings_at table) i ≡ Some (mapping_of checkpoint)
+read_mapping table i checkpoint there = slice_get-map mapping_of table i ∙ ap (option_map mapping_of) there

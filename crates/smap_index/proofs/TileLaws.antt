@@ -7,11 +7,12 @@ use Rattle.std.proofs.lemmas.List.{append_assoc, length-append, drop_at}
 use Rattle.std.proofs.lemmas.Nat.{mod_below}
 use Rattle.smap_mappings.specs.Order.{IsAtOrBefore, IsInOrder}
 use Rattle.smap_mappings.specs.declared.mapping.Mapping.{Mapping}
+use Rattle.smap_index.specs.Checkpoint.{mapping_of}
 use Rattle.smap_index.specs.Parts.{placed, joined}
 use Rattle.smap_index.specs.Marks.{Mark, mark_in, number_on_line, marked_segments, marks_from, IsCheckpointIn, IsCheckpointOf, IsTableOf}
 use Rattle.smap_index.specs.Search.{mappings_at}
 use Rattle.smap_index.specs.declared.part.Part.{Part}
-use Rattle.smap_index.specs.declared.table.Checkpoint.{Checkpoint}
+use Rattle.smap_index.specs.declared.checkpoint.Checkpoint.{Checkpoint}
 use Rattle.smap_index.proofs.ListLaws.{tail_in_order}
 use Rattle.smap_index.proofs.MarkLaws.{slice_get-behind}
 use Rattle.smap_index.proofs.NumberLaws.{next_remainder, front_in_order, back_in_order, next_number}
@@ -39,9 +40,9 @@ pub table_in_order : (parts : List Part) (k : ℕ) (list : List Mapping) (table 
 table_in_order parts k list [] order tiled = tt
 table_in_order parts k list (c ∷ []) order tiled = tt
 table_in_order parts k list (c ∷ d ∷ table) order tiled =
-    let ahead : IsInOrder (c.mapping ∷ tiled.0) = without_behind c.mapping tiled.1.behind tiled.0 (subst IsInOrder tiled.1.list_is order) in
-    let next : IsInOrder (c.mapping ∷ d.mapping ∷ tiled.2.1.behind ++ tiled.2.0) = subst (λ (rest : List Mapping). IsInOrder (c.mapping ∷ rest)) tiled.2.1.list_is ahead in
-    (next.0, table_in_order parts k tiled.0 (d ∷ table) (tail_in_order c.mapping tiled.0 ahead) tiled.2)
+    let ahead : IsInOrder (mapping_of c ∷ tiled.0) = without_behind (mapping_of c) tiled.1.behind tiled.0 (subst IsInOrder tiled.1.list_is order) in
+    let next : IsInOrder (mapping_of c ∷ mapping_of d ∷ tiled.2.1.behind ++ tiled.2.0) = subst (λ (rest : List Mapping). IsInOrder (mapping_of c ∷ rest)) tiled.2.1.list_is ahead in
+    (next.0, table_in_order parts k tiled.0 (d ∷ table) (tail_in_order (mapping_of c) tiled.0 ahead) tiled.2)
 
 -- ---- the tiles of a part
 
@@ -66,7 +67,7 @@ module _ (parts : List Part) (k : ℕ) (positive : 0 < k) (i : ℕ) (part : Part
       let same : is.part ≡ part = cc (is.part_is, part_is) in
       let inside : IsCheckpointIn part i (length before) c = subst (λ (p : Part). IsCheckpointIn p i (length before) c) same is.inside in
       let there : slice_get (placed part) (length before) ≡ Some m = ap (λ list. slice_get list (length before)) (sym whole) ∙ slice_get-behind before m mappings in
-      let mapping : m ≡ c.mapping = cc (there, inside.mapping_is) in
+      let mapping : m ≡ (mapping_of c) = cc (there, inside.mapping_is) in
       let dropped : drop (length before + 1) (placed part) ≡ mappings =
       ap (drop (length before + 1)) (sym whole ∙ sym (append_assoc before (m ∷ []) mappings)) ∙ drop_at (before ++ m ∷ []) mappings (length before + 1) (length-append before (m ∷ [])) in
       let here : IsTile parts k (m ∷ mappings ++ later) c (run.part_rest ++ later) = record {
@@ -78,7 +79,7 @@ module _ (parts : List Part) (k : ℕ) (positive : 0 < k) (i : ℕ) (part : Part
         behind = run.behind;
         few = omega (arith, run.few, marked);
         on_line = subst (λ (mapping : Mapping). AllByRecursion (λ (m : Mapping). m.line ≡ mapping.line) run.behind) mapping run.on_line;
-        list_is = (λ j. mapping j ∷ run.split j ++ later) ∙ ap (λ list. c.mapping ∷ list) (append_assoc run.behind run.part_rest later);
+        list_is = (λ j. mapping j ∷ run.split j ++ later) ∙ ap (λ list. mapping_of c ∷ list) (append_assoc run.behind run.part_rest later);
         part_rest = run.part_rest;
         later = later;
         part_behind = dropped ∙ run.split;

@@ -4,21 +4,22 @@ use Rattle.std.proofs.Common.{◌≡◌, ℕ, ◌+◌, ◌<◌, List, [], ◌∷
 use Rattle.std.specs.List.{AllByRecursion, slice_get}
 use Rattle.smap_mappings.specs.State.{IsAfter}
 use Rattle.smap_mappings.specs.declared.mapping.Mapping.{Mapping}
+use Rattle.smap_index.specs.Checkpoint.{mapping_of, state_of}
 use Rattle.smap_index.specs.Parts.{placed}
 use Rattle.smap_index.specs.declared.part.Part.{Part}
-use Rattle.smap_index.specs.declared.table.Checkpoint.{Checkpoint}
+use Rattle.smap_index.specs.declared.checkpoint.Checkpoint.{Checkpoint}
 
 -- the list begins with this checkpoint's mapping, behind which stand those up to the next checkpoint, and then the rest
 pub record IsTile (parts : List Part) (k : ℕ) (list : List Mapping) (checkpoint : Checkpoint) (rest : List Mapping) : Type 0 where
   pub part : Part
   pub segment : ℕ
   pub part_is : slice_get parts checkpoint.part ≡ Some part
-  pub mapping_is : slice_get (placed part) segment ≡ Some checkpoint.mapping
-  pub state_is : IsAfter part.text (segment + 1) checkpoint.state
+  pub mapping_is : slice_get (placed part) segment ≡ Some (mapping_of checkpoint)
+  pub state_is : IsAfter part.text (segment + 1) (state_of part checkpoint)
   pub behind : List Mapping
   pub few : length behind < k
-  pub on_line : AllByRecursion (λ (m : Mapping). m.line ≡ checkpoint.mapping.line) behind
-  pub list_is : list ≡ checkpoint.mapping ∷ behind ++ rest
+  pub on_line : AllByRecursion (λ (m : Mapping). m.line ≡ (mapping_of checkpoint).line) behind
+  pub list_is : list ≡ mapping_of checkpoint ∷ behind ++ rest
   -- what the part holds behind them begins the rest
   pub part_rest : List Mapping
   pub later : List Mapping

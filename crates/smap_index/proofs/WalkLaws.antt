@@ -1,16 +1,15 @@
 -- A walk through a text takes one mapping more at each step.
 use Rattle.std.proofs.Common.{◌≡◌, ℕ, ◌+◌, List, [], ◌∷◌, ◌++◌, ◌||◌, Bool, true, false, Option, Some, None, take, cond, suc, zero, length, refl, arith, sym, ap, subst, ◌∙◌, ⊎_elim}
-use Rattle.std.specs.Prelude.{option_map}
+use Rattle.std.specs.Prelude.{option_map, IfSome}
 use Rattle.std.specs.List.{last_or, list_any, slice_get}
-use Rattle.std.proofs.lemmas.Bool.{or_parts, cases_Bool, cond-true, cond-false}
-use Rattle.std.proofs.lemmas.List.{append_assoc, length-map, take_all}
+use Rattle.std.proofs.lemmas.Bool.{or_parts, or_from, cases_Bool, cond-true, cond-false}
+use Rattle.std.proofs.lemmas.List.{length-map, take_all}
 use Rattle.std.proofs.lemmas.List.Folds.{list_any-append}
 use Rattle.std.proofs.lemmas.Option.{slice_get-map}
 use Rattle.smap_mappings.specs.Counts.{segments_of}
 use Rattle.smap_mappings.specs.Pieces.{pieces_of}
 use Rattle.smap_mappings.specs.Mappings.{Move, move_of, moves_of, mappings_after, mappings_of}
-use Rattle.smap_mappings.specs.State.{IsAfter}
-use Rattle.smap_mappings.specs.State.{IsNext}
+use Rattle.smap_mappings.specs.State.{IsAfter, IsMappingAt, IsNext}
 use Rattle.smap_mappings.specs.declared.cursor.Cursor.{Cursor}
 use Rattle.smap_mappings.specs.declared.mapping.Mapping.{Mapping}
 use Rattle.smap_index.specs.Parts.{placed_mapping, placed}
@@ -22,7 +21,7 @@ length-mappings_after : (before moves : List Move) → length (mappings_after be
 length-mappings_after before [] = refl
 length-mappings_after before (move ∷ moves) = ap suc (length-mappings_after (before ++ move ∷ []) moves)
 
-length-mappings_of : (text : List ℕ) → length (mappings_of text) ≡ segments_of text
+pub length-mappings_of : (text : List ℕ) → length (mappings_of text) ≡ segments_of text
 unfolding mappings_of moves_of
 length-mappings_of text = length-mappings_after [] (moves_of text) ∙ length-map (pieces_of text) move_of
 
@@ -41,6 +40,10 @@ last_or-push : (o : Option Mapping) (xs : List Mapping) (m : Mapping) → last_o
 last_or-push o [] m = refl
 last_or-push o (x ∷ xs) m = last_or-push (Some x) xs m
 
+-- before the first mapping there is no last
+pub last_none : (j : ℕ) (list : List Mapping) (state : Cursor) → j ≡ 0 → IfSome (last_or None (take j list)) (IsMappingAt state)
+last_none j list state none = subst (λ j. IfSome (last_or None (take j list)) (IsMappingAt state)) (sym none) tt
+
 -- one test more, behind others
 or_more : (a b c : Bool) → (a || (b || (c || false))) ≡ ((a || b) || c)
 or_more true b c = refl
@@ -56,6 +59,14 @@ same_place m there is =
     (λ within. let e = cond-false (is_mapping_past_limit m) None (Some m) within in cc (e, is))
     (cases_Bool (is_mapping_past_limit m))
 
+-- before the first mapping no test has passed
+or_none : (a : Bool) → (a || false) ≡ a
+or_none true = refl
+or_none false = refl
+
+pub any_none : (test : Mapping → Bool) (offset : Bool) (j : ℕ) (list : List Mapping) → j ≡ 0 → offset ≡ (offset || list_any test (take j list))
+any_none test offset j list none = sym (ap (λ j. offset || list_any test (take j list)) none ∙ or_none offset)
+
 module _ (part : Part) (j n : ℕ) (m : Mapping) (behind : Cursor) (next : IsNext part.text j m behind) (counted : n ≡ j + 1) where
   pub after_next : (state : Cursor) → behind ≡ state → IsAfter part.text n state
   after_next state is = subst (IsAfter part.text n) is (subst (λ n. IsAfter part.text n behind) (sym counted) next.behind)
@@ -66,10 +77,11 @@ module _ (part : Part) (j n : ℕ) (m : Mapping) (behind : Cursor) (next : IsNex
       ap (λ n. take n (placed part)) counted
       ∙ take_next (placed part) j (placed_mapping part m) (slice_get-map (placed_mapping part) (mappings_of part.text) j ∙ ap (option_map (placed_mapping part)) next.mapping_is)
 
-  pub last_next : (last : Option Mapping) → last ≡ Some m → last ≡ last_or None (take n (mappings_of part.text))
-  last_next last is =
-      is ∙ sym (last_or-push None (take j (mappings_of part.text)) m)
-      ∙ ap (last_or None) (sym (take_next (mappings_of part.text) j m next.mapping_is) ∙ ap (λ n. take n (mappings_of part.text)) (sym counted))
+  pub last_next : (state : Cursor) → behind ≡ state → IsMappingAt behind m → IfSome (last_or None (take n (mappings_of part.text))) (IsMappingAt state)
+  last_next state same at =
+      let list = mappings_of part.text in
+      let last : last_or None (take n list) ≡ Some m = ap (λ n. last_or None (take n list)) counted ∙ ap (last_or None) (take_next list j m next.mapping_is) ∙ last_or-push None (take j list) m in
+      subst (λ state. IfSome (last_or None (take n list)) (IsMappingAt state)) same (subst (λ last. IfSome last (IsMappingAt behind)) (sym last) at)
 
   -- the placed mappings so far and one more, under any test
   pub any_next : (test : Mapping → Bool) (offset old new : Bool) → old ≡ (offset || list_any test (take j (placed part))) → new ≡ (old || test (placed_mapping part m)) → new ≡ (offset || list_any test (take n (placed part)))
@@ -77,11 +89,11 @@ module _ (part : Part) (j n : ℕ) (m : Mapping) (behind : Cursor) (next : IsNex
       is ∙ ap (λ b. b || test (placed_mapping part m)) so_far
       ∙ sym (ap (λ list. offset || list_any test list) placed_next ∙ ap (λ b. offset || b) (list_any-append test (take j (placed part)) (placed_mapping part m ∷ [])) ∙ or_more offset (list_any test (take j (placed part))) (test (placed_mapping part m)))
 
-  pub pushed_next : (start old new : List Mapping) (there : Mapping) → old ≡ start ++ take j (placed part) → cond (is_mapping_past_limit (placed_mapping part m)) None (Some (placed_mapping part m)) ≡ Some there → new ≡ old ++ there ∷ [] → new ≡ start ++ take n (placed part)
-  pushed_next start old new there listed is pushed =
-      let same = same_place (placed_mapping part m) there is in
-      pushed ∙ ap (λ front. front ++ there ∷ []) listed ∙ append_assoc start (take j (placed part)) (there ∷ [])
-      ∙ ap (λ list. start ++ list) (ap (λ m. take j (placed part) ++ m ∷ []) (sym same) ∙ sym placed_next)
+  -- where no mapping so far is past the limit and this one is not, none is
+  pub none_next : list_any is_mapping_past_limit (take j (placed part)) ≡ false → is_mapping_past_limit (placed_mapping part m) ≡ false → list_any is_mapping_past_limit (take n (placed part)) ≡ false
+  none_next none within =
+      ap (list_any is_mapping_past_limit) placed_next ∙ list_any-append is_mapping_past_limit (take j (placed part)) (placed_mapping part m ∷ [])
+      ∙ or_from _ _ none (or_from _ _ within refl)
 
 -- an element of a list in which none passes a test does not pass it
 none_at : (test : Mapping → Bool) (list : List Mapping) (j : ℕ) (m : Mapping) → list_any test list ≡ false → slice_get list j ≡ Some m → test m ≡ false
@@ -89,19 +101,15 @@ none_at test [] j m none there = absurd (cc)
 none_at test (x ∷ list) zero m none there = let e : x ≡ m = cc in sym (ap test e) ∙ (or_parts _ _ none).0
 none_at test (x ∷ list) (suc j) m none there = none_at test list j m (or_parts _ _ none).1 there
 
--- where no mapping is past the limit, each has its place
-pub placed_in_range : (part : Part) (j : ℕ) (m : Mapping) (behind : Cursor) → IsNext part.text j m behind → list_any is_mapping_past_limit (placed part) ≡ false → cond (is_mapping_past_limit (placed_mapping part m)) None (Some (placed_mapping part m)) ≡ None → ⊥
+-- where no mapping is past the limit, this one is not
+pub within_at : (part : Part) (j : ℕ) (m : Mapping) (behind : Cursor) → IsNext part.text j m behind → list_any is_mapping_past_limit (placed part) ≡ false → is_mapping_past_limit (placed_mapping part m) ≡ false
 unfolding placed
-placed_in_range part j m behind next none kept =
+within_at part j m behind next none =
     let there = slice_get-map (placed_mapping part) (mappings_of part.text) j ∙ ap (option_map (placed_mapping part)) next.mapping_is in
-    let within = none_at is_mapping_past_limit (placed part) j (placed_mapping part m) none there in
-    let e = cond-false (is_mapping_past_limit (placed_mapping part m)) None (Some (placed_mapping part m)) within in
-    cc (e, kept)
+    none_at is_mapping_past_limit (placed part) j (placed_mapping part m) none there
 
--- a mapping that has its place is not past the limit there
-pub there_in_range : (m there : Mapping) → cond (is_mapping_past_limit m) None (Some m) ≡ Some there → is_mapping_past_limit there ≡ false
-there_in_range m there is =
-    ⊎_elim
-    (λ past. absurd (let e = cond-true (is_mapping_past_limit m) None (Some m) past in cc (e, is)))
-    (λ within. let e : m ≡ there = (let e = cond-false (is_mapping_past_limit m) None (Some m) within in cc (e, is)) in sym (ap is_mapping_past_limit e) ∙ within)
-    (cases_Bool (is_mapping_past_limit m))
+-- so it has its place
+pub placed_in_range : (part : Part) (j : ℕ) (m : Mapping) (behind : Cursor) → IsNext part.text j m behind → list_any is_mapping_past_limit (placed part) ≡ false → cond (is_mapping_past_limit (placed_mapping part m)) None (Some (placed_mapping part m)) ≡ None → ⊥
+placed_in_range part j m behind next none kept =
+    let e = cond-false (is_mapping_past_limit (placed_mapping part m)) None (Some (placed_mapping part m)) (within_at part j m behind next none) in
+    cc (e, kept)

@@ -13,6 +13,7 @@ use Rattle.smap_mappings.specs.Within.{IsIndexWithin, IsOriginWithin, IsWithin}
 use Rattle.smap_mappings.specs.declared.mapping.Mapping.{Mapping}
 use Rattle.smap_mappings.specs.declared.mapping.Origin.{Origin}
 use Rattle.smap_index.specs.Parts.{placed_origin, placed_mapping, placed, joined, whole_text}
+use Rattle.smap_index.specs.declared.part.Part.{Part}
 use Rattle.smap_index.specs.declared.refusal.BuildRefusal.TheVariants.{PositionRange}
 use Rattle.smap_index.specs.Faults.{is_part_past_limit, order_fault, overlap_fault, range_fault, part_fault}
 
@@ -74,3 +75,9 @@ whole_has_no_fault text sources names within =
     let small = mappings_within sources names (mappings_of text) (recursion_from_All (IsWithin sources names) (mappings_of text) within) in
     let whole : is_part_past_limit (whole_text text) ≡ false = ap (list_any is_mapping_past_limit) (placed_whole text) ∙ small in
     ap (λ b. option_map PositionRange (cond b (Some 0) None)) whole
+
+-- where a part moves nothing, none of its mappings comes past the limit
+pub unmoved_in_range : (part : Part) (sources names : ℕ) → part ≡ whole_text part.text → All (IsWithin sources names) (mappings_of part.text) → list_any is_mapping_past_limit (placed part) ≡ false
+unmoved_in_range part sources names same within =
+    ap (λ part. list_any is_mapping_past_limit (placed part)) same ∙ ap (list_any is_mapping_past_limit) (placed_whole part.text)
+    ∙ mappings_within sources names (mappings_of part.text) (recursion_from_All (IsWithin sources names) (mappings_of part.text) within)

@@ -7,7 +7,7 @@ use Rattle.smap_index.specs.Faults.{build_fault}
 use Rattle.smap_mappings.specs.Range.{is_mapping_past_limit}
 use Rattle.smap_index.specs.Marks.{IsTableOf, used_lines_in}
 use Rattle.smap_index.specs.declared.part.Part.{Part}
-use Rattle.smap_index.specs.declared.table.Checkpoint.{Checkpoint}
+use Rattle.smap_index.specs.declared.checkpoint.Checkpoint.{Checkpoint}
 
 -- what callers see of an index
 pub record IndexContents : Type 0 where

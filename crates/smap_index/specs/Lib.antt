@@ -1,4 +1,5 @@
 pub mod Parts
+pub mod Checkpoint
 pub mod Marks
 pub mod Answer
 pub mod Faults
@@ -6,3 +7,4 @@ pub mod Index
 pub mod Fields
 pub mod Search
 pub mod Walk
+pub mod Joined

@@ -5,7 +5,8 @@ use Rattle.smap_mappings.specs.Counts.{used_lines_of}
 use Rattle.smap_mappings.specs.State.{IsAfter}
 use Rattle.smap_mappings.specs.declared.mapping.Mapping.{Mapping}
 use Rattle.smap_index.specs.declared.part.Part.{Part}
-use Rattle.smap_index.specs.declared.table.Checkpoint.{Checkpoint}
+use Rattle.smap_index.specs.declared.checkpoint.Checkpoint.{Checkpoint}
+use Rattle.smap_index.specs.Checkpoint.{mapping_of, state_of}
 use Rattle.smap_index.specs.Parts.{placed}
 
 -- a segment, by the number of its part and its own number in that part, both from 0
@@ -41,8 +42,8 @@ marks parts k = marks_from 0 parts k
 -- its state is the one behind the segment
 pub record IsCheckpointIn (part : Part) (number segment : ℕ) (checkpoint : Checkpoint) : Type 0 where
   pub number_is : checkpoint.part ≡ number
-  pub mapping_is : slice_get (placed part) segment ≡ Some checkpoint.mapping
-  pub state_is : IsAfter part.text (segment + 1) checkpoint.state
+  pub mapping_is : slice_get (placed part) segment ≡ Some (mapping_of checkpoint)
+  pub state_is : IsAfter part.text (segment + 1) (state_of part checkpoint)
 
 -- the checkpoint is of this mark
 pub record IsCheckpointOf (parts : List Part) (mark : Mark) (checkpoint : Checkpoint) : Type 0 where

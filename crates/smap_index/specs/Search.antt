@@ -3,11 +3,12 @@
 use Rattle.std.specs.Prelude.{ℕ, List, Option, None, Bool, ◌&&◌, ◌||◌, ◌==◌, nat_lt, nat_le, map, take}
 use Rattle.std.specs.List.{last_or, prefix_len}
 use Rattle.smap_mappings.specs.declared.mapping.Mapping.{Mapping}
-use Rattle.smap_index.specs.declared.table.Checkpoint.{Checkpoint}
+use Rattle.smap_index.specs.declared.checkpoint.Checkpoint.{Checkpoint}
+use Rattle.smap_index.specs.Checkpoint.{mapping_of}
 
 -- the mappings of these checkpoints
 abbrev pub mappings_at : List Checkpoint → List Mapping
-mappings_at checkpoints = map (λ checkpoint. checkpoint.mapping) checkpoints
+mappings_at checkpoints = map mapping_of checkpoints
 
 -- the mapping stands at this position, or before it
 abbrev pub is_not_after : ℕ → ℕ → Mapping → Bool

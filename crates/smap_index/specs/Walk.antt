@@ -1,23 +1,45 @@
 -- What a walk through the parts finds, and how it counts the segments of a line. Only contracts of private functions
 -- cite it.
-use Rattle.std.specs.Prelude.{ℕ, ◌+◌, Option, Some, None, Bool, false, ◌&&◌, ◌==◌, nat_lt, if◌then◌else◌}
+use Rattle.std.specs.Prelude.{ℕ, ◌+◌, ◌^◌, ◌<◌, ◌≤◌, Option, Some, None, Bool, false, ◌&&◌, ◌==◌, nat_lt, if◌then◌else◌}
+use Rattle.smap_mappings.specs.Limits.{most_text_bytes}
 use Rattle.smap_mappings.specs.Mappings.{mappings_of}
 use Rattle.smap_mappings.specs.Order.{IsInOrder}
 use Rattle.smap_mappings.specs.declared.mapping.Mapping.{Mapping}
 use Rattle.smap_mappings.specs.declared.cursor.Cursor.{Cursor}
 use Rattle.smap_index.specs.declared.part.Part.{Part}
-use Rattle.smap_index.specs.declared.table.Checkpoint.{Checkpoint}
+use Rattle.smap_index.specs.declared.checkpoint.Checkpoint.{Checkpoint}
+use Rattle.smap_index.specs.Checkpoint.{kind_of}
 use Rattle.smap_index.specs.Faults.{is_overlapping}
 
--- the checkpoint of a mapping of the part that has this number, with the state behind its segment
-abbrev pub checkpoint_at : ℕ → Mapping → Cursor → Checkpoint
-checkpoint_at part mapping state = record { part = part; mapping = mapping; state = state }
+-- the checkpoint of a mapping of this part, which has this number, with the state behind its segment: the running
+-- values and what the part adds to them
+abbrev pub checkpoint_at : ℕ → Part → Mapping → Cursor → Checkpoint
+checkpoint_at number part mapping behind = record {
+  part = number;
+  kind = kind_of mapping.origin;
+  place = behind.place;
+  line = part.line + behind.line;
+  column = if behind.line == 0 then part.column + behind.column else behind.column;
+  source = part.source_base + behind.source;
+  original_line = behind.original_line;
+  original_column = behind.original_column;
+  name = part.name_base + behind.name;
+}
 
--- the number of a mapping on its line, counted from 0 anew at each checkpoint of the line, where this mapping with this
--- number stands before it
-abbrev pub number_behind : ℕ → Option Mapping → ℕ → Mapping → ℕ
-number_behind k None number mapping = 0
-number_behind k (Some last) number mapping = if last.line == mapping.line && nat_lt (number + 1) k then number + 1 else 0
+-- a state of the part's text fits a checkpoint, its source and its name at their place
+pub record IsFitting (part : Part) (state : Cursor) : Type 0 where
+  pub short : state.place ≤ most_text_bytes
+  pub sources : part.source_base + state.source < 2 ^ 32
+  pub names : part.name_base + state.name < 2 ^ 32
+
+-- the number on its line of a mapping on the next line, counted from 0 anew at each checkpoint of the line, where one
+-- with this number on this line stands before it
+abbrev pub number_behind : ℕ → ℕ → ℕ → ℕ → ℕ
+number_behind k line number next = if line == next && nat_lt (number + 1) k then number + 1 else 0
+
+-- a mapping of these values that has no origin
+abbrev pub position_of : Cursor → Mapping
+position_of values = record { line = values.line; column = values.column; origin = None }
 
 -- the mappings of the part's text are in order
 abbrev pub IsTextInOrder : Part → Type 0

@@ -16,9 +16,9 @@ ghost use Rattle.smap_mappings.specs.Range.{is_mapping_past_limit};
 ghost use Rattle.smap_index.specs.Answer.{answer_at_or_before};
 
 use crate::answer::{Answer, answer_of};
-use crate::decode::decode_part;
 use crate::encode::{length_of_parts, write_parts};
 use crate::interval::is_interval;
+use crate::joined::joined;
 use crate::mark::mark_parts;
 use crate::order::first_out_of_order;
 use crate::part::Part;
@@ -110,11 +110,12 @@ impl Index {
             × (meter.old.segments ≤ meter.new.segments) }
     {
         match last_checkpoint(&self.table, line, column, meter) {
-            Some(checkpoint) if checkpoint.mapping.line == line => {
+            Some(checkpoint) if checkpoint.line == line => {
                 let part = &self.parts[checkpoint.part as usize];
-                answer_of(&last_behind(part, &checkpoint, self.k - 1, line, column, meter))
+                answer_of(&last_behind(part, checkpoint, self.k - 1, line, column, meter))
             }
-            _ => Answer::Nothing,
+            Some(_) => Answer::Nothing,
+            None => Answer::Nothing,
         }
     }
 
@@ -149,8 +150,8 @@ impl Index {
         ensures in_range { list_any is_mapping_past_limit (joined self.now.parts) ≡ false }
     {
         let mut list = Vec::with_capacity(alloc, self.segments as usize)?;
-        for part in &self.parts {
-            decode_part(alloc, part, &mut list)?;
+        for mapping in joined(alloc, &self.parts) {
+            list.push(mapping)?;
         }
         Ok(list)
     }

@@ -12,10 +12,11 @@
 #![tactic(auto)]
 
 mod answer;
-mod decode;
+mod checkpoint;
 mod encode;
 mod index;
 mod interval;
+mod joined;
 pub mod laws;
 mod mark;
 mod order;

@@ -1,20 +1,23 @@
 //! The walk through the texts of all parts, which finds their faults and fills the table.
 
-ghost use Rattle.std.specs.Prelude.{◌≡◌, ◌≤◌, List, [], ◌∷◌, ◌++◌, ◌||◌, ◌==◌, true, false, if◌then◌else◌, Some, None, IsTrue, length};
+ghost use Rattle.std.specs.Prelude.{◌≡◌, ◌≤◌, List, [], ◌∷◌, ◌++◌, ◌||◌, ◌==◌, true, false, if◌then◌else◌, Some, None, IfSome, IsTrue, length};
 ghost use Rattle.std.specs.List.{AllByRecursion, AllZip, last_or};
 ghost use Rattle.std.specs.Option.{option_copied};
 ghost use Rattle.smap_mappings.specs.Mappings.{mappings_of};
-ghost use Rattle.smap_index.specs.Parts.{most_parts, placed_mapping, placed};
+ghost use Rattle.smap_index.specs.Parts.{most_parts, placed_mapping, placed, whole_text};
 ghost use Rattle.smap_index.specs.Faults.{is_interval, overlap_fault, range_fault, is_part_past_limit};
 ghost use Rattle.smap_mappings.specs.Range.{is_mapping_past_limit};
 ghost use Rattle.smap_index.specs.Marks.{marked_segments, IsCheckpointIn, IsTableOf};
-ghost use Rattle.smap_index.specs.Walk.{checkpoint_at, number_behind, IsTextInOrder, is_overlapping_next};
-ghost use Rattle.smap_index.specs.declared.table.Checkpoint.{Checkpoint};
+ghost use Rattle.smap_mappings.specs.State.{IsMappingAt};
+ghost use Rattle.smap_index.specs.Walk.{checkpoint_at, IsFitting, number_behind, IsTextInOrder, is_overlapping_next};
+ghost use Rattle.smap_index.specs.declared.checkpoint.Checkpoint.{Checkpoint};
 
+use crate::checkpoint::Checkpoint;
 use crate::part::Part;
-use crate::place::{is_after_offset, place};
-use crate::table::{Checkpoint, Table};
-use smap_mappings::{LIMIT, Mapping, Meter, State};
+use crate::place::{is_after_offset, is_offset_past_limit, is_past_limit};
+use crate::table::Table;
+use smap_mappings::laws::accepted_texts_have_no_fault;
+use smap_mappings::{Cursor, Mapping, Meter, State};
 use std::alloc::Global;
 
 // What a walk through all parts found: the first part after whose offset a mapping of the part before it stands, the
@@ -27,12 +30,12 @@ pub struct Walk {
     pub has_room: bool,
 }
 
-// What a walk through one part found so far: the last mapping of its text, whether a number of the part is past the
-// limit, and whether there was room for all checkpoints. The last mapping's number on its line counts from 0 anew at
-// each checkpoint of the line.
+// What a walk through one part found so far: the state behind the last mapping, that mapping's number on its line,
+// whether a number of the part is past the limit, and whether there was room for all checkpoints. The number counts
+// from 0 anew at each checkpoint of the line; before the first mapping it is the one behind which a checkpoint stands.
 #[derive(Clone, Copy)]
 struct PartWalk {
-    last: Option<Mapping>,
+    state: State,
     number: u32,
     is_past_limit: bool,
     has_room: bool,
@@ -51,8 +54,8 @@ pub fn mark_parts(alloc: Global, parts: &[Part], k: u32, has_room: bool, table: 
     let mut past_limit = None;
     let mut has_room = has_room;
     for (i, part) in parts.iter().enumerate() {
-        let walk = mark_part(alloc, i as u32, part, k, has_room, table);
-        if is_last_overlapping(part, &walk.last, parts.get(i + 1)) {
+        let walk = mark_part(alloc, i as u16, part, k, has_room, table);
+        if is_last_overlapping(part, &walk.state.cursor(), parts.get(i + 1)) {
             return Walk {
                 overlap: Some(i as u64 + 1),
                 past_limit,
@@ -69,32 +72,35 @@ pub fn mark_parts(alloc: Global, parts: &[Part], k: u32, has_room: bool, table: 
     }
 }
 
-// Whether a mapping of the part, the last of whose text this is, stands after the offset of the next part.
-fn is_last_overlapping(part: &Part, last: &Option<Mapping>, next: Option<&Part>) -> bool
+// Whether a mapping of the part, of the last of whose text these are the values, stands after the offset of the next
+// part.
+fn is_last_overlapping(part: &Part, last: &Cursor, next: Option<&Part>) -> bool
     requires ordered { IsTextInOrder part.now }
-    requires last { last.now ≡ last_or None (mappings_of part.now.text) }
+    requires last { IfSome (last_or None (mappings_of part.now.text)) (IsMappingAt last.now) }
     ensures { result ≡ is_overlapping_next part.now (option_copied next.entry) }
 {
     match next {
-        Some(next) => match last {
-            Some(last) => is_after_offset(part, last, next),
-            None => false,
-        },
         None => false,
+        Some(next) => {
+            if part.text.segments() == 0 {
+                return false;
+            }
+            is_after_offset(part, last, next)
+        }
     }
 }
 
 // Walks through the text of the part that has this number.
 fn mark_part(
     alloc: Global,
-    number: u32,
+    number: u16,
     part: &Part,
     k: u32,
     has_room: bool,
     table: &mut Table,
 ) -> PartWalk
     requires interval { is_interval k ≡ true }
-    ensures last { result.last ≡ last_or None (mappings_of part.now.text) }
+    ensures last { IfSome (last_or None (mappings_of part.now.text)) (IsMappingAt result.state) }
     ensures past_limit { result.is_past_limit ≡ is_part_past_limit part.now }
     ensures room { IsTrue result.has_room → IsTrue has_room }
     ensures marked { result.is_past_limit ≡ false → IsTrue result.has_room →
@@ -106,73 +112,89 @@ fn mark_part(
     // on a meter of its own.
     let _segments = part.text.segments();
     let mut meter = Meter::new(alloc);
-    let mut state = part.text.start();
+    // That the bases fit is known once they are read.
+    let _source_base = part.source_base;
+    let _name_base = part.name_base;
+    // By this law no number of a text itself is past the limit.
+    accepted_texts_have_no_fault();
+    let start = part.text.start();
+    let moves = is_moving(part);
     let mut walk = PartWalk {
-        last: None,
-        number: 0,
-        is_past_limit: part.line > LIMIT || part.column > LIMIT,
+        state: start,
+        number: k - 1,
+        is_past_limit: is_offset_past_limit(part),
         has_room,
     };
-    while let Some((mapping, behind)) = part.text.next(&state, &mut meter) {
-        walk = mark_mapping(number, part, k, &mapping, &behind, &walk, table);
-        state = behind;
+    while let Some((mapping, behind)) = part.text.next(&walk.state, &mut meter) {
+        walk = walk_behind(part, k, moves, &mapping, behind, &walk);
+        walk.has_room = mark(number, part, &mapping, &walk, table);
     }
     walk
 }
 
-// The walk through one mapping more, behind which the state is this one. A mapping that has the number 0 gets a
-// checkpoint, if it can be placed and there is room.
-fn mark_mapping(
-    number: u32,
-    part: &Part,
-    k: u32,
-    mapping: &Mapping,
-    behind: &State,
-    walk: &PartWalk,
-    table: &mut Table,
-) -> PartWalk
-    requires interval { is_interval k ≡ true }
-    ensures last { result.last ≡ Some mapping.now }
-    ensures number { result.number ≡ number_behind k walk.now.last walk.now.number mapping.now }
-    ensures past_limit { result.is_past_limit
-        ≡ (walk.now.is_past_limit || is_mapping_past_limit (placed_mapping part.now mapping.now)) }
-    ensures room { IsTrue result.has_room → IsTrue walk.now.has_room }
-    ensures marked { result.is_past_limit ≡ false → IsTrue result.has_room →
-        table.new ≡ (if result.number == 0
-        then table.old ++ checkpoint_at number (placed_mapping part.now mapping.now) behind.now ∷ []
-        else table.old) }
+// Whether the part adds to a number of its text's mappings. Where it does not, none comes past the limit.
+fn is_moving(part: &Part) -> bool
+    ensures { result ≡ false → part.now ≡ whole_text part.now.text }
 {
-    let next = PartWalk {
-        last: Some(*mapping),
-        number: number_behind(k, walk, mapping),
-        is_past_limit: walk.is_past_limit,
-        has_room: walk.has_room,
-    };
-    let Some(placed) = place(part, mapping) else {
-        return PartWalk {
-            is_past_limit: true,
-            ..next
-        };
-    };
-    if next.number != 0 {
-        return next;
-    }
-    let checkpoint = Checkpoint {
-        part: number,
-        mapping: placed,
-        state: *behind,
-    };
-    let has_room = walk.has_room && table.push(checkpoint).is_ok();
-    PartWalk { has_room, ..next }
+    part.line != 0 || part.column != 0 || part.source_base != 0 || part.name_base != 0
 }
 
-// The mapping's number on its line, counted from 0 anew at each checkpoint of the line.
-fn number_behind(k: u32, walk: &PartWalk, mapping: &Mapping) -> u32
+// The walk behind one mapping more, with room as before.
+fn walk_behind(
+    part: &Part,
+    k: u32,
+    moves: bool,
+    mapping: &Mapping,
+    behind: State,
+    walk: &PartWalk,
+) -> PartWalk
     requires interval { is_interval k ≡ true }
-    ensures { result ≡ number_behind k walk.now.last walk.now.number mapping.now }
+    requires unmoved { moves ≡ false →
+        is_mapping_past_limit (placed_mapping part.now mapping.now) ≡ false }
+    ensures state { result.state ≡ behind }
+    ensures number { result.number
+        ≡ number_behind k walk.now.state.line walk.now.number mapping.now.line }
+    ensures past_limit { result.is_past_limit ≡ (walk.now.is_past_limit
+        || is_mapping_past_limit (placed_mapping part.now mapping.now)) }
+    ensures room { result.has_room ≡ walk.now.has_room }
 {
-    match &walk.last {
-        Some(last) if last.line == mapping.line && walk.number < k - 1 => walk.number + 1,
-        _ => 0,
+    PartWalk {
+        state: behind,
+        number: number_behind(k, walk.state.cursor().line, walk.number, mapping.line),
+        is_past_limit: walk.is_past_limit || (moves && is_past_limit(part, mapping)),
+        has_room: walk.has_room,
     }
+}
+
+// The number on its line of a mapping on the next line, counted from 0 anew at each checkpoint of the line, where one
+// with this number on this line stands before it.
+fn number_behind(k: u32, line: u32, number: u32, next: u32) -> u32
+    requires interval { is_interval k ≡ true }
+    ensures { result ≡ number_behind k line number next }
+{
+    if line == next && number < k - 1 {
+        number + 1
+    } else {
+        0
+    }
+}
+
+// Adds a checkpoint for the mapping behind which the walk stands, if it has the number 0, while nothing is past the
+// limit and there is room. Gives whether there was.
+fn mark(number: u16, part: &Part, mapping: &Mapping, walk: &PartWalk, table: &mut Table) -> bool
+    requires values { IsMappingAt walk.now.state mapping.now }
+    requires in_range { walk.now.is_past_limit ≡ false →
+        is_mapping_past_limit (placed_mapping part.now mapping.now) ≡ false }
+    requires fitting { walk.now.is_past_limit ≡ false → IsFitting part.now walk.now.state }
+    ensures room { IsTrue result → IsTrue walk.now.has_room }
+    ensures marked { walk.now.is_past_limit ≡ false → IsTrue result →
+        table.new ≡ (if walk.now.number == 0
+        then table.old ++ checkpoint_at number part.now mapping.now walk.now.state ∷ []
+        else table.old) }
+{
+    if walk.number != 0 || walk.is_past_limit {
+        return walk.has_room;
+    }
+    let checkpoint = Checkpoint::new(number, part, mapping, &walk.state);
+    walk.has_room && table.push(checkpoint).is_ok()
 }

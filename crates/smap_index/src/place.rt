@@ -1,12 +1,13 @@
 //! The mappings of a part at their places in the whole map.
 
-ghost use Rattle.std.specs.Prelude.{◌≡◌, ◌+◌, ◌==◌, Some, None, option_map, if◌then◌else◌};
+ghost use Rattle.std.specs.Prelude.{◌≡◌, ◌+◌, ◌||◌, ◌==◌, Some, None, option_map, if◌then◌else◌};
 ghost use Rattle.smap_index.specs.Parts.{placed_origin, placed_mapping};
 ghost use Rattle.smap_index.specs.Faults.{is_out_of_order, is_after_offset};
+ghost use Rattle.smap_index.specs.Walk.{position_of};
 ghost use Rattle.smap_mappings.specs.Range.{is_number_past_limit, is_name_past_limit, is_origin_past_limit, is_mapping_past_limit};
 
 use crate::part::Part;
-use smap_mappings::{LIMIT, Mapping, Origin};
+use smap_mappings::{Cursor, LIMIT, Mapping, Origin};
 
 // The sum, if it is not past the limit.
 fn sum_in_range(base: u32, n: u32) -> Option<u32>
@@ -40,11 +41,11 @@ fn place_origin(part: &Part, origin: &Origin) -> Option<Origin>
     })
 }
 
-// What is added to the column of a mapping of a part's text: the offset's column moves the text's first line alone.
-fn added_column(part: &Part, mapping: &Mapping) -> u32
-    ensures { result ≡ (if mapping.now.line == 0 then part.now.column else 0) }
+// What is added to the columns of this line of a part's text: the offset's column moves the text's first line alone.
+fn added_column(part: &Part, line: u32) -> u32
+    ensures { result ≡ (if line == 0 then part.now.column else 0) }
 {
-    if mapping.line == 0 { part.column } else { 0 }
+    if line == 0 { part.column } else { 0 }
 }
 
 // The mapping of a part's text at its place, if no number of it is past the limit there.
@@ -53,7 +54,7 @@ pub fn place(part: &Part, mapping: &Mapping) -> Option<Mapping>
         result ≡ (if is_mapping_past_limit placed then None else Some placed) }
 {
     let line = sum_in_range(part.line, mapping.line)?;
-    let column = sum_in_range(added_column(part, mapping), mapping.column)?;
+    let column = sum_in_range(added_column(part, mapping.line), mapping.column)?;
     let origin = match &mapping.origin {
         Some(origin) => Some(place_origin(part, origin)?),
         None => None,
@@ -65,12 +66,29 @@ pub fn place(part: &Part, mapping: &Mapping) -> Option<Mapping>
     })
 }
 
-// Whether the mapping of a part's text stands, at its place, after the offset of the next part.
-pub fn is_after_offset(part: &Part, mapping: &Mapping, next: &Part) -> bool
-    ensures { result ≡ is_after_offset next.now (placed_mapping part.now mapping.now) }
+// Whether a number of the part's offset is past the limit.
+pub fn is_offset_past_limit(part: &Part) -> bool
+    ensures { result
+        ≡ (is_number_past_limit part.now.line || is_number_past_limit part.now.column) }
 {
-    let line = part.line as u64 + mapping.line as u64;
-    let column = added_column(part, mapping) as u64 + mapping.column as u64;
+    part.line > LIMIT || part.column > LIMIT
+}
+
+// Whether a number of the mapping of a part's text is past the limit at its place.
+pub fn is_past_limit(part: &Part, mapping: &Mapping) -> bool
+    ensures { result ≡ is_mapping_past_limit (placed_mapping part.now mapping.now) }
+{
+    place(part, mapping).is_none()
+}
+
+// Whether a mapping of a part's text, of which these are the values, stands at its place after the offset of the next
+// part.
+pub fn is_after_offset(part: &Part, values: &Cursor, next: &Part) -> bool
+    ensures { result
+        ≡ is_after_offset next.now (placed_mapping part.now (position_of values.now)) }
+{
+    let line = part.line as u64 + values.line as u64;
+    let column = added_column(part, values.line) as u64 + values.column as u64;
     let next_line = next.line as u64;
     next_line < line || (next_line == line && (next.column as u64) < column)
 }

@@ -4,13 +4,14 @@ ghost use Rattle.std.specs.Prelude.{◌≡◌, ℕ, ◌+◌, ◌<◌, ◌≤◌,
 ghost use Rattle.std.specs.List.{list_any};
 ghost use Rattle.smap_mappings.specs.Range.{is_mapping_past_limit};
 ghost use Rattle.smap_mappings.specs.State.{IsAfter, IsBetween};
+ghost use Rattle.smap_index.specs.Checkpoint.{mapping_of, state_of};
 ghost use Rattle.smap_index.specs.Parts.{placed};
 ghost use Rattle.smap_index.specs.Search.{last_from};
 
+use crate::checkpoint::Checkpoint;
 use crate::part::Part;
 use crate::place::place;
 use crate::search::is_not_after;
-use crate::table::Checkpoint;
 use smap_mappings::{Mapping, Meter};
 
 // Of a checkpoint's mapping and at most this many behind it in its part: the last of those at the front that stand at
@@ -23,17 +24,18 @@ pub fn last_behind(
     column: u32,
     meter: &mut Meter,
 ) -> Mapping
-    requires state { IsBetween part.now.text checkpoint.now.state }
+    requires state { IsBetween part.now.text (state_of part.now checkpoint.now) }
     requires in_range { list_any is_mapping_past_limit (placed part.now) ≡ false }
     requires room { meter.old.segments + most ≤ u64.MAX }
-    ensures last { (j : ℕ) → IsAfter part.now.text j checkpoint.now.state →
-        Some result ≡ last_from line column (Some checkpoint.now.mapping) (take most (drop j (placed part.now))) }
+    ensures last { (j : ℕ) → IsAfter part.now.text j (state_of part.now checkpoint.now) →
+        Some result ≡ last_from line column (Some (mapping_of checkpoint.now))
+        (take most (drop j (placed part.now))) }
     ensures few { meter.new.segments ≤ meter.old.segments + most }
     ensures onward { meter.old.segments ≤ meter.new.segments }
     ensures none_compared { meter.new.comparisons ≡ meter.old.comparisons }
 {
-    let mut last = checkpoint.mapping;
-    let mut state = checkpoint.state;
+    let mut last = checkpoint.mapping();
+    let mut state = checkpoint.state(part);
     let mut left = most;
     while left > 0 {
         let Some((mapping, behind)) = part.text.next(&state, meter) else {

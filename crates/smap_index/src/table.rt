@@ -2,18 +2,10 @@
 
 ghost use Rattle.std.specs.Prelude.{◌≡◌, ◌+◌, ◌<◌, [], ◌∷◌, ◌++◌, Some, length, slice_get, IfOk};
 
-use smap_mappings::{Mapping, Meter, State};
+use crate::checkpoint::Checkpoint;
+use smap_mappings::Meter;
 use std::alloc::{AllocError, Global};
 use std::marker::Model;
-
-// A segment from which a look-up can begin: the number of its part, from 0, its mapping at its place in the joined
-// list, and the state behind it in the part's text.
-#[derive(Clone, Copy)]
-pub struct Checkpoint {
-    pub part: u32,
-    pub mapping: Mapping,
-    pub state: State,
-}
 
 // The checkpoints of an index, in order. One is read only by a call that counts it.
 #[derive(Drop)]
@@ -23,7 +15,7 @@ pub struct Table {
 
 impl Model for Table {
     ghost use Rattle.std.specs.Prelude.{List};
-    ghost use Rattle.smap_index.specs.declared.table.Checkpoint.{Checkpoint};
+    ghost use Rattle.smap_index.specs.declared.checkpoint.Checkpoint.{Checkpoint};
 
     ghost Value = { List Checkpoint };
 
@@ -62,15 +54,15 @@ impl Table {
         self.checkpoints.len()
     }
 
-    // Reads checkpoint `i`, from 0, to compare it, and counts that.
-    pub fn at(&self, i: usize, meter: &mut Meter) -> Checkpoint
+    // Lends checkpoint `i`, from 0, to be compared, and counts that.
+    pub fn at(&self, i: usize, meter: &mut Meter) -> &Checkpoint
         requires within { i < length self.now }
         requires room { meter.old.comparisons < u64.MAX }
-        ensures read { slice_get self.now i ≡ Some result }
+        ensures read { slice_get self.now i ≡ Some result.now }
         ensures counted { meter.new ≡ record meter.old { comparisons = meter.old.comparisons + 1 } }
     {
         meter.count_comparison();
-        self.checkpoints[i]
+        &self.checkpoints[i]
     }
 }
 

@@ -1,5 +1,6 @@
 -- A check's way through a text: the first fault is that of the segments from here on, until none is left.
-use Rattle.std.proofs.Common.{◌≡◌, ℕ, ◌+◌, ◌<◌, ◌≤◌, suc, zero, Bool, true, false, not, ◌||◌, cond, eqb, List, [], ◌∷◌, ◌++◌, length, take, drop, map, Option, Some, None, refl, sym, ap, ◌∙◌, arith, ⊎_elim, length-drop, eq-eqb, ne_eqb}
+use Rattle.std.proofs.Common.{◌≡◌, ℕ, ◌+◌, ◌<◌, ◌≤◌, suc, zero, Bool, true, false, not, ◌||◌, cond, eqb, List, [], ◌∷◌, ◌++◌, length, take, drop, map, Option, Some, None, refl, sym, ap, subst, ◌∙◌, arith, ⊎_elim, length-drop, eq-eqb, ne_eqb}
+use Rattle.std.specs.Prelude.{IfSome, unwrap_or}
 use Rattle.std.specs.Int.{from_bool}
 use Rattle.std.specs.List.{AllByRecursion, list_any}
 use Rattle.std.proofs.lemmas.Bool.{and_from, and_parts, cond-true, cond-false, or_left, or_right, or_from, cases_eq}
@@ -12,12 +13,14 @@ use Rattle.smap_mappings.specs.Faults.{spelling_fault, move_fault, first_kind, s
 use Rattle.smap_mappings.specs.Counts.{new_lines, used_lines_of, segments_of}
 use Rattle.smap_mappings.specs.State.{IsAfter}
 use Rattle.smap_mappings.specs.Step.{fault_from, IsStep}
-use Rattle.smap_mappings.proofs.Checking.{ChecksUpTo}
+use Rattle.smap_mappings.specs.Walk.{ChecksUpTo, WalksUpTo}
 use Rattle.smap_mappings.specs.declared.cursor.Cursor.{Cursor}
 use Rattle.smap_mappings.specs.declared.cursor.TheConstants.Cursor.{START}
 use Rattle.smap_mappings.specs.declared.fault.Fault.{Fault}
 use Rattle.smap_mappings.specs.declared.fault.FaultKind.{FaultKind}
 use Rattle.smap_mappings.specs.declared.mapping.Mapping.{Mapping}
+use Rattle.smap_mappings.specs.declared.walk.Walk.{Walk}
+use Rattle.smap_mappings.specs.declared.walk.TheConstants.Walk.{START as NO_SEGMENT}
 use Rattle.smap_mappings.proofs.PieceLaws.{pieces_at_end}
 use Rattle.smap_mappings.proofs.MoveLaws.{below_line}
 use Rattle.smap_mappings.proofs.SpellingFaultLaws.{spelled_known, known_spelled}
@@ -164,3 +167,20 @@ checks_more text sources names cursor next after mapping segments used_lines new
       few = omega (arith, checks.few);
       fewer = omega (arith, checks.fewer);
     }
+
+-- a further segment of a line counts for none
+pub checks_on_line : (text : List ℕ) (sources names : ℕ) (cursor next after : Cursor) (mapping : Mapping) (segments used_lines : ℕ) → ChecksUpTo text sources names cursor segments used_lines → 0 < segments → IsStep text segments sources names mapping after → after.line ≡ next.line → next.line ≡ cursor.line → cursor.place ≤ next.place → next.place < after.place
+    → ChecksUpTo text sources names after (segments + 1) used_lines
+checks_on_line text sources names cursor next after mapping segments used_lines checks some steps line_is same onward ahead =
+    let there = ap (λ line. list_any (λ (m : Move). eqb m.line line) (take segments (moves_of text))) same ∙ checks.on_line some in
+    subst (ChecksUpTo text sources names after (segments + 1)) (omega arith)
+    (checks_more text sources names cursor next after mapping segments used_lines 0 checks steps line_is onward ahead (cond-true _ _ _ there) (omega arith))
+
+-- ---- a walk
+
+pub walks_start : (text : List ℕ) (sources names : ℕ) → WalksUpTo text sources names NO_SEGMENT
+walks_start text sources names = record { checks = checks_start text sources names; in_range = refl }
+
+pub walk_or_start : (text : List ℕ) (sources names : ℕ) (walk : Option Walk) → IfSome walk (WalksUpTo text sources names) → WalksUpTo text sources names (unwrap_or walk NO_SEGMENT)
+walk_or_start text sources names None walks = walks_start text sources names
+walk_or_start text sources names (Some walk) walks = walks

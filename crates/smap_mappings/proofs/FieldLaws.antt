@@ -1,11 +1,11 @@
 -- A number at the front of a segment is its first field, and the other fields are those of the bytes behind it.
-use Rattle.std.proofs.Common.{◌≡◌, ℕ, ◌+◌, ◌-◌, ◌<◌, ◌≤◌, suc, true, false, ◌||◌, eqb, List, [], ◌∷◌, ◌++◌, length, get_or, take, drop, Option, Some, None, refl, sym, ap, subst, ◌∙◌, arith, length-append, length-drop, length-take-le, take-append-drop, append_assoc, ⊎_elim, ◌⊎◌, inl, inr, unwrap_or}
+use Rattle.std.proofs.Common.{◌≡◌, ℕ, ◌+◌, ◌-◌, ◌<◌, ◌≤◌, suc, true, false, ◌||◌, eqb, List, [], ◌∷◌, ◌++◌, length, get_or, take, drop, Option, Some, None, refl, sym, ap, subst, ◌∙◌, arith, length-append, length-drop, length-take-le, take-append-drop, append_assoc, ⊎_elim, ◌⊎◌, inl, inr, is_some, unwrap_or}
 use Rattle.std.specs.Prelude.{ℤ, slice_range, IfSome, IfNone, ◌↔◌, Result, Ok, Err}
 use Rattle.std.specs.Result.{result_ok}
 use Rattle.smap_mappings.specs.declared.vlq.VlqFault.{VlqFault}
 use Rattle.std.specs.List.{onto_first, take_while, prefix_len}
 use Rattle.std.proofs.lemmas.Bool.Decides.{nat_tests}
-use Rattle.std.proofs.lemmas.Bool.{cond-true, cond-false, cases_Bool, both_ways, and_parts, or_from, not_from_false, eqb-true, false_from_ne_true}
+use Rattle.std.proofs.lemmas.Bool.{cond-true, cond-false, cases_Bool, both_ways, and_parts, or_from, not_from_false, eqb-true, false_from_ne_true, ltb-false, not-true}
 use Rattle.std.proofs.lemmas.Option.{cond_some}
 use Rattle.std.proofs.lemmas.List.{drop-drop, drop_more, take_at, nil_from_length}
 use Rattle.std.proofs.lemmas.List.Sums.{take_while-cons}
@@ -213,3 +213,32 @@ pub field_not_read : (text : List ℕ) (place : ℕ) → place ≤ length text �
 field_not_read text place inside (Ok r) spelled = tt
 field_not_read text place inside (Err fault) spelled =
     no_field text place inside (λ n next within spells. let bad : Err fault ≡ Ok (n, next) = (spelled n next).1 (within, spells) in absurd (cc))
+
+-- a number has few digits
+few_digits : (text : List ℕ) (place next : ℕ) (n : ℤ) → next ≤ length text → Spells (slice_range text place next) n → next ≤ place + 7
+unfolding number_of
+few_digits text place next n inside spells =
+    let short : length (slice_range text place next) ≤ 7 = ltb-false _ _ (not-true _ (and_parts _ _ (and_parts _ _ (and_parts _ _ (cond_some _ _ _ spells).0).0).0).1) in
+    omega (arith, length-take-le (next - place) (drop place text) (omega (arith, length-drop place text)))
+
+pub field_few : (text : List ℕ) (place : ℕ) (read : Result (ℤ × ℕ) VlqFault) → ((n : ℤ) (next : ℕ) → (read ≡ Ok (n, next)) ↔ ((next ≤ length text) × Spells (slice_range text place next) n))
+    → IfSome (result_ok read) (λ r. r.1 ≤ place + 7)
+field_few text place (Ok r) spelled = let is = (spelled r.0 r.1).0 refl in few_digits text place r.1 r.0 is.0 is.1
+field_few text place (Err fault) spelled = tt
+
+-- ---- a byte that begins a segment
+
+-- where fields are, the byte is no separator
+pub field_is_inside : (text : List ℕ) (place : ℕ) (n : ℤ) (ns : List ℤ) → place < length text → fields_at text place ≡ Some (n ∷ ns) → is_inside (get_or text place 0) ≡ true
+field_is_inside text place n ns within is =
+    ⊎_elim
+    (λ inside. inside)
+    (λ separator.
+    let none : piece_at text place ≡ [] = ap (take_while is_inside) (drop_more text place 0 within) ∙ take_while-cons is_inside (get_or text place 0) (drop (place + 1) text) ∙ cond-false _ _ _ separator in
+    let both : Some (n ∷ ns) ≡ Some [] = sym is ∙ ap fields_of none ∙ no_bytes_no_fields in absurd (cc))
+    (cases_Bool (is_inside (get_or text place 0)))
+
+-- nor is it one where it spells a number by itself
+pub number_is_inside : (byte : ℕ) (o : Option ℤ) → o ≡ number_of (byte ∷ []) → is_some o ≡ true → is_inside byte ≡ true
+number_is_inside byte None is some = absurd (cc)
+number_is_inside byte (Some n) is some = digit_is_inside byte (and_parts _ _ (spells_one (byte ∷ []) n (sym is))).0

@@ -17,6 +17,7 @@ pub mod MoveLaws
 pub mod Ranges
 pub mod ValueFaultLaws
 pub mod StepLaws
+pub mod StraightLaws
 pub mod Checking
 pub mod CheckLaws
 pub mod CountLaws

@@ -202,3 +202,15 @@ at_last_digit bytes place end unsigned digit scale value from front within some 
     let more = digit_sum_more bytes place end (end - place) value (omega arith) within some in
     let all : digit_sum 0 (take (front_at bytes place + 1) (drop place bytes)) ≡ unsigned + digit * scale = ap (λ k. digit_sum 0 (take (k + 1) (drop place bytes))) k_is ∙ more ∙ (λ i. sym unsigned_is i + sym digit_is i * sym scale_is i) in
     at_number bytes place end value front within some (omega arith) ∙ ap (λ u. number_with_end (end + 1) (checked_number u)) all
+
+-- two digits, of which the first continues and the second ends
+pub at_two_digits : (bytes : List ℕ) (place low high : ℕ) → place + 1 < length bytes → digit_of (get_or bytes place 0) ≡ Some low → 32 ≤ low → digit_of (get_or bytes (place + 1) 0) ≡ Some high → high < 32
+    → number_at bytes place ≡ number_with_end (place + 2) (checked_number (low % 32 + high * 32))
+at_two_digits bytes place low high within low_is at_least high_is below =
+    let more = front_more bytes place low (omega arith) low_is at_least in
+    let stops = front_stops bytes (place + 1) high within high_is below in
+    let one : place + 1 - place ≡ 1 = omega arith in
+    let first : digit_sum 0 (take 1 (drop place bytes)) ≡ low % 32 = digit_sum_more bytes place place 0 low (omega arith) (omega arith) low_is ∙ omega arith in
+    at_last_digit bytes place (place + 1) (low % 32) high 32 high (omega arith) (omega arith) within high_is (omega arith)
+    (sym (ap (λ k. digit_sum 0 (take k (drop place bytes))) one ∙ first)) (sym (ap (λ k. 32 ^ k) one)) (omega arith)
+    ∙ ap (λ end. number_with_end end (checked_number (low % 32 + high * 32))) (omega arith)

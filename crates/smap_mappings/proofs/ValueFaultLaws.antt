@@ -45,17 +45,23 @@ in_range_from values below past =
 all_from_each : (values : RunningValues) → InRange values → are_in_range values ≡ true
 all_from_each values each = and_from _ _ (and_from _ _ (and_from _ _ (and_from _ _ each.column each.source) each.original_line) each.original_column) each.name
 
+-- from column 0 on, values in range stay so
+pub column_zero : (values : RunningValues) → are_in_range values ≡ true → are_in_range (record values { column = pos 0 }) ≡ true
+column_zero values range =
+    let each = each_in_range values range in
+    all_from_each (record values { column = pos 0 }) (record { column = refl; source = each.source; original_line = each.original_line; original_column = each.original_column; name = each.name })
+
 not_below : (z : ℤ) → is_in_range z ≡ true → is_below_zero z ≡ false
 not_below z is = not-true _ (and_parts _ _ is).0
 
 not_past : (z : ℤ) → is_in_range z ≡ true → is_past_limit z ≡ false
 not_past z is = not-true _ (and_parts _ _ is).1
 
-none_below : (values : RunningValues) → InRange values → has_value_below_zero values ≡ false
+pub none_below : (values : RunningValues) → InRange values → has_value_below_zero values ≡ false
 none_below values each =
     or_from _ _ (or_from _ _ (or_from _ _ (or_from _ _ (not_below values.column each.column) (not_below values.source each.source)) (not_below values.original_line each.original_line)) (not_below values.original_column each.original_column)) (not_below values.name each.name)
 
-none_past : (values : RunningValues) → InRange values → has_value_past_limit values ≡ false
+pub none_past : (values : RunningValues) → InRange values → has_value_past_limit values ≡ false
 none_past values each =
     or_from _ _ (or_from _ _ (or_from _ _ (or_from _ _ (not_past values.column each.column) (not_past values.source each.source)) (not_past values.original_line each.original_line)) (not_past values.original_column each.original_column)) (not_past values.name each.name)
 
@@ -83,7 +89,7 @@ sums_in_range sources names segment values none =
     let parts = no_fault_parts sources names (is_below_zero segment.column) (fields_in segment) values none in
     all_from_each values (in_range_from values parts.below parts.past)
 
-no_fault_from : (sources names : ℕ) (falls : Bool) (fields : List ℤ) (values : RunningValues) → NoFault sources names falls fields values → values_fault sources names falls fields values ≡ None
+pub no_fault_from : (sources names : ℕ) (falls : Bool) (fields : List ℤ) (values : RunningValues) → NoFault sources names falls fields values → values_fault sources names falls fields values ≡ None
 no_fault_from sources names falls fields values none =
     cond-false _ _ _ none.below ∙ cond-false _ _ _ none.past ∙ cond-false _ _ _ none.rises ∙ cond-false _ _ _ none.source ∙ cond-false _ _ _ none.name
 

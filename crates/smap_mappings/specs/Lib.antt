@@ -21,4 +21,6 @@ pub mod Reading
 pub mod Spelling
 pub mod Advance
 pub mod Step
+pub mod Straight
+pub mod Walk
 pub mod OneMore

@@ -1,10 +1,11 @@
 -- A state between two segments of a text: a place, and all running values there (ECMA-426, Mappings structure).
-use Rattle.std.specs.Prelude.{◌≡◌, ℕ, ◌+◌, ◌<◌, ◌≤◌, List, Some, length, take, drop, slice_get, pos}
+use Rattle.std.specs.Prelude.{◌≡◌, ℕ, ◌+◌, ◌<◌, ◌≤◌, List, Some, length, take, drop, slice_get, pos, IfSome}
 use Rattle.std.specs.List.{AllByRecursion}
 use Rattle.smap_mappings.specs.Pieces.{pieces_of, pieces_from}
 use Rattle.smap_mappings.specs.Mappings.{Move, RunningValues, moves_of, values_on, mappings_of}
 use Rattle.smap_mappings.specs.declared.cursor.Cursor.{Cursor}
 use Rattle.smap_mappings.specs.declared.mapping.Mapping.{Mapping}
+use Rattle.smap_mappings.specs.declared.mapping.Origin.{Origin}
 
 -- the running values of a state
 abbrev pub values_at : Cursor → RunningValues
@@ -29,6 +30,19 @@ pub record IsAfter (text : List ℕ) (j : ℕ) (cursor : Cursor) : Type 0 where
 -- the state after some number of segments
 abbrev pub IsBetween : List ℕ → Cursor → Type 0
 IsBetween text cursor = (j : ℕ) × IsAfter text j cursor
+
+-- the origin's numbers are the running values of this state
+pub record IsOriginAt (cursor : Cursor) (origin : Origin) : Type 0 where
+  pub source : origin.source ≡ cursor.source
+  pub line : origin.line ≡ cursor.original_line
+  pub column : origin.column ≡ cursor.original_column
+  pub name : IfSome origin.name (λ name. name ≡ cursor.name)
+
+-- the numbers of the mapping are the running values of this state, as far as it has them
+pub record IsMappingAt (cursor : Cursor) (mapping : Mapping) : Type 0 where
+  pub line : mapping.line ≡ cursor.line
+  pub column : mapping.column ≡ cursor.column
+  pub origin : IfSome mapping.origin (IsOriginAt cursor)
 
 -- segment j is there, its mapping is this one, and this is the state behind it
 pub record IsNext (text : List ℕ) (j : ℕ) (mapping : Mapping) (after : Cursor) : Type 0 where

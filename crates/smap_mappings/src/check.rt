@@ -4,9 +4,9 @@ ghost use Rattle.smap_mappings.specs.Limits.{most_text_bytes};
 ghost use Rattle.smap_mappings.specs.Faults.{first_fault};
 ghost use Rattle.smap_mappings.specs.Counts.{segments_of, used_lines_of};
 
-use crate::cursor::Cursor;
 use crate::fault::Fault;
 use crate::step::{skip_separators, step};
+use crate::walk::{Walk, walk_straight};
 
 // How many segments a text has, and how many of its lines hold one.
 #[derive(Clone, Copy)]
@@ -24,9 +24,11 @@ pub fn check_segments(bytes: &[u8], sources: u32, names: u32) -> Result<TextCoun
     ensures segments { IfOk result (λ counts. counts.segments ≡ segments_of bytes.now) }
     ensures used_lines { IfOk result (λ counts. counts.used_lines ≡ used_lines_of bytes.now) }
 {
-    let mut at = Cursor::START;
-    let mut segments: u64 = 0;
-    let mut used_lines: u64 = 0;
+    // Most texts have no fault. Where this one has, or may have, it is gone through from its start.
+    let walk = walk_straight(bytes, sources, names).unwrap_or(Walk::START);
+    let mut at = walk.at;
+    let mut segments = walk.segments;
+    let mut used_lines = walk.used_lines;
     loop {
         let next = skip_separators(bytes, &at);
         if next.place >= bytes.len() {
@@ -53,7 +55,8 @@ pub fn check_segments(bytes: &[u8], sources: u32, names: u32) -> Result<TextCoun
 }
 
 // Whether the next segment is the first of its line, after this many segments of which the last stands on `last`.
-fn is_new_line(segments: u64, last: u32, line: u32) -> bool
+#[inline(always)]
+pub fn is_new_line(segments: u64, last: u32, line: u32) -> bool
     ensures { result ≡ (segments == 0 || not (line == last)) }
 {
     segments == 0 || line != last

@@ -1,7 +1,8 @@
 //! A place in a text with all running values there.
 
-// A place between two segments of a text, in bytes from 0, the generated line at that place, from 0, and the
-// running values there: the generated column is that on this line.
+/// A place between two segments of a text, in bytes from 0, the generated line at that place, from 0, and the
+/// running values there (ECMA-426, Mappings structure): the generated column is that on this line, and the others
+/// are those of the last segment that has them, or 0. Columns count in UTF-16 code units.
 #[derive(Clone, Copy)]
 pub struct Cursor {
     pub place: usize,
@@ -14,7 +15,7 @@ pub struct Cursor {
 }
 
 impl Cursor {
-    // The state before the first segment.
+    /// The place before the first segment.
     pub const START: Cursor = Cursor {
         place: 0,
         line: 0,

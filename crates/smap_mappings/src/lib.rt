@@ -27,11 +27,14 @@ mod segment;
 mod spelling;
 mod state;
 mod step;
+mod straight;
 mod text_length;
 mod text_writer;
 mod vlq;
+mod walk;
 
 pub use canonical::{EncodeRefusal, encode};
+pub use cursor::Cursor;
 pub use fault::{Fault, FaultKind};
 pub use limits::{LIMIT, MOST_BYTES, MOST_INDICES};
 pub use mapping::{Mapping, Origin};

@@ -9,5 +9,8 @@ pub const MOST_INDICES: u32 = LIMIT + 1;
 /// How many digits a number has at most.
 pub const MOST_DIGITS: usize = 7;
 
+/// How many digits a segment has at most, which has five numbers.
+pub const MOST_SEGMENT_DIGITS: usize = 5 * MOST_DIGITS;
+
 /// How many bytes a text has at most, which is 64 MiB.
 pub const MOST_BYTES: usize = 67108864;

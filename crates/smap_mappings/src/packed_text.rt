@@ -8,7 +8,7 @@ ghost use Rattle.smap_mappings.specs.Faults.{first_fault};
 ghost use Rattle.smap_mappings.specs.Counts.{segments_of, used_lines_of};
 ghost use Rattle.smap_mappings.specs.Order.{IsInOrder};
 ghost use Rattle.smap_mappings.specs.Within.{IsWithin};
-ghost use Rattle.smap_mappings.specs.State.{IsAfter, IsBetween, IsNext};
+ghost use Rattle.smap_mappings.specs.State.{IsAfter, IsBetween, IsMappingAt, IsNext};
 ghost use Rattle.smap_mappings.specs.PackedText.{IsPacked};
 
 use crate::check::check_segments;
@@ -18,7 +18,8 @@ use crate::limits::MOST_BYTES;
 use crate::mapping::Mapping;
 use crate::meter::Meter;
 use crate::state::State;
-use crate::step::{checked_step, skip_separators};
+use crate::step::{checked_step, checked_straight_step, skip_separators};
+use crate::straight::is_joined_by_one;
 use std::alloc::{AllocError, Global};
 use std::marker::Model;
 
@@ -111,15 +112,17 @@ impl PackedText {
         State::new(Cursor::START)
     }
 
-    /// The mapping of the next segment and the state behind it, or `None` at the end of the text. The caller gives a
-    /// state of this text, and a meter whose count of segments leaves room for one more. A segment that is given adds
-    /// one to that count, and the end adds nothing. The call takes no memory.
+    /// The mapping of the next segment and the state behind it, whose running values are the mapping's numbers, or
+    /// `None` at the end of the text. The caller gives a state of this text, and a meter whose count of segments leaves
+    /// room for one more. A segment that is given adds one to that count, and the end adds nothing. The call takes no
+    /// memory.
     #[inline(always)]
     pub fn next(&self, state: &State, meter: &mut Meter) -> Option<(Mapping, State)>
         requires state { IsBetween self.now state.now }
         requires room { meter.old.segments < u64.MAX }
         ensures some { IfSome result (λ r. (j : ℕ) →
             IsAfter self.now j state.now → IsNext self.now j r.0 r.1) }
+        ensures values { IfSome result (λ r. IsMappingAt r.1 r.0) }
         ensures none { IfNone result ((j : ℕ) →
             IsAfter self.now j state.now → j ≡ segments_of self.now) }
         ensures counted { meter.new ≡ (if is_some result
@@ -166,9 +169,17 @@ fn next_segment(bytes: &[u8], cursor: &Cursor) -> Option<(Mapping, Cursor)>
         (cursor.now.place < r.1.place) × (r.1.place ≤ length bytes.now)) }
     ensures some { IfSome result (λ r. (j : ℕ) →
         IsAfter bytes.now j cursor.now → IsNext bytes.now j r.0 r.1) }
+    ensures values { IfSome result (λ r. IsMappingAt r.1 r.0) }
     ensures none { IfNone result ((j : ℕ) →
         IsAfter bytes.now j cursor.now → j ≡ segments_of bytes.now) }
 {
+    if is_joined_by_one(bytes, cursor.place) {
+        let at = Cursor {
+            place: cursor.place + 1,
+            ..*cursor
+        };
+        return Some(checked_straight_step(bytes, &at));
+    }
     let at = skip_separators(bytes, cursor);
     if at.place >= bytes.len() {
         return None;

@@ -1,10 +1,11 @@
 //! A segment's fields, as they are read.
-ghost use Rattle.std.specs.Prelude.{◌≡◌, ◌<◌, ◌≤◌, ◌↔◌, length, slice_index, IfSome, IfNone, IsTrue, false};
+ghost use Rattle.std.specs.Prelude.{◌≡◌, ◌+◌, ◌<◌, ◌≤◌, ◌↔◌, length, slice_index, IfSome, IfNone, IsTrue, false};
+ghost use Rattle.smap_mappings.specs.Limits.{most_digits};
 ghost use Rattle.smap_mappings.specs.Segment.{has_known_length};
 ghost use Rattle.smap_mappings.specs.Reading.{is_inside, piece_at, IsFieldAt, HasNoField, IsSegmentAt, fields_at, known_fields};
 
 use crate::base64::number_of_one;
-use crate::vlq::read_vlq;
+use crate::vlq::{read_two_digits, read_vlq};
 
 // The differences that a segment states (ECMA-426, Mappings structure).
 #[derive(Clone, Copy)]
@@ -38,6 +39,15 @@ fn is_at_end(bytes: &[u8], place: usize) -> bool
     place >= bytes.len() || !is_inside(bytes[place])
 }
 
+// The same at a place before the text's end.
+#[inline(always)]
+pub fn is_at_inner_end(bytes: &[u8], place: usize) -> bool
+    requires { place < length bytes.now }
+    ensures { IsTrue result ↔ (length (piece_at bytes.now place) ≡ 0) }
+{
+    !is_inside(bytes[place])
+}
+
 #[inline(always)]
 fn read_field(bytes: &[u8], place: usize) -> Option<(i32, usize)>
     requires { place ≤ length bytes.now }
@@ -53,10 +63,28 @@ fn read_field(bytes: &[u8], place: usize) -> Option<(i32, usize)>
     read_long_field(bytes, place)
 }
 
+// A field that begins at a place before the text's last bytes, so that nothing is asked of the text's end.
+#[inline(always)]
+pub fn read_inner_field(bytes: &[u8], place: usize) -> Option<(i32, usize)>
+    requires { place + 1 < length bytes.now }
+    ensures some { IfSome result (λ read. IsFieldAt bytes.now place read.0 read.1) }
+    ensures few { IfSome result (λ read. read.1 ≤ place + most_digits) }
+    ensures none { IfNone result (HasNoField bytes.now place) }
+{
+    if let Some(number) = number_of_one(bytes[place]) {
+        return Some((number, place + 1));
+    }
+    if let Some(read) = read_two_digits(bytes, place) {
+        return Some(read);
+    }
+    read_long_field(bytes, place)
+}
+
 // A field of any number of digits.
 fn read_long_field(bytes: &[u8], place: usize) -> Option<(i32, usize)>
     requires { place ≤ length bytes.now }
     ensures some { IfSome result (λ read. IsFieldAt bytes.now place read.0 read.1) }
+    ensures few { IfSome result (λ read. read.1 ≤ place + most_digits) }
     ensures none { IfNone result (HasNoField bytes.now place) }
 {
     read_vlq(bytes, place).ok()

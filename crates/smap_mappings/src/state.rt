@@ -2,8 +2,8 @@
 use crate::cursor::Cursor;
 use std::marker::Model;
 
-/// A place between two segments of a text, and all running values there. It holds the byte place, the generated
-/// line and the generated column, each from 0. It is of use with its own text alone.
+/// A place between two segments of a text, and all running values there, as a text takes it and gives it back. It is of
+/// use with its own text alone.
 #[derive(Clone, Copy)]
 pub struct State {
     cursor: Cursor,
@@ -22,17 +22,36 @@ impl Model for State {
 impl State {
     ghost use Rattle.std.specs.Prelude.{◌≡◌};
 
+    /// The state at this place, with these running values.
     #[inline(always)]
-    pub(crate) fn new(cursor: Cursor) -> Self
+    pub fn new(cursor: Cursor) -> Self
         ensures { result ≡ cursor }
     {
         State { cursor }
     }
 
+    /// The place and the running values of the state.
     #[inline(always)]
-    pub(crate) fn cursor(&self) -> Cursor
+    pub fn cursor(&self) -> Cursor
         ensures { result ≡ self.now }
     {
         self.cursor
     }
+}
+
+// A further field would not compile.
+#[test]
+fn a_state_is_a_place_and_its_running_values(rt: HostRuntime) {
+    let State { cursor } = State::new(Cursor::START);
+    let Cursor {
+        place,
+        line,
+        column,
+        source,
+        original_line,
+        original_column,
+        name,
+    } = cursor;
+    assert!(&rt; place == 0 && line == 0 && column == 0);
+    assert!(&rt; source == 0 && original_line == 0 && original_column == 0 && name == 0);
 }

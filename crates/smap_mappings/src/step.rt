@@ -1,9 +1,10 @@
 //! From a state to the next: over separators, and over one segment.
 ghost use Rattle.std.specs.Prelude.{◌≡◌, ◌+◌, ◌<◌, ◌≤◌, ℕ, Some, false, true, length, slice_index, IfOk, IfErr};
-ghost use Rattle.smap_mappings.specs.Limits.{most_text_bytes};
+ghost use Rattle.smap_mappings.specs.Limits.{most_segment_digits, most_text_bytes};
 ghost use Rattle.smap_mappings.specs.Segment.{has_known_length};
+ghost use Rattle.smap_mappings.specs.Accepted.{are_in_range};
 ghost use Rattle.smap_mappings.specs.Faults.{spelling_fault};
-ghost use Rattle.smap_mappings.specs.State.{IsAfter, IsBetween, IsNext};
+ghost use Rattle.smap_mappings.specs.State.{values_at, IsAfter, IsBetween, IsMappingAt, IsNext};
 ghost use Rattle.smap_mappings.specs.PackedText.{IsPacked};
 ghost use Rattle.smap_mappings.specs.Reading.{is_inside, piece_at, known_fields};
 ghost use Rattle.smap_mappings.specs.Step.{IsStep, fault_at, fault_from, mapping_in};
@@ -14,6 +15,7 @@ use crate::fault::FaultKind;
 use crate::mapping::{Mapping, Origin};
 use crate::segment::{Segment, is_inside, read_segment};
 use crate::spelling::spelling_fault;
+use crate::straight::{has_room, read_straight};
 
 // The state at the next segment, or at the end of the text where there is none.
 #[inline(always)]
@@ -25,6 +27,8 @@ pub fn skip_separators(bytes: &[u8], cursor: &Cursor) -> Cursor
     ensures line_within { result.line ≤ result.place }
     ensures onward { cursor.now.place ≤ result.place }
     ensures down { cursor.now.line ≤ result.line }
+    ensures in_range { are_in_range (values_at cursor.now) ≡ true →
+        are_in_range (values_at result) ≡ true }
     ensures stops { result.place < length bytes.now → is_inside (slice_index bytes.now result.place) ≡ true }
     ensures after { (j : ℕ) → IsAfter bytes.now j cursor.now → IsAfter bytes.now j result }
 {
@@ -75,8 +79,8 @@ pub fn step(
 }
 
 // Reads the segment at the state's place in a checked text, where nothing needs to be asked: its mapping and the state
-// behind it.
-#[inline(always)]
+// behind it. It stands out of line, so that the straight way over most segments is inlined where a text is gone through.
+#[inline(never)]
 pub fn checked_step(bytes: &[u8], cursor: &Cursor) -> (Mapping, Cursor)
     requires packed { IsPacked bytes.now }
     requires state { IsBetween bytes.now cursor.now }
@@ -84,12 +88,33 @@ pub fn checked_step(bytes: &[u8], cursor: &Cursor) -> (Mapping, Cursor)
     requires inside { is_inside (slice_index bytes.now cursor.now.place) ≡ true }
     ensures ahead { (cursor.now.place < result.1.place) × (result.1.place ≤ length bytes.now) }
     ensures next { (j : ℕ) → IsAfter bytes.now j cursor.now → IsNext bytes.now j result.0 result.1 }
+    ensures values { IsMappingAt result.1 result.0 }
 {
+    if has_room(bytes, cursor.place) {
+        return checked_straight_step(bytes, cursor);
+    }
     let Some((segment, end)) = read_segment(bytes, cursor.place) else {
         unreachable!("each segment of a checked text can be read");
     };
     let after = advance_checked(cursor, &segment, end);
     (mapping_in(&segment, &after), after)
+}
+
+// The same where there is room for the longest segment.
+#[inline(always)]
+pub fn checked_straight_step(bytes: &[u8], cursor: &Cursor) -> (Mapping, Cursor)
+    requires packed { IsPacked bytes.now }
+    requires state { IsBetween bytes.now cursor.now }
+    requires room { cursor.now.place + most_segment_digits < length bytes.now }
+    requires inside { is_inside (slice_index bytes.now cursor.now.place) ≡ true }
+    ensures ahead { (cursor.now.place < result.1.place) × (result.1.place ≤ length bytes.now) }
+    ensures next { (j : ℕ) → IsAfter bytes.now j cursor.now → IsNext bytes.now j result.0 result.1 }
+    ensures values { IsMappingAt result.1 result.0 }
+{
+    let Some(straight) = read_straight(bytes, cursor) else {
+        unreachable!("each segment of a checked text can be read");
+    };
+    (straight.mapping(), straight.behind)
 }
 
 // Why no segment could be read at a place.

@@ -1,5 +1,5 @@
 //! Base64 VLQ numbers, as they are read and written (ECMA-426, Base64 VLQ).
-ghost use Rattle.std.specs.Prelude.{◌≡◌, ◌+◌, ◌++◌, ◌∷◌, ◌<◌, ◌≤◌, ◌↔◌, ℤ, ℕ, [], Ok, OnOk, OnErr, length, unsigned_abs, slice_range, vec_len, vec_capacity};
+ghost use Rattle.std.specs.Prelude.{◌≡◌, ◌+◌, ◌++◌, ◌∷◌, ◌<◌, ◌≤◌, ◌↔◌, ℤ, ℕ, [], Ok, OnOk, OnErr, IfSome, length, unsigned_abs, slice_range, vec_len, vec_capacity};
 ghost use Rattle.smap_mappings.specs.Limits.{limit, most_digits};
 ghost use Rattle.smap_mappings.specs.Vlq.{Spells, number_at};
 ghost use Rattle.smap_mappings.specs.Canonical.{IsShortestSpelling, digits_of, shortest_spelling, unsigned_number};
@@ -35,6 +35,28 @@ pub fn read_vlq(bytes: &[u8], place: usize) -> Result<(i32, usize), VlqFault>
     ensures exact { result ≡ number_at bytes.now place }
 {
     scan_number(bytes, place)
+}
+
+// The number of two digits that begins at a place, and the place after it.
+#[inline(always)]
+pub fn read_two_digits(bytes: &[u8], place: usize) -> Option<(i32, usize)>
+    requires { place + 1 < length bytes.now }
+    ensures exact { IfSome result (λ read. number_at bytes.now place ≡ Ok read) }
+    ensures end { IfSome result (λ read. read.1 ≡ place + 2) }
+{
+    let low = digit(bytes[place])?;
+    if low < 32 {
+        return None;
+    }
+    let high = digit(bytes[place + 1])?;
+    if high >= 32 {
+        return None;
+    }
+    let unsigned = u64::from(low % 32) + u64::from(high) * 32;
+    match checked_number(unsigned) {
+        Ok(number) => Some((number, place + 2)),
+        Err(_) => None,
+    }
 }
 
 // The loop of `read_vlq`, whose other clause follows from this one.

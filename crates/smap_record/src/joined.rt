@@ -1,5 +1,5 @@
 //! All sections of a map, joined in order.
-ghost use Rattle.std.specs.Prelude.{◌≡◌, ◌≤◌, [], length, flat_map, IfOk};
+ghost use Rattle.std.specs.Prelude.{◌≡◌, ◌≤◌, ◌++◌, ◌∷◌, [], length, flat_map, IfOk, OnOk};
 ghost use Rattle.std.specs.List.{All, sum_by};
 ghost use Rattle.smap_index.specs.Parts.{most_parts};
 ghost use Rattle.smap_record.specs.IndexMap.{sections_behind};
@@ -11,10 +11,10 @@ ghost use Rattle.smap_record.specs.Seen.{entries_seen, sections_seen, stated_sec
 
 use crate::index_map::{Offset, SectionEntry};
 use crate::refusal::MapRefusal;
-use crate::section::{SectionPlace, SectionSources, read_section};
+use crate::section::{SectionMap, SectionPlace, SectionSources, read_section};
 use smap_index::Part;
 use smap_mappings::PackedText;
-use std::alloc::Global;
+use std::alloc::{AllocError, Global};
 
 /// What the sections of a map state: their parts of the index, what each states of its sources, and the names of all.
 #[derive(Drop)]
@@ -39,30 +39,52 @@ pub fn read_sections(
         (IsPartWithin (sum_by (λ sources. length sources.texts.items) joined.sources.items) (length joined.names.items))
         joined.parts.items) }
 {
-    let mut parts = Vec::with_capacity(alloc, entries.len())?;
-    let mut sources = Vec::with_capacity(alloc, entries.len())?;
-    let mut names = Vec::new(alloc);
+    let mut joined = no_sections(alloc, entries.len())?;
     let mut source_base: u32 = 0;
     for entry in entries {
         let offset = entry.offset.unwrap_or(Offset { line: 0, column: 0 });
         let place = SectionPlace {
-            number: parts.len() as u64,
+            number: joined.parts.len() as u64,
             line: offset.line,
             column: offset.column,
             source_base,
-            name_base: names.len() as u32,
+            name_base: joined.names.len() as u32,
         };
-        let mut section = read_section(alloc, place, entry.members)?;
+        let section = read_section(alloc, place, entry.members)?;
         source_base += section.sources.texts.len() as u32;
-        parts.push(part(place, section.text))?;
-        sources.push(section.sources)?;
-        names.append(&mut section.names)?;
+        joined.push(place, section)?;
     }
+    Ok(joined)
+}
+
+// No section, with room for so many.
+fn no_sections(alloc: Global, room: usize) -> Result<JoinedSections, AllocError>
+    ensures parts { IfOk result (λ joined. joined.parts.items ≡ []) }
+    ensures sources { IfOk result (λ joined. joined.sources.items ≡ []) }
+    ensures names { IfOk result (λ joined. joined.names.items ≡ []) }
+{
     Ok(JoinedSections {
-        parts,
-        sources,
-        names,
+        parts: Vec::with_capacity(alloc, room)?,
+        sources: Vec::with_capacity(alloc, room)?,
+        names: Vec::new(alloc),
     })
+}
+
+impl JoinedSections {
+    // Puts the section at this place behind the others.
+    fn push(&mut self, place: SectionPlace, section: SectionMap) -> Result<(), AllocError>
+        ensures parts { OnOk result (self.new.parts.items
+            ≡ self.old.parts.items ++ part_at place section.text ∷ []) }
+        ensures sources { OnOk result (self.new.sources.items
+            ≡ self.old.sources.items ++ section.sources ∷ []) }
+        ensures names { OnOk result (self.new.names.items
+            ≡ self.old.names.items ++ section.names.items) }
+    {
+        let mut names = section.names;
+        self.parts.push(part(place, section.text))?;
+        self.sources.push(section.sources)?;
+        self.names.append(&mut names)
+    }
 }
 
 // The part of the index that a section at this place with this text is.

@@ -18,10 +18,9 @@ ghost use Rattle.smap_record.specs.declared.refusal.MapRefusal.TheVariants as re
 
 use crate::MOST_FILE_BYTES;
 use crate::entry::SourceEntry;
-use crate::file_text::file_value;
+use crate::file_text::file_members;
 use crate::index::build_index;
 use crate::joined::read_sections;
-use crate::json::object;
 use crate::outer::read_outer;
 use crate::refusal::MapRefusal;
 use crate::sources::sources;
@@ -73,9 +72,7 @@ impl MapFile {
         if bytes.len() > MOST_FILE_BYTES {
             return Err(MapRefusal::TooLarge);
         }
-        let Some(members) = object(file_value(alloc, bytes)?) else {
-            return Err(MapRefusal::NotObject);
-        };
+        let members = file_members(alloc, bytes)?;
         let outer = read_outer(alloc, members)?;
         let joined = read_sections(alloc, outer.entries)?;
         let sections = joined.parts.len() as u64;

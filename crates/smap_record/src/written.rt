@@ -1,5 +1,5 @@
 //! The members of a written map, in JSON values: each text is copied into its value once.
-ghost use Rattle.std.specs.Prelude.{◌≡◌, map, option_copied, option_map, string_bytes, IfOk, OnOk};
+ghost use Rattle.std.specs.Prelude.{◌≡◌, Some, codes, map, option_copied, option_map, string_bytes, IfOk, OnOk};
 ghost use Rattle.serde_json.specs.Data.{string};
 ghost use Rattle.serde_json.specs.View.{members_view, view};
 ghost use Rattle.smap_record.specs.Seen.{put_where};
@@ -24,28 +24,63 @@ pub fn members(
 {
     let mut members = Map::new(alloc);
     put(alloc, &mut members, "version", Some(Value::from(3u32)))?;
-    put(
-        alloc,
-        &mut members,
-        "sourcesContent",
-        contents(alloc, sources)?,
-    )?;
-    put(
-        alloc,
-        &mut members,
-        "sources",
-        Some(source_names(alloc, sources)?),
-    )?;
-    put(alloc, &mut members, "names", Some(texts(alloc, names)?))?;
-    put(
-        alloc,
-        &mut members,
-        "mappings",
-        Some(Value::String(mappings)),
-    )?;
-    put(alloc, &mut members, "ignoreList", ignored(alloc, sources)?)?;
-    put(alloc, &mut members, "file", text_where(alloc, file)?)?;
+    put_sources(alloc, &mut members, sources)?;
+    put_mappings(alloc, &mut members, names, mappings)?;
+    put_ignored_and_file(alloc, &mut members, sources, file)?;
     Ok(members)
+}
+
+// Puts the contents and the names of the sources.
+fn put_sources(
+    alloc: Global,
+    members: &mut Map<String, Value>,
+    sources: &[SourceEntry],
+) -> Result<(), AllocError>
+    ensures { OnOk result (members_view members.new.entries
+        ≡ put_where (codes "sources")
+        (Some (list_value (λ source. value_of_text (text_of_source source)) (map source_of sources.now)))
+        (put_where (codes "sourcesContent") (contents_value (map source_of sources.now))
+        (members_view members.old.entries))) }
+{
+    let contents = contents(alloc, sources)?;
+    put(alloc, members, "sourcesContent", contents)?;
+    let names = source_names(alloc, sources)?;
+    put(alloc, members, "sources", Some(names))
+}
+
+// Puts the names and the mappings text.
+fn put_mappings(
+    alloc: Global,
+    members: &mut Map<String, Value>,
+    names: &[String],
+    mappings: String,
+) -> Result<(), AllocError>
+    ensures { OnOk result (members_view members.new.entries
+        ≡ put_where (codes "mappings") (Some (string (string_bytes mappings)))
+        (put_where (codes "names") (Some (list_value string (map string_bytes names.now)))
+        (members_view members.old.entries))) }
+{
+    let names = texts(alloc, names)?;
+    put(alloc, members, "names", Some(names))?;
+    put(alloc, members, "mappings", Some(Value::String(mappings)))
+}
+
+// Puts the indices of the ignored sources and the generated file's name, each where there is one.
+fn put_ignored_and_file(
+    alloc: Global,
+    members: &mut Map<String, Value>,
+    sources: &[SourceEntry],
+    file: Option<&str>,
+) -> Result<(), AllocError>
+    ensures { OnOk result (members_view members.new.entries
+        ≡ put_where (codes "file") (option_map string (option_copied file.entry))
+        (put_where (codes "ignoreList") (ignored_value (map source_of sources.now))
+        (members_view members.old.entries))) }
+{
+    let ignored = ignored(alloc, sources)?;
+    put(alloc, members, "ignoreList", ignored)?;
+    let file = text_where(alloc, file)?;
+    put(alloc, members, "file", file)
 }
 
 // Puts a value at a key, where there is one.

@@ -1,78 +1,106 @@
--- The counts of a trace are those of its lines, added up.
-use Rattle.std.proofs.Common.{◌≡◌, ◌+◌, ◌≤◌, ℕ, Bool, true, false, cond, List, [], ◌∷◌, length, filter, Option, Some, None, is_some, option_map, refl, sym, ap, ◌∙◌, arith}
+-- What the editor of frames has counted behind a text.
+use Rattle.std.proofs.Common.{◌≡◌, ◌+◌, ◌≤◌, ℕ, Bool, true, false, cond, List, [], ◌∷◌, ◌++◌, length, filter, fold, Option, Some, None, is_some, option_map, refl, sym, ap, ◌∙◌, arith, subst, take, ◌-◌}
+use Rattle.std.specs.Prelude.{nat_le, not, ◌&&◌, ◌==◌}
+use Rattle.std.specs.List.{list_any}
+use Rattle.std.proofs.lemmas.Bool.{cond-false}
+use Rattle.smap_lines.specs.Edited.{behind_line, behind_text, is_short}
+use Rattle.smap_lines.specs.Lines.{Line, end_in, lines_of}
 use Rattle.smap_record.specs.Record.{MapRecord}
-use Rattle.smap_trace.specs.Cuts.{without_last}
-use Rattle.smap_trace.specs.Frame.{FrameParts}
-use Rattle.smap_trace.specs.FrameOf.{frame_of}
-use Rattle.smap_trace.specs.Lines.{frames_in, mapped_in, kind_at, kind_with, kind_of, with_line}
-use Rattle.smap_trace.specs.Rewritten.{Counts, SourcePlace, counts_of, frame_text, is_frame_line, is_mapped_line, line_in, lines_of, original_of, replacement, replacement_of}
-use Rattle.smap_trace.specs.declared.lines.LineKind.{LineKind}
-use Rattle.smap_trace.specs.declared.lines.LineKind.TheVariants.{Other, Frame, Mapped}
+use Rattle.smap_trace.specs.Frame.{FrameParts, is_line}
+use Rattle.smap_trace.specs.FrameOf.{frame_in, frame_of}
+use Rattle.smap_trace.specs.FrameRewriter.{behind_frame, mapped_in, sight_of, staying_in}
+use Rattle.smap_trace.specs.Rewritten.{Counts, counts_of, is_frame_line, is_mapped_line, line_or, original_of, replacement, replacement_at, replacement_of}
+use Rattle.smap_trace.specs.declared.frame_rewriter.FrameRewriter.{FrameRewriter}
 
-abbrev pub plus : Counts → Counts → Counts
-plus a b = record { lines = a.lines + b.lines; frames = a.frames + b.frames; mapped = a.mapped + b.mapped }
+-- ---- a line
 
-abbrev pub no_counts : Counts
-no_counts = record { lines = 0; frames = 0; mapped = 0 }
+-- one that is too long is no frame
+long_is_none : (line : Line) → is_short line ≡ false → frame_of line.bytes ≡ None
+unfolding frame_of
+long_is_none line long =
+    let other : is_line line.bytes ≡ false = ap (λ b. b && not (list_any (λ byte. byte == 10) line.bytes) && not (list_any (λ byte. byte == 13) (take (length line.bytes - 1) line.bytes))) long in
+    cond-false (is_line line.bytes) _ None other
 
-one_more : (t : Bool) (n : ℕ) (line : List ℕ) (lines : List (List ℕ)) → cond t 1 0 ≡ n → length (cond t (line ∷ lines) lines) ≡ n + length lines
-one_more true n line lines is = let e : 1 ≡ n = is in omega arith
-one_more false n line lines is = let e : 0 ≡ n = is in omega arith
+-- it is a frame that stays, or one that is replaced
+one_of : (text : Option (List ℕ)) → staying_in (Some text) + mapped_in (Some text) ≡ 1
+one_of None = refl
+one_of (Some text) = refl
 
-frames_at : (o : Option SourcePlace) → 1 ≡ frames_in (kind_at o)
-frames_at None = refl
-frames_at (Some place) = refl
+frames_in : (seen : FrameParts → Option (List ℕ)) (parts : Option FrameParts) → staying_in (option_map seen parts) + mapped_in (option_map seen parts) ≡ cond (is_some parts) 1 0
+frames_in seen None = refl
+frames_in seen (Some parts) = one_of (seen parts)
 
-frames_is : (table : List (List ℕ × MapRecord)) (o : Option FrameParts) → cond (is_some o) 1 0 ≡ frames_in (kind_with table o)
-frames_is table None = refl
-frames_is table (Some parts) = frames_at (original_of parts table)
+mapped_at : (text : Option (List ℕ)) → mapped_in (Some text) ≡ cond (is_some text) 1 0
+mapped_at None = refl
+mapped_at (Some text) = refl
 
-mapped_at : (parts : FrameParts) (o : Option SourcePlace) → cond (is_some (option_map (frame_text parts) o)) 1 0 ≡ mapped_in (kind_at o)
-mapped_at parts None = refl
-mapped_at parts (Some place) = refl
+mapped_of : (table : List (List ℕ × MapRecord)) (parts : Option FrameParts) →
+    mapped_in (option_map (λ p. replacement_at p (original_of p table)) parts) ≡ cond (is_some (replacement_of parts table)) 1 0
+mapped_of table None = refl
+mapped_of table (Some parts) = mapped_at (replacement_at parts (original_of parts table))
 
-mapped_is : (table : List (List ℕ × MapRecord)) (o : Option FrameParts) → cond (is_some (replacement_of o table)) 1 0 ≡ mapped_in (kind_with table o)
-mapped_is table None = refl
-mapped_is table (Some parts) = mapped_at parts (original_of parts table)
+-- what a line adds
+abbrev Adds : List (List ℕ × MapRecord) → FrameRewriter → Line → FrameRewriter → Type 0
+Adds table rewriter line new =
+    (new.table.now ≡ table)
+    × (new.staying + new.mapped ≡ rewriter.staying + rewriter.mapped + cond (is_frame_line line) 1 0)
+    × (new.mapped ≡ rewriter.mapped + cond (is_mapped_line table line) 1 0)
 
-counts_in : List (List ℕ × MapRecord) → List (List ℕ) → Counts
-counts_in table lines = record { lines = length lines; frames = length (filter is_frame_line lines); mapped = length (filter (is_mapped_line table) lines) }
+adds_at : (table : List (List ℕ × MapRecord)) (rewriter : FrameRewriter) (line : Line) (short : Bool) → rewriter.table.now ≡ table → is_short line ≡ short →
+    Adds table rewriter line (cond short (behind_frame rewriter line) rewriter)
+unfolding sight_of replacement
+adds_at table rewriter line true is short =
+    let frames = frames_in (λ p. replacement_at p (original_of p rewriter.table.now)) (frame_of line.bytes) in
+    let mapped = mapped_of rewriter.table.now (frame_of line.bytes) ∙ ap (λ t. cond (is_some (replacement_of (frame_of line.bytes) t)) 1 0) is in
+    (is, omega (arith, frames), omega (arith, mapped))
+adds_at table rewriter line false is long =
+    let none = long_is_none line long in
+    let frames : ◌≡◌ {A = ℕ} (cond (is_frame_line line) 1 0) 0 = ap (λ o. cond (is_some o) 1 0) none in
+    let mapped : ◌≡◌ {A = ℕ} (cond (is_mapped_line table line) 1 0) 0 = ap (λ o. cond (is_some (replacement_of o table)) 1 0) none in
+    (is, omega (arith, frames), omega (arith, mapped))
 
-in_more : (table : List (List ℕ × MapRecord)) (c : Counts) (kind : LineKind) (line : List ℕ) (lines : List (List ℕ)) → kind ≡ kind_of table line →
-    plus c (counts_in table (line ∷ lines)) ≡ plus (with_line c kind) (counts_in table lines)
-unfolding counts_in kind_of replacement
-in_more table c kind line lines is =
-    let o : Option FrameParts = frame_of (line_in line (without_last 10 line)) in
-    let f = one_more (is_some o) (frames_in kind) line (filter is_frame_line lines) (frames_is table o ∙ ap frames_in (sym is)) in
-    let m = one_more (is_some (replacement_of o table)) (mapped_in kind) line (filter (is_mapped_line table) lines) (mapped_is table o ∙ ap mapped_in (sym is)) in
-    let p : c.lines + length (line ∷ lines) ≡ c.lines + 1 + length lines = omega arith in
-    let q : c.frames + length (filter is_frame_line (line ∷ lines)) ≡ c.frames + frames_in kind + length (filter is_frame_line lines) = ap (λ n. c.frames + n) f ∙ omega arith in
-    let r : c.mapped + length (filter (is_mapped_line table) (line ∷ lines)) ≡ c.mapped + mapped_in kind + length (filter (is_mapped_line table) lines) = ap (λ n. c.mapped + n) m ∙ omega arith in
-    λ i. record { lines = p i; frames = q i; mapped = r i }
+-- ---- the lines of a text
 
-pub counts_step : (table : List (List ℕ × MapRecord)) (all c new : Counts) (kind : LineKind) (rest line after : List ℕ) → all ≡ plus c (counts_of rest table) →
-    lines_of rest ≡ line ∷ lines_of after → kind ≡ kind_of table line → new ≡ with_line c kind → all ≡ plus new (counts_of after table)
-unfolding counts_of counts_in
-counts_step table all c new kind rest line after is first kinds more =
-    is ∙ ap (λ lines. plus c (counts_in table lines)) first ∙ in_more table c kind line (lines_of after) kinds ∙ ap (λ d. plus d (counts_in table (lines_of after))) (sym more)
+bit : (t : Bool) → cond t 1 0 ≤ 1
+bit true = omega arith
+bit false = omega arith
 
-pub counts_start : (all : Counts) → all ≡ plus no_counts all
-counts_start all =
-    let p : all.lines ≡ 0 + all.lines = omega arith in
-    let q : all.frames ≡ 0 + all.frames = omega arith in
-    let r : all.mapped ≡ 0 + all.mapped = omega arith in
-    λ i. record { lines = p i; frames = q i; mapped = r i }
+one_more : {A : Type 0} (t : Bool) (x : A) (xs : List A) → length (cond t (x ∷ xs) xs) ≡ cond t 1 0 + length xs
+one_more true x xs = omega arith
+one_more false x xs = omega arith
 
-pub counts_end : (table : List (List ℕ × MapRecord)) (all c : Counts) (rest : List ℕ) → rest ≡ [] → all ≡ plus c (counts_of rest table) → c ≡ all
-unfolding counts_of
-counts_end table all c rest none is =
-    let p : c.lines ≡ c.lines + 0 = omega arith in
-    let q : c.frames ≡ c.frames + 0 = omega arith in
-    let r : c.mapped ≡ c.mapped + 0 = omega arith in
-    let zero : c ≡ plus c (counts_of [] table) = λ i. record { lines = p i; frames = q i; mapped = r i } in
-    zero ∙ ap (λ l. plus c (counts_of l table)) (sym none) ∙ sym is
+abbrev Counted : List (List ℕ × MapRecord) → FrameRewriter → List Line → FrameRewriter → Type 0
+Counted table rewriter lines new =
+    (new.staying + new.mapped ≡ rewriter.staying + rewriter.mapped + length (filter is_frame_line lines))
+    × (new.mapped ≡ rewriter.mapped + length (filter (is_mapped_line table) lines))
 
-pub few_in : (kind : LineKind) → (frames_in kind ≤ 1) × (mapped_in kind ≤ 1)
-few_in Other = (omega arith, omega arith)
-few_in Frame = (omega arith, omega arith)
-few_in Mapped = (omega arith, omega arith)
+counted_over : (table : List (List ℕ × MapRecord)) (rewriter : FrameRewriter) (lines : List Line) → rewriter.table.now ≡ table →
+    Counted table rewriter lines (fold (behind_line behind_frame) rewriter lines)
+counted_over table rewriter [] is = (omega arith, omega arith)
+counted_over table rewriter (line ∷ lines) is =
+    let adds = adds_at table rewriter line (is_short line) is refl in
+    let more = counted_over table (behind_line behind_frame rewriter line) lines adds.0 in (
+      omega (arith, adds.1, more.0, one_more (is_frame_line line) line (filter is_frame_line lines)),
+      omega (arith, adds.2, more.1, one_more (is_mapped_line table line) line (filter (is_mapped_line table) lines)),
+    )
+
+few_of : {A : Type 0} (p : A → Bool) (xs : List A) → length (filter p xs) ≤ length xs
+few_of p [] = omega arith
+few_of p (x ∷ xs) = let few = few_of p xs in let more = one_more (p x) x (filter p xs) in let one = bit (p x) in omega (arith, few, more, one)
+
+module _ (table : List (List ℕ × MapRecord)) (rewriter new : FrameRewriter) (bytes : List ℕ) (lines : ℕ)
+    (is : rewriter.table.now ≡ table) (none_staying : rewriter.staying ≡ 0) (none_mapped : rewriter.mapped ≡ 0)
+    (behind : new ≡ behind_text behind_frame rewriter bytes) (lines_is : lines ≡ length (lines_of bytes)) where
+  counted : Counted table rewriter (lines_of bytes) new
+  unfolding behind_text
+  counted = subst (λ n. Counted table rewriter (lines_of bytes) n) (sym behind) (counted_over table rewriter (lines_of bytes) is)
+
+  pub counts_are : record { lines = lines; frames = new.staying + new.mapped; mapped = new.mapped } ≡ counts_of bytes table
+  unfolding counts_of
+  counts_are =
+      let frames : new.staying + new.mapped ≡ length (filter is_frame_line (lines_of bytes)) = omega (arith, counted.0, none_staying, none_mapped) in
+      let mapped : new.mapped ≡ length (filter (is_mapped_line table) (lines_of bytes)) = omega (arith, counted.1, none_mapped) in
+      λ i. record { lines = lines_is i; frames = frames i; mapped = mapped i }
+
+  pub frames_few : new.staying + new.mapped ≤ lines
+  frames_few = omega (arith, counted.0, none_staying, none_mapped, lines_is, few_of is_frame_line (lines_of bytes))

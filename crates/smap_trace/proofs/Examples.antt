@@ -1,7 +1,6 @@
 -- Worked examples of the definitions: each holds by computing both sides.
 use Rattle.std.proofs.Common.{◌≡◌, true, false, [], ◌∷◌, Some, None, refl, codes}
 use Rattle.smap_trace.specs.FrameOf.{frame_of, number_of}
-use Rattle.smap_trace.specs.Rewritten.{lines_of}
 use Rattle.smap_trace.specs.Table.{is_bad_url}
 
 a_call : frame_of (codes "  at async f (a.js:1:6)") ≡ Some (record { head = codes "  at async f ("; url = codes "a.js"; line = 1; column = 6; tail = codes ")" })
@@ -23,9 +22,6 @@ twice_async = refl
 
 numbers : number_of (codes "2147483648") ∷ number_of (codes "2147483649") ∷ number_of (codes "0") ∷ number_of (codes "01") ∷ [] ≡ Some 2147483648 ∷ None ∷ None ∷ None ∷ []
 numbers = refl
-
-lines : lines_of (codes "a\n\nb") ≡ codes "a\n" ∷ codes "\n" ∷ codes "b" ∷ []
-lines = refl
 
 urls : is_bad_url (codes "eval at u") ∷ is_bad_url (codes "") ∷ is_bad_url (codes "a\nb") ∷ is_bad_url (codes "u") ∷ [] ≡ true ∷ true ∷ true ∷ false ∷ []
 unfolding is_bad_url

@@ -3,7 +3,6 @@ pub mod FrameSteps
 pub mod NumberLaws
 pub mod FrameLaws
 pub mod TableLaws
-pub mod LineLaws
 pub mod CountLaws
-pub mod WrittenLaws
+pub mod SightLaws
 pub mod Examples

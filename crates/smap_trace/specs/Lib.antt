@@ -5,7 +5,8 @@ pub mod FrameOf
 pub mod FrameSeen
 pub mod Table
 pub mod Rewritten
-pub mod Lines
 pub mod Rewriting
 -- of private contracts only
-pub mod HandingOn
+pub mod FrameRewriter
+pub mod RewriterLaws
+pub mod SightSeen

@@ -1,4 +1,4 @@
--- The limits of traces, which are this project's own.
+-- The limits of frames, which are this project's own.
 use Rattle.std.specs.Prelude.{ℕ}
 
 -- how many bytes a frame line has at most, without its LF
@@ -8,7 +8,3 @@ most_line_bytes = 65536
 -- the greatest line or column that a frame prints
 abbrev pub most_printed : ℕ
 most_printed = 2147483648
-
--- how many bytes a trace has at most, which is 1 GiB
-abbrev pub most_trace_bytes : ℕ
-most_trace_bytes = 1073741824

@@ -1,10 +1,10 @@
 -- What rewriting a trace does to its devices.
-use Rattle.std.specs.Prelude.{◌≡◌, ◌<◌, ◌≤◌, ℕ, Bool, true, false, List, Option, length, Result, Ok, Err}
-use Rattle.std.specs.Io.KnownBytes.{IsAtEnd}
-use Rattle.smap_io.specs.Device.{Gives, Takes, TakesFront}
+use Rattle.std.specs.Prelude.{◌≡◌, ℕ, Bool, true, false, List, Result, Ok, Err}
+use Rattle.smap_lines.specs.Editing.{Edits, EditsFront, Streams}
+use Rattle.smap_lines.specs.declared.fault.LineFault.{LineFault}
+use Rattle.smap_lines.specs.declared.fault.LineFault.TheVariants as fault
 use Rattle.smap_record.specs.Record.{MapRecord}
-use Rattle.smap_trace.specs.Limits.{most_trace_bytes}
-use Rattle.smap_trace.specs.Rewritten.{Counts, counts_of, rewritten}
+use Rattle.smap_trace.specs.Rewritten.{Counts, counts_of, rewritten_line}
 use Rattle.smap_trace.specs.declared.outcome.RewriteFault.{RewriteFault}
 use Rattle.smap_trace.specs.declared.outcome.RewriteFault.TheVariants.{Read, Write, TooMuch, Memory}
 use Rattle.smap_trace.specs.declared.outcome.Summary.{Summary}
@@ -12,26 +12,23 @@ use Rattle.smap_trace.specs.declared.outcome.Summary.{Summary}
 abbrev pub counts_seen : Summary → Counts
 counts_seen summary = record { lines = summary.lines; frames = summary.frames; mapped = summary.mapped }
 
--- the bytes that a source has left and a sink has taken, where they tell them
-pub record Streams : Type 0 where
-  pub left : Option (List ℕ)
-  pub taken : Option (List ℕ)
-
 -- all that the input had, which is not too much, was read, and what it becomes was written, and nothing else
 pub record Rewrites (before after : Streams) (table : List (List ℕ × MapRecord)) (summary : Summary) : Type 0 where
   pub bytes : List ℕ
-  pub read : Gives before.left after.left bytes
-  pub ended : IsAtEnd after.left
-  pub fits : length bytes ≤ most_trace_bytes
-  pub written : Takes before.taken after.taken (rewritten bytes table)
+  pub edits : Edits (rewritten_line table) before after bytes summary.lines
   pub counted : counts_seen summary ≡ counts_of bytes table
 
--- these bytes were read, and a front of what they become was written
-pub record RewritesFront (before after : Streams) (table : List (List ℕ × MapRecord)) (fault : RewriteFault) : Type 0 where
-  pub bytes : List ℕ
-  pub read : Gives before.left after.left bytes
-  pub front : TakesFront before.taken after.taken (rewritten bytes table)
-  pub many : fault ≡ TooMuch → most_trace_bytes < length bytes
+-- the same failure, of the lines
+abbrev pub line_fault : RewriteFault → LineFault
+line_fault Read = fault.Read
+line_fault Write = fault.Write
+line_fault TooMuch = fault.TooMuch
+line_fault Memory = fault.Memory
+
+-- these bytes were read, and a front of what they become was written; where a read failed, all of what their whole
+-- lines become
+abbrev pub RewritesFront : (before after : Streams) → List (List ℕ × MapRecord) → RewriteFault → Type 0
+RewritesFront before after table fault = EditsFront (rewritten_line table) before after (line_fault fault)
 
 -- whether the input failed, and whether the output did
 abbrev pub is_read_fault : Result Summary RewriteFault → Bool

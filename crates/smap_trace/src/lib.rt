@@ -9,13 +9,14 @@
 #![tactic(auto)]
 
 mod cuts;
+mod frame_rewriter;
 mod frames;
-mod lines;
 mod number;
 mod outcome;
 mod parts;
 mod refusal;
 mod rewriting;
+mod sight;
 mod table;
 
 pub use frames::frame;

@@ -1,30 +1,21 @@
 //! Rewriting a trace.
-ghost use Rattle.std.specs.Prelude.{◌≡◌, ◌⊎◌, ◌++◌, ◌<◌, ◌≤◌, ◌^◌, ℕ, List, [], false, true, length, IfOk, IfErr, OnOk, OnErr};
-ghost use Rattle.smap_io.specs.Device.{Takes, TakesFront};
-ghost use Rattle.smap_trace.specs.Lines.{with_line};
-ghost use Rattle.smap_trace.specs.HandingOn.{HandsOn};
-ghost use Rattle.smap_trace.specs.Limits.{most_trace_bytes};
-ghost use Rattle.smap_trace.specs.Rewriting.{Rewrites, RewritesFront, counts_seen};
-ghost use Rattle.smap_trace.specs.Rewriting.{is_read_fault, is_write_fault};
-ghost use Rattle.smap_trace.specs.Rewritten.{IsWholeLines, counts_of, rewritten};
-ghost use Rattle.smap_trace.specs.declared.outcome.RewriteFault.TheVariants.{Memory, Write};
+ghost use Rattle.std.specs.Prelude.{◌≡◌, false, IfErr, IfOk};
+ghost use Rattle.smap_trace.specs.Rewriting.{Rewrites, RewritesFront, is_read_fault, is_write_fault};
+ghost use Rattle.smap_trace.specs.declared.outcome.RewriteFault.TheVariants.{Memory};
 
-use crate::lines::{LineKind, line_length, rewrite_line};
+use crate::frame_rewriter::FrameRewriter;
 use crate::outcome::{RewriteFault, Summary};
 use crate::table::Table;
-use smap_io::{ByteSink, ByteSource, DeviceFault, ReadFailure, read_all, write_all};
+use smap_io::{ByteSink, ByteSource};
+use smap_lines::{LineFault, edit_lines};
 use std::alloc::Global;
 
-// How many bytes a trace has at most.
-const MOST_TRACE_BYTES: usize = 1073741824;
-
-// How many bytes wait at least until they are written.
-const LEAST_PENDING: usize = 65536;
-
-/// Rewrites a trace: a frame whose URL is in the table and whose place has an original gets it in its place, and every
-/// other byte stays. The caller gives devices that have not failed. The output is not flushed.
+/// Rewrites a trace while it is read: a frame whose URL is in the table and whose place has an original gets it in its
+/// place, and every other byte stays. The caller gives devices that have not failed. The output is not flushed.
 ///
-/// The first failure ends it. What was written is then a front of what the bytes that were read become.
+/// What became of each line that was read was written before more is read. The first failure ends it. What was written
+/// is then a front of what the bytes that were read become; where a read failed, all of what the whole lines among them
+/// become; and after want of memory, neither device was asked.
 pub fn rewrite<R: ByteSource, W: ByteSink>(
     alloc: Global,
     input: &mut R,
@@ -41,88 +32,24 @@ pub fn rewrite<R: ByteSource, W: ByteSink>(
         (record { left = R.left input.new; taken = W.taken output.new }) table.now fault) }
     ensures input_failure { R.has_failed input.new ≡ is_read_fault result }
     ensures output_failure { W.has_failed output.new ≡ is_write_fault result }
-    ensures joins { (first rest : List ℕ) → IsWholeLines first
-        → rewritten (first ++ rest) table.now ≡ rewritten first table.now ++ rewritten rest table.now }
+    ensures memory_input { IfErr result (λ fault. fault ≡ Memory → input.new ≡ input.old) }
+    ensures memory_output { IfErr result (λ fault. fault ≡ Memory → output.new ≡ output.old) }
 {
-    let bytes = match read_all(alloc, input, MOST_TRACE_BYTES + 1) {
-        Ok(bytes) => bytes,
-        Err(ReadFailure::Device) => return Err(RewriteFault::Read),
-        Err(ReadFailure::Memory) => return Err(RewriteFault::Memory),
-    };
-    if bytes.len() > MOST_TRACE_BYTES {
-        return Err(RewriteFault::TooMuch);
-    }
-    write_lines(alloc, &bytes, output, table)
-}
-
-// Writes what the bytes of a trace become.
-fn write_lines<W: ByteSink>(
-    alloc: Global,
-    bytes: &[u8],
-    output: &mut W,
-    table: &Table,
-) -> Result<Summary, RewriteFault>
-    requires fits { length bytes.now ≤ most_trace_bytes }
-    requires works { W.has_failed output.old ≡ false }
-    ensures written { OnOk result (Takes (W.taken output.old) (W.taken output.new) (rewritten bytes.now table.now)) }
-    ensures counted { IfOk result (λ summary. counts_seen summary ≡ counts_of bytes.now table.now) }
-    ensures front { OnErr result (TakesFront (W.taken output.old) (W.taken output.new) (rewritten bytes.now table.now)) }
-    ensures fault { IfErr result (λ fault. (fault ≡ Write) ⊎ (fault ≡ Memory)) }
-    ensures failure { W.has_failed output.new ≡ is_write_fault result }
-{
-    let mut pending = Vec::new(alloc);
-    let mut summary = Summary {
-        lines: 0,
-        frames: 0,
+    let mut rewriter = FrameRewriter {
+        alloc,
+        table,
+        staying: 0,
         mapped: 0,
     };
-    let mut rest = bytes;
-    while !rest.is_empty() {
-        let (line, after) = rest.split_at(line_length(rest));
-        let Ok(kind) = rewrite_line(alloc, &mut pending, line, table) else {
-            return Err(RewriteFault::Memory);
-        };
-        summary = counted(summary, kind);
-        let Ok(()) = write_pending(output, &mut pending) else {
-            return Err(RewriteFault::Write);
-        };
-        rest = after;
+    match edit_lines(alloc, input, output, &mut rewriter) {
+        Ok(lines) => Ok(Summary {
+            lines,
+            frames: rewriter.staying + rewriter.mapped,
+            mapped: rewriter.mapped,
+        }),
+        Err(LineFault::Read) => Err(RewriteFault::Read),
+        Err(LineFault::Write) => Err(RewriteFault::Write),
+        Err(LineFault::TooMuch) => Err(RewriteFault::TooMuch),
+        Err(LineFault::Memory) => Err(RewriteFault::Memory),
     }
-    match write_all(output, &pending) {
-        Ok(()) => Ok(summary),
-        Err(DeviceFault) => Err(RewriteFault::Write),
-    }
-}
-
-// One more line, of this kind.
-fn counted(summary: Summary, kind: LineKind) -> Summary
-    requires { (summary.lines < 2 ^ 32) × (summary.frames < 2 ^ 32) × (summary.mapped < 2 ^ 32) }
-    ensures { counts_seen result ≡ with_line (counts_seen summary) kind }
-{
-    let (frames, mapped) = match kind {
-        LineKind::Other => (0, 0),
-        LineKind::Frame => (1, 0),
-        LineKind::Mapped => (1, 1),
-    };
-    Summary {
-        lines: summary.lines + 1,
-        frames: summary.frames + frames,
-        mapped: summary.mapped + mapped,
-    }
-}
-
-// Writes the bytes that wait, where they are many.
-fn write_pending<W: ByteSink>(output: &mut W, pending: &mut Vec<u8>) -> Result<(), DeviceFault>
-    ensures handed_on { OnOk result
-        (HandsOn (W.taken output.old) (W.taken output.new) pending.old.items pending.new.items) }
-    ensures no_failure { OnOk result (W.has_failed output.new ≡ W.has_failed output.old) }
-    ensures front { OnErr result (TakesFront (W.taken output.old) (W.taken output.new) pending.old.items) }
-    ensures failure { OnErr result (W.has_failed output.new ≡ true) }
-{
-    if pending.len() < LEAST_PENDING {
-        return Ok(());
-    }
-    write_all(output, pending)?;
-    pending.clear();
-    Ok(())
 }

@@ -4,9 +4,10 @@ use Rattle.smap_answers.specs.Check.{check_line}
 use Rattle.smap_answers.specs.Compose.{IsComposeTelling}
 use Rattle.smap_answers.specs.Files.{paths_of}
 use Rattle.smap_answers.specs.Lookup.{lookup_text}
-use Rattle.smap_answers.specs.Map.{IsMapAnswer, IsMapTelling, usual_interval}
+use Rattle.smap_answers.specs.Map.{IsMapAnswer, IsMapTelling}
 use Rattle.smap_answers.specs.Outcome.{telling_of}
 use Rattle.smap_answers.specs.Show.{show_result}
+use Rattle.smap_command.specs.Limits.{usual_interval}
 use Rattle.smap_answers.proofs.RunLaws.{file_told, files_told, first_is, rewritten_works}
 use Rattle.smap_answers.proofs.running.outcome_of.Goals as goal
 

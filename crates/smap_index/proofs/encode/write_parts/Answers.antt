@@ -1,14 +1,14 @@
-use Rattle.std.proofs.Common.{List, sym, subst, arith}
-use Rattle.smap_mappings.specs.Writing.{IsWritten}
-use Rattle.smap_mappings.specs.declared.mapping.Mapping.{Mapping}
-use Rattle.smap_index.proofs.PartLaws.{joined_next}
-use Rattle.smap_index.proofs.RefusalLaws.{all_in_range}
+use Rattle.std.proofs.Common.{[], ◌∷◌, ◌++◌}
+use Rattle.smap_index.specs.Parts.{joined}
+use Rattle.smap_index.proofs.JoinedLaws.{front_next}
 use Rattle.smap_index.proofs.encode.write_parts.Goals as goal
 
-pub write_part-requires-clause-in_range : goal.write_part-requires-clause-in_range
-write_part-requires-clause-in_range c = all_in_range c.args.parts.now c.loop-part.part-index c.part-item.result c.requires.in_range (omega arith) c.part-item.is
-
-pub loop-part-preserved : goal.loop-part-preserved
-loop-part-preserved c =
-    let P : List Mapping → Type 0 = λ list. IsWritten list c.write_part.new.writer in
-    subst P (sym (joined_next c.args.parts.now c.loop-part.part-index c.part-item.result (omega arith) c.part-item.is)) (c.in_ok-write_part.ensures _ c.loop-part.invariant)
+pub loop-mapping-preserved : goal.loop-mapping-preserved
+loop-mapping-preserved c =
+    let so_far = c.loop-mapping.invariant.written in
+    let m = c.in-Some.mapping in
+    record {
+      can = tt;
+      finite = tt;
+      written = (so_far.0 ++ m ∷ [], front_next so_far.0 c.loop-mapping.mapping-iterator (joined c.args.parts.now) m _ so_far.1 c.in-Some.ensures.steps, c.in_ok-push.ensures so_far.0 so_far.2);
+    }

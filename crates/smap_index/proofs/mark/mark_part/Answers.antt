@@ -1,13 +1,56 @@
-use Rattle.std.proofs.Common.{◌||◌, subst, sym, ◌∙◌, ap, arith}
+use Rattle.std.proofs.Common.{false, take, ◌≡◌, ◌||◌, ◌+◌, None, refl, subst, sym, ◌∙◌, ap, arith}
 use Rattle.std.specs.List.{last_or, list_any}
+use Rattle.std.specs.Prelude.{IfSome}
 use Rattle.std.proofs.lemmas.Bool.{or_parts, and_parts, leb-true}
+use Rattle.smap_mappings.specs.Limits.{most_indices}
+use Rattle.smap_mappings.specs.Mappings.{mappings_of}
 use Rattle.smap_mappings.specs.Range.{is_number_past_limit, is_mapping_past_limit}
-use Rattle.smap_index.proofs.WalkLaws.{all_taken, all_placed, after_next, last_next, any_next}
-use Rattle.smap_index.proofs.CountingLaws.{IsMarked, counting_next, number_there, marked_next}
+use Rattle.smap_mappings.specs.State.{IsAfter, IsMappingAt}
+use Rattle.smap_mappings.specs.declared.cursor.Cursor.{Cursor}
+use Rattle.smap_index.specs.Parts.{placed_mapping, placed}
+use Rattle.smap_index.proofs.WholeTextLaws.{unmoved_in_range}
+use Rattle.smap_index.proofs.WalkLaws.{all_taken, all_placed, after_next, last_none, last_next, any_none, any_next, none_next, within_at}
+use Rattle.smap_index.proofs.FitLaws.{fitting}
+use Rattle.smap_index.proofs.CountingLaws.{IsMarked, marked_none, counting_none, counting_next, number_there, marked_next}
 use Rattle.smap_index.proofs.mark.mark_part.Goals as goal
 
+pub loop-mapping-init : goal.loop-mapping-init
+loop-mapping-init c =
+    let none : c.new-meter.result.segments ≡ 0 = ap (λ m. m.segments) c.new-meter.ensures in
+    let part = c.args.part.now in
+    let some = leb-true 1 c.args.k (and_parts _ _ c.requires.interval).0 in
+    record {
+      after = subst (λ j. IsAfter part.text j c.start-start.result) (sym none) c.start-start.ensures.before_all;
+      last = last_none _ (mappings_of part.text) c.start-start.result none;
+      counting = counting_none c.args.k _ _ _ (mappings_of part.text) some refl none;
+      past_limit = c.is_offset_past_limit.ensures ∙ any_none is_mapping_past_limit _ _ (placed part) none;
+      room = λ has. has;
+      marked = λ within has. marked_none part c.args.number c.args.k (placed part) _ _ none;
+    }
+
 pub next-requires-clause-room : goal.next-requires-clause-room
-next-requires-clause-room c = omega (arith, c.loop-mapping.invariant.after.count, c.segments-segments.ensures.bound, c.segments-segments.ensures.count, c.start-state.ensures.packed.short)
+next-requires-clause-room c = omega (arith, c.loop-mapping.invariant.after.count, c.segments-segments.ensures.bound, c.segments-segments.ensures.count, c.start-start.ensures.packed.short)
+
+pub walk_behind-walk-requires-clause-unmoved : goal.walk_behind-walk-requires-clause-unmoved
+walk_behind-walk-requires-clause-unmoved c still =
+    let j = c.loop-mapping.meter.segments in
+    let part = c.args.part.now in
+    let packed = c.start-start.ensures.packed in
+    let all = unmoved_in_range part most_indices most_indices (c.is_moving-moves.ensures (still)) (c.accepted_texts_have_no_fault.ensures.within part.text most_indices most_indices packed.short packed.accepted) in
+    within_at part j c.in-Some.mapping c.in-Some.behind (c.in-Some.ensures.some j c.loop-mapping.invariant.after) all
+
+pub mark-requires-clause-in_range : goal.mark-requires-clause-in_range
+mark-requires-clause-in_range c none = (or_parts _ _ (sym c.walk_behind-walk.ensures.past_limit ∙ none)).1
+
+pub mark-requires-clause-fitting : goal.mark-requires-clause-fitting
+mark-requires-clause-fitting c none =
+    let j = c.loop-mapping.meter.segments in
+    let part = c.args.part.now in
+    let m = c.in-Some.mapping in
+    let next = c.in-Some.ensures.some j c.loop-mapping.invariant.after in
+    let now : (c.loop-mapping.walk.is_past_limit ≡ false) × (is_mapping_past_limit (placed_mapping part m) ≡ false) = or_parts _ _ (sym c.walk_behind-walk.ensures.past_limit ∙ none) in
+    let so_far : list_any is_mapping_past_limit (take j (placed part)) ≡ false = (or_parts _ _ (sym c.loop-mapping.invariant.past_limit ∙ now.0)).1 in
+    fitting part (j + 1) _ (after_next part j (j + 1) m c.in-Some.behind next refl _ (cc)) c.start-start.ensures.packed.short (none_next part j (j + 1) m c.in-Some.behind next refl so_far now.1) (omega arith) (omega arith)
 
 pub loop-mapping-preserved : goal.loop-mapping-preserved
 loop-mapping-preserved c =
@@ -15,25 +58,29 @@ loop-mapping-preserved c =
     let n = c.next.new.meter.segments in
     let part = c.args.part.now in
     let m = c.in-Some.mapping in
+    let behind = c.in-Some.behind in
     let next = c.in-Some.ensures.some j c.loop-mapping.invariant.after in
     let counted = ap (λ m. m.segments) c.in-Some.ensures.counted in
     let some = leb-true 1 c.args.k (and_parts _ _ c.requires.interval).0 in
-    let ordered = c.start-state.ensures.ordered in
+    let ordered = c.start-start.ensures.ordered in
+    let number = c.walk_behind-walk.ensures.number in
+    let state = c.walk_behind-walk.result.state in
+    let same : behind ≡ state = cc in
     record {
-      after = after_next part j n m c.in-Some.behind next counted _ (cc);
-      last = last_next part j n m c.in-Some.behind next counted _ c.mark_mapping-walk.ensures.last;
-      past_limit = any_next part j n m c.in-Some.behind next counted is_mapping_past_limit _ _ _ c.loop-mapping.invariant.past_limit c.mark_mapping-walk.ensures.past_limit;
-      room = λ has. c.loop-mapping.invariant.room (c.mark_mapping-walk.ensures.room has);
-      counting = counting_next part j n m c.in-Some.behind next counted c.args.k c.loop-mapping.walk.last _ c.loop-mapping.walk.number _ some ordered c.loop-mapping.invariant.counting c.mark_mapping-walk.ensures.last c.mark_mapping-walk.ensures.number;
+      after = after_next part j n m behind next counted state same;
+      last = last_next part j n m behind next counted state same c.in-Some.ensures.values;
+      past_limit = any_next part j n m behind next counted is_mapping_past_limit _ _ _ c.loop-mapping.invariant.past_limit c.walk_behind-walk.ensures.past_limit;
+      room = λ has. c.loop-mapping.invariant.room (sym c.walk_behind-walk.ensures.room ∙ c.mark.ensures.room has);
+      counting = counting_next part j n m behind next counted c.args.k c.loop-mapping.walk.state.line _ c.loop-mapping.walk.number _ some ordered c.loop-mapping.invariant.counting (ap (λ (s : Cursor). s.line) (sym same) ∙ sym c.in-Some.ensures.values.line) number;
       marked = λ none has.
-          let before = or_parts _ _ (sym c.mark_mapping-walk.ensures.past_limit ∙ none) in
-          marked_next part j n m c.in-Some.behind next counted c.args.k c.args.number c.args.table.now c.loop-mapping.table c.mark_mapping-walk.new.table c.mark_mapping-walk.result.number _ (cc)
-          (number_there part j n m c.in-Some.behind next counted c.args.k c.loop-mapping.walk.last c.loop-mapping.walk.number _ ordered c.loop-mapping.invariant.counting c.mark_mapping-walk.ensures.number)
-          (c.mark_mapping-walk.ensures.marked none has) (c.loop-mapping.invariant.marked before.0 (c.mark_mapping-walk.ensures.room has));
+          let before = or_parts _ _ (sym c.walk_behind-walk.ensures.past_limit ∙ none) in
+          marked_next part j n m behind next counted c.args.k c.args.number c.args.table.now c.loop-mapping.table c.mark.new.table c.walk_behind-walk.result.number state same c.in-Some.ensures.values
+          (number_there part j n m behind next counted c.args.k c.loop-mapping.walk.state.line c.loop-mapping.walk.number _ ordered c.loop-mapping.invariant.counting number)
+          (c.mark.ensures.marked none has) (c.loop-mapping.invariant.marked before.0 (sym c.walk_behind-walk.ensures.room ∙ c.mark.ensures.room has));
     }
 
 pub returns-clause-last : goal.returns-clause-last
-returns-clause-last c = c.loop-mapping.invariant.last ∙ ap (last_or _) (all_taken c.args.part.now.text _ (c.in_default.ensures.none _ c.loop-mapping.invariant.after))
+returns-clause-last c = subst (λ list. IfSome (last_or None list) (IsMappingAt c.loop-mapping.walk.state)) (all_taken c.args.part.now.text _ (c.in_default.ensures.none _ c.loop-mapping.invariant.after)) c.loop-mapping.invariant.last
 
 pub returns-clause-past_limit : goal.returns-clause-past_limit
 returns-clause-past_limit c =

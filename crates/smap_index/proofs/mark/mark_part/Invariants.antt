@@ -1,8 +1,9 @@
 use Rattle.std.proofs.Common.{◌≡◌, ◌-◌, ◌||◌, true, false, None, length, take}
+use Rattle.std.specs.Prelude.{IfSome}
 use Rattle.std.specs.List.{last_or, list_any}
 use Rattle.smap_mappings.specs.Pieces.{pieces_of}
 use Rattle.smap_mappings.specs.Mappings.{mappings_of}
-use Rattle.smap_mappings.specs.State.{IsAfter}
+use Rattle.smap_mappings.specs.State.{IsAfter, IsMappingAt}
 use Rattle.smap_index.specs.Parts.{placed}
 use Rattle.smap_mappings.specs.Range.{is_number_past_limit, is_mapping_past_limit}
 use Rattle.smap_index.proofs.CountingLaws.{IsCounting, IsMarked}
@@ -12,9 +13,9 @@ use Rattle.smap_index.proofs.mark.mark_part.Given as goal
 -- that are marked while nothing was past the limit and there was room
 abbrev pub invariant-loop-mapping : goal.invariant-loop-mapping
 invariant-loop-mapping l = record {
-  after : IsAfter l.part.text l.meter.segments l.state;
-  last : l.walk.last ≡ last_or None (take l.meter.segments (mappings_of l.part.text));
-  counting : IsCounting l.k l.walk.last l.walk.number (take l.meter.segments (mappings_of l.part.text));
+  after : IsAfter l.part.text l.meter.segments l.walk.state;
+  last : IfSome (last_or None (take l.meter.segments (mappings_of l.part.text))) (IsMappingAt l.walk.state);
+  counting : IsCounting l.k l.walk.state.line l.walk.number (take l.meter.segments (mappings_of l.part.text));
   past_limit : l.walk.is_past_limit ≡ (is_number_past_limit l.part.line || is_number_past_limit l.part.column || list_any is_mapping_past_limit (take l.meter.segments (placed l.part)));
   room : l.walk.has_room ≡ true → l.fn.has_room ≡ true;
   marked : l.walk.is_past_limit ≡ false → l.walk.has_room ≡ true → IsMarked l.part l.number l.k (take l.meter.segments (placed l.part)) l.fn.table l.table;

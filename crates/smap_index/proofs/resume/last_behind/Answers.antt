@@ -1,11 +1,15 @@
-use Rattle.std.proofs.Common.{◌+◌, refl, sym, ap, ◌∙◌, arith}
+use Rattle.std.proofs.Common.{◌+◌, Some, take, drop, refl, sym, ap, subst, ◌∙◌, arith}
+use Rattle.smap_mappings.specs.State.{IsAfter}
+use Rattle.smap_index.specs.Parts.{placed}
+use Rattle.smap_index.specs.Search.{last_from}
 use Rattle.smap_index.proofs.LastLaws.{goes_on, ends, ends_with_part}
 use Rattle.smap_index.proofs.WalkLaws.{after_next, placed_in_range}
 use Rattle.smap_index.proofs.resume.last_behind.Goals as goal
 
 pub loop-left-init : goal.loop-left-init
 loop-left-init c = record {
-  left = λ j after. (j, after, refl);
+  left = λ j after.
+      (j, subst (IsAfter c.args.part.now.text j) (sym c.state-state.ensures) after, ap (λ m. last_from c.args.line c.args.column (Some m) (take c.args.most (drop j (placed c.args.part.now)))) (sym c.mapping-last.ensures));
   few = omega arith;
   onward = omega arith;
   none_compared = refl;

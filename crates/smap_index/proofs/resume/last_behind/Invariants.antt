@@ -1,5 +1,6 @@
 use Rattle.std.proofs.Common.{◌≡◌, ℕ, ◌+◌, ◌≤◌, Some, take, drop}
 use Rattle.smap_mappings.specs.State.{IsAfter}
+use Rattle.smap_index.specs.Checkpoint.{mapping_of, state_of}
 use Rattle.smap_index.specs.Parts.{placed}
 use Rattle.smap_index.specs.Search.{last_from}
 use Rattle.smap_index.proofs.resume.last_behind.Given as goal
@@ -7,8 +8,8 @@ use Rattle.smap_index.proofs.resume.last_behind.Given as goal
 -- what is looked for is the last of those that are left, and where there is none, the last so far
 abbrev pub invariant-loop-left : goal.invariant-loop-left
 invariant-loop-left l = record {
-  left : (j : ℕ) → IsAfter l.part.text j l.checkpoint.state → (n : ℕ) × IsAfter l.part.text n l.state
-      × (last_from l.line l.column (Some l.checkpoint.mapping) (take l.most (drop j (placed l.part))) ≡ last_from l.line l.column (Some l.last) (take l.left (drop n (placed l.part))));
+  left : (j : ℕ) → IsAfter l.part.text j (state_of l.part l.checkpoint) → (n : ℕ) × IsAfter l.part.text n l.state
+      × (last_from l.line l.column (Some (mapping_of l.checkpoint)) (take l.most (drop j (placed l.part))) ≡ last_from l.line l.column (Some l.last) (take l.left (drop n (placed l.part))));
   few : l.meter.segments + l.left ≤ l.fn.meter.segments + l.most;
   onward : l.fn.meter.segments ≤ l.meter.segments;
   none_compared : l.meter.comparisons ≡ l.fn.meter.comparisons;

@@ -1,5 +1,6 @@
 use Rattle.std.proofs.Common.{sym, ap, refl, ◌∙◌, arith, None}
-use Rattle.smap_index.specs.Search.{mappings_at}
+use Rattle.smap_index.specs.Checkpoint.{mapping_of}
+use Rattle.smap_index.specs.Search.{mappings_at, is_not_after}
 use Rattle.smap_index.proofs.Halving.{one_more}
 use Rattle.smap_index.proofs.ListLaws.{last_taken}
 use Rattle.smap_index.proofs.SearchLaws.{in_front, ends_front, front_within, read_mapping}
@@ -23,13 +24,13 @@ at-checkpoint-requires-clause-room c =
 
 pub loop-low-preserved-then-is_not_after : goal.loop-low-preserved-then-is_not_after
 loop-low-preserved-then-is_not_after c =
-    let there = read_mapping c.args.table.now _ c.at-checkpoint.result c.at-checkpoint.ensures.read in
+    let there = read_mapping c.args.table.now _ c.at-checkpoint.result.now c.at-checkpoint.ensures.read in
     let counted = ap (λ m. m.comparisons) c.at-checkpoint.ensures.counted in
     record {
-      low = in_front c.args.line c.args.column (mappings_at c.args.table.now) _ c.at-checkpoint.result.mapping c.requires.ordered there (sym c.is_not_after.ensures ∙ c.if-is_not_after.true);
+      low = in_front c.args.line c.args.column (mappings_at c.args.table.now) _ (mapping_of c.at-checkpoint.result.now) c.requires.ordered there (ap (is_not_after c.args.line c.args.column) (sym c.mapping.ensures) ∙ sym c.is_not_after.ensures ∙ c.if-is_not_after.true);
       high = c.loop-low.invariant.high;
       inside = c.loop-low.invariant.inside;
-      best = sym (last_taken None c.args.table.now _ c.at-checkpoint.result c.at-checkpoint.ensures.read);
+      best = sym (last_taken None c.args.table.now _ c.at-checkpoint.result.now c.at-checkpoint.ensures.read);
       onward = omega (arith, c.loop-low.invariant.onward);
       few = λ b below. one_more _ _ _ b _ _ (omega arith) (omega arith) counted (c.loop-low.invariant.few b below);
       none_decoded = ap (λ m. m.segments) c.at-checkpoint.ensures.counted ∙ c.loop-low.invariant.none_decoded;
@@ -37,11 +38,11 @@ loop-low-preserved-then-is_not_after c =
 
 pub loop-low-preserved : goal.loop-low-preserved
 loop-low-preserved c =
-    let there = read_mapping c.args.table.now _ c.at-checkpoint.result c.at-checkpoint.ensures.read in
+    let there = read_mapping c.args.table.now _ c.at-checkpoint.result.now c.at-checkpoint.ensures.read in
     let counted = ap (λ m. m.comparisons) c.at-checkpoint.ensures.counted in
     record {
       low = c.loop-low.invariant.low;
-      high = ends_front c.args.line c.args.column (mappings_at c.args.table.now) _ c.at-checkpoint.result.mapping there (sym c.is_not_after.ensures ∙ c.if-is_not_after.false);
+      high = ends_front c.args.line c.args.column (mappings_at c.args.table.now) _ (mapping_of c.at-checkpoint.result.now) there (ap (is_not_after c.args.line c.args.column) (sym c.mapping.ensures) ∙ sym c.is_not_after.ensures ∙ c.if-is_not_after.false);
       inside = omega (arith, c.loop-low.invariant.inside);
       best = c.loop-low.invariant.best;
       onward = omega (arith, c.loop-low.invariant.onward);

@@ -1,5 +1,6 @@
-use Rattle.std.proofs.Common.{ℕ, ◌-◌, ◌≤◌, length}
-use Rattle.smap_mappings.specs.State.{IsAfter}
+use Rattle.std.proofs.Common.{◌≡◌, ℕ, ◌-◌, ◌≤◌, length, true}
+use Rattle.smap_mappings.specs.Accepted.{are_in_range}
+use Rattle.smap_mappings.specs.State.{values_at, IsAfter}
 use Rattle.smap_mappings.proofs.step.skip_separators.Given as goal
 
 -- no segment lies between the state of the caller and this one
@@ -9,6 +10,7 @@ invariant-loop-at l = record {
   line_within : l.at.line ≤ l.at.place;
   onward : l.fn.cursor.place ≤ l.at.place;
   down : l.fn.cursor.line ≤ l.at.line;
+  in_range : are_in_range (values_at l.fn.cursor) ≡ true → are_in_range (values_at l.at) ≡ true;
   after : (j : ℕ) → IsAfter l.bytes j l.fn.cursor → IsAfter l.bytes j l.at;
 }
 

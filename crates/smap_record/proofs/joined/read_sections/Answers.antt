@@ -52,38 +52,37 @@ loop-entry-preserved c =
     c.in_ok-section.ensures.statement.1 ∙ ap (λ (place : SectionPlace). stated_section (record { place = place; fields = fields_seen entry.members.entries })) place_is in
     let names_of : length read.names.items ≡ name_count (entry_seen entry) = sym (length-map read.names.items string_bytes) ∙ ap (λ (s : StatedSection). length s.names) statement in
     let texts_of : length read.sources.texts.items ≡ source_count (entry_seen entry) = sym (length-map read.sources.texts.items (option_map string_bytes)) ∙ ap (λ (s : StatedSection). length s.sources.texts) statement in
-    let names_are = c.in_ok-append.ensures.items in
-    let name_total : length c.append.new.self.items ≡ length c.loop-entry.names.items + length read.names.items = ap length names_are ∙ length-append c.loop-entry.names.items read.names.items in
+    let names_are = c.in_ok-push.ensures.names in
+    let name_total : length c.push.new.self.names.items ≡ length c.loop-entry.joined.names.items + length read.names.items = ap length names_are ∙ length-append c.loop-entry.joined.names.items read.names.items in
     record {
       entries = append_assoc before (entry ∷ []) c.next.new.self.rest.items ∙ ap (λ rest. before ++ rest) (sym c.in-Some.ensures.steps.0) ∙ so_far.entries;
       right = ap (λ es. first_refusal (flat_map section_refusals (sections_behind [] es))) pushed
           ∙ right_push seen (entry_seen entry) so_far.right
           (sym (ap (λ (place : SectionPlace). first_refusal (section_refusals (record { place = place; fields = fields_seen entry.members.entries }))) place_is) ∙ c.in_ok-section.ensures.statement.0);
-      parts = c.in_ok-push.ensures.items ∙ ap (λ part. c.loop-entry.parts.items ++ part ∷ []) (c.part.ensures ∙ ap (λ (place : SectionPlace). part_at place read.text) place_is ∙ ap (λ (s : StatedSection). part_at (section_behind seen (entry_seen entry)).place s.text) statement)
-          ∙ parts_push seen (entry_seen entry) c.loop-entry.parts.items so_far.parts ∙ sym (ap (λ es. map part_of (sections_behind [] es)) pushed);
-      sources = ap (map sources_seen) c.in_ok-push-2.ensures.items ∙ map-append sources_seen c.loop-entry.sources.items (read.sources ∷ [])
-          ∙ ap (λ sources. map sources_seen c.loop-entry.sources.items ++ sources ∷ []) (ap (λ (s : StatedSection). s.sources) statement)
-          ∙ sources_push seen (entry_seen entry) (map sources_seen c.loop-entry.sources.items) so_far.sources ∙ sym (ap (λ es. map stated_sources (sections_behind [] es)) pushed);
-      names = ap (map string_bytes) names_are ∙ map-append string_bytes c.loop-entry.names.items read.names.items
-          ∙ ap (λ names. map string_bytes c.loop-entry.names.items ++ names) (ap (λ (s : StatedSection). s.names) statement)
-          ∙ names_push seen (entry_seen entry) (map string_bytes c.loop-entry.names.items) so_far.names ∙ sym (ap (λ es. flat_map section_names (sections_behind [] es)) pushed);
+      parts = c.in_ok-push.ensures.parts ∙ ap (λ part. c.loop-entry.joined.parts.items ++ part ∷ []) (ap (λ (place : SectionPlace). part_at place read.text) place_is ∙ ap (λ (s : StatedSection). part_at (section_behind seen (entry_seen entry)).place s.text) statement)
+          ∙ parts_push seen (entry_seen entry) c.loop-entry.joined.parts.items so_far.parts ∙ sym (ap (λ es. map part_of (sections_behind [] es)) pushed);
+      sources = ap (map sources_seen) c.in_ok-push.ensures.sources ∙ map-append sources_seen c.loop-entry.joined.sources.items (read.sources ∷ [])
+          ∙ ap (λ sources. map sources_seen c.loop-entry.joined.sources.items ++ sources ∷ []) (ap (λ (s : StatedSection). s.sources) statement)
+          ∙ sources_push seen (entry_seen entry) (map sources_seen c.loop-entry.joined.sources.items) so_far.sources ∙ sym (ap (λ es. map stated_sources (sections_behind [] es)) pushed);
+      names = ap (map string_bytes) names_are ∙ map-append string_bytes c.loop-entry.joined.names.items read.names.items
+          ∙ ap (λ names. map string_bytes c.loop-entry.joined.names.items ++ names) (ap (λ (s : StatedSection). s.names) statement)
+          ∙ names_push seen (entry_seen entry) (map string_bytes c.loop-entry.joined.names.items) so_far.names ∙ sym (ap (λ es. flat_map section_names (sections_behind [] es)) pushed);
       source_base = omega (arith, so_far.source_base, texts_of, c.len-in-loop-entry-3.ensures, ap (sum_by source_count) pushed, sum_by_push source_count seen (entry_seen entry));
       name_base = omega (arith, so_far.name_base, names_of, name_total, ap (sum_by name_count) pushed, sum_by_push name_count seen (entry_seen entry));
       few_sources = omega (arith, c.in_ok-section.ensures.few_sources, c.len-in-loop-entry-3.ensures);
       few_names = omega (arith, c.in_ok-section.ensures.few_names, name_total, c.len-in-loop-entry-2.ensures);
-      counted = ap (sum_by (λ (s : SectionSources). length s.texts.items)) c.in_ok-push-2.ensures.items ∙ sum_by_push (λ (s : SectionSources). length s.texts.items) c.loop-entry.sources.items read.sources
+      counted = ap (sum_by (λ (s : SectionSources). length s.texts.items)) c.in_ok-push.ensures.sources ∙ sum_by_push (λ (s : SectionSources). length s.texts.items) c.loop-entry.joined.sources.items read.sources
           ∙ omega (arith, so_far.counted, c.len-in-loop-entry-3.ensures);
-      within = subst (All (IsPartWithin (c.loop-entry.source_base + c.len-in-loop-entry-3.result) (length c.append.new.self.items))) (sym c.in_ok-push.ensures.items)
-          (All-push (IsPartWithin (c.loop-entry.source_base + c.len-in-loop-entry-3.result) (length c.append.new.self.items)) c.loop-entry.parts.items c.part.result
-          (more_within c.loop-entry.source_base (length c.loop-entry.names.items) (c.loop-entry.source_base + c.len-in-loop-entry-3.result) (length c.append.new.self.items) c.loop-entry.parts.items (omega arith) (omega (arith, name_total)) so_far.within)
-          (subst (IsPartWithin (c.loop-entry.source_base + c.len-in-loop-entry-3.result) (length c.append.new.self.items)) (sym c.part.ensures)
+      within = subst (All (IsPartWithin (c.loop-entry.source_base + c.len-in-loop-entry-3.result) (length c.push.new.self.names.items))) (sym c.in_ok-push.ensures.parts)
+          (All-push (IsPartWithin (c.loop-entry.source_base + c.len-in-loop-entry-3.result) (length c.push.new.self.names.items)) c.loop-entry.joined.parts.items _
+          (more_within c.loop-entry.source_base (length c.loop-entry.joined.names.items) (c.loop-entry.source_base + c.len-in-loop-entry-3.result) (length c.push.new.self.names.items) c.loop-entry.joined.parts.items (omega arith) (omega (arith, name_total)) so_far.within)
           (record {
             own_sources = length read.sources.texts.items;
             own_names = length read.names.items;
             sources_fit = omega (arith, c.len-in-loop-entry-3.ensures);
             names_fit = omega (arith, name_total, c.len-in-loop-entry-2.ensures);
             text = c.in_ok-section.ensures.within;
-          })));
+          }));
     }
 
 pub returns-clause-statement : goal.returns-clause-statement

@@ -16,13 +16,13 @@ abbrev pub invariant-loop-entry : goal.invariant-loop-entry
 invariant-loop-entry l = record {
   entries : l.yielded ++ l.entry-iterator.rest.items ≡ l.fn.entries.items;
   right : first_refusal (flat_map section_refusals (sections_behind [] (entries_seen l.yielded))) ≡ None;
-  parts : l.parts.items ≡ map part_of (sections_behind [] (entries_seen l.yielded));
-  sources : map sources_seen l.sources.items ≡ map stated_sources (sections_behind [] (entries_seen l.yielded));
-  names : map string_bytes l.names.items ≡ flat_map section_names (sections_behind [] (entries_seen l.yielded));
+  parts : l.joined.parts.items ≡ map part_of (sections_behind [] (entries_seen l.yielded));
+  sources : map sources_seen l.joined.sources.items ≡ map stated_sources (sections_behind [] (entries_seen l.yielded));
+  names : map string_bytes l.joined.names.items ≡ flat_map section_names (sections_behind [] (entries_seen l.yielded));
   source_base : l.source_base ≡ sum_by source_count (entries_seen l.yielded);
-  name_base : length l.names.items ≡ sum_by name_count (entries_seen l.yielded);
+  name_base : length l.joined.names.items ≡ sum_by name_count (entries_seen l.yielded);
   few_sources : l.source_base ≤ most_entries;
-  few_names : length l.names.items ≤ most_entries;
-  counted : sum_by (λ (s : SectionSources). length s.texts.items) l.sources.items ≡ l.source_base;
-  within : All (IsPartWithin l.source_base (length l.names.items)) l.parts.items;
+  few_names : length l.joined.names.items ≤ most_entries;
+  counted : sum_by (λ (s : SectionSources). length s.texts.items) l.joined.sources.items ≡ l.source_base;
+  within : All (IsPartWithin l.source_base (length l.joined.names.items)) l.joined.parts.items;
 }

@@ -1,14 +1,17 @@
-use Rattle.smap_trace.proofs.LineLaws.{joins_at_lines}
+use Rattle.std.proofs.Common.{arith, refl}
+use Rattle.smap_trace.proofs.CountLaws.{counts_are, frames_few}
 use Rattle.smap_trace.proofs.rewriting.rewrite.Goals as goal
 
-pub returns-in-Err-Device-clause-joins : goal.returns-in-Err-Device-clause-joins
-returns-in-Err-Device-clause-joins g c = joins_at_lines c.args.table.now
+pub overflow_add-result : goal.overflow_add-result
+overflow_add-result g c =
+    let edits = c.in-Ok.ensures.edits in
+    omega (arith, frames_few c.args.table.now _ c.edit_lines.new.editor edits.0 c.in-Ok.lines refl refl refl edits.2 edits.1.counted, c.in-Ok.ensures.few)
 
-pub returns-in-Err-Memory-clause-joins : goal.returns-in-Err-Memory-clause-joins
-returns-in-Err-Memory-clause-joins g c = joins_at_lines c.args.table.now
-
-pub returns-then-len-gt-MOST_TRACE_BYTES-clause-joins : goal.returns-then-len-gt-MOST_TRACE_BYTES-clause-joins
-returns-then-len-gt-MOST_TRACE_BYTES-clause-joins g c = joins_at_lines c.args.table.now
-
-pub returns-clause-joins : goal.returns-clause-joins
-returns-clause-joins g c = joins_at_lines c.args.table.now
+pub returns-in-Ok-clause-rewrites : goal.returns-in-Ok-clause-rewrites
+returns-in-Ok-clause-rewrites g c =
+    let edits = c.in-Ok.ensures.edits in
+    record {
+      bytes = edits.0;
+      edits = edits.1;
+      counted = counts_are c.args.table.now _ c.edit_lines.new.editor edits.0 c.in-Ok.lines refl refl refl edits.2 edits.1.counted;
+    }

@@ -1,21 +1,19 @@
 use Rattle.std.proofs.Common.{◌≡◌, None, sym, ap, ◌∙◌}
+use Rattle.std.specs.List.{list_any}
+use Rattle.smap_mappings.specs.Range.{is_mapping_past_limit}
 use Rattle.smap_mappings.specs.Encode.{list_fault}
 use Rattle.smap_index.specs.Index.{IndexContents}
 use Rattle.smap_index.specs.Parts.{joined}
-use Rattle.smap_index.specs.Faults.{range_fault}
-use Rattle.smap_index.proofs.RefusalLaws.{faultless}
 use Rattle.smap_index.proofs.index.Index.encode_all.Goals as goal
 use Rattle.smap_index.proofs.index.Index.encode_all.Goals.{In-Ok}
 
 pub length_of_parts-length-requires : goal.length_of_parts-length-requires
 length_of_parts-length-requires c =
-    let range = (faultless c.self.inside.parts.items c.self.inside.k c.self.invariant.sound).range in
-    record { in_range = ap range_fault c.deref.ensures.value ∙ range }
+    record { in_range = ap (λ parts. list_any is_mapping_past_limit (joined parts)) c.deref.ensures.value ∙ c.self.invariant.holds.in_range }
 
 pub write_parts-requires : goal.write_parts-requires
 write_parts-requires c =
-    let range = (faultless c.self.inside.parts.items c.self.inside.k c.self.invariant.sound).range in
-    record { in_range = ap range_fault c.deref-2.ensures.value ∙ range }
+    record { in_range = ap (λ parts. list_any is_mapping_past_limit (joined parts)) c.deref-2.ensures.value ∙ c.self.invariant.holds.in_range }
 
 -- the mappings of an index have no fault
 none : (c : In-Ok) → list_fault (joined c.args.self.now.parts) ≡ None

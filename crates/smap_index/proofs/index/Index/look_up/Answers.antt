@@ -30,14 +30,14 @@ returns-in-Some-clause-compared c b below =
     let few = compared _ c.self.invariant _ c.self.view_is _ _ c.in-Some.ensures.few b below in
     omega (arith, few, c.last_behind.ensures.none_compared)
 
-pub returns-in_default-clause-answer : goal.returns-in_default-clause-answer
-returns-in_default-clause-answer c = sym (none_on_its_line _ c.self.invariant c.args.line c.args.column _ c.in-Some.ensures.last _ c.self.view_is c.if-checkpoint-line.false)
+pub returns-in-Some-2-clause-answer : goal.returns-in-Some-2-clause-answer
+returns-in-Some-2-clause-answer c = sym (none_on_its_line _ c.self.invariant c.args.line c.args.column _ c.in-Some.ensures.last _ c.self.view_is c.if-checkpoint-line.false)
 
-pub returns-in_default-clause-compared : goal.returns-in_default-clause-compared
-returns-in_default-clause-compared c = compared _ c.self.invariant _ c.self.view_is _ _ c.in-Some.ensures.few
+pub returns-in-Some-2-clause-compared : goal.returns-in-Some-2-clause-compared
+returns-in-Some-2-clause-compared c = compared _ c.self.invariant _ c.self.view_is _ _ c.in-Some.ensures.few
 
-pub returns-in_default-2-clause-answer : goal.returns-in_default-2-clause-answer
-returns-in_default-2-clause-answer c = sym (none_at_or_before _ c.self.invariant c.args.line c.args.column _ c.self.view_is (sym c.in_default.ensures.last))
+pub returns-in-None-clause-answer : goal.returns-in-None-clause-answer
+returns-in-None-clause-answer c = sym (none_at_or_before _ c.self.invariant c.args.line c.args.column _ c.self.view_is (sym c.in-None.ensures.last))
 
-pub returns-in_default-2-clause-compared : goal.returns-in_default-2-clause-compared
-returns-in_default-2-clause-compared c = compared _ c.self.invariant _ c.self.view_is _ _ c.in_default.ensures.few
+pub returns-in-None-clause-compared : goal.returns-in-None-clause-compared
+returns-in-None-clause-compared c = compared _ c.self.invariant _ c.self.view_is _ _ c.in-None.ensures.few

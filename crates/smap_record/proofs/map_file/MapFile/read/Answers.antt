@@ -1,10 +1,10 @@
 use Rattle.std.proofs.Common.{◌≡◌, ◌≤◌, List, [], length, Some, inl, inr, ⊎_elim, refl, map, option_map, string_bytes, subst, sym, ap, ◌∙◌, arith}
-use Rattle.std.specs.Prelude.{flat_map, is_none, is_ok, option_copied}
+use Rattle.std.specs.Prelude.{flat_map, is_ok, option_copied}
 use Rattle.std.specs.List.{All}
 use Rattle.std.proofs.lemmas.List.{length-map}
 use Rattle.std.proofs.lemmas.Result.{err_from_is_err_and}
 use Rattle.serde_json.specs.Data.{object}
-use Rattle.serde_json.specs.View.{view, members_view}
+use Rattle.serde_json.specs.View.{members_view}
 use Rattle.smap_mappings.specs.Within.{IsWithin}
 use Rattle.smap_index.specs.Faults.{build_fault}
 use Rattle.smap_index.specs.Parts.{joined}
@@ -20,9 +20,8 @@ use Rattle.smap_record.specs.Seen.{entry_seen, entries_seen, StatedOuter, Stated
 use Rattle.smap_record.specs.Sources.{source_of, sources_stated, section_sources, stated_sources}
 use Rattle.smap_record.specs.declared.refusal.MapRefusal.TheVariants.{Build}
 use Rattle.smap_record.proofs.EntryLaws.{length-all_sources, all_sources}
-use Rattle.smap_record.proofs.IndexMapLaws.{object_there}
 use Rattle.smap_record.proofs.JoinedLaws.{length-sections}
-use Rattle.smap_record.proofs.RecordLaws.{too_large, not_json, not_object, outer_first, sections_first, index_first, stated}
+use Rattle.smap_record.proofs.RecordLaws.{too_large, outer_first, sections_first, index_first, stated}
 use Rattle.smap_record.proofs.WithinLaws.{joined_within}
 use Rattle.smap_record.proofs.map_file.MapFile.read.Goals as goal
 
@@ -30,26 +29,18 @@ pub returns-then-bytes-gt-MOST_FILE_BYTES-clause-refused :
     goal.returns-then-bytes-gt-MOST_FILE_BYTES-clause-refused
 returns-then-bytes-gt-MOST_FILE_BYTES-clause-refused c = inr (inr (too_large c.args.bytes.now (option_copied c.args.base) c.args.k (omega (arith, c.if-bytes-gt-MOST_FILE_BYTES.true))))
 
-pub returns-in_err-file_value-clause-refused : goal.returns-in_err-file_value-clause-refused
-returns-in_err-file_value-clause-refused c =
+pub returns-in_err-members-clause-refused : goal.returns-in_err-members-clause-refused
+returns-in_err-members-clause-refused c =
     let p = err_from_is_err_and c.from_residual.result c.from_residual.ensures.1 in
-    let bytes = c.args.bytes.now in
-    let short : length bytes ≤ most_file_bytes = omega (arith, c.if-bytes-gt-MOST_FILE_BYTES.false) in
-    rw (p.1, p.2) (⊎_elim (λ memory. inl memory) (λ some. inr (inr (not_json bytes (option_copied c.args.base) c.args.k short (value_of_file bytes) c.in_err-file_value.field-0.0 refl some))) c.in_err-file_value.ensures)
-
-pub returns-in_default-clause-refused : goal.returns-in_default-clause-refused
-returns-in_default-clause-refused c =
-    let bytes = c.args.bytes.now in
-    let short : length bytes ≤ most_file_bytes = omega (arith, c.if-bytes-gt-MOST_FILE_BYTES.false) in
-    inr (inr (not_object bytes (option_copied c.args.base) c.args.k short (view c.in_ok-file_value.field-0) (sym c.in_ok-file_value.ensures.1) (ap is_none (sym c.in_default.ensures))))
+    rw (p.1, p.2) (⊎_elim (λ memory. inl memory) (λ refused. inr (inr (refused (option_copied c.args.base) c.args.k))) c.in_err-members.ensures.refused)
 
 pub returns-in_err-outer-clause-refused : goal.returns-in_err-outer-clause-refused
 returns-in_err-outer-clause-refused c =
     let p = err_from_is_err_and c.from_residual-in_err-outer.result c.from_residual-in_err-outer.ensures.1 in
     let bytes = c.args.bytes.now in
     let short : length bytes ≤ most_file_bytes = omega (arith, c.if-bytes-gt-MOST_FILE_BYTES.false) in
-    let members = members_view c.in-Some.members.entries in
-    let value_is : value_of_file bytes ≡ Some (object members) = sym c.in_ok-file_value.ensures.1 ∙ ap Some (object_there (view c.in_ok-file_value.field-0) members c.in-Some.ensures) in
+    let members = members_view c.in_ok-members.members.entries in
+    let value_is : value_of_file bytes ≡ Some (object members) = c.in_ok-members.ensures.value in
     rw (p.1, p.2)
     (⊎_elim (λ memory. inl memory) (λ some. inr (inr (outer_first bytes (option_copied c.args.base) c.args.k short members value_is c.in_err-outer.field-0.0 some))) c.in_err-outer.ensures.statement)
 
@@ -58,8 +49,8 @@ returns-in_err-joined-clause-refused c =
     let p = err_from_is_err_and c.from_residual-in_err-joined.result c.from_residual-in_err-joined.ensures.1 in
     let bytes = c.args.bytes.now in
     let short : length bytes ≤ most_file_bytes = omega (arith, c.if-bytes-gt-MOST_FILE_BYTES.false) in
-    let members = members_view c.in-Some.members.entries in
-    let value_is : value_of_file bytes ≡ Some (object members) = sym c.in_ok-file_value.ensures.1 ∙ ap Some (object_there (view c.in_ok-file_value.field-0) members c.in-Some.ensures) in
+    let members = members_view c.in_ok-members.members.entries in
+    let value_is : value_of_file bytes ≡ Some (object members) = c.in_ok-members.ensures.value in
     let entries_are = ap (λ (o : StatedOuter). o.entries) c.in_ok-outer.ensures.statement.1 in
     rw (p.1, p.2)
     (⊎_elim (λ memory. inl memory)
@@ -72,8 +63,8 @@ returns-in_err-index-clause-refused c =
     let p = err_from_is_err_and c.from_residual-in_err-index.result c.from_residual-in_err-index.ensures.1 in
     let bytes = c.args.bytes.now in
     let short : length bytes ≤ most_file_bytes = omega (arith, c.if-bytes-gt-MOST_FILE_BYTES.false) in
-    let members = members_view c.in-Some.members.entries in
-    let value_is : value_of_file bytes ≡ Some (object members) = sym c.in_ok-file_value.ensures.1 ∙ ap Some (object_there (view c.in_ok-file_value.field-0) members c.in-Some.ensures) in
+    let members = members_view c.in_ok-members.members.entries in
+    let value_is : value_of_file bytes ≡ Some (object members) = c.in_ok-members.ensures.value in
     let entries_are = ap (λ (o : StatedOuter). o.entries) c.in_ok-outer.ensures.statement.1 in
     let parts_are = ap (λ (s : StatedSections). s.parts) c.in_ok-joined.ensures.statement.1 ∙ ap (λ es. map part_of (sections_behind [] es)) entries_are in
     rw (p.1, p.2)
@@ -101,9 +92,9 @@ returns-in_err-sources-clause-refused c =
     let bytes = c.args.bytes.now in
     let base = option_copied c.args.base in
     let short : length bytes ≤ most_file_bytes = omega (arith, c.if-bytes-gt-MOST_FILE_BYTES.false) in
-    let members = members_view c.in-Some.members.entries in
+    let members = members_view c.in_ok-members.members.entries in
     let value = object members in
-    let value_is : value_of_file bytes ≡ Some value = sym c.in_ok-file_value.ensures.1 ∙ ap Some (object_there (view c.in_ok-file_value.field-0) members c.in-Some.ensures) in
+    let value_is : value_of_file bytes ≡ Some value = c.in_ok-members.ensures.value in
     let entries_are = ap (λ (o : StatedOuter). o.entries) c.in_ok-outer.ensures.statement.1 in
     let parts_are = ap (λ (s : StatedSections). s.parts) c.in_ok-joined.ensures.statement.1 ∙ ap (λ es. map part_of (sections_behind [] es)) entries_are in
     let read = stated bytes base c.args.k short members value_is c.in_ok-outer.ensures.statement.0
@@ -121,9 +112,9 @@ returns-clause-stated c =
     let bytes = c.args.bytes.now in
     let base = option_copied c.args.base in
     let short : length bytes ≤ most_file_bytes = omega (arith, c.if-bytes-gt-MOST_FILE_BYTES.false) in
-    let members = members_view c.in-Some.members.entries in
+    let members = members_view c.in_ok-members.members.entries in
     let value = object members in
-    let value_is : value_of_file bytes ≡ Some value = sym c.in_ok-file_value.ensures.1 ∙ ap Some (object_there (view c.in_ok-file_value.field-0) members c.in-Some.ensures) in
+    let value_is : value_of_file bytes ≡ Some value = c.in_ok-members.ensures.value in
     let entries_are = ap (λ (o : StatedOuter). o.entries) c.in_ok-outer.ensures.statement.1 in
     let parts_are = ap (λ (s : StatedSections). s.parts) c.in_ok-joined.ensures.statement.1 ∙ ap (λ es. map part_of (sections_behind [] es)) entries_are in (
       stated bytes base c.args.k short members value_is c.in_ok-outer.ensures.statement.0

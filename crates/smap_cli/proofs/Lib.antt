@@ -1,8 +1,0 @@
-mod Line
-mod Named
-mod Numbers
-mod Pairs
-mod Rows
-mod Stops
-mod Texts
-mod Asked

@@ -1,0 +1,2 @@
+mod SameLimits
+mod ShownLaws

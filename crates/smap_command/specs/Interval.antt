@@ -1,0 +1,14 @@
+-- The interval that a command has.
+use Rattle.std.specs.Prelude.{◌≡◌, true, ⊤}
+use Rattle.smap_command.specs.Limits.{is_interval}
+use Rattle.smap_command.specs.declared.command.Command.{Command}
+use Rattle.smap_command.specs.declared.command.Command.TheVariants.{Raw, Check, Show, Lookup, Rewrite, Compose}
+
+-- where a command has an interval, checkpoints may stand at it
+abbrev pub HasInterval : Command → Type 0
+HasInterval (Raw line column interval) = is_interval interval ≡ true
+HasInterval (Check path base interval) = is_interval interval ≡ true
+HasInterval (Show path base) = ⊤
+HasInterval (Lookup path line column base interval) = is_interval interval ≡ true
+HasInterval (Rewrite maps base interval) = is_interval interval ≡ true
+HasInterval (Compose outer source inner base) = ⊤

@@ -1,0 +1,18 @@
+-- The numbers that a command may have.
+use Rattle.std.specs.Prelude.{ℕ, Bool, ◌&&◌, nat_le}
+
+-- the greatest line or column, from 0
+abbrev pub limit : ℕ
+limit = 2147483647
+
+-- the greatest interval at which checkpoints may stand
+abbrev pub most_interval : ℕ
+most_interval = 4096
+
+-- the interval of the checkpoints where none is asked for
+abbrev pub usual_interval : ℕ
+usual_interval = 64
+
+-- checkpoints may stand at this interval
+abbrev pub is_interval : ℕ → Bool
+is_interval k = nat_le 1 k && nat_le k most_interval

@@ -1,0 +1,51 @@
+//! What the program is asked to do.
+
+use url::Url;
+
+/// A command. Lines and columns count from 0 here, columns in UTF-16 code units. Where a command has an interval, the
+/// indices that it makes have a checkpoint at the segments of number 0, `interval`, 2 `interval` and so on of each line.
+#[derive(Drop)]
+pub enum Command {
+    /// Looks up a generated line and column in the bare mappings text on standard input.
+    Raw {
+        line: u32,
+        column: u32,
+        interval: u32,
+    },
+    /// Checks the source map in the file at this path. Its sources are resolved against the base.
+    Check {
+        path: String,
+        base: Option<Url>,
+        interval: u32,
+    },
+    /// Writes the source map in the file at this path as one regular map. Its sources are resolved against the base.
+    Show {
+        path: String,
+        base: Option<Url>,
+    },
+    /// Looks up a generated line and column in the source map in the file at this path. Its sources are resolved
+    /// against the base.
+    Lookup {
+        path: String,
+        line: u32,
+        column: u32,
+        base: Option<Url>,
+        interval: u32,
+    },
+    /// Rewrites the stack trace on standard input over maps: pairs of the URL that frames name and of the path of the
+    /// map's file. A map's sources are resolved against the base or, where there is none, against the map's URL, where
+    /// that is one.
+    Rewrite {
+        maps: Vec<(String, String)>,
+        base: Option<Url>,
+        interval: u32,
+    },
+    /// Composes the source map in the file at the path `outer` with that of its source of this number, from 0, in the
+    /// file at the path `inner`. The sources of both are resolved against the base.
+    Compose {
+        outer: String,
+        source: u32,
+        inner: String,
+        base: Option<Url>,
+    },
+}

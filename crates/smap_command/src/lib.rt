@@ -1,0 +1,18 @@
+//! What the program can be asked, as values: the commands, the numbers that they may have, and how texts of the user's
+//! print. The words of the command line are read into these commands, and the answers are given for them, by crates
+//! that do not know each other.
+//!
+//! ```text
+//! let command = Command::Lookup { path, line: 0, column: 5, base: None, interval: USUAL_INTERVAL };
+//! print(shown(alloc, "a\nb.map")?); // a?b.map
+//! ```
+#![tactic(auto)]
+
+mod command;
+mod limits;
+mod text;
+
+pub use command::Command;
+pub use limits::{LIMIT, MOST_INTERVAL, USUAL_INTERVAL};
+pub use text::shown;
+pub use url::Url;

@@ -1,0 +1,58 @@
+-- What the checkpoint of a mapping shows: the mapping at its place, and the state behind it.
+use Rattle.std.proofs.Common.{◌≡◌, ℕ, ◌+◌, ◌-◌, Bool, true, false, cond, eqb, Option, Some, None, refl, ap, sym, subst, ◌∙◌, arith}
+use Rattle.std.specs.Prelude.{IfSome, option_map}
+use Rattle.smap_mappings.specs.State.{IsOriginAt, IsMappingAt}
+use Rattle.smap_mappings.specs.declared.cursor.Cursor.{Cursor}
+use Rattle.smap_mappings.specs.declared.mapping.Mapping.{Mapping}
+use Rattle.smap_mappings.specs.declared.mapping.Origin.{Origin}
+use Rattle.smap_index.specs.Parts.{placed_origin, placed_mapping}
+use Rattle.smap_index.specs.Checkpoint.{kind_with, kind_of, origin_of, mapping_of, state_of}
+use Rattle.smap_index.specs.Walk.{checkpoint_at}
+use Rattle.smap_index.specs.declared.part.Part.{Part}
+
+-- what was added is taken off
+added_off : (a b : ℕ) → (a + b) - a ≡ b
+added_off a b = omega arith
+
+column_off : (first : Bool) (offset column : ℕ) → cond first (cond first (offset + column) column - offset) (cond first (offset + column) column) ≡ column
+column_off true offset column = added_off offset column
+column_off false offset column = refl
+
+module _ (number : ℕ) (part : Part) (m : Mapping) (behind : Cursor) where
+  pub shown_state : state_of part (checkpoint_at number part m behind) ≡ behind
+  shown_state =
+      let line : (part.line + behind.line) - part.line ≡ behind.line = added_off part.line behind.line in
+      let there = cond (eqb behind.line 0) (part.column + behind.column) behind.column in
+      let column : cond (eqb ((part.line + behind.line) - part.line) 0) (there - part.column) there ≡ behind.column =
+      ap (λ line. cond (eqb line 0) (there - part.column) there) line ∙ column_off (eqb behind.line 0) part.column behind.column in
+      λ i. record {
+        place = behind.place;
+        line = line i;
+        column = column i;
+        source = added_off part.source_base behind.source i;
+        original_line = behind.original_line;
+        original_column = behind.original_column;
+        name = added_off part.name_base behind.name i;
+      }
+
+  shown_with : (o : Origin) (name : Option ℕ) → o.name ≡ name → IsOriginAt behind o → origin_of (kind_with name) (checkpoint_at number part m behind) ≡ Some (placed_origin part o)
+  shown_with o None none at =
+      let name = ap (option_map (λ n. part.name_base + n)) none in
+      λ i. Some (record { source = part.source_base + sym at.source i; line = sym at.line i; column = sym at.column i; name = sym name i })
+  shown_with o (Some n) some at =
+      let same : n ≡ behind.name = subst (λ name. IfSome name (λ n. n ≡ behind.name)) some at.name in
+      let name : option_map (λ n. part.name_base + n) o.name ≡ Some (part.name_base + behind.name) = ap (option_map (λ n. part.name_base + n)) some ∙ ap (λ n. Some (part.name_base + n)) same in
+      λ i. Some (record { source = part.source_base + sym at.source i; line = sym at.line i; column = sym at.column i; name = sym name i })
+
+  shown_origin : (origin : Option Origin) → IfSome origin (IsOriginAt behind) → origin_of (kind_of origin) (checkpoint_at number part m behind) ≡ option_map (placed_origin part) origin
+  shown_origin None at = refl
+  shown_origin (Some o) at = shown_with o o.name refl at
+
+  pub shown_mapping : IsMappingAt behind m → mapping_of (checkpoint_at number part m behind) ≡ placed_mapping part m
+  shown_mapping at =
+      let origin = shown_origin m.origin at.origin in
+      λ i. record {
+        line = part.line + sym at.line i;
+        column = cond (eqb (sym at.line i) 0) (part.column + sym at.column i) (sym at.column i);
+        origin = origin i;
+      }

@@ -1,0 +1,157 @@
+//! A checkpoint: a mapping and the state behind its segment, in which no number stands twice.
+
+ghost use Rattle.std.specs.Prelude.{◌≡◌, false};
+ghost use Rattle.smap_mappings.specs.Range.{is_mapping_past_limit};
+ghost use Rattle.smap_mappings.specs.State.{IsMappingAt};
+ghost use Rattle.smap_index.specs.Parts.{placed_mapping};
+ghost use Rattle.smap_index.specs.Checkpoint.{kind_of, origin_with, mapping_of, state_of};
+ghost use Rattle.smap_index.specs.Walk.{checkpoint_at, IsFitting};
+
+use crate::part::Part;
+use smap_mappings::{Cursor, Mapping, Origin, State};
+
+// What a segment has: a generated position alone, an origin too, or an origin with a name.
+#[derive(Clone, Copy)]
+pub enum Kind {
+    Unmapped,
+    Mapped,
+    Named,
+}
+
+// A segment from which a look-up can begin: the number of its part, from 0, and what it has, which share a word; the byte
+// place behind it in the part's text; and the running values there, at their place in the joined list. Of these the
+// mapping has some, and the state has all.
+#[derive(Drop)]
+pub struct Checkpoint {
+    pub part: u16,
+    pub kind: Kind,
+    pub place: u32,
+    pub line: u32,
+    pub column: u32,
+    pub source: u32,
+    pub original_line: u32,
+    pub original_column: u32,
+    pub name: u32,
+}
+
+// There may be one for each line of a map, so their size decides what an index takes.
+const _: () = prove!(size_of::<Checkpoint>() == 32);
+
+impl Checkpoint {
+    // The checkpoint of a mapping of the part that has this number, with the state behind its segment.
+    pub fn new(number: u16, part: &Part, mapping: &Mapping, behind: &State) -> Self
+        requires values { IsMappingAt behind.now mapping.now }
+        requires in_range { is_mapping_past_limit (placed_mapping part.now mapping.now) ≡ false }
+        requires fitting { IsFitting part.now behind.now }
+        ensures { result ≡ checkpoint_at number part.now mapping.now behind.now }
+    {
+        let behind = behind.cursor();
+        Checkpoint {
+            part: number,
+            kind: kind_of(mapping),
+            place: behind.place as u32,
+            line: part.line + behind.line,
+            column: if behind.line == 0 {
+                part.column + behind.column
+            } else {
+                behind.column
+            },
+            source: part.source_base + behind.source,
+            original_line: behind.original_line,
+            original_column: behind.original_column,
+            name: part.name_base + behind.name,
+        }
+    }
+
+    // The mapping, at its place in the joined list.
+    #[inline(always)]
+    pub fn mapping(&self) -> Mapping
+        ensures { result ≡ mapping_of self.now }
+    {
+        Mapping {
+            line: self.line,
+            column: self.column,
+            origin: match self.kind {
+                Kind::Unmapped => None,
+                Kind::Mapped => Some(self.origin(None)),
+                Kind::Named => Some(self.origin(Some(self.name))),
+            },
+        }
+    }
+
+    // The origin, with this name.
+    #[inline(always)]
+    fn origin(&self, name: Option<u32>) -> Origin
+        ensures { result ≡ origin_with self.now name }
+    {
+        Origin {
+            source: self.source,
+            line: self.original_line,
+            column: self.original_column,
+            name,
+        }
+    }
+
+    // The state behind the segment in the text of its part.
+    pub fn state(&self, part: &Part) -> State
+        ensures { result ≡ state_of part.now self.now }
+    {
+        let line = self.line.saturating_sub(part.line);
+        State::new(Cursor {
+            place: self.place as usize,
+            line,
+            column: if line == 0 {
+                self.column.saturating_sub(part.column)
+            } else {
+                self.column
+            },
+            source: self.source.saturating_sub(part.source_base),
+            original_line: self.original_line,
+            original_column: self.original_column,
+            name: self.name.saturating_sub(part.name_base),
+        })
+    }
+}
+
+// What a mapping's segment has.
+fn kind_of(mapping: &Mapping) -> Kind
+    ensures { result ≡ kind_of mapping.now.origin }
+{
+    match &mapping.origin {
+        None => Kind::Unmapped,
+        Some(origin) => match origin.name {
+            None => Kind::Mapped,
+            Some(_) => Kind::Named,
+        },
+    }
+}
+
+// A further field would not compile.
+#[test]
+fn a_checkpoint_has_these_numbers_alone(rt: HostRuntime) {
+    let checkpoint = Checkpoint {
+        part: 65_535,
+        kind: Kind::Named,
+        place: 8,
+        line: 1,
+        column: 2,
+        source: 3,
+        original_line: 4,
+        original_column: 5,
+        name: 6,
+    };
+    let Checkpoint {
+        part,
+        kind,
+        place,
+        line,
+        column,
+        source,
+        original_line,
+        original_column,
+        name,
+    } = &checkpoint;
+    assert!(&rt; *part == 65_535 && matches!(kind, Kind::Named) && *place == 8);
+    assert!(&rt; *line == 1 && *column == 2 && *source == 3);
+    assert!(&rt; *original_line == 4 && *original_column == 5 && *name == 6);
+}

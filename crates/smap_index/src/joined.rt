@@ -1,0 +1,90 @@
+//! The mappings of all parts, one after another.
+
+ghost use Rattle.std.specs.Prelude.{◌≡◌, false};
+ghost use Rattle.std.specs.List.{list_any};
+ghost use Rattle.smap_mappings.specs.Range.{is_mapping_past_limit};
+ghost use Rattle.smap_index.specs.Parts.{joined};
+ghost use Rattle.smap_index.specs.Joined.{IsAtFront};
+
+use crate::part::Part;
+use crate::place::place;
+use smap_mappings::{Cursor, Mapping, Meter, State};
+use std::alloc::Global;
+use std::marker::Model;
+
+// The mappings of some parts, part after part, at their places. Contracts see it as the list of those that are left.
+#[derive(Drop)]
+pub struct JoinedMappings<'a> {
+    alloc: Global,
+    // The part whose mappings come next, and those behind it.
+    parts: &'a [Part],
+    // The state in that part's text, and how many segments of it were decoded.
+    state: State,
+    meter: Meter,
+}
+
+impl<'a> Model for JoinedMappings<'a> {
+    ghost use Rattle.std.specs.Prelude.{List};
+    ghost use Rattle.smap_mappings.specs.declared.mapping.Mapping.{Mapping};
+    ghost use Rattle.smap_index.specs.Joined.{left_of, IsWalkThrough};
+
+    ghost Value = { List Mapping };
+
+    ghost view = { λ walk. left_of walk.parts.now walk.meter.segments };
+
+    ghost invariant = { λ walk. IsWalkThrough walk.parts.now walk.meter.segments walk.state };
+}
+
+// The mappings of these parts. It is made with an allocator, though it takes no memory, so that a look-up, which is
+// given none, goes through none.
+pub fn joined<'a>(alloc: Global, parts: &'a [Part]) -> JoinedMappings<'a>
+    requires in_range { list_any is_mapping_past_limit (joined parts.now) ≡ false }
+    ensures { result ≡ joined parts.now }
+{
+    JoinedMappings {
+        alloc,
+        parts,
+        state: front(parts),
+        meter: Meter::new(alloc),
+    }
+}
+
+// The state before the first segment of the first of these parts.
+fn front(parts: &[Part]) -> State
+    ensures { IsAtFront parts.now 0 result }
+{
+    match parts.first() {
+        Some(part) => part.text.start(),
+        None => State::new(Cursor::START),
+    }
+}
+
+impl<'a> Iterator for JoinedMappings<'a> {
+    ghost use Rattle.std.specs.Iterator.{YieldsFirst, item_count};
+
+    type Item = Mapping;
+
+    ghost next_gives = { YieldsFirst (λ left. left) };
+
+    ghost remaining = { item_count (λ left. left) };
+
+    #[inline(always)]
+    fn next(&mut self) -> Option<Mapping> {
+        while let Some((part, rest)) = self.parts.split_first() {
+            // The contracts of `segments` and `start` say that they are few, so that the meter has room.
+            let _segments = part.text.segments();
+            let _start = part.text.start();
+            if let Some((mapping, behind)) = part.text.next(&self.state, &mut self.meter) {
+                self.state = behind;
+                let Some(placed) = place(part, &mapping) else {
+                    unreachable!("no mapping of an index is past the limit");
+                };
+                return Some(placed);
+            }
+            self.parts = rest;
+            self.state = front(rest);
+            self.meter = Meter::new(self.alloc);
+        }
+        None
+    }
+}

@@ -1,0 +1,69 @@
+-- What a sink took, one piece behind another.
+use Rattle.std.proofs.Common.{◌≡◌, ℕ, List, [], ◌++◌, Option, Some, None, Result, Ok, Err, refl, sym, ap, ◌∙◌, append_assoc, append-nil}
+use Rattle.std.specs.Result.{OnOk}
+use Rattle.std.specs.Io.KnownBytes.{append_known}
+use Rattle.smap_io.specs.Device.{Takes, TakesFront}
+use Rattle.smap_lines.specs.Gathered.{HandsOn}
+
+-- two facts of one result
+pub on_both : {T E : Type 0} (P Q : Type 0) (r : Result T E) → OnOk r P → OnOk r Q → OnOk r (P × Q)
+on_both P Q (Ok x) p q = (p, q)
+on_both P Q (Err e) p q = tt
+
+pub takes_none : (old : Option (List ℕ)) → Takes old old []
+takes_none None = refl
+takes_none (Some bytes) = ap Some (sym (append-nil bytes))
+
+pub takes_both : (old mid new : Option (List ℕ)) (first second : List ℕ) → Takes old mid first → Takes mid new second → Takes old new (first ++ second)
+takes_both None mid new first second p q = q ∙ ap (λ o. append_known o second) p
+takes_both (Some bytes) mid new first second p q = q ∙ ap (λ o. append_known o second) p ∙ ap Some (append_assoc bytes first second)
+
+-- a front of some bytes is one of these and more
+pub front_of_more : (old new : Option (List ℕ)) (bytes more : List ℕ) → TakesFront old new bytes → TakesFront old new (bytes ++ more)
+front_of_more old new bytes more took = (took.0, took.1 ++ more, ap (λ l. l ++ more) took.2 ∙ append_assoc took.0 took.1 more, took.3)
+
+-- all of some bytes, and then a front of more
+pub front_behind : (old mid new : Option (List ℕ)) (bytes more : List ℕ) → Takes old mid bytes → TakesFront mid new more → TakesFront old new (bytes ++ more)
+front_behind old mid new bytes more first took = (
+  bytes ++ took.0,
+  took.1,
+  ap (λ l. bytes ++ l) took.2 ∙ sym (append_assoc bytes took.0 took.1),
+  takes_both old mid new bytes took.0 first took.3,
+)
+
+-- all of both
+pub all_behind : (old mid new : Option (List ℕ)) (bytes more : List ℕ) → Takes old mid bytes → Takes mid new more → HandsOn old new (bytes ++ more) []
+all_behind old mid new bytes more first second = (bytes ++ more, takes_both old mid new bytes more first second, sym (append-nil (bytes ++ more)))
+
+-- ---- bytes that wait, and pieces that are put behind them
+
+module _ (old mid : Option (List ℕ)) (before between first second : List ℕ) where
+  -- a piece, and then a second one
+  pub put_both : (new : Option (List ℕ)) (after : List ℕ) → HandsOn old mid (before ++ first) between → HandsOn mid new (between ++ second) after
+      → HandsOn old new (before ++ (first ++ second)) after
+  put_both new after one two = (
+    one.0 ++ two.0,
+    takes_both old mid new one.0 two.0 one.1 two.1,
+    sym (append_assoc before first second) ∙ ap (λ l. l ++ second) one.2 ∙ append_assoc one.0 between second
+        ∙ ap (λ l. one.0 ++ l) two.2 ∙ sym (append_assoc one.0 two.0 after),
+  )
+
+  -- a piece of which a front was taken, before a second one
+  pub front_of_both : TakesFront old mid (before ++ first) → TakesFront old mid (before ++ (first ++ second))
+  front_of_both took = (
+    took.0,
+    took.1 ++ second,
+    sym (append_assoc before first second) ∙ ap (λ l. l ++ second) took.2 ∙ append_assoc took.0 took.1 second,
+    took.3,
+  )
+
+  -- a piece, and a front of a second one
+  pub put_then_front : (new : Option (List ℕ)) → HandsOn old mid (before ++ first) between → TakesFront mid new (between ++ second)
+      → TakesFront old new (before ++ (first ++ second))
+  put_then_front new one two = (
+    one.0 ++ two.0,
+    two.1,
+    sym (append_assoc before first second) ∙ ap (λ l. l ++ second) one.2 ∙ append_assoc one.0 between second
+        ∙ ap (λ l. one.0 ++ l) two.2 ∙ sym (append_assoc one.0 two.0 two.1),
+    takes_both old mid new one.0 two.0 one.1 two.3,
+  )

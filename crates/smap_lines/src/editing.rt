@@ -1,0 +1,77 @@
+//! Editing a text while it is read.
+ghost use Rattle.std.specs.Prelude.{◌≡◌, ◌<◌, ◌≤◌, false, IfErr, IfOk};
+ghost use Rattle.smap_lines.specs.Editing.{EditsFront, EditsText, is_read_fault, is_write_fault};
+ghost use Rattle.smap_lines.specs.Limits.{most_text_bytes};
+ghost use Rattle.smap_lines.specs.declared.fault.LineFault.TheVariants.{Memory};
+
+use crate::editor::LineEditor;
+use crate::fault::LineFault;
+use crate::gathered::Gathered;
+use crate::open_line::OpenLine;
+use crate::passage::edit_bytes;
+use smap_io::{ByteSink, ByteSource, DeviceFault};
+use std::alloc::Global;
+
+// How many bytes a text has at most.
+const MOST_TEXT_BYTES: usize = 1073741824;
+
+// How many bytes are read at once.
+const READ_BYTES: usize = 8192;
+
+/// Reads a text to its end, and writes what becomes of its lines, which are counted. The caller gives devices that have
+/// not failed, and an editor with room for more lines than a text has bytes. The output is not flushed.
+///
+/// All room is made before the first read: after want of memory neither device was asked. Nothing waits while more is
+/// read, and nothing at the end. The first failure ends it, and then a front of what the bytes that were read become was
+/// written; where a read failed, all of what the whole lines among them become.
+pub fn edit_lines<R: ByteSource, W: ByteSink, E: LineEditor>(
+    alloc: Global,
+    input: &mut R,
+    output: &mut W,
+    editor: &mut E,
+) -> Result<u64, LineFault>
+    requires input_works { R.has_failed input.old ≡ false }
+    requires output_works { W.has_failed output.old ≡ false }
+    requires room { most_text_bytes < E.room editor.old }
+    ensures edits { IfOk result (λ lines. EditsText (E.becomes editor.old) E.behind
+        (record { left = R.left input.old; taken = W.taken output.old })
+        (record { left = R.left input.new; taken = W.taken output.new }) editor.old editor.new lines) }
+    ensures few { IfOk result (λ lines. lines ≤ most_text_bytes) }
+    ensures front { IfErr result (λ fault. EditsFront (E.becomes editor.old)
+        (record { left = R.left input.old; taken = W.taken output.old })
+        (record { left = R.left input.new; taken = W.taken output.new }) fault) }
+    ensures input_failure { R.has_failed input.new ≡ is_read_fault result }
+    ensures output_failure { W.has_failed output.new ≡ is_write_fault result }
+    ensures memory_input { IfErr result (λ fault. fault ≡ Memory → input.new ≡ input.old) }
+    ensures memory_output { IfErr result (λ fault. fault ≡ Memory → output.new ≡ output.old) }
+{
+    let (Ok(mut line), Ok(mut gathered)) = (OpenLine::new(alloc), Gathered::new(alloc)) else {
+        return Err(LineFault::Memory);
+    };
+    let mut lines = 0;
+    let mut room = [0; READ_BYTES];
+    let mut total = 0;
+    loop {
+        let Ok(count) = input.read(&mut room) else {
+            return Err(LineFault::Read);
+        };
+        if count == 0 {
+            break;
+        }
+        total += count;
+        if total > MOST_TEXT_BYTES {
+            return Err(LineFault::TooMuch);
+        }
+        let bytes = &room[..count];
+        let Ok(()) = edit_bytes(bytes, &mut line, &mut lines, editor, &mut gathered, output) else {
+            return Err(LineFault::Write);
+        };
+    }
+    let Ok(is_line) = line.finish(editor, &mut gathered, output) else {
+        return Err(LineFault::Write);
+    };
+    match gathered.write(output) {
+        Ok(()) => Ok(lines + u64::from(is_line)),
+        Err(DeviceFault) => Err(LineFault::Write),
+    }
+}

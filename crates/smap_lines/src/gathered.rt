@@ -1,0 +1,118 @@
+//! Output that is gathered until it is written.
+ghost use Rattle.std.specs.Prelude.{◌≡◌, ◌++◌, [], true, map, IfOk, OnErr, OnOk};
+ghost use Rattle.std.specs.List.{concat};
+ghost use Rattle.smap_io.specs.Device.{Takes, TakesFront};
+ghost use Rattle.smap_lines.specs.Gathered.{HandsOn};
+ghost use Rattle.smap_lines.specs.Lines.{end_in};
+
+use crate::line_end::end_of_line;
+use smap_io::{ByteSink, DeviceFault, write_all};
+use std::alloc::{AllocError, Global};
+use std::marker::Model;
+
+// How many bytes wait at most.
+const MOST_GATHERED: usize = 65536;
+
+/// Bytes that wait to be written. Its room is made once, so that to put bytes into it takes no memory.
+#[derive(Drop)]
+pub struct Gathered {
+    bytes: Vec<u8>,
+}
+
+impl Model for Gathered {
+    ghost use Rattle.std.specs.Prelude.{ℕ, ◌≤◌, List, vec_capacity};
+    ghost use Rattle.smap_lines.specs.Gathered.{most_gathered};
+
+    ghost Value = { List ℕ };
+
+    ghost view = { λ gathered. gathered.bytes.items };
+
+    ghost invariant = { λ gathered. most_gathered ≤ vec_capacity gathered.bytes };
+}
+
+impl Gathered {
+    /// Room for bytes, of which none waits yet.
+    pub(crate) fn new(alloc: Global) -> Result<Gathered, AllocError>
+        ensures { IfOk result (λ gathered. gathered ≡ []) }
+    {
+        Ok(Gathered {
+            bytes: Vec::with_capacity(alloc, MOST_GATHERED)?,
+        })
+    }
+
+    /// Puts bytes behind those that wait. Where they don't fit, the output takes those first; and where they are more
+    /// than ever wait, them too. Where a write fails, it took a front of all of them.
+    pub fn put<W: ByteSink>(&mut self, bytes: &[u8], output: &mut W) -> Result<(), DeviceFault>
+        ensures put { OnOk result
+            (HandsOn (W.taken output.old) (W.taken output.new) (self.old ++ bytes.now) self.new) }
+        ensures no_failure { OnOk result (W.has_failed output.new ≡ W.has_failed output.old) }
+
+        ensures front { OnErr result
+            (TakesFront (W.taken output.old) (W.taken output.new) (self.old ++ bytes.now)) }
+        ensures failure { OnErr result (W.has_failed output.new ≡ true) }
+    {
+        if bytes.len() > MOST_GATHERED.saturating_sub(self.bytes.len()) {
+            self.write(output)?;
+            if bytes.len() > MOST_GATHERED {
+                return write_all(output, bytes);
+            }
+        }
+        if self.bytes.extend_from_slice(bytes).is_err() {
+            unreachable!("what fits takes no memory");
+        }
+        Ok(())
+    }
+
+    /// Puts a line behind the bytes that wait, with an LF where it has one.
+    pub fn put_line<W: ByteSink>(
+        &mut self,
+        line: &[u8],
+        is_ended: bool,
+        output: &mut W,
+    ) -> Result<(), DeviceFault>
+        ensures put { OnOk result (HandsOn (W.taken output.old) (W.taken output.new)
+            (self.old ++ (line.now ++ end_in is_ended)) self.new) }
+        ensures no_failure { OnOk result (W.has_failed output.new ≡ W.has_failed output.old) }
+
+        ensures front { OnErr result (TakesFront (W.taken output.old) (W.taken output.new)
+            (self.old ++ (line.now ++ end_in is_ended))) }
+        ensures failure { OnErr result (W.has_failed output.new ≡ true) }
+    {
+        self.put(line, output)?;
+        self.put(end_of_line(is_ended), output)
+    }
+
+    /// Puts pieces behind the bytes that wait, one behind another.
+    pub fn put_all<W: ByteSink>(
+        &mut self,
+        pieces: &[&[u8]],
+        output: &mut W,
+    ) -> Result<(), DeviceFault>
+        ensures put { OnOk result (HandsOn (W.taken output.old) (W.taken output.new)
+            (self.old ++ concat (map (λ piece. piece.now) pieces.now)) self.new) }
+        ensures no_failure { OnOk result (W.has_failed output.new ≡ W.has_failed output.old) }
+
+        ensures front { OnErr result (TakesFront (W.taken output.old) (W.taken output.new)
+            (self.old ++ concat (map (λ piece. piece.now) pieces.now))) }
+        ensures failure { OnErr result (W.has_failed output.new ≡ true) }
+    {
+        for piece in pieces {
+            self.put(piece, output)?;
+        }
+        Ok(())
+    }
+
+    /// Writes the bytes that wait. Where a write fails, the output took a front of them.
+    pub(crate) fn write<W: ByteSink>(&mut self, output: &mut W) -> Result<(), DeviceFault>
+        ensures none { OnOk result (self.new ≡ []) }
+        ensures written { OnOk result (Takes (W.taken output.old) (W.taken output.new) self.old) }
+        ensures no_failure { OnOk result (W.has_failed output.new ≡ W.has_failed output.old) }
+
+        ensures front { OnErr result (TakesFront (W.taken output.old) (W.taken output.new) self.old) }
+        ensures failure { OnErr result (W.has_failed output.new ≡ true) }
+    {
+        write_all(output, &self.bytes)?;
+        self.bytes.clear();
+        Ok(())
+    }
+}

@@ -1,0 +1,11 @@
+//! Laws over the definitions, for all texts: a call does nothing, and its contract is the law.
+ghost use Rattle.std.specs.Prelude.{◌≡◌, ◌++◌, ℕ, List};
+ghost use Rattle.smap_lines.specs.Edited.{edited};
+ghost use Rattle.smap_lines.specs.Lines.{IsWholeLines, Line};
+
+/// A text that is cut behind line ends may be edited in parts, whose texts are joined: each part alone is what it is in
+/// the whole. So a text may be edited on any number of machines.
+pub fn parts_are_edited_apart()
+    ensures { (becomes : Line → List ℕ) (first rest : List ℕ) → IsWholeLines first →
+        edited becomes (first ++ rest) ≡ edited becomes first ++ edited becomes rest }
+{}

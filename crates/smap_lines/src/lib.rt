@@ -1,0 +1,24 @@
+//! A text turned into another one line by line, while it is read: what becomes of a line is a [`LineEditor`]'s affair,
+//! and everything else stands here. Lines are cut behind each LF. A line of more than 65,536 bytes, its LF aside, stays
+//! as it is. What became of each line that was read has been written before more is read, so a text may be piped through.
+//!
+//! ```text
+//! let mut editor = Editor::new();
+//! let lines = edit_lines(alloc, &mut input, &mut output, &mut editor)?;
+//! ```
+#![tactic(auto)]
+
+mod editing;
+mod editor;
+mod fault;
+mod gathered;
+pub mod laws;
+mod line_end;
+mod open_line;
+mod passage;
+
+pub use editing::edit_lines;
+pub use editor::LineEditor;
+pub use fault::LineFault;
+pub use gathered::Gathered;
+pub use line_end::end_of_line;

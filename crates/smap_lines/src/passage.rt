@@ -1,0 +1,61 @@
+//! A text on its way through an editor.
+ghost use Rattle.std.specs.Prelude.{◌≡◌, ◌+◌, ◌<◌, ◌≤◌, ◌^◌, ℕ, List, Option, [], true, length, OnErr, OnOk};
+ghost use Rattle.smap_io.specs.Device.{TakesFront};
+ghost use Rattle.smap_lines.specs.Edited.{edited};
+ghost use Rattle.smap_lines.specs.Passage.{IsThrough};
+
+use crate::editor::LineEditor;
+use crate::gathered::Gathered;
+use crate::line_end::cut_at_line_end;
+use crate::open_line::OpenLine;
+use smap_io::{ByteSink, DeviceFault};
+
+/// Puts bytes that were read through the editor, and writes what waits then; `lines` counts the lines that end in them.
+pub fn edit_bytes<E: LineEditor, W: ByteSink>(
+    bytes: &[u8],
+    line: &mut OpenLine,
+    lines: &mut u64,
+    editor: &mut E,
+    gathered: &mut Gathered,
+    output: &mut W,
+) -> Result<(), DeviceFault>
+    requires countable { lines.old + length bytes.now < 2 ^ 64 }
+    requires room { length bytes.now ≤ E.room editor.old }
+    ensures through { OnOk result ((first : _) (before : Option (List ℕ)) (text : List ℕ) →
+        IsThrough E.becomes E.behind E.room first before text (record {
+          editor = editor.old;
+          taken = W.taken output.old;
+          waiting = gathered.old;
+          state = line.old;
+          lines = lines.old;
+        }) bytes.now →
+        IsThrough E.becomes E.behind E.room first before text (record {
+          editor = editor.new;
+          taken = W.taken output.new;
+          waiting = gathered.new;
+          state = line.new;
+          lines = lines.new;
+        }) []) }
+    ensures none { OnOk result (gathered.new ≡ []) }
+    ensures no_failure { OnOk result (W.has_failed output.new ≡ W.has_failed output.old) }
+
+    ensures front { OnErr result ((first : _) (before : Option (List ℕ)) (text : List ℕ) →
+        IsThrough E.becomes E.behind E.room first before text (record {
+          editor = editor.old;
+          taken = W.taken output.old;
+          waiting = gathered.old;
+          state = line.old;
+          lines = lines.old;
+        }) bytes.now →
+        TakesFront before (W.taken output.new) (edited (E.becomes first) text)) }
+    ensures failure { OnErr result (W.has_failed output.new ≡ true) }
+{
+    let mut rest = bytes;
+    while let Some((ended, after)) = cut_at_line_end(rest) {
+        line.end(ended, editor, gathered, output)?;
+        *lines += 1;
+        rest = after;
+    }
+    line.go_on(rest, gathered, output)?;
+    gathered.write(output)
+}

@@ -1,0 +1,207 @@
+//! The straight way over a segment that stands far enough before the text's end: nothing is asked of that end, and each
+//! difference is added as it is read.
+ghost use Rattle.std.specs.Prelude.{◌≡◌, ◌+◌, ◌<◌, ◌≤◌, length, slice_index, IfSome, IfNone, IsTrue, true, false};
+ghost use Rattle.smap_mappings.specs.Limits.{most_digits, most_segment_digits, most_text_bytes};
+ghost use Rattle.smap_mappings.specs.Segment.{has_known_length};
+ghost use Rattle.smap_mappings.specs.Pieces.{is_comma};
+ghost use Rattle.smap_mappings.specs.Reading.{HasNoField, is_inside, known_fields};
+ghost use Rattle.smap_mappings.specs.Straight.{IsMoved, IsMovedBy, IsReadBehind, is_fitting, are_listed, is_name_listed, name_of, mapping_of};
+
+use crate::base64::number_of_one;
+use crate::cursor::Cursor;
+use crate::limits::{LIMIT, MOST_SEGMENT_DIGITS};
+use crate::mapping::{Mapping, Origin};
+use crate::segment::{is_at_inner_end, read_inner_field};
+
+// How many fields a segment has.
+#[derive(Clone, Copy)]
+pub enum Fields {
+    One,
+    Four,
+    Five,
+}
+
+// A segment that was read: how many fields it has, the first of them, and the state behind it, of whose values it is not
+// known yet whether they are in range.
+#[derive(Clone, Copy)]
+pub struct StraightSegment {
+    pub fields: Fields,
+    pub first: i32,
+    pub behind: Cursor,
+}
+
+// Whether the longest segment would end before the text does, if one began at this place.
+#[inline(always)]
+pub fn has_room(bytes: &[u8], place: usize) -> bool
+    requires short { length bytes.now ≤ most_text_bytes }
+    requires inside { place ≤ length bytes.now }
+    ensures { IsTrue result → place + most_segment_digits < length bytes.now }
+{
+    place + MOST_SEGMENT_DIGITS < bytes.len()
+}
+
+// Whether a `,` stands at this place, with room behind it.
+#[inline(always)]
+pub fn is_joined(bytes: &[u8], place: usize) -> bool
+    requires short { length bytes.now ≤ most_text_bytes }
+    requires inside { place ≤ length bytes.now }
+    ensures room { IsTrue result → place + 1 + most_segment_digits < length bytes.now }
+    ensures comma { IsTrue result → is_comma (slice_index bytes.now place) ≡ true }
+{
+    place + 1 + MOST_SEGMENT_DIGITS < bytes.len() && bytes[place] == b','
+}
+
+// The same, with a number of one digit behind the `,`, as most segments begin.
+#[inline(always)]
+pub fn is_joined_by_one(bytes: &[u8], place: usize) -> bool
+    requires short { length bytes.now ≤ most_text_bytes }
+    requires inside { place ≤ length bytes.now }
+    ensures room { IsTrue result → place + 1 + most_segment_digits < length bytes.now }
+    ensures comma { IsTrue result → is_comma (slice_index bytes.now place) ≡ true }
+    ensures inside { IsTrue result → is_inside (slice_index bytes.now (place + 1)) ≡ true }
+{
+    is_joined(bytes, place) && number_of_one(bytes[place + 1]).is_some()
+}
+
+// The segment at the state's place; `None` where its bytes spell no fields, or not one, four or five.
+#[inline(always)]
+pub fn read_straight(bytes: &[u8], cursor: &Cursor) -> Option<StraightSegment>
+    requires room { cursor.now.place + most_segment_digits < length bytes.now }
+    ensures some { IfSome result (IsReadBehind bytes.now cursor.now) }
+    ensures none { IfNone result
+        (has_known_length (known_fields bytes.now cursor.now.place) ≡ false) }
+{
+    let (first, place) = read_inner_field(bytes, cursor.place)?;
+    let column = moved(cursor.column, first);
+    let Some((source, source_end)) = read_moved(bytes, place, cursor.source) else {
+        if !is_at_inner_end(bytes, place) {
+            return None;
+        }
+        let behind = Cursor {
+            place,
+            column,
+            ..*cursor
+        };
+        return Some(StraightSegment {
+            fields: Fields::One,
+            first,
+            behind,
+        });
+    };
+    let (original_line, place) = read_moved(bytes, source_end, cursor.original_line)?;
+    let (original_column, place) = read_moved(bytes, place, cursor.original_column)?;
+    let behind = Cursor {
+        place,
+        column,
+        source,
+        original_line,
+        original_column,
+        ..*cursor
+    };
+    if is_at_inner_end(bytes, place) {
+        return Some(StraightSegment {
+            fields: Fields::Four,
+            first,
+            behind,
+        });
+    }
+    let (name, place) = read_moved(bytes, place, cursor.name)?;
+    if !is_at_inner_end(bytes, place) {
+        return None;
+    }
+    Some(StraightSegment {
+        fields: Fields::Five,
+        first,
+        behind: Cursor {
+            place,
+            name,
+            ..behind
+        },
+    })
+}
+
+// The value behind the field that begins at a place, and the place behind it.
+#[inline(always)]
+fn read_moved(bytes: &[u8], place: usize, value: u32) -> Option<(u32, usize)>
+    requires { place + 1 < length bytes.now }
+    ensures some { IfSome result (λ read. IsMovedBy bytes.now place value read.0 read.1) }
+    ensures few { IfSome result (λ read. read.1 ≤ place + most_digits) }
+    ensures none { IfNone result (HasNoField bytes.now place) }
+{
+    let (difference, place) = read_inner_field(bytes, place)?;
+    Some((moved(value, difference), place))
+}
+
+// The sum, which wraps where it is out of range.
+#[inline(always)]
+fn moved(value: u32, difference: i32) -> u32
+    ensures { IsMoved value difference result }
+{
+    value.wrapping_add(difference.cast_unsigned())
+}
+
+impl StraightSegment {
+    // Whether the segment has no fault, where the values before it are in range.
+    #[inline(always)]
+    pub fn is_sound(&self, sources: u32, names: u32) -> bool
+        ensures fits { IsTrue result → is_fitting self.now ≡ true }
+        ensures listed { IsTrue result →
+            are_listed sources names self.now.fields self.now.behind ≡ true }
+    {
+        // A segment without an origin leaves the source as it was.
+        self.is_fitting() && self.behind.source < sources && self.is_name_listed(names)
+    }
+
+    #[inline(always)]
+    fn is_fitting(&self) -> bool
+        ensures { result ≡ is_fitting self.now }
+    {
+        // Each test is cheap and seldom fails, so none is skipped.
+        (self.first >= 0)
+            & (self.behind.column <= LIMIT)
+            & (self.behind.source <= LIMIT)
+            & (self.behind.original_line <= LIMIT)
+            & (self.behind.original_column <= LIMIT)
+            & (self.behind.name <= LIMIT)
+    }
+
+    #[inline(always)]
+    fn is_name_listed(&self, names: u32) -> bool
+        ensures { result ≡ is_name_listed names self.now.fields self.now.behind }
+    {
+        match self.fields {
+            Fields::Five => self.behind.name < names,
+            _ => true,
+        }
+    }
+
+    #[inline(always)]
+    fn name(&self) -> Option<u32>
+        ensures { result ≡ name_of self.now.fields self.now.behind }
+    {
+        match self.fields {
+            Fields::Five => Some(self.behind.name),
+            _ => None,
+        }
+    }
+
+    #[inline(always)]
+    pub fn mapping(&self) -> Mapping
+        ensures { result ≡ mapping_of self.now }
+    {
+        let origin = match self.fields {
+            Fields::One => None,
+            _ => Some(Origin {
+                source: self.behind.source,
+                line: self.behind.original_line,
+                column: self.behind.original_column,
+                name: self.name(),
+            }),
+        };
+        Mapping {
+            line: self.behind.line,
+            column: self.behind.column,
+            origin,
+        }
+    }
+}

@@ -1,0 +1,16 @@
+//! The tests of the commands, through `run`, but of `rewrite`, and of the files that they load. There is nothing here
+//! to call.
+#![tactic(auto)]
+
+#[cfg(test)]
+mod compose;
+#[cfg(test)]
+mod files;
+#[cfg(test)]
+mod loading;
+#[cfg(test)]
+mod raw;
+#[cfg(test)]
+mod same;
+#[cfg(test)]
+mod show;

@@ -1,0 +1,20 @@
+//! Runs of the program's commands over files and devices in memory: all that one leaves, as one text. The tests ask so,
+//! and no code of the program stands on this crate.
+//!
+//! ```text
+//! let left = run_raw(alloc, b"AAAA", 1, 1, 64, ALL_SOUND)?;
+//! // "0|source 0 line 1 column 1\n|"
+//! ```
+#![tactic(auto)]
+
+pub mod commands;
+mod devices;
+mod running;
+mod traces;
+
+pub use devices::{ALL_SOUND, Device, Devices, MOST_TAKEN, SOUND};
+pub use running::{
+    left_text, run_check, run_compose, run_compose_at, run_lookup, run_lookup_at, run_raw,
+    run_show, run_show_at,
+};
+pub use traces::{Word, named, run_rewrite};

@@ -1,0 +1,175 @@
+//! Running a command, and all that the run leaves.
+ghost use Rattle.std.specs.Prelude.{◌≡◌, ◌∷◌, [], map, IfOk};
+ghost use Rattle.smap_answers.specs.Files.{path_of, paths_of};
+ghost use Rattle.smap_answers.specs.Run.{HasInterval};
+
+use crate::commands;
+use crate::devices::{Device, Devices, MOST_TAKEN};
+use smap_answers::{Command, Loaded, run};
+use smap_io::{MemorySink, MemorySource};
+use smap_record::Url;
+use std::alloc::{AllocError, Global};
+
+/// What a command leaves of this input, over these devices.
+pub fn run_over(
+    alloc: Global,
+    command: &Command,
+    files: &[Loaded],
+    input: &[u8],
+    devices: Devices,
+) -> Result<String, AllocError>
+    requires interval { HasInterval command.now }
+    requires loaded { map path_of files.now ≡ paths_of command.now }
+{
+    let Devices(Device(reads, read_fails), Device(writes, write_fails), Device(tells, tell_fails)) =
+        devices;
+    if reads == 0 || writes == 0 || tells == 0 {
+        return String::from_str(alloc, "a device that moves nothing");
+    }
+    let mut input = MemorySource::new(input.to_vec(alloc)?, reads, read_fails);
+    let mut output = MemorySink::new(Vec::with_capacity(alloc, MOST_TAKEN)?, writes, write_fails);
+    let mut errors = MemorySink::new(Vec::with_capacity(alloc, MOST_TAKEN)?, tells, tell_fails);
+    let status = run(alloc, command, files, &mut input, &mut output, &mut errors);
+    left_text(alloc, status, output.bytes(), errors.bytes())
+}
+
+/// The status, and what stands on the output and on the error stream, with `|` between two.
+pub fn left_text(
+    alloc: Global,
+    status: u8,
+    output: &[u8],
+    errors: &[u8],
+) -> Result<String, AllocError> {
+    let output = String::from_utf8_lossy(alloc, output)?;
+    let errors = String::from_utf8_lossy(alloc, errors)?;
+    format!(in alloc; "{status}|{output}|{errors}")
+}
+
+/// What `raw` leaves. The line and the column count from 1.
+pub fn run_raw(
+    alloc: Global,
+    text: &[u8],
+    line: u32,
+    column: u32,
+    interval: u32,
+    devices: Devices,
+) -> Result<String, AllocError> {
+    let command = commands::raw(line, column, interval);
+    run_over(alloc, &command, &[], text, devices)
+}
+
+// What a command leaves that names this one file.
+fn run_on_file(
+    alloc: Global,
+    command: &Command,
+    path: &str,
+    bytes: &[u8],
+    devices: Devices,
+) -> Result<String, AllocError>
+    requires interval { HasInterval command.now }
+    requires its_path { paths_of command.now ≡ path.now ∷ [] }
+{
+    let file = loaded(alloc, path, bytes)?;
+    run_over(alloc, command, &[file], b"", devices)
+}
+
+// A file that was read.
+fn loaded(alloc: Global, path: &str, bytes: &[u8]) -> Result<Loaded, AllocError>
+    ensures { IfOk result (λ file. path_of file ≡ path.now) }
+{
+    Ok(Loaded {
+        path: String::from_str(alloc, path)?,
+        bytes: bytes.to_vec(alloc)?,
+    })
+}
+
+/// What `check` leaves.
+pub fn run_check(
+    alloc: Global,
+    path: &str,
+    bytes: &[u8],
+    interval: u32,
+    devices: Devices,
+) -> Result<String, AllocError> {
+    let command = commands::check(String::from_str(alloc, path)?, None, interval);
+    run_on_file(alloc, &command, path, bytes, devices)
+}
+
+/// What `lookup` leaves in a map at `m.map`. The line and the column count from 1.
+pub fn run_lookup(
+    alloc: Global,
+    map: &str,
+    line: u32,
+    column: u32,
+    interval: u32,
+    devices: Devices,
+) -> Result<String, AllocError> {
+    run_lookup_at(alloc, None, map, line, column, interval, devices)
+}
+
+/// What `lookup` leaves in a map at `m.map`, whose sources are resolved against the base.
+pub fn run_lookup_at(
+    alloc: Global,
+    base: Option<Url>,
+    map: &str,
+    line: u32,
+    column: u32,
+    interval: u32,
+    devices: Devices,
+) -> Result<String, AllocError> {
+    let path = String::from_str(alloc, "m.map")?;
+    let command = commands::lookup(path, line, column, base, interval);
+    run_on_file(alloc, &command, "m.map", map.as_bytes(), devices)
+}
+
+/// What `show` leaves of a map at `m.map`.
+pub fn run_show(alloc: Global, map: &str, devices: Devices) -> Result<String, AllocError> {
+    run_show_at(alloc, None, map, devices)
+}
+
+/// What `show` leaves of a map at `m.map`, whose sources are resolved against the base.
+pub fn run_show_at(
+    alloc: Global,
+    base: Option<Url>,
+    map: &str,
+    devices: Devices,
+) -> Result<String, AllocError> {
+    let command = Command::Show {
+        path: String::from_str(alloc, "m.map")?,
+        base,
+    };
+    run_on_file(alloc, &command, "m.map", map.as_bytes(), devices)
+}
+
+/// What `compose` leaves of a map at `o.map` and of that of its source of this number, from 0, at `i.map`.
+pub fn run_compose(
+    alloc: Global,
+    outer: &str,
+    source: u32,
+    inner: &str,
+    devices: Devices,
+) -> Result<String, AllocError> {
+    run_compose_at(alloc, None, outer, source, inner, devices)
+}
+
+/// The same, where the sources of both maps are resolved against the base.
+pub fn run_compose_at(
+    alloc: Global,
+    base: Option<Url>,
+    outer: &str,
+    source: u32,
+    inner: &str,
+    devices: Devices,
+) -> Result<String, AllocError> {
+    let command = Command::Compose {
+        outer: String::from_str(alloc, "o.map")?,
+        source,
+        inner: String::from_str(alloc, "i.map")?,
+        base,
+    };
+    let files = [
+        loaded(alloc, "o.map", outer.as_bytes())?,
+        loaded(alloc, "i.map", inner.as_bytes())?,
+    ];
+    run_over(alloc, &command, &files, b"", devices)
+}

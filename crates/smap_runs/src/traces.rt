@@ -1,0 +1,50 @@
+//! Running `rewrite` over traces.
+ghost use Rattle.std.specs.Prelude.{◌≡◌, ◌++◌, ◌∷◌, [], map, string_bytes, IfOk, OnOk};
+ghost use Rattle.smap_answers.specs.Files.{path_of};
+
+use crate::commands;
+use crate::devices::Devices;
+use crate::running::run_over;
+use smap_answers::Loaded;
+use smap_record::Url;
+use std::alloc::{AllocError, Global};
+
+/// A word of the command and the file that it names: the URL, the path, and the map in the file.
+pub type Word = (&'static str, &'static str, &'static str);
+
+/// The words as the command has them, and their files.
+pub fn named(
+    alloc: Global,
+    table: &[Word],
+) -> Result<(Vec<(String, String)>, Vec<Loaded>), AllocError>
+    ensures paths { IfOk result (λ named. map path_of named.1.items
+        ≡ map (λ word. string_bytes word.1) named.0.items) }
+{
+    let mut words = Vec::new(alloc);
+    let mut files = Vec::new(alloc);
+    for (url, path, map) in table {
+        words.push((
+            String::from_str(alloc, url)?,
+            String::from_str(alloc, path)?,
+        ))?;
+        files.push(Loaded {
+            path: String::from_str(alloc, path)?,
+            bytes: map.as_bytes().to_vec(alloc)?,
+        })?;
+    }
+    Ok((words, files))
+}
+
+/// What `rewrite` leaves of a trace.
+pub fn run_rewrite(
+    alloc: Global,
+    table: &[Word],
+    base: Option<Url>,
+    trace: &[u8],
+    interval: u32,
+    devices: Devices,
+) -> Result<String, AllocError> {
+    let (maps, files) = named(alloc, table)?;
+    let command = commands::rewrite(maps, base, interval);
+    run_over(alloc, &command, &files, trace, devices)
+}

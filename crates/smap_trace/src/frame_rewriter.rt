@@ -1,0 +1,103 @@
+//! The frames of a trace, rewritten line by line.
+ghost use Rattle.std.specs.Prelude.{◌≡◌, ◌++◌, true, codes, map, OnErr, OnOk};
+ghost use Rattle.std.specs.List.{concat};
+ghost use Rattle.smap_io.specs.Device.{TakesFront};
+ghost use Rattle.smap_lines.specs.Gathered.{HandsOn};
+ghost use Rattle.smap_lines.specs.Lines.{end_in};
+ghost use Rattle.smap_trace.specs.SightSeen.{replacement_seen};
+
+use crate::sight::{Replacement, Sight, look_at};
+use crate::table::Table;
+use itoa::Buffer;
+use smap_io::{ByteSink, DeviceFault};
+use smap_lines::{Gathered, LineEditor, end_of_line};
+use std::alloc::Global;
+
+/// Rewrites the frames among the lines of a trace, and counts those that stay and those that are replaced.
+#[derive(Drop)]
+pub struct FrameRewriter<'t> {
+    pub alloc: Global,
+    pub table: &'t Table,
+    pub staying: u64,
+    pub mapped: u64,
+}
+
+impl LineEditor for FrameRewriter<'_> {
+    ghost use Rattle.smap_trace.specs.FrameRewriter.{behind_frame, room_of};
+    ghost use Rattle.smap_trace.specs.Rewritten.{rewritten_line};
+    ghost use Rattle.smap_trace.specs.RewriterLaws.{room_behind};
+    ghost use Rattle.std.specs.Prelude.{refl};
+
+    ghost becomes = { λ rewriter. rewritten_line rewriter.table.now };
+
+    ghost behind = { behind_frame };
+
+    ghost room = { room_of };
+
+    fn edit<W: ByteSink>(
+        &mut self,
+        line: &[u8],
+        is_ended: bool,
+        gathered: &mut Gathered,
+        output: &mut W,
+    ) -> Result<(), DeviceFault> {
+        match look_at(self.alloc, self.table, line) {
+            Sight::Other => gathered.put_line(line, is_ended, output)?,
+            Sight::Staying => {
+                gathered.put_line(line, is_ended, output)?;
+                self.staying += 1;
+            }
+            Sight::Replaced(replacement) => {
+                put_frame(&replacement, is_ended, gathered, output)?;
+                self.mapped += 1;
+            }
+        }
+        Ok(())
+    }
+
+    ghost same = { λ rewriter line other. refl };
+
+    ghost room_for_one = { room_behind };
+}
+
+// Puts a frame with its original in place of its place, and with the end of its line.
+fn put_frame<W: ByteSink>(
+    replacement: &Replacement<'_, '_>,
+    is_ended: bool,
+    gathered: &mut Gathered,
+    output: &mut W,
+) -> Result<(), DeviceFault>
+    ensures put { OnOk result (HandsOn (W.taken output.old) (W.taken output.new)
+        (gathered.old ++ (replacement_seen replacement.now ++ end_in is_ended)) gathered.new) }
+    ensures no_failure { OnOk result (W.has_failed output.new ≡ W.has_failed output.old) }
+
+    ensures front { OnErr result (TakesFront (W.taken output.old) (W.taken output.new)
+        (gathered.old ++ (replacement_seen replacement.now ++ end_in is_ended))) }
+    ensures failure { OnErr result (W.has_failed output.new ≡ true) }
+{
+    let (mut line, mut column) = (Buffer::new(), Buffer::new());
+    let pieces = pieces_of(
+        replacement.frame.head,
+        replacement.name.as_bytes(),
+        line.format(replacement.original.line).as_bytes(),
+        column.format(replacement.original.column).as_bytes(),
+        replacement.frame.tail,
+        end_of_line(is_ended),
+    );
+    gathered.put_all(&pieces, output)
+}
+
+// What a frame is joined of.
+fn pieces_of<'a>(
+    head: &'a [u8],
+    name: &'a [u8],
+    line: &'a [u8],
+    column: &'a [u8],
+    tail: &'a [u8],
+    end: &'a [u8],
+) -> [&'a [u8]; 8]
+    ensures { concat (map (λ piece. piece.now) result)
+        ≡ (head.now ++ name.now ++ codes ":" ++ line.now ++ codes ":" ++ column.now ++ tail.now) ++ end.now }
+{
+    [head, name, b":", line, b":", column, tail, end]
+}

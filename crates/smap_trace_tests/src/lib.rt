@@ -1,0 +1,18 @@
+//! The tests of stack traces: of frames and tables, and of `rewrite` through `run`. There is nothing here
+//! to call.
+#![tactic(auto)]
+
+#[cfg(test)]
+mod awaited_traces;
+#[cfg(test)]
+mod endless_traces;
+#[cfg(test)]
+mod failing_traces;
+#[cfg(test)]
+mod node_traces;
+#[cfg(test)]
+mod rewriting;
+#[cfg(test)]
+mod same;
+#[cfg(test)]
+mod traces;

@@ -1,0 +1,84 @@
+//! The tables, each as one text. A caller sees no more of one than that it is a text, so no proof of a test reads a
+//! table of many thousand bytes.
+use crate::answers::ANSWERS;
+use crate::composed_maps::COMPOSED_MAPS;
+use crate::encodings::ENCODINGS;
+use crate::example_map::EXAMPLE_MAP;
+use crate::index_maps::INDEX_MAPS;
+use crate::lookups::LOOKUPS;
+use crate::mappings::MAPPINGS;
+use crate::names::NAMES;
+use crate::places::{EXCERPTS, PLACES};
+use crate::refusals::REFUSALS;
+use crate::traces::{TRACE_MAPS, TRACES};
+use crate::written_maps::WRITTEN_MAPS;
+
+/// Texts that are accepted, each with a line and a column from 1, and what is printed.
+pub fn answered_texts() -> &'static str {
+    ANSWERS
+}
+
+/// Texts that are refused, each with a line and a column from 1, and what is printed.
+pub fn refused_texts() -> &'static str {
+    REFUSALS
+}
+
+/// Texts, and how many mappings each has, how many lines that hold one, and the mappings.
+pub fn mappings_rows() -> &'static str {
+    MAPPINGS
+}
+
+/// Texts, and the text that the mappings of each are written as.
+pub fn encoded_texts() -> &'static str {
+    ENCODINGS
+}
+
+/// A map file, byte for byte.
+pub fn example_text() -> &'static str {
+    EXAMPLE_MAP
+}
+
+/// Look-ups in that map: a line and a column from 1, and what is printed.
+pub fn lookup_rows() -> &'static str {
+    LOOKUPS
+}
+
+/// Roots, sources and bases, and the name that each source has.
+pub fn name_rows() -> &'static str {
+    NAMES
+}
+
+/// Index maps, and what each holds.
+pub fn index_map_rows() -> &'static str {
+    INDEX_MAPS
+}
+
+/// The same index maps, in order, each as one regular map.
+pub fn written_rows() -> &'static str {
+    WRITTEN_MAPS
+}
+
+/// An outer map, a source of it, an inner map, and what both compose to.
+pub fn composed_rows() -> &'static str {
+    COMPOSED_MAPS
+}
+
+/// A line and a column from 0, a content, and where the column stands.
+pub fn place_rows() -> &'static str {
+    PLACES
+}
+
+/// A text, how many times it stands in the content, a line and a column from 0, and the excerpt.
+pub fn excerpt_rows() -> &'static str {
+    EXCERPTS
+}
+
+/// URLs, and the path and the map of each.
+pub fn trace_maps() -> &'static str {
+    TRACE_MAPS
+}
+
+/// Counts of a trace, the trace, and what it becomes over these maps.
+pub fn trace_rows() -> &'static str {
+    TRACES
+}

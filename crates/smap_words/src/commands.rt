@@ -1,0 +1,248 @@
+//! The command that the words ask for, read from what clap found in them.
+ghost use Rattle.std.specs.Prelude.{◌≡◌, ◌≤◌, ◌+◌, ◌∷◌, [], IfErr, IfOk, codes, map, string_bytes, true};
+ghost use Rattle.clap.specs.Words.{all_of, found_of, rows_of, subcommand_rows_of};
+ghost use Rattle.smap_command.specs.Limits.{is_interval, limit};
+ghost use Rattle.smap_words.specs.CommandLine.{interval_number, named, number, source_number};
+ghost use Rattle.smap_words.specs.Words.{ArePairs, GivesBase, GivesInterval, GivesNumber, GivesText};
+ghost use Rattle.smap_words.specs.Words.{HasArguments, HasCommand, HasValue, HasValueIfGiven};
+ghost use Rattle.smap_words.specs.Words.{IsInRange, IsNamedRefusal, IsPair};
+ghost use Rattle.smap_words.specs.Words.{NamedAsksFor, SubcommandAsksFor, SubcommandTells, TellsBadBase};
+ghost use Rattle.smap_words.specs.Words.{TellsNoPair, TellsRefusal};
+ghost use Rattle.clap.specs.declared.builder.value_parser.ValueParser.TheVariants as parser;
+
+use crate::mistakes::{BAD_BASE, no_pair_line};
+use crate::usage::Usage;
+use clap::ArgMatches;
+use smap_command::{Command, USUAL_INTERVAL};
+use std::alloc::{AllocError, Global};
+use url::{ParseError, Url};
+
+/// The command that the subcommand and its arguments ask for. A base that is no URL is refused first.
+pub fn command_in(alloc: Global, matches: &ArgMatches<'_>) -> Result<Command, Usage>
+    requires { HasCommand (subcommand_rows_of matches.now) }
+    ensures asked { IfOk result (SubcommandAsksFor (subcommand_rows_of matches.now)) }
+    ensures in_range { IfOk result IsInRange }
+    ensures refused { IfErr result (IsNamedRefusal (SubcommandTells (subcommand_rows_of matches.now))) }
+{
+    let (name, matches) = matches.subcommand().unwrap();
+    let base = base_in(alloc, matches)?;
+    named_command(alloc, name, matches, base)
+}
+
+// The command of this name that the arguments ask for, over the base.
+fn named_command(
+    alloc: Global,
+    name: &str,
+    matches: &ArgMatches<'_>,
+    base: Option<Url>,
+) -> Result<Command, Usage>
+    requires required { HasArguments (named name.now) (rows_of (found_of matches.now)) }
+    requires given { GivesBase (rows_of (found_of matches.now)) base }
+    ensures asked { IfOk result (NamedAsksFor name.now (rows_of (found_of matches.now))) }
+    ensures in_range { IfOk result IsInRange }
+    ensures refused { IfErr result (IsNamedRefusal (TellsRefusal name.now (rows_of (found_of matches.now)))) }
+{
+    match name {
+        "lookup" => Ok(lookup_in(alloc, matches, base)?),
+        "rewrite" => rewrite_in(alloc, matches, base),
+        "check" => Ok(check_in(alloc, matches, base)?),
+        "show" => Ok(show_in(alloc, matches, base)?),
+        "compose" => Ok(compose_in(alloc, matches, base)?),
+        _ => Ok(raw_in(matches)),
+    }
+}
+
+// What `lookup` is asked.
+fn lookup_in(
+    alloc: Global,
+    matches: &ArgMatches<'_>,
+    base: Option<Url>,
+) -> Result<Command, AllocError>
+    requires path { HasValue parser.String (rows_of (found_of matches.now)) (codes "PATH") }
+    requires line { HasValue number (rows_of (found_of matches.now)) (codes "LINE") }
+    requires column { HasValue number (rows_of (found_of matches.now)) (codes "COLUMN") }
+    requires interval { HasValueIfGiven interval_number (rows_of (found_of matches.now)) (codes "K") }
+    requires given { GivesBase (rows_of (found_of matches.now)) base }
+    ensures asked { IfOk result (NamedAsksFor (codes "lookup") (rows_of (found_of matches.now))) }
+    ensures in_range { IfOk result IsInRange }
+{
+    Ok(Command::Lookup {
+        path: text_in(alloc, matches, "PATH")?,
+        line: place_in(matches, "LINE"),
+        column: place_in(matches, "COLUMN"),
+        base,
+        interval: interval_in(matches),
+    })
+}
+
+// What `rewrite` is asked.
+fn rewrite_in(alloc: Global, matches: &ArgMatches<'_>, base: Option<Url>) -> Result<Command, Usage>
+    requires words { HasValue parser.String (rows_of (found_of matches.now)) (codes "URL=FILE") }
+    requires interval { HasValueIfGiven interval_number (rows_of (found_of matches.now)) (codes "K") }
+    requires given { GivesBase (rows_of (found_of matches.now)) base }
+    ensures asked { IfOk result (NamedAsksFor (codes "rewrite") (rows_of (found_of matches.now))) }
+    ensures in_range { IfOk result IsInRange }
+    ensures refused { IfErr result (IsNamedRefusal (TellsRefusal (codes "rewrite") (rows_of (found_of matches.now)))) }
+{
+    let words = matches.get_strs("URL=FILE").unwrap();
+    Ok(Command::Rewrite {
+        maps: pairs_of(alloc, words)?,
+        base,
+        interval: interval_in(matches),
+    })
+}
+
+// What `check` is asked.
+fn check_in(
+    alloc: Global,
+    matches: &ArgMatches<'_>,
+    base: Option<Url>,
+) -> Result<Command, AllocError>
+    requires path { HasValue parser.String (rows_of (found_of matches.now)) (codes "PATH") }
+    requires interval { HasValueIfGiven interval_number (rows_of (found_of matches.now)) (codes "K") }
+    requires given { GivesBase (rows_of (found_of matches.now)) base }
+    ensures asked { IfOk result (NamedAsksFor (codes "check") (rows_of (found_of matches.now))) }
+    ensures in_range { IfOk result IsInRange }
+{
+    Ok(Command::Check {
+        path: text_in(alloc, matches, "PATH")?,
+        base,
+        interval: interval_in(matches),
+    })
+}
+
+// What `show` is asked.
+fn show_in(
+    alloc: Global,
+    matches: &ArgMatches<'_>,
+    base: Option<Url>,
+) -> Result<Command, AllocError>
+    requires path { HasValue parser.String (rows_of (found_of matches.now)) (codes "PATH") }
+    requires given { GivesBase (rows_of (found_of matches.now)) base }
+    ensures asked { IfOk result (NamedAsksFor (codes "show") (rows_of (found_of matches.now))) }
+    ensures in_range { IfOk result IsInRange }
+{
+    Ok(Command::Show {
+        path: text_in(alloc, matches, "PATH")?,
+        base,
+    })
+}
+
+// What `compose` is asked.
+fn compose_in(
+    alloc: Global,
+    matches: &ArgMatches<'_>,
+    base: Option<Url>,
+) -> Result<Command, AllocError>
+    requires outer { HasValue parser.String (rows_of (found_of matches.now)) (codes "OUTER") }
+    requires source { HasValue source_number (rows_of (found_of matches.now)) (codes "SOURCE") }
+    requires inner { HasValue parser.String (rows_of (found_of matches.now)) (codes "INNER") }
+    requires given { GivesBase (rows_of (found_of matches.now)) base }
+    ensures asked { IfOk result (NamedAsksFor (codes "compose") (rows_of (found_of matches.now))) }
+    ensures in_range { IfOk result IsInRange }
+{
+    Ok(Command::Compose {
+        outer: text_in(alloc, matches, "OUTER")?,
+        source: source_in(matches),
+        inner: text_in(alloc, matches, "INNER")?,
+        base,
+    })
+}
+
+// What `raw` is asked.
+fn raw_in(matches: &ArgMatches<'_>) -> Command
+    requires line { HasValue number (rows_of (found_of matches.now)) (codes "LINE") }
+    requires column { HasValue number (rows_of (found_of matches.now)) (codes "COLUMN") }
+    requires interval { HasValueIfGiven interval_number (rows_of (found_of matches.now)) (codes "K") }
+    ensures asked { NamedAsksFor (codes "raw") (rows_of (found_of matches.now)) result }
+    ensures in_range { IsInRange result }
+{
+    let (line, column) = (place_in(matches, "LINE"), place_in(matches, "COLUMN"));
+    Command::Raw {
+        line,
+        column,
+        interval: interval_in(matches),
+    }
+}
+
+// The text of an argument.
+fn text_in(alloc: Global, matches: &ArgMatches<'_>, name: &str) -> Result<String, AllocError>
+    requires { HasValue parser.String (rows_of (found_of matches.now)) name.now }
+    ensures { IfOk result (λ text. GivesText (rows_of (found_of matches.now)) name.now (string_bytes text)) }
+{
+    String::from_str(alloc, matches.get_str(name).unwrap())
+}
+
+// The line or column of an argument, counted from 0.
+fn place_in(matches: &ArgMatches<'_>, name: &str) -> u32
+    requires { HasValue number (rows_of (found_of matches.now)) name.now }
+    ensures given { GivesNumber (rows_of (found_of matches.now)) name.now (result + 1) }
+    ensures in_range { result ≤ limit }
+{
+    matches.get_one::<u32>(name).unwrap() - 1
+}
+
+// The number of the source.
+fn source_in(matches: &ArgMatches<'_>) -> u32
+    requires { HasValue source_number (rows_of (found_of matches.now)) (codes "SOURCE") }
+    ensures { GivesNumber (rows_of (found_of matches.now)) (codes "SOURCE") result }
+{
+    matches.get_one::<u32>("SOURCE").unwrap()
+}
+
+// The interval of the option `--interval`, or the usual one where it is not given.
+fn interval_in(matches: &ArgMatches<'_>) -> u32
+    requires { HasValueIfGiven interval_number (rows_of (found_of matches.now)) (codes "K") }
+    ensures given { GivesInterval (rows_of (found_of matches.now)) result }
+    ensures in_range { is_interval result ≡ true }
+{
+    match matches.get_one::<u32>("K") {
+        Some(interval) => interval,
+        None => USUAL_INTERVAL,
+    }
+}
+
+// The URL of the option `--base`, where it is given.
+fn base_in(alloc: Global, matches: &ArgMatches<'_>) -> Result<Option<Url>, Usage>
+    ensures given { IfOk result (GivesBase (rows_of (found_of matches.now))) }
+    ensures refused { IfErr result (IsNamedRefusal (TellsBadBase (rows_of (found_of matches.now)))) }
+{
+    let Some(text) = matches.get_str("URL") else {
+        return Ok(None);
+    };
+    match Url::parse(alloc, text) {
+        Ok(url) => Ok(Some(url)),
+        Err(ParseError::OutOfMemory) => Err(Usage::Memory),
+        Err(_) => Err(Usage::Words(String::from_str(alloc, BAD_BASE)?)),
+    }
+}
+
+// The URL and the path of each word of `rewrite`.
+fn pairs_of(alloc: Global, words: &[&str]) -> Result<Vec<(String, String)>, Usage>
+    ensures cut { IfOk result (λ pairs. ArePairs (map (λ word. word.now) words.now) pairs.items) }
+    ensures refused { IfErr result (IsNamedRefusal (TellsNoPair (map (λ word. word.now) words.now))) }
+{
+    let mut pairs = Vec::new(alloc);
+    for word in words {
+        let pair = pair_of(alloc, word)?;
+        match pairs.push(pair) {
+            Ok(_) => {}
+            Err(_) => return Err(Usage::Memory),
+        }
+    }
+    Ok(pairs)
+}
+
+// The URL and the path of a word, which is cut at its last `=`, since a URL may have others.
+fn pair_of(alloc: Global, word: &str) -> Result<(String, String), Usage>
+    ensures cut { IfOk result (λ pair. IsPair word.now (string_bytes pair.0) (string_bytes pair.1)) }
+    ensures refused { IfErr result (IsNamedRefusal (TellsNoPair (word.now ∷ []))) }
+{
+    match word.rsplit_once('=') {
+        Some((url, path)) => Ok((
+            String::from_str(alloc, url)?,
+            String::from_str(alloc, path)?,
+        )),
+        None => Err(Usage::Words(no_pair_line(alloc, word)?)),
+    }
+}

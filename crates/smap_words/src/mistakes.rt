@@ -1,0 +1,17 @@
+//! The lines for words that clap takes, but the command does not.
+ghost use Rattle.std.specs.Prelude.{◌≡◌, string_bytes, IfOk};
+ghost use Rattle.smap_words.specs.Words.{no_pair_line};
+
+use smap_command::shown;
+use std::alloc::{AllocError, Global};
+
+/// Standard error: the base is no URL.
+pub const BAD_BASE: &str = "usage: bad base URL\n";
+
+/// Standard error: a word of `rewrite` without `=`.
+pub fn no_pair_line(alloc: Global, word: &str) -> Result<String, AllocError>
+    ensures { IfOk result (λ text. string_bytes text ≡ no_pair_line word.now) }
+{
+    let word = shown(alloc, word)?;
+    format!(in alloc; "usage: no URL=FILE: {word}\n")
+}
