@@ -1,4 +1,3 @@
-pub mod TextLaws
 pub mod ComposedLaws
 pub mod ListLaws
 pub mod FollowLaws

@@ -6,6 +6,7 @@ ghost use Rattle.smap_mappings.specs.Canonical.{canonical_text};
 ghost use Rattle.smap_mappings.specs.Encode.{is_text_too_long, list_fault};
 ghost use Rattle.smap_mappings.specs.Mappings.{mappings_of};
 ghost use Rattle.smap_mappings.specs.Within.{IsWithin};
+ghost use Rattle.smap_mappings.specs.Writing.{IsLengthOf};
 ghost use Rattle.smap_index.specs.Answer.{answer_at_or_before};
 ghost use Rattle.smap_record.specs.Limits.{most_entries, most_file_bytes};
 ghost use Rattle.smap_record.specs.ReadBack.{ReadsBackAs};
@@ -19,7 +20,8 @@ use crate::entries::{joined_names, joined_sources};
 use crate::follow::followed_mappings;
 use crate::laws::answers_are_followed;
 use crate::refusal::ComposeRefusal;
-use smap_mappings::{EncodeRefusal, encode};
+use smap_mappings::laws::lists_in_order_have_no_fault;
+use smap_mappings::{TextLength, TextWriter};
 use smap_record::{MOST_ENTRIES, MapFile, Mapping, SourceEntry, write_record};
 use std::alloc::{AllocError, Global};
 use std::marker::Model;
@@ -76,8 +78,8 @@ pub fn compose(
     {
         return Err(ComposeRefusal::TooLarge);
     }
-    let mappings = followed_mappings(alloc, outer, source, inner)?;
-    let text = text_of(alloc, &mappings)?;
+    let (mappings, length) = followed_mappings(alloc, outer, source, inner)?;
+    let text = text_of(alloc, &mappings, &length)?;
     let sources = joined_sources(alloc, outer, inner)?;
     let names = joined_names(alloc, outer, inner)?;
     let file = file_of(alloc, outer)?;
@@ -99,9 +101,10 @@ fn are_too_many(outer: u64, inner: u64) -> bool
     outer > most || inner > most - outer
 }
 
-// The canonical text of these mappings.
-fn text_of(alloc: Global, mappings: &[Mapping]) -> Result<String, ComposeRefusal>
-    requires { list_fault mappings.now ≡ None }
+// The canonical text of these mappings, which has this length.
+fn text_of(alloc: Global, mappings: &[Mapping], length: &TextLength) -> Result<String, ComposeRefusal>
+    requires measured { IsLengthOf mappings.now length.now }
+    requires no_fault { list_fault mappings.now ≡ None }
     ensures text { IfOk result (λ text. string_bytes text ≡ canonical_text mappings.now) }
     ensures decodes { OnOk result (mappings_of (canonical_text mappings.now) ≡ mappings.now) }
     ensures accepted { OnOk result ((sources names : ℕ) → All (IsWithin sources names) mappings.now
@@ -110,13 +113,15 @@ fn text_of(alloc: Global, mappings: &[Mapping]) -> Result<String, ComposeRefusal
     ensures refused { IfErr result (λ refusal. (refusal ≡ Memory)
         ⊎ ((refusal ≡ TooLarge) × IsTrue (is_text_too_long mappings.now))) }
 {
-    match encode(alloc, mappings) {
-        Ok(text) => Ok(text),
-        Err(EncodeRefusal::TooLong) => Err(ComposeRefusal::TooLarge),
-        Err(EncodeRefusal::Memory) => Err(ComposeRefusal::Memory),
-        Err(EncodeRefusal::NotSorted(_)) => unreachable!("the list is in order"),
-        Err(EncodeRefusal::OutOfRange(_)) => unreachable!("the numbers are within the limit"),
+    let Some(bytes) = length.bytes() else {
+        return Err(ComposeRefusal::TooLarge);
+    };
+    lists_in_order_have_no_fault();
+    let mut writer = TextWriter::with_capacity(alloc, bytes)?;
+    for mapping in mappings {
+        writer.push(mapping)?;
     }
+    Ok(writer.into_text())
 }
 
 // The name of the generated file, where the map has one.

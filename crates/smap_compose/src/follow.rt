@@ -3,36 +3,42 @@ ghost use Rattle.std.specs.Prelude.{◌≡◌, None, length, IfOk, IfSome};
 ghost use Rattle.std.specs.List.{All};
 ghost use Rattle.smap_mappings.specs.Encode.{list_fault};
 ghost use Rattle.smap_mappings.specs.Within.{IsOriginWithin, IsWithin};
+ghost use Rattle.smap_mappings.specs.Writing.{IsLengthOf};
 ghost use Rattle.smap_record.specs.Record.{answer_of_map};
 ghost use Rattle.smap_compose.specs.Composition.{AreFew, followed_mappings, mappings_of_map, names_together, sources_together};
 ghost use Rattle.smap_compose.specs.Follow.{follow, moved_origin, origin_of_answer};
 
+use smap_mappings::TextLength;
 use smap_mappings::laws::lists_in_order_have_no_fault;
 use smap_record::{Answer, MapFile, Mapping, Meter, Origin};
 use std::alloc::{AllocError, Global};
 
-/// The mappings of the outer map, those of this source followed through the inner map. Each costs at most one look-up
-/// there; the inner map's mappings are not listed.
+/// The mappings of the outer map, those of this source followed through the inner map, and the length of their
+/// canonical text. Each costs at most one look-up there; the inner map's mappings are not listed.
 pub fn followed_mappings(
     alloc: Global,
     outer: &MapFile,
     source: u32,
     inner: &MapFile,
-) -> Result<Vec<Mapping>, AllocError>
+) -> Result<(Vec<Mapping>, TextLength), AllocError>
     requires few { AreFew outer.now.stated inner.now.stated }
-    ensures list { IfOk result (λ list. list.items
+    ensures list { IfOk result (λ made. made.0.items
         ≡ followed_mappings outer.now.stated source inner.now.stated) }
+    ensures length { IfOk result (λ made. IsLengthOf made.0.items made.1) }
     ensures within { let outer = outer.now.stated in let inner = inner.now.stated in
-        IfOk result (λ list. All
-        (IsWithin (sources_together outer inner) (names_together outer inner)) list.items) }
-    ensures no_fault { IfOk result (λ list. list_fault list.items ≡ None) }
+        IfOk result (λ made. All
+        (IsWithin (sources_together outer inner) (names_together outer inner)) made.0.items) }
+    ensures no_fault { IfOk result (λ made. list_fault made.0.items ≡ None) }
 {
-    let mut list = outer.decode_all(alloc)?;
-    for mapping in list.iter_mut() {
-        *mapping = follow(alloc, outer, source, inner, *mapping);
+    let mut list = Vec::with_capacity(alloc, outer.segments() as usize)?;
+    let mut length = TextLength::new();
+    for mapping in outer.mappings(alloc) {
+        let followed = follow(alloc, outer, source, inner, mapping);
+        length.add(&followed);
+        list.push(followed)?;
     }
     lists_in_order_have_no_fault();
-    Ok(list)
+    Ok((list, length))
 }
 
 // The mapping, followed where it is of this source.

@@ -1,4 +1,4 @@
--- What is left of a walk through the mappings of parts. Only contracts of private functions cite it.
+-- What is left of a walk through the mappings of parts.
 use Rattle.std.specs.Prelude.{◌≡◌, ℕ, List, [], ◌∷◌, ◌++◌, false, drop}
 use Rattle.std.specs.List.{list_any}
 use Rattle.smap_mappings.specs.Range.{is_mapping_past_limit}

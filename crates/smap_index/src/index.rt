@@ -18,7 +18,7 @@ ghost use Rattle.smap_index.specs.Answer.{answer_at_or_before};
 use crate::answer::{Answer, answer_of};
 use crate::encode::{length_of_parts, write_parts};
 use crate::interval::is_interval;
-use crate::joined::joined;
+use crate::joined::{JoinedMappings, joined};
 use crate::mark::mark_parts;
 use crate::order::first_out_of_order;
 use crate::part::Part;
@@ -143,6 +143,16 @@ impl Index {
         self.used_lines
     }
 
+    /// A walk through all mappings, part after part, in order. It takes no memory. It is made with an allocator, so that
+    /// a look-up, which is given none, walks through none.
+    pub fn mappings<'a>(&'a self, alloc: Global) -> JoinedMappings<'a>
+        ensures list { result ≡ joined self.now.parts }
+        ensures ordered { IsInOrder (joined self.now.parts) }
+        ensures in_range { list_any is_mapping_past_limit (joined self.now.parts) ≡ false }
+    {
+        joined(alloc, &self.parts)
+    }
+
     /// All mappings, part after part, in order.
     pub fn decode_all(&self, alloc: Global) -> Result<Vec<Mapping>, AllocError>
         ensures list { IfOk result (λ list. list.items ≡ joined self.now.parts) }
@@ -150,7 +160,7 @@ impl Index {
         ensures in_range { list_any is_mapping_past_limit (joined self.now.parts) ≡ false }
     {
         let mut list = Vec::with_capacity(alloc, self.segments as usize)?;
-        for mapping in joined(alloc, &self.parts) {
+        for mapping in self.mappings(alloc) {
             list.push(mapping)?;
         }
         Ok(list)

@@ -12,7 +12,8 @@ use smap_mappings::{Cursor, Mapping, Meter, State};
 use std::alloc::Global;
 use std::marker::Model;
 
-// The mappings of some parts, part after part, at their places. Contracts see it as the list of those that are left.
+/// A walk through the mappings of some parts, part after part, at their places. Contracts see it as the list of those
+/// that are left.
 #[derive(Drop)]
 pub struct JoinedMappings<'a> {
     alloc: Global,

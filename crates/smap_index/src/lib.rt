@@ -31,5 +31,6 @@ mod totals;
 pub use answer::Answer;
 pub use index::Index;
 pub use interval::MOST_INTERVAL;
+pub use joined::JoinedMappings;
 pub use part::Part;
 pub use refusal::{BuildRefusal, EncodeAllRefusal};

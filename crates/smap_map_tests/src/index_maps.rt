@@ -143,6 +143,15 @@ fn assert_answers(rt: &impl Abort, alloc: Global, map: &MapFile, list: &[Mapping
     }
 }
 
+// A walk through the mappings of a map gives these, one by one, and then no more.
+fn assert_walk(rt: &impl Abort, alloc: Global, map: &MapFile, list: &[Mapping]) {
+    let mut walk = map.mappings(alloc);
+    for mapping in list {
+        assert!(rt; walk.next() == Some(*mapping));
+    }
+    assert!(rt; walk.next().is_none());
+}
+
 // Each position of a map is answered by its list of mappings. What the list holds is shown above.
 fn assert_all_answers(
     rt: &impl Abort,
@@ -153,6 +162,7 @@ fn assert_all_answers(
     let map = MapFile::read(alloc, text.as_bytes(), None, interval)?;
     let list = map.decode_all(alloc)?;
     assert_answers(rt, alloc, &map, &list, interval);
+    assert_walk(rt, alloc, &map, &list);
     Ok(())
 }
 

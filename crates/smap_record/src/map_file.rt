@@ -25,7 +25,7 @@ use crate::outer::read_outer;
 use crate::refusal::MapRefusal;
 use crate::sources::sources;
 use crate::write::{WriteRefusal, write_owned};
-use smap_index::{Answer, Index};
+use smap_index::{Answer, Index, JoinedMappings};
 use smap_mappings::{Mapping, Meter};
 use std::alloc::{AllocError, Global};
 use std::marker::Model;
@@ -172,6 +172,15 @@ impl MapFile {
         ensures onward { (meter.old.comparisons ≤ meter.new.comparisons) × (meter.old.segments ≤ meter.new.segments) }
     {
         self.index.look_up(line, column, meter)
+    }
+
+    /// A walk through all mappings, section after section, in order. It takes no memory.
+    pub fn mappings<'a>(&'a self, alloc: Global) -> JoinedMappings<'a>
+        ensures list { result ≡ joined self.now.stated.parts }
+        ensures ordered { IsInOrder (joined self.now.stated.parts) }
+        ensures within { All (IsWithin (length self.now.stated.sources) (length self.now.stated.names)) (joined self.now.stated.parts) }
+    {
+        self.index.mappings(alloc)
     }
 
     /// All mappings, section after section, in order.

@@ -8,7 +8,8 @@ use Rattle.smap_mappings.specs.declared.mapping.Mapping.{Mapping}
 use Rattle.smap_record.specs.ReadBack.{IsRegularMap}
 use Rattle.smap_record.specs.Limits.{most_entries}
 use Rattle.smap_record.specs.Sources.{source_of}
-use Rattle.smap_compose.specs.Composition.{names_together, sources_together}
+use Rattle.smap_index.specs.Answer.{answer_at_or_before}
+use Rattle.smap_compose.specs.Composition.{mappings_of_map, names_together, sources_together}
 use Rattle.smap_compose.proofs.ComposedLaws.{entries_counted, is_regular}
 use Rattle.smap_compose.proofs.composed.compose.Goals as goal
 
@@ -33,3 +34,8 @@ invariant_of-result c =
           (subst (All (IsWithin (sources_together outer inner) (names_together outer inner))) (sym same) c.in_ok-mappings.ensures.within)
           c.in_ok-text.ensures.accepted);
     }
+
+pub returns-clause-answers : goal.returns-clause-answers
+returns-clause-answers c = λ line column.
+    ap (λ list. answer_at_or_before list line column) c.in_ok-mappings.ensures.list
+    ∙ c.answers_are_followed.ensures (mappings_of_map c.args.outer.now.stated) (mappings_of_map c.args.inner.now.stated) c.args.source line column
