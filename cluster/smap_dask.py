@@ -1,0 +1,393 @@
+#!/usr/bin/python3
+"""Rewrites stack traces with smap on all processors of one machine, or of many, by Dask. docs/SCALE.md is its page.
+
+A trace is cut behind line ends into blocks. Each block is one task: a worker reads it from the trace, runs the program
+on it and writes what becomes of it to a part, a file in the output folder. The parts of a trace are joined in order.
+"""
+
+from __future__ import annotations
+
+import argparse
+import json
+import os
+import shutil
+import signal
+import subprocess
+import sys
+import tempfile
+import time
+import uuid
+from collections.abc import Iterator
+from contextlib import contextmanager
+from dataclasses import dataclass, field
+from pathlib import Path
+from typing import NoReturn
+
+try:
+    from dask.system import CPU_COUNT
+    from dask.utils import parse_bytes
+    from distributed import CancelledError, Client, Future, LocalCluster, as_completed
+    from distributed.scheduler import KilledWorker
+except ImportError:
+    print("smap_dask: it needs Debian's packages python3-dask and python3-distributed", file=sys.stderr)
+    sys.exit(127)
+
+ROOT = Path(__file__).resolve().parent.parent
+BUILT = ROOT / "crates" / "smap_cli" / "out" / "smap_cli"
+
+# What the program says, and its status, where a trace can't be read and where what becomes of it can't be written.
+READ_FAILED = (3, "device: X1 Read")
+WRITE_FAILED = (3, "device: X2 Write")
+
+# Half of what the program takes as one trace, so that a block stays below that with the rest of its last line too.
+MOST_BLOCK_BYTES = 536_870_912
+
+# How often a block is begun anew whose program was killed, or whose files could not be opened. (A worker that dies is
+# none of these: Dask gives its blocks to others by itself.)
+RETRIES = 2
+
+# So many URLs are looked for in the block itself; of more, those that can't be in it are left out first.
+FEW_URLS = 32
+
+DIGITS = b"0123456789"
+
+USAGE = """%(prog)s rewrite [--base URL] [--interval K] [--hide-ignored] [--block SIZE]
+                   [--scheduler ADDRESS] [--program PROGRAM] --output DIR URL=FILE.. -- TRACE.."""
+
+HELP = """
+Rewrites each TRACE as `smap rewrite` does, on many processors, to a file of the same name in DIR.
+
+A file stands in DIR under that name only when it is whole. A trace whose file stands there is finished, and is passed
+over: so a run that ended early is given once more, and does what is missing. To have a trace rewritten anew, remove
+its file.
+
+A map is read only where its URL stands in a block.
+"""
+
+END = """
+Statuses: those of the program (0 done, 1 refused, 2 usage, 3 I/O error, or out of memory, or a cluster that failed);
+125 and 127 where the program could not be built or a package is missing. docs/SCALE.md says more.
+"""
+
+
+class Stop(Exception):
+    """The run ends with this status, and these lines on standard error."""
+
+    def __init__(self, status: int, said: str) -> None:
+        super().__init__(said)
+        self.status = status
+        self.said = said
+
+
+# What runs on a worker
+
+
+def named_in(block: bytes, words: list[str]) -> list[str]:
+    """The words URL=FILE whose URL stands somewhere in the block.
+
+    A URL that is not there takes a look at the whole block. So of many URLs only those are looked for that stand on a
+    line of the block once all digits are left out: the lines of a trace differ most in their numbers, and few are left.
+    """
+    urls = [(os.fsencode(word.rpartition("=")[0]), word) for word in words]
+    if len(urls) > FEW_URLS:
+        shapes = b"\n".join(set(block.translate(None, DIGITS).split(b"\n")))
+        urls = [(url, word) for url, word in urls if url.translate(None, DIGITS) in shapes]
+    return [word for url, word in urls if url in block]
+
+
+def rewrite_block(folder: str, trace: str, start: int, length: int) -> tuple[int, str, str, int]:
+    """Rewrites the block of so many bytes that starts there, with the job of this folder of parts. The result is a
+    status and what the program said, and, where that is 0, the path of the part and how many lines the block has.
+
+    Each try writes a part of its own, since a program may outlive its worker for a while.
+    """
+    job = json.loads(Path(folder, "job").read_text())
+    with open(trace, "rb") as file:
+        file.seek(start)
+        block = file.read(length)
+    if len(block) < length:
+        return *READ_FAILED, "", 0
+    part = os.path.join(folder, uuid.uuid4().hex)
+    words = named_in(block, job["words"])
+    if words:
+        with open(part, "xb") as output, tempfile.TemporaryFile() as errors:
+            command = [job["program"], "rewrite", *job["options"], *words]
+            status = subprocess.run(command, input=block, stdout=output, stderr=errors).returncode
+            errors.seek(0)
+            said = errors.read().decode(errors="replace").rstrip("\n")
+        if status < 0:
+            raise ChildProcessError(f"{job['program']} was killed by signal {-status}")
+        if status > 0:
+            return status, said, "", 0
+    else:
+        # No line of it is a frame of a map that is given, so every line stays. The program takes no empty table.
+        try:
+            Path(part).write_bytes(block)
+        except OSError:
+            return *WRITE_FAILED, "", 0
+    return 0, "", part, block.count(b"\n") + (not block.endswith(b"\n"))
+
+
+# What runs where the command is given
+
+
+def cut(trace: Path, size: int) -> Iterator[tuple[int, int]]:
+    """The blocks of a trace, each as where it starts and its length: it ends behind the first line end from its byte
+    number `size` on. So a longer line stays whole, and an empty trace has no block."""
+    with open(trace, "rb") as file:
+        total = os.fstat(file.fileno()).st_size
+        start = 0
+        while start < total:
+            end = start + size - 1
+            file.seek(end)
+            while (piece := file.read(1 << 16)) and b"\n" not in piece:
+                end += len(piece)
+            end = min(end + piece.find(b"\n") + 1, total)
+            yield start, end - start
+            start = end
+
+
+@dataclass
+class Trace:
+    """A trace, and what is there of its text."""
+
+    path: Path
+    final: Path
+    blocks: list[tuple[int, int]] = field(default_factory=list)
+    joined: int = 0
+    waiting: dict[int, Path] = field(default_factory=dict)
+
+    def add(self, number: int, part: Path, whole: Path) -> bool:
+        """Takes the part of a block, and joins those that are next to the file `whole`, which it renames when that is
+        all. The answer is whether it is."""
+        self.waiting[number] = part
+        while self.joined in self.waiting:
+            following = self.waiting.pop(self.joined)
+            if self.joined == 0:
+                following.rename(whole)
+            else:
+                with open(following, "rb") as source, open(whole, "ab") as target:
+                    shutil.copyfileobj(source, target, 1 << 20)
+                following.unlink()
+            self.joined += 1
+        if self.joined == len(self.blocks):
+            place(whole, self.final)
+        return self.joined == len(self.blocks)
+
+
+def place(whole: Path, final: Path) -> None:
+    """Gives a whole file its name, once its bytes are on the disk: the name says that the trace is finished."""
+    with open(whole, "ab") as file:
+        os.fsync(file.fileno())
+    whole.rename(final)
+
+
+@contextmanager
+def folder_of_parts(output: Path) -> Iterator[Path]:
+    """A new folder in the output folder, which is removed at the end whatever happens."""
+    output.mkdir(parents=True, exist_ok=True)
+    folder = Path(tempfile.mkdtemp(prefix=".smap-parts-", dir=output))
+    try:
+        yield folder
+    finally:
+        # Under another name first: what still runs on a worker then can't begin a part in it.
+        shutil.rmtree(folder.rename(f"{folder}-ended"), ignore_errors=True)
+
+
+@contextmanager
+def cluster_of(scheduler: str | None) -> Iterator[Client]:
+    """A client of the scheduler that is given, or of a cluster of this machine, with a worker for each processor."""
+    if scheduler is not None:
+        with Client(scheduler) as client:
+            yield client
+    else:
+        with LocalCluster(n_workers=CPU_COUNT, threads_per_worker=1, dashboard_address=None) as cluster:
+            with Client(cluster) as client:
+                yield client
+
+
+def program_of(given: str | None) -> str:
+    """The path of the program: that which is given, or the one of this repository, which is built where needed."""
+    if given is not None:
+        return os.path.abspath(given)
+    status = subprocess.run([ROOT / "smap", "--version"], stdout=subprocess.DEVNULL).returncode
+    if status != 0:
+        raise Stop(status, "smap_dask: there is no program")
+    return str(BUILT)
+
+
+def try_options(program: str, options: list[str], folder: Path) -> None:
+    """Has the program read the options, over a map without mappings and an empty trace, before any block is begun."""
+    empty = folder / "empty.map"
+    empty.write_text('{"version":3,"sources":[],"mappings":""}')
+    command = [program, "rewrite", *options, f"none={empty}"]
+    tried = subprocess.run(command, stdin=subprocess.DEVNULL, capture_output=True, text=True)
+    if tried.returncode != 0:
+        raise Stop(tried.returncode, tried.stderr.rstrip("\n"))
+
+
+def traces_to_do(paths: list[str], output: Path) -> list[Trace]:
+    """The traces that have no file in the output folder yet."""
+    finals: dict[Path, Path] = {}
+    for path in map(Path, paths):
+        final = output / path.name
+        if not path.is_file() or not os.access(path, os.R_OK):
+            raise Stop(3, f"device: read {path}")
+        if final in finals:
+            raise Stop(2, f"usage: two traces are to be {final}")
+        if final.exists() and final.samefile(path):
+            raise Stop(2, f"usage: the trace itself is {final}")
+        finals[final] = path.absolute()
+    return [Trace(path, final) for final, path in finals.items() if not final.exists()]
+
+
+def show(done: int, total: int) -> None:
+    """A bar of the blocks that are done. Dask's own needs the results of all to be kept where they were made, so that
+    the blocks of a worker that dies would all be done again, those that are joined too."""
+    if sys.stderr.isatty():
+        end = "\r\33[2K" if done == total else ""
+        print(
+            f"\r[{'#' * (40 * done // total):<40}] {done} of {total} blocks{end}", end="", file=sys.stderr, flush=True
+        )
+
+
+def rewrite_all(client: Client, traces: list[Trace], folder: Path) -> int:
+    """Has all blocks rewritten, and joins what becomes of them. The answer is how many lines they have."""
+    lines = 0
+    tasks = [(trace, number) for trace in traces for number in range(len(trace.blocks))]
+    futures: list[Future] = client.map(
+        rewrite_block,
+        [str(folder)] * len(tasks),
+        [str(trace.path) for trace, _ in tasks],
+        [trace.blocks[number][0] for trace, number in tasks],
+        [trace.blocks[number][1] for trace, number in tasks],
+        pure=False,
+        retries=RETRIES,
+    )
+    tasks_of = {future.key: task for future, task in zip(futures, tasks)}
+    completed = as_completed(futures, with_results=True)
+    # A future that is let go once it is done is not done again where its worker dies.
+    del futures
+    try:
+        for done, (future, result) in enumerate(completed, start=1):
+            if isinstance(result, CancelledError):
+                raise result
+            status, said, part, count = result
+            if status != 0:
+                raise Stop(status, said)
+            trace, number = tasks_of.pop(future.key)
+            lines += count
+            try:
+                trace.add(number, Path(part), folder / f"whole-{trace.path.name}")
+            except OSError:
+                raise Stop(*WRITE_FAILED) from None
+            show(done, len(tasks))
+    finally:
+        client.cancel(list(completed.futures))
+    return lines
+
+
+def block_bytes(text: str) -> int:
+    size = parse_bytes(text)
+    if not 1 <= size <= MOST_BLOCK_BYTES:
+        raise ValueError
+    return size
+
+
+def arguments(words: list[str]) -> argparse.Namespace:
+    """The arguments, of which those behind the first `--` are the traces."""
+    split = words.index("--") if "--" in words else len(words)
+    parser = argparse.ArgumentParser(description="Runs smap on many processors, by Dask.", allow_abbrev=False)
+    commands = parser.add_subparsers(metavar="COMMAND", required=True)
+    rewrite = commands.add_parser(
+        "rewrite",
+        usage=USAGE % {"prog": parser.prog},
+        description=HELP,
+        epilog=END,
+        formatter_class=argparse.RawDescriptionHelpFormatter,
+        help="rewrite stack traces to the sources",
+        allow_abbrev=False,
+    )
+    rewrite.add_argument("--base", metavar="URL", help="as of `smap rewrite`")
+    rewrite.add_argument("--interval", metavar="K", help="as of `smap rewrite`")
+    rewrite.add_argument("--hide-ignored", action="store_true", help="as of `smap rewrite`")
+    rewrite.add_argument(
+        "--block",
+        metavar="SIZE",
+        type=block_bytes,
+        default="64MiB",
+        help="bytes of a block, to which the rest of a line comes: 1 to 512MiB, as 64MiB or 1e6; %(default)s where not given",
+    )
+    rewrite.add_argument(
+        "--scheduler",
+        metavar="ADDRESS",
+        help="a scheduler whose workers see all these files under the same paths, as tcp://10.0.0.1:8786; "
+        "where not given, a cluster of this machine is started, with a worker for each processor",
+    )
+    rewrite.add_argument(
+        "--program", metavar="PROGRAM", help="smap itself; where not given, that which ./smap of this repository builds"
+    )
+    rewrite.add_argument("--output", metavar="DIR", type=Path, required=True, help="made where it is missing")
+    rewrite.add_argument("words", metavar="URL=FILE", nargs="+", help="the URL of frames, and the path of its map")
+    given = parser.parse_args(words[:split])
+    given.traces = words[split + 1 :]
+    if not given.traces:
+        rewrite.error("there is no `--` with a TRACE behind it")
+    return given
+
+
+def run(given: argparse.Namespace) -> str:
+    """Does what is missing. The answer is the line that tells what was done."""
+    begun = time.monotonic()
+    words = []
+    for word in given.words:
+        url, sign, file = word.rpartition("=")
+        if not sign:
+            raise Stop(2, f"usage: no URL=FILE: {word}")
+        words.append(f"{url}={os.path.abspath(file)}")
+    options = ["--hide-ignored"] if given.hide_ignored else []
+    for name, value in (("--base", given.base), ("--interval", given.interval)):
+        options += [] if value is None else [f"{name}={value}"]
+    traces = traces_to_do(given.traces, given.output.absolute())
+    program = program_of(given.program)
+    lines = 0
+    with folder_of_parts(given.output.absolute()) as folder:
+        try_options(program, options, folder)
+        for trace in traces:
+            trace.blocks = list(cut(trace.path, given.block))
+            if not trace.blocks:
+                whole = folder / "empty"
+                whole.touch()
+                place(whole, trace.final)
+        full = [trace for trace in traces if trace.blocks]
+        (folder / "job").write_text(json.dumps({"program": program, "options": options, "words": words}))
+        if full:
+            with cluster_of(given.scheduler) as client:
+                lines = rewrite_all(client, full, folder)
+    blocks = sum(len(trace.blocks) for trace in traces)
+    return (
+        f"ok traces {len(traces)} finished before {len(given.traces) - len(traces)} blocks {blocks} lines {lines} "
+        f"seconds {time.monotonic() - begun:.1f}"
+    )
+
+
+def end(status: int, said: str) -> NoReturn:
+    print(said, file=sys.stderr)
+    sys.exit(status)
+
+
+def main() -> None:
+    # Ends as an error does, so that the parts are removed.
+    signal.signal(signal.SIGTERM, lambda *_: sys.exit(128 + signal.SIGTERM))
+    try:
+        print(run(arguments(sys.argv[1:])))
+    except Stop as stop:
+        end(stop.status, stop.said)
+    except KeyboardInterrupt:
+        end(128 + signal.SIGINT, "smap_dask: interrupted")
+    except (OSError, KilledWorker, CancelledError) as error:
+        end(3, f"smap_dask: {error}")
+
+
+if __name__ == "__main__":
+    main()
