@@ -265,22 +265,22 @@ def rewrite_all(client: Client, traces: list[Trace], folder: Path) -> int:
         retries=RETRIES,
     )
     tasks_of = {future.key: task for future, task in zip(futures, tasks)}
-    completed = as_completed(futures, with_results=True)
-    # A future that is let go once it is done is not done again where its worker dies.
+    completed = as_completed(futures)
+    # A future that is let go once its result is here is not done again where its worker dies.
     del futures
     try:
-        for done, (future, result) in enumerate(completed, start=1):
-            if isinstance(result, CancelledError):
-                raise result
-            status, said, part, count = result
-            if status != 0:
-                raise Stop(status, said)
-            trace, number = tasks_of.pop(future.key)
-            lines += count
-            try:
-                trace.add(number, Path(part), folder / f"whole-{trace.path.name}")
-            except OSError:
-                raise Stop(*WRITE_FAILED) from None
+        done = 0
+        for batch in completed.batches():
+            for future, (status, said, part, count) in zip(batch, client.gather(batch)):
+                if status != 0:
+                    raise Stop(status, said)
+                trace, number = tasks_of.pop(future.key)
+                lines += count
+                try:
+                    trace.add(number, Path(part), folder / f"whole-{trace.path.name}")
+                except OSError:
+                    raise Stop(*WRITE_FAILED) from None
+                done += 1
             show(done, len(tasks))
     finally:
         client.cancel(list(completed.futures))
