@@ -9,6 +9,7 @@ from __future__ import annotations
 
 import argparse
 import json
+import logging
 import os
 import shutil
 import signal
@@ -201,7 +202,13 @@ def cluster_of(scheduler: str | None) -> Iterator[Client]:
         with Client(scheduler) as client:
             yield client
     else:
-        with LocalCluster(n_workers=CPU_COUNT, threads_per_worker=1, dashboard_address=None) as cluster:
+        # An interrupt from the keyboard is for this process alone, which then ends the workers: they pass over it.
+        handler = signal.signal(signal.SIGINT, signal.SIG_IGN)
+        quiet = logging.CRITICAL
+        with LocalCluster(
+            n_workers=CPU_COUNT, threads_per_worker=1, dashboard_address=None, silence_logs=quiet
+        ) as cluster:
+            signal.signal(signal.SIGINT, handler)
             with Client(cluster) as client:
                 yield client
 
@@ -241,14 +248,10 @@ def traces_to_do(paths: list[str], output: Path) -> list[Trace]:
     return [Trace(path, final) for final, path in finals.items() if not final.exists()]
 
 
-def show(done: int, total: int) -> None:
-    """A bar of the blocks that are done. Dask's own needs the results of all to be kept where they were made, so that
-    the blocks of a worker that dies would all be done again, those that are joined too."""
+def show(bar: str) -> None:
+    """Writes this in place of the line, where standard error is a terminal."""
     if sys.stderr.isatty():
-        end = "\r\33[2K" if done == total else ""
-        print(
-            f"\r[{'#' * (40 * done // total):<40}] {done} of {total} blocks{end}", end="", file=sys.stderr, flush=True
-        )
+        print(f"\r\33[2K{bar}", end="", file=sys.stderr, flush=True)
 
 
 def rewrite_all(client: Client, traces: list[Trace], folder: Path) -> int:
@@ -281,8 +284,11 @@ def rewrite_all(client: Client, traces: list[Trace], folder: Path) -> int:
                 except OSError:
                     raise Stop(*WRITE_FAILED) from None
                 done += 1
-            show(done, len(tasks))
+            # Dask's own bar needs the results of all blocks to be kept on their workers. Of a worker that dies all would
+            # then be done again, those that are joined too.
+            show(f"[{'#' * (40 * done // len(tasks)):<40}] {done} of {len(tasks)} blocks")
     finally:
+        show("")
         client.cancel(list(completed.futures))
     return lines
 
