@@ -3,7 +3,7 @@
 # of about 300 MB over 20 maps, and on 200 traces of as much together, each over 3 of these maps.
 #
 # The maps are made of a real one, MAP (cut-maps.js), and the places of the frames are by chance (make-trace.js); the
-# large trace is four times the same. It goes to a file, and each of the small ones to its own, by one process after
+# large trace is REPEATS times the same, 4 where it is not given. It goes to a file, and each of the small ones to its own, by one process after
 # another, by parallel, and by a scheduler and workers that run already. The time is that of the whole command: of the
 # script a part of it is Python's start, so that what it says itself is told beside it. The last row is the script with
 # a cluster of its own, which it starts and ends, with a worker for each processor. All have to write the same bytes.
@@ -11,7 +11,7 @@
 # It needs Debian's packages parallel, python3-dask and python3-distributed. MAP is of node-babel7-debug, and the modules
 # are of node-ampproject-remapping. All files are in memory, in TMPDIR or else in /dev/shm: 2 GB. PROGRAM times that
 # program in place of the one of this repository. MAPS, BYTES, LINES and BLOCK say how many maps there are, of how many
-# bytes together, how many lines a quarter of the trace has, and how many bytes a block.
+# bytes together, how many lines are repeated, and how many bytes a block has. With REPEATS=14 the trace has about 1 GB.
 set -euo pipefail
 
 RUNS=${RUNS:-2}
@@ -21,6 +21,7 @@ real=${MAP:-/usr/share/nodejs/@babel/parser/lib/index.js.map}
 count=${MAPS:-20}
 most=${BYTES:-8000000}
 lines=${LINES:-1050000}
+repeats=${REPEATS:-4}
 block=${BLOCK:-38000000}
 url=https://example.test/js
 python=/usr/bin/python3
@@ -50,9 +51,9 @@ mkdir maps small
 node "$root/bench/cut-maps.js" "$real" "$count" "$most" maps
 words=()
 for ((i = 0; i < count; i++)); do words+=("$url/chunk-$i.js=$folder/maps/$i"); done
-node "$root/bench/make-trace.js" "$lines" "${words[@]}" >quarter
-cat quarter quarter quarter quarter >large
-rm quarter
+node "$root/bench/make-trace.js" "$lines" "${words[@]}" >repeated
+for ((i = 0; i < repeats; i++)); do cat repeated; done >large
+rm repeated
 for ((i = 0; i < 20; i++)); do
     three=()
     for ((j = 0; j < 3; j++)); do three+=("${words[(i + j) % count]}"); done

@@ -150,37 +150,36 @@ def cut(trace: Path, size: int) -> Iterator[tuple[int, int]]:
 
 @dataclass
 class Trace:
-    """A trace, and what is there of its text."""
+    """A trace, the file that is to stand in the output folder, and how far its parts are joined."""
 
     path: Path
     final: Path
+    whole: Path
     blocks: list[tuple[int, int]] = field(default_factory=list)
     joined: int = 0
     waiting: dict[int, Path] = field(default_factory=dict)
 
-    def add(self, number: int, part: Path, whole: Path) -> bool:
-        """Takes the part of a block, and joins those that are next to the file `whole`, which it renames when that is
-        all. The answer is whether it is."""
+    def add(self, number: int, part: Path) -> None:
+        """Takes the part of a block, and joins those whose turn it is. The first becomes the file of the whole, which
+        gets its name behind the last."""
         self.waiting[number] = part
         while self.joined in self.waiting:
             following = self.waiting.pop(self.joined)
             if self.joined == 0:
-                following.rename(whole)
+                following.rename(self.whole)
             else:
-                with open(following, "rb") as source, open(whole, "ab") as target:
+                with open(following, "rb") as source, open(self.whole, "ab") as target:
                     shutil.copyfileobj(source, target, 1 << 20)
                 following.unlink()
             self.joined += 1
         if self.joined == len(self.blocks):
-            place(whole, self.final)
-        return self.joined == len(self.blocks)
+            self.finish()
 
-
-def place(whole: Path, final: Path) -> None:
-    """Gives a whole file its name, once its bytes are on the disk: the name says that the trace is finished."""
-    with open(whole, "ab") as file:
-        os.fsync(file.fileno())
-    whole.rename(final)
+    def finish(self) -> None:
+        """Gives the whole its name, once its bytes are on the disk: the name says that the trace is finished."""
+        with open(self.whole, "ab") as file:
+            os.fsync(file.fileno())
+        self.whole.rename(self.final)
 
 
 @contextmanager
@@ -233,8 +232,8 @@ def try_options(program: str, options: list[str], folder: Path) -> None:
         raise Stop(tried.returncode, tried.stderr.rstrip("\n"))
 
 
-def traces_to_do(paths: list[str], output: Path) -> list[Trace]:
-    """The traces that have no file in the output folder yet."""
+def traces_to_do(paths: list[str], output: Path) -> list[tuple[Path, Path]]:
+    """The traces that have no file in the output folder yet, each with that file."""
     finals: dict[Path, Path] = {}
     for path in map(Path, paths):
         final = output / path.name
@@ -245,7 +244,7 @@ def traces_to_do(paths: list[str], output: Path) -> list[Trace]:
         if final.exists() and final.samefile(path):
             raise Stop(2, f"usage: the trace itself is {final}")
         finals[final] = path.absolute()
-    return [Trace(path, final) for final, path in finals.items() if not final.exists()]
+    return [(path, final) for final, path in finals.items() if not final.exists()]
 
 
 def show(bar: str) -> None:
@@ -280,7 +279,7 @@ def rewrite_all(client: Client, traces: list[Trace], folder: Path) -> int:
                 trace, number = tasks_of.pop(future.key)
                 lines += count
                 try:
-                    trace.add(number, Path(part), folder / f"whole-{trace.path.name}")
+                    trace.add(number, Path(part))
                 except OSError:
                     raise Stop(*WRITE_FAILED) from None
                 done += 1
@@ -354,30 +353,29 @@ def run(given: argparse.Namespace) -> str:
     options = ["--hide-ignored"] if given.hide_ignored else []
     for name, value in (("--base", given.base), ("--interval", given.interval)):
         options += [] if value is None else [f"{name}={value}"]
-    traces = traces_to_do(given.traces, given.output.absolute())
+    output = given.output.absolute()
+    to_do = traces_to_do(given.traces, output)
     program = program_of(given.program)
     lines = 0
-    with folder_of_parts(given.output.absolute()) as folder:
+    with folder_of_parts(output) as folder:
         try_options(program, options, folder)
+        (folder / "job").write_text(json.dumps({"program": program, "options": options, "words": words}))
+        traces = [Trace(path, final, folder / f"whole-{number}") for number, (path, final) in enumerate(to_do)]
         for trace in traces:
             trace.blocks = list(cut(trace.path, given.block))
             if not trace.blocks:
-                whole = folder / "empty"
-                whole.touch()
-                place(whole, trace.final)
-        full = [trace for trace in traces if trace.blocks]
-        (folder / "job").write_text(json.dumps({"program": program, "options": options, "words": words}))
-        if full:
+                trace.finish()
+        blocks = sum(len(trace.blocks) for trace in traces)
+        if blocks > 0:
             with cluster_of(given.scheduler) as client:
-                lines = rewrite_all(client, full, folder)
-    blocks = sum(len(trace.blocks) for trace in traces)
+                lines = rewrite_all(client, traces, folder)
     return (
         f"ok traces {len(traces)} finished before {len(given.traces) - len(traces)} blocks {blocks} lines {lines} "
         f"seconds {time.monotonic() - begun:.1f}"
     )
 
 
-def end(status: int, said: str) -> NoReturn:
+def fail(status: int, said: str) -> NoReturn:
     print(said, file=sys.stderr)
     sys.exit(status)
 
@@ -388,11 +386,11 @@ def main() -> None:
     try:
         print(run(arguments(sys.argv[1:])))
     except Stop as stop:
-        end(stop.status, stop.said)
+        fail(stop.status, stop.said)
     except KeyboardInterrupt:
-        end(128 + signal.SIGINT, "smap_dask: interrupted")
+        fail(128 + signal.SIGINT, "smap_dask: interrupted")
     except (OSError, KilledWorker, CancelledError) as error:
-        end(3, f"smap_dask: {error}")
+        fail(3, f"smap_dask: {error}")
 
 
 if __name__ == "__main__":
