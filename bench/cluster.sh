@@ -115,7 +115,7 @@ report() {
 
 # A scheduler of this machine and so many workers, of one thread each.
 start_workers() {
-    local place=(--host 127.0.0.1 --no-dashboard)
+    local place=(--host 127.0.0.1 --dashboard-address 127.0.0.1:0)
     "$python" -m distributed.cli.dask_scheduler "${place[@]}" --port 0 --scheduler-file scheduler 2>>dask.log &
     started+=($!)
     "$python" -m distributed.cli.dask_worker --scheduler-file scheduler "${place[@]}" --local-directory "$folder" \

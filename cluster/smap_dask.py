@@ -52,6 +52,9 @@ FEW_URLS = 32
 
 DIGITS = b"0123456789"
 
+# A free port that only this machine reaches.
+LOOPBACK = "127.0.0.1:0"
+
 USAGE = """%(prog)s rewrite [--base URL] [--interval K] [--hide-ignored] [--block SIZE]
                    [--scheduler ADDRESS] [--program PROGRAM] --output DIR URL=FILE.. -- TRACE.."""
 
@@ -203,9 +206,13 @@ def cluster_of(scheduler: str | None) -> Iterator[Client]:
     else:
         # An interrupt from the keyboard is for this process alone, which then ends the workers: they pass over it.
         handler = signal.signal(signal.SIGINT, signal.SIG_IGN)
-        quiet = logging.CRITICAL
         with LocalCluster(
-            n_workers=CPU_COUNT, threads_per_worker=1, dashboard_address=None, silence_logs=quiet
+            n_workers=CPU_COUNT,
+            threads_per_worker=1,
+            # Without these their pages would be there for other machines too.
+            dashboard_address=LOOPBACK,
+            worker_dashboard_address=LOOPBACK,
+            silence_logs=logging.CRITICAL,
         ) as cluster:
             signal.signal(signal.SIGINT, handler)
             with Client(cluster) as client:
@@ -293,9 +300,12 @@ def rewrite_all(client: Client, traces: list[Trace], folder: Path) -> int:
 
 
 def block_bytes(text: str) -> int:
-    size = parse_bytes(text)
+    try:
+        size: int = parse_bytes(text)
+    except ValueError:
+        size = 0
     if not 1 <= size <= MOST_BLOCK_BYTES:
-        raise ValueError
+        raise argparse.ArgumentTypeError(f"{text} is not 1 to 512MiB")
     return size
 
 
