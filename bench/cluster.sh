@@ -1,17 +1,19 @@
 #!/usr/bin/env bash
-# Times one `smap rewrite`, GNU parallel with 1, 2 and 4 jobs and cluster/smap_dask.py with 1, 2 and 4 workers, on a trace
-# of about 300 MB over 20 maps, and on 200 traces of as much together, each over 3 of these maps.
+# Times one `smap rewrite`, GNU parallel with 1, 2 and 4 jobs and cluster/smap_dask.py with 1, 2 and 4 workers, on a
+# trace of about 300 MB over 20 maps, and on 200 traces of as much together, each over 3 of these maps.
 #
 # The maps are made of a real one, MAP (cut-maps.js), and the places of the frames are by chance (make-trace.js); the
-# large trace is REPEATS times the same, 4 where it is not given. It goes to a file, and each of the small ones to its own, by one process after
-# another, by parallel, and by a scheduler and workers that run already. The time is that of the whole command: of the
-# script a part of it is Python's start, so that what it says itself is told beside it. The last row is the script with
-# a cluster of its own, which it starts and ends, with a worker for each processor. All have to write the same bytes.
+# large trace is REPEATS times the same, 4 where it is not given. It goes to a file, and each of the small ones to its
+# own, by one process after another, by parallel, and by a scheduler and workers that run already. The time is that of
+# the whole command: of the script a part of it is Python's start, so that what it says itself is told beside it. The
+# last row is the script with a cluster of its own, which it starts and ends, with a worker for each processor. All have
+# to write the same bytes.
 #
-# It needs Debian's packages parallel, python3-dask and python3-distributed. MAP is of node-babel7-debug, and the modules
-# are of node-ampproject-remapping. All files are in memory, in TMPDIR or else in /dev/shm: 2 GB. PROGRAM times that
-# program in place of the one of this repository. MAPS, BYTES, LINES and BLOCK say how many maps there are, of how many
-# bytes together, how many lines are repeated, and how many bytes a block has. With REPEATS=14 the trace has about 1 GB.
+# It needs Debian's packages parallel, python3-dask and python3-distributed. MAP is of node-babel7-debug, and the
+# modules are of node-ampproject-remapping. All files are in memory, in TMPDIR or else in /dev/shm: 2 GB. PROGRAM times
+# that program in place of the one of this repository. MAPS, BYTES, LINES and BLOCK say how many maps there are, of how
+# many bytes together, how many lines are repeated, and how many bytes a block has. With REPEATS=14 the trace has about
+# 1 GB.
 set -euo pipefail
 
 RUNS=${RUNS:-2}
@@ -151,7 +153,8 @@ compared() {
     rm -rf by_one
 }
 
-printf 'best time of %s runs; %s processors, load %s; %s; Dask %s\n' "$runs" "$(nproc)" "$(cut -d ' ' -f 1-2 /proc/loadavg)" \
+printf 'best time of %s runs; %s processors, load %s; %s; Dask %s\n' \
+    "$runs" "$(nproc)" "$(cut -d ' ' -f 1-2 /proc/loadavg)" \
     "$(parallel --version | head -n 1)" "$("$python" -c 'import distributed; print(distributed.__version__)')"
 compared 'one trace' large
 compared "$(find small -type f | wc -l) traces" small/*

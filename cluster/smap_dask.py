@@ -290,8 +290,8 @@ def rewrite_all(client: Client, traces: list[Trace], folder: Path) -> int:
                 except OSError:
                     raise Stop(*WRITE_FAILED) from None
                 done += 1
-            # Dask's own bar needs the results of all blocks to be kept on their workers. Of a worker that dies all would
-            # then be done again, those that are joined too.
+            # Dask's own bar needs the results of all blocks to be kept on their workers. Of a worker that dies all
+            # would then be done again, those that are joined too.
             show(f"[{'#' * (40 * done // len(tasks)):<40}] {done} of {len(tasks)} blocks")
     finally:
         show("")
@@ -331,7 +331,8 @@ def arguments(words: list[str]) -> argparse.Namespace:
         metavar="SIZE",
         type=block_bytes,
         default="64MiB",
-        help="bytes of a block, to which the rest of a line comes: 1 to 512MiB, as 64MiB or 1e6; %(default)s where not given",
+        help="bytes of a block, to which the rest of a line comes: 1 to 512MiB, as 64MiB or 1e6; "
+        "%(default)s where not given",
     )
     rewrite.add_argument(
         "--scheduler",
