@@ -17,9 +17,9 @@
 set -euo pipefail
 
 RUNS=${RUNS:-2}
+export TMPDIR=${TMPDIR:-/dev/shm}
 # shellcheck source=timing.sh
 . "$(dirname -- "$(readlink -f -- "${BASH_SOURCE[0]}")")/timing.sh"
-real=${MAP:-/usr/share/nodejs/@babel/parser/lib/index.js.map}
 count=${MAPS:-20}
 most=${BYTES:-8000000}
 lines=${LINES:-1050000}
@@ -28,17 +28,15 @@ block=${BLOCK:-38000000}
 url=https://example.test/js
 python=/usr/bin/python3
 
-for needed in "$real" /usr/bin/parallel /usr/lib/python3/dist-packages/distributed; do
+for needed in /usr/bin/parallel /usr/lib/python3/dist-packages/distributed; do
     if [ ! -r "$needed" ]; then
         printf 'there is no %s\n' "$needed" >&2
         exit 1
     fi
 done
-find_program
 
 # What was started and still runs.
 started=()
-folder=$(mktemp -d -p "${TMPDIR:-/dev/shm}")
 finish() {
     for process in "${started[@]}"; do
         if kill "$process" 2>/dev/null; then wait "$process" || true; fi
