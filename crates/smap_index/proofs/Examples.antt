@@ -7,7 +7,7 @@ use Rattle.smap_mappings.specs.Pieces.{pieces_of, pieces_from, pieces_on}
 use Rattle.smap_mappings.specs.Counts.{used_lines_of}
 use Rattle.smap_mappings.specs.Mappings.{mappings_of, mapping_after, moves_of, values_on}
 use Rattle.smap_mappings.specs.declared.mapping.Mapping.{Mapping}
-use Rattle.smap_index.specs.Answer.{answer_at_or_before}
+use Rattle.smap_index.specs.Answer.{answer_at_or_before, answer_at_or_after}
 use Rattle.smap_index.specs.Parts.{placed, joined}
 use Rattle.smap_index.specs.Faults.{order_fault, overlap_fault, range_fault, part_fault, build_fault}
 use Rattle.smap_index.specs.declared.refusal.BuildRefusal.TheVariants.{Interval, SectionOrder, SectionOverlap, PositionRange}
@@ -122,6 +122,34 @@ without_origin = refl
 never_the_line_before : answer_at_or_before (unmapped_at 0 1 ∷ unmapped_at 1 4 ∷ []) 1 3 ≡ Nothing
 unfolding answer_at_or_before unmapped_at
 never_the_line_before = refl
+
+-- ---- answers in the other direction
+
+first_from_the_column : answer_at_or_after (joined (whole (codes "AAAA,CAAC,CAAC,CAAC,CAAC"))) 0 3 ≡ Found 3 (record { source = 0; line = 0; column = 3; name = None })
+unfolding answer_at_or_after whole placed mappings_of mapping_after moves_of values_on pieces_of pieces_from pieces_on fields_of number_of unsigned_of digit_of
+first_from_the_column = refl
+
+nothing_past_the_last : answer_at_or_after (unmapped_at 0 3 ∷ unmapped_at 1 4 ∷ []) 0 4 ≡ Nothing
+unfolding answer_at_or_after unmapped_at
+nothing_past_the_last = refl
+
+-- of equal columns the first answers, and with it the earlier part
+first_of_equal_columns : answer_at_or_after (joined (at 0 0 (codes "AAAA,UAAA") ∷ at 0 10 (codes "AAEA") ∷ [])) 0 1 ≡ Found 10 (record { source = 0; line = 0; column = 0; name = None })
+unfolding answer_at_or_after at placed mappings_of mapping_after moves_of values_on pieces_of pieces_from pieces_on fields_of number_of unsigned_of digit_of
+first_of_equal_columns = refl
+
+first_at_the_column : answer_at_or_after (mapped_at 0 1 0 7 2 ∷ unmapped_at 0 1 ∷ []) 0 1 ≡ Found 1 (record { source = 0; line = 7; column = 2; name = None })
+unfolding answer_at_or_after unmapped_at mapped_at
+first_at_the_column = refl
+
+-- the next section's mapping answers where the one in front of it has none left
+first_of_the_next_part : answer_at_or_after (joined (at 0 0 (codes "AAAA") ∷ record { line = 0; column = 10; text = codes "CAAA"; source_base = 1; name_base = 0 } ∷ [])) 0 1 ≡ Found 11 (record { source = 1; line = 0; column = 0; name = None })
+unfolding answer_at_or_after at placed mappings_of mapping_after moves_of values_on pieces_of pieces_from pieces_on fields_of number_of unsigned_of digit_of
+first_of_the_next_part = refl
+
+first_without_origin : answer_at_or_after (unmapped_at 0 0 ∷ unmapped_at 0 1 ∷ []) 0 1 ≡ Unmapped 1
+unfolding answer_at_or_after unmapped_at
+first_without_origin = refl
 
 -- ---- checkpoints and counts
 

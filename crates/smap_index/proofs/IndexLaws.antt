@@ -1,8 +1,10 @@
 -- What the table of every index meets.
-use Rattle.std.proofs.Common.{◌≡◌, ℕ, ◌+◌, ◌-◌, ◌/◌, ◌^◌, ◌<◌, ◌≤◌, length, take, drop, Some, None, false, refl, sym, ap, subst, ◌∙◌, arith, get_or}
+use Rattle.std.proofs.Common.{◌≡◌, ℕ, ◌+◌, ◌-◌, ◌/◌, ◌^◌, ◌<◌, ◌≤◌, length, take, drop, Option, Some, None, false, refl, sym, ap, subst, ◌∙◌, arith, get_or}
+use Rattle.std.specs.Prelude.{option_map}
 use Rattle.std.specs.List.{list_any}
+use Rattle.std.specs.Option.{option_or}
 use Rattle.std.proofs.lemmas.Bool.{and_parts, leb-true}
-use Rattle.std.proofs.lemmas.Option.{slice_get_within, get_or_from_slice_get}
+use Rattle.std.proofs.lemmas.Option.{slice_get_within, get_or_from_slice_get, slice_get-map}
 use Rattle.std.proofs.lemmas.Slice.Zip.{AllZip-long}
 use Rattle.smap_mappings.specs.Order.{IsInOrder}
 use Rattle.smap_mappings.specs.Range.{is_mapping_past_limit}
@@ -13,16 +15,18 @@ use Rattle.smap_index.specs.Parts.{placed, joined}
 use Rattle.smap_index.specs.Answer.{answer_of, answer_at_or_before}
 use Rattle.smap_index.specs.Faults.{most_interval}
 use Rattle.smap_index.specs.Marks.{marks, IsCheckpointOf, used_lines_in}
-use Rattle.smap_index.specs.Search.{mappings_at, last_from, last_checkpoint}
+use Rattle.smap_index.specs.Search.{mappings_at, front_up_to, last_from, first_past, last_checkpoint, next_checkpoint}
 use Rattle.smap_index.specs.Index.{IndexContents, IsIndex}
 use Rattle.smap_index.specs.declared.answer.Answer.TheVariants.{Nothing}
+use Rattle.smap_index.specs.declared.bound.Bound.{Bound}
 use Rattle.smap_index.specs.declared.part.Part.{Part}
 use Rattle.smap_index.specs.declared.checkpoint.Checkpoint.{Checkpoint}
+use Rattle.smap_index.proofs.AnswerLaws.{through}
 use Rattle.smap_index.proofs.RefusalLaws.{faultless, all_in_range}
 use Rattle.smap_index.proofs.Tiles.{IsTiled}
 use Rattle.smap_index.proofs.TileLaws.{tiled, table_in_order}
 use Rattle.smap_index.proofs.FewLaws.{few_marks}
-use Rattle.smap_index.proofs.ResumeLaws.{IsResumed, resumed, none_answers, none_on_line, last_answers_on_line}
+use Rattle.smap_index.proofs.ResumeLaws.{IsResumed, resumed, none_resumed, none_answers, none_on_line, last_answers_on_line}
 
 module _ (index : IndexContents) (is : IsIndex index) where
   -- its interval is one at which checkpoints may stand
@@ -53,46 +57,83 @@ module _ (index : IndexContents) (is : IsIndex index) where
   pub compared : (seen : IndexContents) → index ≡ seen → (next count : ℕ) → ((b : ℕ) → length index.checkpoints < 2 ^ b → next ≤ count + b) → (b : ℕ) → length (marks seen.parts seen.k) < 2 ^ b → next ≤ count + b
   compared seen same next count few b below = few b (subst (λ n. n < 2 ^ b) (sym (as_many seen same)) below)
 
-  -- ---- the last checkpoint
+  pub mappings_in_order : (seen : IndexContents) → index ≡ seen → IsInOrder (joined seen.parts)
+  mappings_in_order seen same = subst (λ (i : IndexContents). IsInOrder (joined i.parts)) same is.holds.ordered
 
-  module _ (line column : ℕ) where
-    -- nothing answers, where there is none
-    pub none_at_or_before : (seen : IndexContents) → index ≡ seen → last_checkpoint line column index.checkpoints ≡ None → answer_at_or_before (joined seen.parts) line column ≡ Nothing
-    none_at_or_before seen same none =
-        ap (λ (i : IndexContents). answer_at_or_before (joined i.parts) line column) (sym same)
-        ∙ none_answers line column index.parts index.k (joined index.parts) index.checkpoints is.holds.ordered table_tiled none
+  -- ---- the checkpoints next to a bound
 
-    module _ (checkpoint : Checkpoint) (last : Some checkpoint ≡ last_checkpoint line column index.checkpoints) where
-      found : IsResumed line column index.parts index.k (joined index.parts) checkpoint
-      found = resumed line column index.parts index.k (joined index.parts) index.checkpoints checkpoint is.holds.ordered table_tiled (sym last)
+  module _ (bound : Bound) where
+    -- where no checkpoint stands up to it, the first past it is the next checkpoint's mapping
+    pub first_of_table : (seen : IndexContents) → index ≡ seen → last_checkpoint bound index.checkpoints ≡ None → option_map mapping_of (next_checkpoint bound index.checkpoints) ≡ first_past bound (joined seen.parts)
+    first_of_table seen same none =
+        sym (slice_get-map mapping_of index.checkpoints (front_up_to bound (mappings_at index.checkpoints)))
+        ∙ sym (none_resumed bound index.parts index.k (joined index.parts) index.checkpoints table_tiled none).1
+        ∙ ap (λ (i : IndexContents). first_past bound (joined i.parts)) same
+
+    module _ (checkpoint : Checkpoint) (last : Some checkpoint ≡ last_checkpoint bound index.checkpoints) where
+      pub found : IsResumed bound index.parts index.k (joined index.parts) index.checkpoints checkpoint
+      found = resumed bound index.parts index.k (joined index.parts) index.checkpoints checkpoint is.holds.ordered table_tiled (sym last)
 
       pub part_within : checkpoint.part < length index.parts
       part_within = slice_get_within index.parts checkpoint.part found.part found.part_is
 
-      -- nothing answers, where it stands on another line
-      pub none_on_its_line : (seen : IndexContents) → index ≡ seen → ((mapping_of checkpoint).line ≡ line → ⊥) → answer_at_or_before (joined seen.parts) line column ≡ Nothing
-      none_on_its_line seen same other =
-          ap (λ (i : IndexContents). answer_at_or_before (joined i.parts) line column) (sym same)
-          ∙ none_on_line line column index.parts index.k (joined index.parts) checkpoint is.holds.ordered found other
+      -- it is so too where the last one that does stands on another line
+      pub first_elsewhere : (seen : IndexContents) → index ≡ seen → ((mapping_of checkpoint).line ≡ bound.position.line → ⊥) → option_map mapping_of (next_checkpoint bound index.checkpoints) ≡ first_past bound (joined seen.parts)
+      first_elsewhere seen same other =
+          sym (slice_get-map mapping_of index.checkpoints (front_up_to bound (mappings_at index.checkpoints)))
+          ∙ sym (found.first_elsewhere other)
+          ∙ ap (λ (i : IndexContents). first_past bound (joined i.parts)) same
 
       module _ (part : Part) (read : part ≡ get_or index.parts checkpoint.part part) where
         -- the part that is read is the checkpoint's
-        same_part : found.part ≡ part
+        pub same_part : found.part ≡ part
         same_part = sym (get_or_from_slice_get index.parts checkpoint.part found.part part found.part_is) ∙ sym read
 
         pub state_between : IsBetween part.text (state_of part checkpoint)
         state_between = subst (λ (part : Part). IsBetween part.text (state_of part checkpoint)) same_part (found.segment + 1, found.state_is)
 
+        pub state_after : IsAfter part.text (found.segment + 1) (state_of part checkpoint)
+        state_after = subst (λ (part : Part). IsAfter part.text (found.segment + 1) (state_of part checkpoint)) same_part found.state_is
+
         -- no mapping of its part is past the limit
         pub part_in_range : list_any is_mapping_past_limit (placed part) ≡ false
         part_in_range = all_in_range index.parts checkpoint.part part (faultless index.parts index.k is.sound).range part_within read
 
-        -- what is last behind it answers, where it stands on the line
-        pub last_answers_behind : (seen : IndexContents) → index ≡ seen → (mapping_of checkpoint).line ≡ line → (m : Mapping)
-            → ((j : ℕ) → IsAfter part.text j (state_of part checkpoint) → Some m ≡ last_from line column (Some (mapping_of checkpoint)) (take (index.k - 1) (drop j (placed part))))
-            → answer_of m ≡ answer_at_or_before (joined seen.parts) line column
-        last_answers_behind seen same on_line m is_last =
-            let is_here = is_last (found.segment + 1) (subst (λ (part : Part). IsAfter part.text (found.segment + 1) (state_of part checkpoint)) same_part found.state_is) in
-            let moved = ap (λ (part : Part). last_from line column (Some (mapping_of checkpoint)) (take (index.k - 1) (drop (found.segment + 1) (placed part)))) (sym same_part) in
-            sym (last_answers_on_line line column index.parts index.k (joined index.parts) checkpoint is.holds.ordered found on_line m (is_here ∙ moved))
-            ∙ ap (λ (i : IndexContents). answer_at_or_before (joined i.parts) line column) same
+        -- the first past the bound is decoded behind it, or is the next checkpoint's mapping
+        pub first_behind : (seen : IndexContents) → index ≡ seen → (decoded : Option Mapping)
+            → ((j : ℕ) → IsAfter part.text j (state_of part checkpoint) → decoded ≡ first_past bound (take (index.k - 1) (drop j (placed part))))
+            → option_or decoded (option_map mapping_of (next_checkpoint bound index.checkpoints)) ≡ first_past bound (joined seen.parts)
+        first_behind seen same decoded is_first =
+            let table = mappings_at index.checkpoints in
+            let is_here = is_first (found.segment + 1) state_after in
+            let moved = ap (λ (part : Part). first_past bound (take (index.k - 1) (drop (found.segment + 1) (placed part)))) (sym same_part) in
+            ap (option_or decoded) (sym (slice_get-map mapping_of index.checkpoints (front_up_to bound table)))
+            ∙ ap (λ first. option_or first (first_past bound table)) (is_here ∙ moved)
+            ∙ sym found.first_is ∙ ap (λ (i : IndexContents). first_past bound (joined i.parts)) same
+
+  -- ---- the answers
+
+  module _ (line column : ℕ) where
+    -- nothing answers, where no checkpoint is at the position or before it
+    pub none_at_or_before : (seen : IndexContents) → index ≡ seen → last_checkpoint (through line column) index.checkpoints ≡ None → answer_at_or_before (joined seen.parts) line column ≡ Nothing
+    none_at_or_before seen same none =
+        ap (λ (i : IndexContents). answer_at_or_before (joined i.parts) line column) (sym same)
+        ∙ none_answers line column index.parts index.k (joined index.parts) index.checkpoints is.holds.ordered table_tiled none
+
+    module _ (checkpoint : Checkpoint) (last : Some checkpoint ≡ last_checkpoint (through line column) index.checkpoints) where
+      -- nothing answers, where the last one stands on another line
+      pub none_on_its_line : (seen : IndexContents) → index ≡ seen → ((mapping_of checkpoint).line ≡ line → ⊥) → answer_at_or_before (joined seen.parts) line column ≡ Nothing
+      none_on_its_line seen same other =
+          ap (λ (i : IndexContents). answer_at_or_before (joined i.parts) line column) (sym same)
+          ∙ none_on_line line column index.parts index.k (joined index.parts) index.checkpoints checkpoint is.holds.ordered (found (through line column) checkpoint last) other
+
+      -- what is last behind it answers, where it stands on the line
+      pub last_answers_behind : (part : Part) (read : part ≡ get_or index.parts checkpoint.part part) (seen : IndexContents) → index ≡ seen → (mapping_of checkpoint).line ≡ line → (m : Mapping)
+          → ((j : ℕ) → IsAfter part.text j (state_of part checkpoint) → Some m ≡ last_from (through line column) (Some (mapping_of checkpoint)) (take (index.k - 1) (drop j (placed part))))
+          → answer_of m ≡ answer_at_or_before (joined seen.parts) line column
+      last_answers_behind part read seen same on_line m is_last =
+          let here = found (through line column) checkpoint last in
+          let is_here = is_last (here.segment + 1) (state_after (through line column) checkpoint last part read) in
+          let moved = ap (λ (part : Part). last_from (through line column) (Some (mapping_of checkpoint)) (take (index.k - 1) (drop (here.segment + 1) (placed part)))) (sym (same_part (through line column) checkpoint last part read)) in
+          sym (last_answers_on_line line column index.parts index.k (joined index.parts) index.checkpoints checkpoint is.holds.ordered here on_line m (is_here ∙ moved))
+          ∙ ap (λ (i : IndexContents). answer_at_or_before (joined i.parts) line column) same

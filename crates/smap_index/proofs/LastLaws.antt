@@ -1,8 +1,9 @@
--- The last mapping at the front of a list, one mapping of the list after another.
-use Rattle.std.proofs.Common.{◌≡◌, ℕ, ◌+◌, ◌-◌, ◌<◌, suc, zero, List, [], ◌∷◌, length, take, drop, Option, Some, None, cond, false, true, refl, ap, sym, ◌∙◌, arith, one-add}
+-- The last mapping at the front of a list and the first behind it, one mapping of the list after another.
+use Rattle.std.proofs.Common.{◌≡◌, ℕ, ◌+◌, ◌-◌, ◌<◌, suc, zero, List, [], ◌∷◌, ◌++◌, length, take, drop, Option, Some, None, cond, false, true, refl, ap, sym, ◌∙◌, arith, one-add, ⊎_elim}
 use Rattle.std.specs.Prelude.{option_map}
 use Rattle.std.specs.List.{slice_get, last_or}
-use Rattle.std.proofs.lemmas.Bool.{cond-true, cond-false}
+use Rattle.std.specs.Option.{option_or}
+use Rattle.std.proofs.lemmas.Bool.{cond-true, cond-false, cases_Bool}
 use Rattle.std.proofs.lemmas.Option.{slice_get-map}
 use Rattle.smap_mappings.specs.State.{IsNext}
 use Rattle.smap_mappings.specs.Counts.{segments_of}
@@ -11,22 +12,38 @@ use Rattle.smap_mappings.specs.Range.{is_mapping_past_limit}
 use Rattle.smap_mappings.specs.declared.cursor.Cursor.{Cursor}
 use Rattle.smap_mappings.specs.declared.mapping.Mapping.{Mapping}
 use Rattle.smap_index.specs.Parts.{placed_mapping, placed}
-use Rattle.smap_index.specs.Search.{is_not_after, front_not_after, last_from}
+use Rattle.smap_index.specs.Search.{is_up_to, front_up_to, last_from, first_past}
+use Rattle.smap_index.specs.declared.bound.Bound.{Bound}
 use Rattle.smap_index.specs.declared.part.Part.{Part}
 use Rattle.smap_index.proofs.WalkLaws.{length-placed, same_place}
 
-module _ (line column : ℕ) where
-  pub passes : (m : Mapping) (xs : List Mapping) → is_not_after line column m ≡ true → front_not_after line column (m ∷ xs) ≡ suc (front_not_after line column xs)
-  passes m xs reached = cond-true (is_not_after line column m) (1 + front_not_after line column xs) 0 reached ∙ one-add (front_not_after line column xs)
+module _ (bound : Bound) where
+  pub passes : (m : Mapping) (xs : List Mapping) → is_up_to bound m ≡ true → front_up_to bound (m ∷ xs) ≡ suc (front_up_to bound xs)
+  passes m xs reached = cond-true (is_up_to bound m) (1 + front_up_to bound xs) 0 reached ∙ one-add (front_up_to bound xs)
 
-  pub stops : (m : Mapping) (xs : List Mapping) → is_not_after line column m ≡ false → front_not_after line column (m ∷ xs) ≡ 0
-  stops m xs past = cond-false (is_not_after line column m) (1 + front_not_after line column xs) 0 past
+  pub stops : (m : Mapping) (xs : List Mapping) → is_up_to bound m ≡ false → front_up_to bound (m ∷ xs) ≡ 0
+  stops m xs past = cond-false (is_up_to bound m) (1 + front_up_to bound xs) 0 past
 
-  pub last_passes : (e : Option Mapping) (m : Mapping) (xs : List Mapping) → is_not_after line column m ≡ true → last_from line column e (m ∷ xs) ≡ last_from line column (Some m) xs
+  pub last_passes : (e : Option Mapping) (m : Mapping) (xs : List Mapping) → is_up_to bound m ≡ true → last_from bound e (m ∷ xs) ≡ last_from bound (Some m) xs
   last_passes e m xs reached = ap (λ n. last_or e (take n (m ∷ xs))) (passes m xs reached)
 
-  pub last_stops : (e : Option Mapping) (m : Mapping) (xs : List Mapping) → is_not_after line column m ≡ false → last_from line column e (m ∷ xs) ≡ e
+  pub last_stops : (e : Option Mapping) (m : Mapping) (xs : List Mapping) → is_up_to bound m ≡ false → last_from bound e (m ∷ xs) ≡ e
   last_stops e m xs past = ap (λ n. last_or e (take n (m ∷ xs))) (stops m xs past)
+
+  pub first_passes : (m : Mapping) (xs : List Mapping) → is_up_to bound m ≡ true → first_past bound (m ∷ xs) ≡ first_past bound xs
+  first_passes m xs reached = ap (slice_get (m ∷ xs)) (passes m xs reached)
+
+  pub first_stops : (m : Mapping) (xs : List Mapping) → is_up_to bound m ≡ false → first_past bound (m ∷ xs) ≡ Some m
+  first_stops m xs past = ap (slice_get (m ∷ xs)) (stops m xs past)
+
+  -- the first behind the front of two lists is that of the former, if it has one
+  pub first_of_both : (xs ys : List Mapping) → first_past bound (xs ++ ys) ≡ option_or (first_past bound xs) (first_past bound ys)
+  first_of_both [] ys = refl
+  first_of_both (x ∷ xs) ys =
+      ⊎_elim
+      (λ reached. first_passes x (xs ++ ys) reached ∙ first_of_both xs ys ∙ ap (λ o. option_or o (first_past bound ys)) (sym (first_passes x xs reached)))
+      (λ past. first_stops x (xs ++ ys) past ∙ ap (λ o. option_or o (first_past bound ys)) (sym (first_stops x xs past)))
+      (cases_Bool (is_up_to bound x))
 
 drop_next : {A : Type 0} (xs : List A) (n : ℕ) (m : A) → slice_get xs n ≡ Some m → drop n xs ≡ m ∷ drop (n + 1) xs
 drop_next [] n m there = absurd (cc)
@@ -55,18 +72,26 @@ take_none : (left : ℕ) → take {A = Mapping} left [] ≡ []
 take_none zero = refl
 take_none (suc left) = refl
 
-module _ (line column : ℕ) (part : Part) (n left : ℕ) (e : Option Mapping) where
+module _ (bound : Bound) (part : Part) (n left : ℕ) (e : Option Mapping) where
   module _ (m : Mapping) (behind : Cursor) (next : IsNext part.text n m behind) (some : 0 < left) (there : Mapping) (is : cond (is_mapping_past_limit (placed_mapping part m)) None (Some (placed_mapping part m)) ≡ Some there) where
     one_left : take left (drop n (placed part)) ≡ there ∷ take (left - 1) (drop (n + 1) (placed part))
     one_left =
         ap (take left) (next_left part n m behind next) ∙ take_one left (placed_mapping part m) (drop (n + 1) (placed part)) some
         ∙ ap (λ m. m ∷ take (left - 1) (drop (n + 1) (placed part))) (same_place (placed_mapping part m) there is)
 
-    pub goes_on : is_not_after line column there ≡ true → last_from line column e (take left (drop n (placed part))) ≡ last_from line column (Some there) (take (left - 1) (drop (n + 1) (placed part)))
-    goes_on reached = ap (last_from line column e) one_left ∙ last_passes line column e there _ reached
+    pub goes_on : is_up_to bound there ≡ true
+        → (last_from bound e (take left (drop n (placed part))) ≡ last_from bound (Some there) (take (left - 1) (drop (n + 1) (placed part))))
+        × (first_past bound (take left (drop n (placed part))) ≡ first_past bound (take (left - 1) (drop (n + 1) (placed part))))
+    goes_on reached = (ap (last_from bound e) one_left ∙ last_passes bound e there _ reached, ap (first_past bound) one_left ∙ first_passes bound there _ reached)
 
-    pub ends : is_not_after line column there ≡ false → last_from line column e (take left (drop n (placed part))) ≡ e
-    ends past = ap (last_from line column e) one_left ∙ last_stops line column e there _ past
+    pub ends : is_up_to bound there ≡ false → (last_from bound e (take left (drop n (placed part))) ≡ e) × (first_past bound (take left (drop n (placed part))) ≡ Some there)
+    ends past = (ap (last_from bound e) one_left ∙ last_stops bound e there _ past, ap (first_past bound) one_left ∙ first_stops bound there _ past)
 
-  pub ends_with_part : n ≡ segments_of part.text → last_from line column e (take left (drop n (placed part))) ≡ e
-  ends_with_part all = ap (λ list. last_from line column e (take left list)) (none_left part n all) ∙ ap (last_from line column e) (take_none left)
+  nothing_left : (xs : List Mapping) → xs ≡ [] → (last_from bound e xs ≡ e) × (first_past bound xs ≡ None)
+  nothing_left xs none = (ap (last_from bound e) none, ap (first_past bound) none)
+
+  pub ends_with_part : n ≡ segments_of part.text → (last_from bound e (take left (drop n (placed part))) ≡ e) × (first_past bound (take left (drop n (placed part))) ≡ None)
+  ends_with_part all = nothing_left _ (ap (take left) (none_left part n all) ∙ take_none left)
+
+  pub ends_with_count : left ≡ 0 → (last_from bound e (take left (drop n (placed part))) ≡ e) × (first_past bound (take left (drop n (placed part))) ≡ None)
+  ends_with_count none = nothing_left _ (ap (λ left. take left (drop n (placed part))) none)

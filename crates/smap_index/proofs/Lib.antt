@@ -1,4 +1,6 @@
 pub mod Halving
+pub mod PositionLaws
+pub mod BoundLaws
 pub mod LastLaws
 pub mod ListLaws
 pub mod NumberLaws
@@ -10,6 +12,7 @@ pub mod CountingLaws
 pub mod Tiles
 pub mod TileLaws
 pub mod FewLaws
+pub mod AnswerLaws
 pub mod ResumeLaws
 pub mod IndexLaws
 pub mod FaultLaws

@@ -1,8 +1,8 @@
 -- Parts without a fault give a joined list in order.
-use Rattle.std.proofs.Common.{◌≡◌, ℕ, ◌+◌, ◌<◌, ◌≤◌, List, [], ◌∷◌, ◌++◌, map, cond, ◌||◌, Bool, true, false, Option, Some, None, refl, ap, sym, subst, ◌∙◌, arith, eqb, ⊎_elim, inl, inr, ◌⊎◌}
+use Rattle.std.proofs.Common.{◌≡◌, ℕ, ◌+◌, ◌<◌, ◌≤◌, List, [], ◌∷◌, ◌++◌, map, cond, ◌||◌, Bool, true, false, Option, Some, None, refl, ap, sym, subst, ◌∙◌, arith, eqb, ⊎_elim, inl, inr}
 use Rattle.std.specs.Prelude.{option_map, IfSome, length}
 use Rattle.std.specs.List.{AllByRecursion, last_or, list_any, position_from}
-use Rattle.std.proofs.lemmas.Bool.{cond_both, cases_eq, cases_lt, ltb-true, ltb-false, eqb-true, eqb-false, lt-ltb, eq-eqb, or_parts, or_cases, or_left, or_right, and_parts, and_cases, and_from}
+use Rattle.std.proofs.lemmas.Bool.{cond_both, cases_eq, eqb-false, or_parts, or_left}
 use Rattle.std.proofs.lemmas.List.{append-nil}
 use Rattle.smap_mappings.specs.Mappings.{mappings_of}
 use Rattle.smap_mappings.specs.Counts.{segments_of}
@@ -13,58 +13,29 @@ use Rattle.smap_mappings.specs.declared.mapping.Mapping.{Mapping}
 use Rattle.smap_index.specs.declared.part.Part.{Part}
 use Rattle.smap_index.specs.Parts.{placed_mapping, placed, joined}
 use Rattle.smap_index.specs.Faults.{neighbours, is_out_of_order, is_after_offset, is_overlapping, order_fault, overlap_fault}
+use Rattle.smap_index.specs.Position.{offset_of}
 use Rattle.smap_index.specs.Walk.{position_of, IsTextInOrder}
 use Rattle.smap_index.proofs.FaultLaws.{none_from}
+use Rattle.smap_index.proofs.PositionLaws.{at_or_before, before_from, before, from_before, not_before}
 use Rattle.smap_index.proofs.WalkLaws.{length-mappings_of}
 
 -- ---- positions beside an offset
 
 -- the mapping stands at the part's offset or after it
 abbrev IsFrom : Part → Mapping → Type 0
-IsFrom part m = (part.line < m.line) ⊎ ((part.line ≡ m.line) × (part.column ≤ m.column))
+IsFrom part m = IsAtOrBefore (offset_of part) m
 
 -- the mapping stands at the part's offset or before it
 abbrev IsUpTo : Part → Mapping → Type 0
-IsUpTo part m = (m.line < part.line) ⊎ ((m.line ≡ part.line) × (m.column ≤ part.column))
-
-across : (part : Part) (a b : Mapping) → IsUpTo part a → IsFrom part b → IsAtOrBefore a b
-across part a b up_to from =
-    ⊎_elim
-    (λ (before : a.line < part.line). inl (⊎_elim (λ (after : part.line < b.line). omega arith) (λ same. omega (arith, same.0)) from))
-    (λ equal. ⊎_elim (λ (after : part.line < b.line). inl (omega (arith, equal.0))) (λ same. inr (omega (arith, equal.0, same.0), omega (arith, equal.1, same.1))) from)
-    up_to
-
-up_to : (part : Part) (m : Mapping) → is_after_offset part m ≡ false → IsUpTo part m
-up_to part m not_after =
-    let tests = or_parts _ _ not_after in
-    let line = ltb-false part.line m.line tests.0 in
-    ⊎_elim
-    (λ (before : m.line < part.line). inl before)
-    (λ (from : part.line ≤ m.line).
-    let same : part.line ≡ m.line = omega arith in
-    ⊎_elim (λ other. absurd (eqb-false _ _ other same)) (λ column. inr (sym same, ltb-false part.column m.column column)) (and_cases _ _ tests.1))
-    (cases_lt m.line part.line)
+IsUpTo part m = IsAtOrBefore m (offset_of part)
 
 all_up_to : (part : Part) (xs : List Mapping) → list_any (is_after_offset part) xs ≡ false → AllByRecursion (IsUpTo part) xs
 all_up_to part [] none = tt
-all_up_to part (m ∷ xs) none = let tests = or_parts _ _ none in (up_to part m tests.0, all_up_to part xs tests.1)
+all_up_to part (m ∷ xs) none = let tests = or_parts _ _ none in (not_before m (offset_of part) tests.0, all_up_to part xs tests.1)
 
 -- a part whose offset is not before another's has its mappings behind that one's offset too
 also_from : (part next : Part) (m : Mapping) → is_out_of_order (part, next) ≡ false → IsFrom next m → IsFrom part m
-also_from part next m in_order from =
-    let tests = or_parts _ _ in_order in
-    let line = ltb-false next.line part.line tests.0 in
-    ⊎_elim
-    (λ (before : part.line < next.line). inl (⊎_elim (λ (after : next.line < m.line). omega arith) (λ same. omega (arith, same.0)) from))
-    (λ (at_most : next.line ≤ part.line).
-    let same : next.line ≡ part.line = omega arith in
-    ⊎_elim
-    (λ other. absurd (eqb-false _ _ other same))
-    (λ column.
-    let least = ltb-false next.column part.column column in
-    ⊎_elim (λ (after : next.line < m.line). inl (omega arith)) (λ equal. inr (omega (arith, equal.0), omega (arith, equal.1))) from)
-    (and_cases _ _ tests.1))
-    (cases_lt part.line next.line)
+also_from part next m in_order from = at_or_before (offset_of part) (offset_of next) m (not_before (offset_of part) (offset_of next) in_order) from
 
 all_also_from : (part next : Part) (xs : List Mapping) → is_out_of_order (part, next) ≡ false → AllByRecursion (IsFrom next) xs → AllByRecursion (IsFrom part) xs
 all_also_from part next [] in_order from = tt
@@ -108,7 +79,7 @@ places_in_order part (a ∷ b ∷ list) order = (placed_pair part a b order.0, p
 append_in_order : (part : Part) (xs ys : List Mapping) → IsInOrder xs → IsInOrder ys → AllByRecursion (IsUpTo part) xs → AllByRecursion (IsFrom part) ys → IsInOrder (xs ++ ys)
 append_in_order part [] ys order_x order_y all_x all_y = order_y
 append_in_order part (a ∷ []) [] order_x order_y all_x all_y = tt
-append_in_order part (a ∷ []) (y ∷ ys) order_x order_y all_x all_y = (across part a y all_x.0 all_y.0, order_y)
+append_in_order part (a ∷ []) (y ∷ ys) order_x order_y all_x all_y = (at_or_before a (offset_of part) y all_x.0 all_y.0, order_y)
 append_in_order part (a ∷ b ∷ xs) ys order_x order_y all_x all_y = (order_x.0, append_in_order part (b ∷ xs) ys order_x.1 order_y all_x.1 all_y)
 
 All-append : (P : Mapping → Type 0) (xs ys : List Mapping) → AllByRecursion P xs → AllByRecursion P ys → AllByRecursion P (xs ++ ys)
@@ -137,20 +108,7 @@ joined_in_order (part ∷ parts) in_order apart texts = (joined_from 1 part part
 -- ---- the last mapping of a part
 
 passes_on : (part : Part) (a b : Mapping) → IsAtOrBefore a b → is_after_offset part a ≡ true → is_after_offset part b ≡ true
-passes_on part a b order after =
-    ⊎_elim
-    (λ line.
-    let above = ltb-true part.line a.line line in
-    or_left _ _ (lt-ltb part.line b.line (⊎_elim (λ (before : a.line < b.line). omega arith) (λ equal. omega (arith, equal.0)) order)))
-    (λ same.
-    let tests = and_parts _ _ same in
-    let line = eqb-true part.line a.line tests.0 in
-    let column = ltb-true part.column a.column tests.1 in
-    ⊎_elim
-    (λ (before : a.line < b.line). or_left _ _ (lt-ltb part.line b.line (omega arith)))
-    (λ equal. or_right _ _ (and_from _ _ (eq-eqb part.line b.line (omega (arith, equal.0))) (lt-ltb part.column b.column (omega (arith, equal.1)))))
-    order)
-    (or_cases _ _ after)
+passes_on part a b order after = from_before (offset_of part) b (before_from (offset_of part) a b (before (offset_of part) a after) order)
 
 or_false : (b : Bool) → (b || false) ≡ b
 or_false true = refl

@@ -1,5 +1,5 @@
 -- The checkpoints of a table that has one for each mark lie on the joined list as tiles.
-use Rattle.std.proofs.Common.{◌≡◌, ℕ, ◌+◌, ◌%◌, ◌<◌, List, [], ◌∷◌, ◌++◌, Some, length, map, drop, refl, ap, sym, subst, ◌∙◌, arith, eqb, inl, inr, ⊎_elim}
+use Rattle.std.proofs.Common.{◌≡◌, ℕ, ◌+◌, ◌%◌, ◌<◌, List, [], ◌∷◌, ◌++◌, Some, length, map, drop, refl, ap, sym, subst, ◌∙◌, arith, eqb, ⊎_elim}
 use Rattle.std.specs.List.{AllByRecursion, AllZip, slice_get}
 use Rattle.std.proofs.Math.Nat.{zero-mod}
 use Rattle.std.proofs.lemmas.Bool.{cond-true, cond-false, cases_Bool, eqb-true, eqb-false, eq-eqb}
@@ -15,17 +15,11 @@ use Rattle.smap_index.specs.declared.part.Part.{Part}
 use Rattle.smap_index.specs.declared.checkpoint.Checkpoint.{Checkpoint}
 use Rattle.smap_index.proofs.ListLaws.{tail_in_order}
 use Rattle.smap_index.proofs.MarkLaws.{slice_get-behind}
+use Rattle.smap_index.proofs.PositionLaws.{at_or_before}
 use Rattle.smap_index.proofs.NumberLaws.{next_remainder, front_in_order, back_in_order, next_number}
 use Rattle.smap_index.proofs.Tiles.{IsTile, IsTiled}
 
 -- ---- the table is in order
-
-at_or_before : (a b c : Mapping) → IsAtOrBefore a b → IsAtOrBefore b c → IsAtOrBefore a c
-at_or_before a b c first second =
-    ⊎_elim
-    (λ (above : a.line < b.line). inl (⊎_elim (λ (further : b.line < c.line). omega arith) (λ same. omega (arith, same.0)) second))
-    (λ equal. ⊎_elim (λ (further : b.line < c.line). inl (omega (arith, equal.0))) (λ same. inr (omega (arith, equal.0, same.0), omega (arith, equal.1, same.1))) second)
-    first
 
 -- a list without its second mapping is in order
 without_second : (a b : Mapping) (rest : List Mapping) → IsAtOrBefore a b → IsInOrder (b ∷ rest) → IsInOrder (a ∷ rest)

@@ -1,6 +1,7 @@
--- What a look-up answers: the last mapping on the asked line whose column is not after the asked one.
+-- What a look-up answers: of the mappings on the asked line, the last whose column is not after the asked one or, in the
+-- other direction, the first whose column is not before it.
 use Rattle.std.specs.Prelude.{ℕ, List, Option, Some, None, Bool, ◌&&◌, ◌==◌, nat_le, filter}
-use Rattle.std.specs.List.{last_or}
+use Rattle.std.specs.List.{find, last_or}
 use Rattle.smap_mappings.specs.declared.mapping.Mapping.{Mapping}
 use Rattle.smap_mappings.specs.declared.mapping.Origin.{Origin}
 use Rattle.smap_index.specs.declared.answer.Answer.{Answer}
@@ -19,7 +20,7 @@ answer_with column (Some origin) = Found column origin
 abbrev pub answer_of : Mapping → Answer
 answer_of mapping = answer_with mapping.column mapping.origin
 
--- nothing, where there is none
+-- what the mapping that was found answers: nothing, where there is none
 abbrev pub answer_of_last : Option Mapping → Answer
 answer_of_last None = Nothing
 answer_of_last (Some mapping) = answer_of mapping
@@ -27,3 +28,13 @@ answer_of_last (Some mapping) = answer_of mapping
 -- of the mappings on the line whose column is not after the asked one, the last answers
 unfoldable pub answer_at_or_before : List Mapping → ℕ → ℕ → Answer
 answer_at_or_before list line column = answer_of_last (last_or None (filter (is_on_line_at_or_before line column) list))
+
+-- ---- the other direction
+
+-- the mapping stands on this line, at this column or after it
+abbrev pub is_on_line_at_or_after : ℕ → ℕ → Mapping → Bool
+is_on_line_at_or_after line column mapping = mapping.line == line && nat_le column mapping.column
+
+-- of the mappings on the line whose column is not before the asked one, the first answers
+unfoldable pub answer_at_or_after : List Mapping → ℕ → ℕ → Answer
+answer_at_or_after list line column = answer_of_last (find (is_on_line_at_or_after line column) list)

@@ -2,15 +2,16 @@
 -- reaches past the next one's offset. This project's own are: that a mapping may stand at the next offset, the limit
 -- 2147483647 for all that is placed, the order of the refusals, and that one of them refuses all parts. The numbers
 -- of parts count from 0.
-use Rattle.std.specs.Prelude.{ℕ, List, [], ◌∷◌, Option, Some, Bool, ◌&&◌, ◌||◌, ◌==◌, nat_lt, nat_le, if◌then◌else◌, option_map}
+use Rattle.std.specs.Prelude.{ℕ, List, [], ◌∷◌, Option, Some, Bool, ◌&&◌, ◌||◌, nat_le, if◌then◌else◌, option_map}
 use Rattle.std.specs.List.{list_any, position_from}
 use Rattle.std.specs.Option.{option_or}
 use Rattle.smap_mappings.specs.declared.mapping.Mapping.{Mapping}
-use Rattle.smap_mappings.specs.Range.{is_number_past_limit, is_mapping_past_limit}
+use Rattle.smap_mappings.specs.Range.{is_number_past_limit, is_mapping_past_limit, stands_before}
 use Rattle.smap_index.specs.declared.part.Part.{Part}
 use Rattle.smap_index.specs.declared.refusal.BuildRefusal.{BuildRefusal}
 use Rattle.smap_index.specs.declared.refusal.BuildRefusal.TheVariants.{Interval, SectionOrder, SectionOverlap, PositionRange}
 use Rattle.smap_index.specs.Parts.{placed}
+use Rattle.smap_index.specs.Position.{offset_of}
 
 -- each part with the one after it
 abbrev pub neighbours : List Part → List (Part × Part)
@@ -22,7 +23,7 @@ neighbours (part ∷ next ∷ parts) = (part, next) ∷ neighbours (next ∷ par
 
 -- the offset of the second stands before that of the first
 abbrev pub is_out_of_order : Part × Part → Bool
-is_out_of_order (part, next) = nat_lt next.line part.line || next.line == part.line && nat_lt next.column part.column
+is_out_of_order (part, next) = stands_before (offset_of next) (offset_of part)
 
 -- the number of the first part whose offset stands before that of the part before it
 unfoldable pub order_fault : List Part → Option ℕ
@@ -32,7 +33,7 @@ order_fault parts = position_from is_out_of_order 1 (neighbours parts)
 
 -- the mapping stands after the part's offset
 abbrev pub is_after_offset : Part → Mapping → Bool
-is_after_offset part mapping = nat_lt part.line mapping.line || part.line == mapping.line && nat_lt part.column mapping.column
+is_after_offset part mapping = stands_before (offset_of part) mapping
 
 -- a mapping of the first, at its place, stands after the offset of the second
 abbrev pub is_overlapping : Part × Part → Bool

@@ -1,3 +1,4 @@
+pub mod Position
 pub mod Parts
 pub mod Checkpoint
 pub mod Marks

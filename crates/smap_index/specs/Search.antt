@@ -1,31 +1,49 @@
--- What the search over a table in order finds, and the walk behind a checkpoint. Only contracts of private functions
--- cite it.
-use Rattle.std.specs.Prelude.{ℕ, List, Option, None, Bool, ◌&&◌, ◌||◌, ◌==◌, nat_lt, nat_le, map, take}
+-- What the search over a table in order finds on either side of a bound, and so the walk behind a checkpoint. Only
+-- contracts of private functions cite it.
+use Rattle.std.specs.Prelude.{ℕ, List, Option, None, Bool, not, map, take, slice_get}
 use Rattle.std.specs.List.{last_or, prefix_len}
+use Rattle.smap_mappings.specs.Range.{stands_before}
 use Rattle.smap_mappings.specs.declared.mapping.Mapping.{Mapping}
+use Rattle.smap_index.specs.declared.bound.Bound.{Bound}
+use Rattle.smap_index.specs.declared.bound.Side.{Side}
+use Rattle.smap_index.specs.declared.bound.Side.TheVariants.{Before, Through}
 use Rattle.smap_index.specs.declared.checkpoint.Checkpoint.{Checkpoint}
 use Rattle.smap_index.specs.Checkpoint.{mapping_of}
+use Rattle.smap_index.specs.Position.{place_of}
 
 -- the mappings of these checkpoints
 abbrev pub mappings_at : List Checkpoint → List Mapping
 mappings_at checkpoints = map mapping_of checkpoints
 
--- the mapping stands at this position, or before it
-abbrev pub is_not_after : ℕ → ℕ → Mapping → Bool
-is_not_after line column mapping = nat_lt mapping.line line || mapping.line == line && nat_le mapping.column column
+-- a mapping stands before a place or, on the other side, at it or before it
+abbrev pub is_on_side : Side → (place mapping : Mapping) → Bool
+is_on_side Before place mapping = stands_before mapping place
+is_on_side Through place mapping = not (stands_before place mapping)
 
--- how many mappings at the front stand at this position, or before it
-abbrev pub front_not_after : ℕ → ℕ → List Mapping → ℕ
-front_not_after line column list = prefix_len (is_not_after line column) list
+-- the mapping stands up to the bound
+abbrev pub is_up_to : Bound → Mapping → Bool
+is_up_to bound mapping = is_on_side bound.side (place_of bound.position) mapping
+
+-- how many mappings at the front stand up to the bound
+abbrev pub front_up_to : Bound → List Mapping → ℕ
+front_up_to bound list = prefix_len (is_up_to bound) list
 
 -- the last of them, or this one where there is none
-abbrev pub last_from : ℕ → ℕ → Option Mapping → List Mapping → Option Mapping
-last_from line column mapping list = last_or mapping (take (front_not_after line column list) list)
+abbrev pub last_from : Bound → Option Mapping → List Mapping → Option Mapping
+last_from bound mapping list = last_or mapping (take (front_up_to bound list) list)
 
 -- the last of them
-abbrev pub last_not_after : ℕ → ℕ → List Mapping → Option Mapping
-last_not_after line column list = last_from line column None list
+abbrev pub last_up_to : Bound → List Mapping → Option Mapping
+last_up_to bound list = last_from bound None list
 
--- the last checkpoint of a table whose mapping stands at this position, or before it
-abbrev pub last_checkpoint : ℕ → ℕ → List Checkpoint → Option Checkpoint
-last_checkpoint line column table = last_or None (take (front_not_after line column (mappings_at table)) table)
+-- the first behind them
+abbrev pub first_past : Bound → List Mapping → Option Mapping
+first_past bound list = slice_get list (front_up_to bound list)
+
+-- of a table, the last checkpoint whose mapping stands up to the bound
+abbrev pub last_checkpoint : Bound → List Checkpoint → Option Checkpoint
+last_checkpoint bound table = last_or None (take (front_up_to bound (mappings_at table)) table)
+
+-- and the first behind it
+abbrev pub next_checkpoint : Bound → List Checkpoint → Option Checkpoint
+next_checkpoint bound table = slice_get table (front_up_to bound (mappings_at table))

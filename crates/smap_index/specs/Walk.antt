@@ -10,6 +10,7 @@ use Rattle.smap_index.specs.declared.part.Part.{Part}
 use Rattle.smap_index.specs.declared.checkpoint.Checkpoint.{Checkpoint}
 use Rattle.smap_index.specs.Checkpoint.{kind_of}
 use Rattle.smap_index.specs.Faults.{is_overlapping}
+use Rattle.smap_index.specs.Position.{position_at}
 
 -- the checkpoint of a mapping of this part, which has this number, with the state behind its segment: the running
 -- values and what the part adds to them
@@ -39,7 +40,7 @@ number_behind k line number next = if line == next && nat_lt (number + 1) k then
 
 -- a mapping of these values that has no origin
 abbrev pub position_of : Cursor → Mapping
-position_of values = record { line = values.line; column = values.column; origin = None }
+position_of values = position_at values.line values.column
 
 -- the mappings of the part's text are in order
 abbrev pub IsTextInOrder : Part → Type 0

@@ -1,6 +1,8 @@
 //! An index: the parts of a map, and the table of checkpoints from which positions are looked up in them.
 
-ghost use Rattle.std.specs.Prelude.{◌≡◌, ℕ, ◌+◌, ◌-◌, ◌*◌, ◌/◌, ◌^◌, ◌<◌, ◌≤◌, length, IfOk, OnOk, IsOkUnless, Err, Some, None, false, string_bytes};
+ghost use Rattle.std.specs.Prelude.{◌≡◌, ℕ, ◌+◌, ◌-◌, ◌*◌, ◌/◌, ◌^◌, ◌<◌, ◌≤◌, length, IfOk, OnOk, IsOkUnless, Err, Some, None, false, option_map, string_bytes};
+ghost use Rattle.std.specs.Option.{option_copied};
+ghost use Rattle.smap_index.specs.Checkpoint.{mapping_of};
 ghost use Rattle.std.specs.List.{All, list_any};
 ghost use Rattle.smap_mappings.specs.Limits.{most_text_bytes};
 ghost use Rattle.smap_mappings.specs.Mappings.{mappings_of};
@@ -13,18 +15,22 @@ ghost use Rattle.smap_index.specs.Parts.{most_parts, joined, bytes_in};
 ghost use Rattle.smap_index.specs.Marks.{marks, used_lines_in};
 ghost use Rattle.smap_index.specs.Faults.{build_fault};
 ghost use Rattle.smap_mappings.specs.Range.{is_mapping_past_limit};
-ghost use Rattle.smap_index.specs.Answer.{answer_at_or_before};
+ghost use Rattle.smap_index.specs.Answer.{answer_at_or_before, answer_at_or_after};
+ghost use Rattle.smap_index.specs.Search.{first_past};
 
 use crate::answer::{Answer, answer_of};
+use crate::bound::{Bound, Side};
+use crate::checkpoint::Checkpoint;
 use crate::encode::{length_of_parts, write_parts};
 use crate::interval::is_interval;
 use crate::joined::{JoinedMappings, joined};
 use crate::mark::mark_parts;
 use crate::order::first_out_of_order;
 use crate::part::Part;
+use crate::position::Position;
 use crate::refusal::{BuildRefusal, EncodeAllRefusal};
-use crate::resume::last_behind;
-use crate::search::last_checkpoint;
+use crate::resume::decode_behind;
+use crate::search::nearest_checkpoints;
 use crate::table::Table;
 use crate::totals::{most_checkpoints, totals_of};
 use smap_mappings::laws::lists_in_order_have_no_fault;
@@ -109,13 +115,73 @@ impl Index {
         ensures onward { (meter.old.comparisons ≤ meter.new.comparisons)
             × (meter.old.segments ≤ meter.new.segments) }
     {
-        match last_checkpoint(&self.table, line, column, meter) {
+        let through = Bound {
+            position: Position {
+                line: line as u64,
+                column: column as u64,
+            },
+            side: Side::Through,
+        };
+        let nearest = nearest_checkpoints(&self.table, &through, meter);
+        match nearest.last {
             Some(checkpoint) if checkpoint.line == line => {
                 let part = &self.parts[checkpoint.part as usize];
-                answer_of(&last_behind(part, checkpoint, self.k - 1, line, column, meter))
+                answer_of(&decode_behind(part, checkpoint, self.k - 1, &through, meter).last)
             }
             Some(_) => Answer::Nothing,
             None => Answer::Nothing,
+        }
+    }
+
+    /// Looks a generated position up in the other direction, from 0 and in UTF-16 code units: the first mapping on the
+    /// line whose column is not before the asked one answers, and of equal columns the first. It may be of a later part
+    /// than the last one that begins before the position. Of fewer than 2 ^ b checkpoints the call compares at most b,
+    /// and it decodes fewer than `k` segments; the meter has room for both. It takes no memory.
+    pub fn look_up_from(&self, line: u32, column: u32, meter: &mut Meter) -> Answer
+        requires room { HasRoom meter.old }
+        ensures answer { result ≡ answer_at_or_after (joined self.now.parts) line column }
+        ensures compared { (b : ℕ) → length (marks self.now.parts self.now.k) < 2 ^ b →
+            meter.new.comparisons ≤ meter.old.comparisons + b }
+        ensures decoded { meter.new.segments ≤ meter.old.segments + (self.now.k - 1) }
+        ensures onward { (meter.old.comparisons ≤ meter.new.comparisons)
+            × (meter.old.segments ≤ meter.new.segments) }
+    {
+        let before = Bound {
+            position: Position {
+                line: line as u64,
+                column: column as u64,
+            },
+            side: Side::Before,
+        };
+        match self.first_past(&before, meter) {
+            Some(mapping) if mapping.line == line => answer_of(&mapping),
+            Some(_) => Answer::Nothing,
+            None => Answer::Nothing,
+        }
+    }
+
+    // The first mapping that does not stand up to the bound, if there is one. Where the last checkpoint that does stands
+    // on the bound's line, it may be one of those behind that checkpoint; otherwise it is the next checkpoint's.
+    fn first_past(&self, bound: &Bound, meter: &mut Meter) -> Option<Mapping>
+        requires room { HasRoom meter.old }
+        ensures first { result ≡ first_past bound.now (joined self.now.parts) }
+        ensures ordered { IsInOrder (joined self.now.parts) }
+        ensures compared { (b : ℕ) → length (marks self.now.parts self.now.k) < 2 ^ b →
+            meter.new.comparisons ≤ meter.old.comparisons + b }
+        ensures decoded { meter.new.segments ≤ meter.old.segments + (self.now.k - 1) }
+        ensures onward { (meter.old.comparisons ≤ meter.new.comparisons)
+            × (meter.old.segments ≤ meter.new.segments) }
+    {
+        let nearest = nearest_checkpoints(&self.table, bound, meter);
+        let next = mapping_at(nearest.next);
+        match nearest.last {
+            Some(checkpoint) if checkpoint.line as u64 == bound.position.line => {
+                let part = &self.parts[checkpoint.part as usize];
+                let decoded = decode_behind(part, checkpoint, self.k - 1, bound, meter);
+                decoded.next.or(next)
+            }
+            Some(_) => next,
+            None => next,
         }
     }
 
@@ -192,6 +258,17 @@ impl Index {
             Ok(writer) => Ok(writer.into_text()),
             Err(_) => Err(EncodeAllRefusal::Memory),
         }
+    }
+}
+
+// The checkpoint's mapping, where there is one.
+#[inline(always)]
+fn mapping_at(checkpoint: Option<&Checkpoint>) -> Option<Mapping>
+    ensures { result ≡ option_map mapping_of (option_copied checkpoint.entry) }
+{
+    match checkpoint {
+        Some(checkpoint) => Some(checkpoint.mapping()),
+        None => None,
     }
 }
 

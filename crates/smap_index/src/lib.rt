@@ -8,10 +8,12 @@
 //!     Answer::Unmapped { column } => ..,
 //!     Answer::Nothing => ..,
 //! }
+//! let next = index.look_up_from(line, column, &mut meter);
 //! ```
 #![tactic(auto)]
 
 mod answer;
+mod bound;
 mod checkpoint;
 mod encode;
 mod index;
@@ -22,6 +24,7 @@ mod mark;
 mod order;
 mod part;
 mod place;
+mod position;
 mod refusal;
 mod resume;
 mod search;

@@ -5,6 +5,7 @@ ghost use Rattle.smap_index.specs.Parts.{most_parts};
 ghost use Rattle.smap_index.specs.Faults.{is_out_of_order, order_fault};
 
 use crate::part::Part;
+use crate::place::offset_of;
 
 // The first part whose offset stands before that of the part before it.
 pub fn first_out_of_order(parts: &[Part]) -> Option<u64>
@@ -22,5 +23,5 @@ pub fn first_out_of_order(parts: &[Part]) -> Option<u64>
 fn is_out_of_order(part: &Part, next: &Part) -> bool
     ensures { result ≡ is_out_of_order (part.now, next.now) }
 {
-    next.line < part.line || (next.line == part.line && next.column < part.column)
+    offset_of(next).is_before(&offset_of(part))
 }

@@ -2,11 +2,12 @@
 
 ghost use Rattle.std.specs.Prelude.{◌≡◌, ◌+◌, ◌||◌, ◌==◌, Some, None, option_map, if◌then◌else◌};
 ghost use Rattle.smap_index.specs.Parts.{placed_origin, placed_mapping};
-ghost use Rattle.smap_index.specs.Faults.{is_out_of_order, is_after_offset};
+ghost use Rattle.smap_index.specs.Faults.{is_after_offset};
 ghost use Rattle.smap_index.specs.Walk.{position_of};
 ghost use Rattle.smap_mappings.specs.Range.{is_number_past_limit, is_name_past_limit, is_origin_past_limit, is_mapping_past_limit};
 
 use crate::part::Part;
+use crate::position::Position;
 use smap_mappings::{Cursor, LIMIT, Mapping, Origin};
 
 // The sum, if it is not past the limit.
@@ -66,6 +67,16 @@ pub fn place(part: &Part, mapping: &Mapping) -> Option<Mapping>
     })
 }
 
+// The part's offset.
+pub fn offset_of(part: &Part) -> Position
+    ensures { result ≡ record { line = part.now.line; column = part.now.column } }
+{
+    Position {
+        line: part.line as u64,
+        column: part.column as u64,
+    }
+}
+
 // Whether a number of the part's offset is past the limit.
 pub fn is_offset_past_limit(part: &Part) -> bool
     ensures { result
@@ -87,8 +98,9 @@ pub fn is_after_offset(part: &Part, values: &Cursor, next: &Part) -> bool
     ensures { result
         ≡ is_after_offset next.now (placed_mapping part.now (position_of values.now)) }
 {
-    let line = part.line as u64 + values.line as u64;
-    let column = added_column(part, values.line) as u64 + values.column as u64;
-    let next_line = next.line as u64;
-    next_line < line || (next_line == line && (next.column as u64) < column)
+    let last = Position {
+        line: part.line as u64 + values.line as u64,
+        column: added_column(part, values.line) as u64 + values.column as u64,
+    };
+    offset_of(next).is_before(&last)
 }

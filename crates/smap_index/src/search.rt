@@ -1,50 +1,48 @@
-//! The search for the last checkpoint at a position or before it.
+//! The search for the checkpoints next to a bound.
 
 ghost use Rattle.std.specs.Prelude.{◌≡◌, ℕ, ◌+◌, ◌^◌, ◌<◌, ◌≤◌, length};
 ghost use Rattle.std.specs.Option.{option_copied};
 ghost use Rattle.smap_mappings.specs.Meter.{HasRoom};
 ghost use Rattle.smap_mappings.specs.Order.{IsInOrder};
-ghost use Rattle.smap_index.specs.Search.{mappings_at, is_not_after, last_checkpoint};
+ghost use Rattle.smap_index.specs.Search.{mappings_at, last_checkpoint, next_checkpoint};
 
+use crate::bound::Bound;
 use crate::checkpoint::Checkpoint;
 use crate::table::Table;
-use smap_mappings::{Mapping, Meter};
+use smap_mappings::Meter;
 
-// Lends the last checkpoint of the table whose mapping stands at the position or before it, if there is one. The
-// search halves, so that it reads at most b of fewer than 2 ^ b checkpoints.
-pub fn last_checkpoint<'a>(
-    table: &'a Table,
-    line: u32,
-    column: u32,
-    meter: &mut Meter,
-) -> Option<&'a Checkpoint>
+// The checkpoints next to a bound: the last whose mapping stands up to it, and the first behind that one.
+#[derive(Clone, Copy)]
+pub struct Nearest<'a> {
+    pub last: Option<&'a Checkpoint>,
+    pub next: Option<&'a Checkpoint>,
+}
+
+// Lends the checkpoints of the table next to the bound. The search halves, so that it reads at most b of fewer than
+// 2 ^ b checkpoints, and both are among those that it read.
+pub fn nearest_checkpoints<'a>(table: &'a Table, bound: &Bound, meter: &mut Meter) -> Nearest<'a>
     requires ordered { IsInOrder (mappings_at table.now) }
     requires room { HasRoom meter.old }
-    ensures last { option_copied result ≡ last_checkpoint line column table.now }
+    ensures last { option_copied result.last ≡ last_checkpoint bound.now table.now }
+    ensures next { option_copied result.next ≡ next_checkpoint bound.now table.now }
     ensures onward { meter.old.comparisons ≤ meter.new.comparisons }
     ensures few { (b : ℕ) → length table.now < 2 ^ b → meter.new.comparisons ≤ meter.old.comparisons + b }
     ensures none_decoded { meter.new.segments ≡ meter.old.segments }
 {
     let mut low = 0;
     let mut high = table.len();
-    let mut best = None;
+    let mut last = None;
+    let mut next = None;
     while low < high {
         let middle = low + (high - low) / 2;
         let checkpoint = table.at(middle, meter);
-        if is_not_after(&checkpoint.mapping(), line, column) {
-            best = Some(checkpoint);
+        if bound.reaches(&checkpoint.mapping()) {
+            last = Some(checkpoint);
             low = middle + 1;
         } else {
+            next = Some(checkpoint);
             high = middle;
         }
     }
-    best
-}
-
-// Whether the mapping stands at the position or before it.
-#[inline(always)]
-pub fn is_not_after(mapping: &Mapping, line: u32, column: u32) -> bool
-    ensures { result ≡ is_not_after line column mapping.now }
-{
-    mapping.line < line || (mapping.line == line && mapping.column <= column)
+    Nearest { last, next }
 }

@@ -1,17 +1,19 @@
 use Rattle.std.proofs.Common.{sym, ap, refl, ◌∙◌, arith, None}
+use Rattle.std.proofs.lemmas.Option.{slice_get_past}
 use Rattle.smap_index.specs.Checkpoint.{mapping_of}
-use Rattle.smap_index.specs.Search.{mappings_at, is_not_after}
+use Rattle.smap_index.specs.Search.{mappings_at, is_up_to}
 use Rattle.smap_index.proofs.Halving.{one_more}
 use Rattle.smap_index.proofs.ListLaws.{last_taken}
 use Rattle.smap_index.proofs.SearchLaws.{in_front, ends_front, front_within, read_mapping}
-use Rattle.smap_index.proofs.search.last_checkpoint.Goals as goal
+use Rattle.smap_index.proofs.search.nearest_checkpoints.Goals as goal
 
 pub loop-low-init : goal.loop-low-init
 loop-low-init c = record {
   low = omega arith;
-  high = omega (arith, front_within c.args.line c.args.column c.args.table.now, c.len-high.ensures);
+  high = omega (arith, front_within c.args.bound.now c.args.table.now, c.len-high.ensures);
   inside = omega (arith, c.len-high.ensures);
-  best = refl;
+  last = refl;
+  next = sym (slice_get_past c.args.table.now _ (omega (arith, c.len-high.ensures)));
   onward = omega arith;
   few = λ b below. (b, omega arith, omega (arith, c.len-high.ensures));
   none_decoded = refl;
@@ -22,15 +24,16 @@ at-checkpoint-requires-clause-room c =
     let most = c.loop-low.invariant.few 64 (omega (arith, c.len-high.ensures)) in
     omega (arith, most.1, c.requires.room.0)
 
-pub loop-low-preserved-then-is_not_after : goal.loop-low-preserved-then-is_not_after
-loop-low-preserved-then-is_not_after c =
+pub loop-low-preserved-then-reaches : goal.loop-low-preserved-then-reaches
+loop-low-preserved-then-reaches c =
     let there = read_mapping c.args.table.now _ c.at-checkpoint.result.now c.at-checkpoint.ensures.read in
     let counted = ap (λ m. m.comparisons) c.at-checkpoint.ensures.counted in
     record {
-      low = in_front c.args.line c.args.column (mappings_at c.args.table.now) _ (mapping_of c.at-checkpoint.result.now) c.requires.ordered there (ap (is_not_after c.args.line c.args.column) (sym c.mapping.ensures) ∙ sym c.is_not_after.ensures ∙ c.if-is_not_after.true);
+      low = in_front c.args.bound.now (mappings_at c.args.table.now) _ (mapping_of c.at-checkpoint.result.now) c.requires.ordered there (ap (is_up_to c.args.bound.now) (sym c.mapping.ensures) ∙ sym c.reaches.ensures ∙ c.if-reaches.true);
       high = c.loop-low.invariant.high;
       inside = c.loop-low.invariant.inside;
-      best = sym (last_taken None c.args.table.now _ c.at-checkpoint.result.now c.at-checkpoint.ensures.read);
+      last = sym (last_taken None c.args.table.now _ c.at-checkpoint.result.now c.at-checkpoint.ensures.read);
+      next = c.loop-low.invariant.next;
       onward = omega (arith, c.loop-low.invariant.onward);
       few = λ b below. one_more _ _ _ b _ _ (omega arith) (omega arith) counted (c.loop-low.invariant.few b below);
       none_decoded = ap (λ m. m.segments) c.at-checkpoint.ensures.counted ∙ c.loop-low.invariant.none_decoded;
@@ -42,9 +45,10 @@ loop-low-preserved c =
     let counted = ap (λ m. m.comparisons) c.at-checkpoint.ensures.counted in
     record {
       low = c.loop-low.invariant.low;
-      high = ends_front c.args.line c.args.column (mappings_at c.args.table.now) _ (mapping_of c.at-checkpoint.result.now) there (ap (is_not_after c.args.line c.args.column) (sym c.mapping.ensures) ∙ sym c.is_not_after.ensures ∙ c.if-is_not_after.false);
+      high = ends_front c.args.bound.now (mappings_at c.args.table.now) _ (mapping_of c.at-checkpoint.result.now) there (ap (is_up_to c.args.bound.now) (sym c.mapping.ensures) ∙ sym c.reaches.ensures ∙ c.if-reaches.false);
       inside = omega (arith, c.loop-low.invariant.inside);
-      best = c.loop-low.invariant.best;
+      last = c.loop-low.invariant.last;
+      next = sym c.at-checkpoint.ensures.read;
       onward = omega (arith, c.loop-low.invariant.onward);
       few = λ b below. one_more _ _ _ b _ _ (omega arith) (omega arith) counted (c.loop-low.invariant.few b below);
       none_decoded = ap (λ m. m.segments) c.at-checkpoint.ensures.counted ∙ c.loop-low.invariant.none_decoded;

@@ -2,14 +2,16 @@ use Rattle.std.proofs.Common.{◌≡◌, ℕ, ◌+◌, ◌≤◌, Some, take, dr
 use Rattle.smap_mappings.specs.State.{IsAfter}
 use Rattle.smap_index.specs.Checkpoint.{mapping_of, state_of}
 use Rattle.smap_index.specs.Parts.{placed}
-use Rattle.smap_index.specs.Search.{last_from}
-use Rattle.smap_index.proofs.resume.last_behind.Given as goal
+use Rattle.smap_index.specs.Search.{last_from, first_past}
+use Rattle.smap_index.proofs.resume.decode_behind.Given as goal
 
--- what is looked for is the last of those that are left, and where there is none, the last so far
+-- what is looked for is the last of those that are left, and where there is none, the last so far; and the first behind
+-- it is the first of those that are left
 abbrev pub invariant-loop-left : goal.invariant-loop-left
 invariant-loop-left l = record {
   left : (j : ℕ) → IsAfter l.part.text j (state_of l.part l.checkpoint) → (n : ℕ) × IsAfter l.part.text n l.state
-      × (last_from l.line l.column (Some (mapping_of l.checkpoint)) (take l.most (drop j (placed l.part))) ≡ last_from l.line l.column (Some l.last) (take l.left (drop n (placed l.part))));
+      × (last_from l.bound (Some (mapping_of l.checkpoint)) (take l.most (drop j (placed l.part))) ≡ last_from l.bound (Some l.last) (take l.left (drop n (placed l.part))))
+      × (first_past l.bound (take l.most (drop j (placed l.part))) ≡ first_past l.bound (take l.left (drop n (placed l.part))));
   few : l.meter.segments + l.left ≤ l.fn.meter.segments + l.most;
   onward : l.fn.meter.segments ≤ l.meter.segments;
   none_compared : l.meter.comparisons ≡ l.fn.meter.comparisons;

@@ -1,0 +1,74 @@
+-- The order of positions, by line and then by column, as a test and as a fact.
+use Rattle.std.proofs.Common.{◌≡◌, ◌<◌, ◌≤◌, true, false, sym, arith, ⊎_elim, inl, inr, ◌⊎◌}
+use Rattle.std.proofs.lemmas.Bool.{cases_Bool, cases_lt, ltb-true, ltb-false, lt-ltb, eqb-true, eqb-false, eq-eqb, or_cases, or_left, or_right, or_parts, and_parts, and_cases, and_from}
+use Rattle.smap_mappings.specs.Order.{IsAtOrBefore}
+use Rattle.smap_mappings.specs.Range.{stands_before}
+use Rattle.smap_mappings.specs.declared.mapping.Mapping.{Mapping}
+
+-- the first stands before the second
+abbrev pub IsBefore : Mapping → Mapping → Type 0
+IsBefore a b = (a.line < b.line) ⊎ ((a.line ≡ b.line) × (a.column < b.column))
+
+-- ---- steps
+
+module _ (a b c : Mapping) where
+  pub at_or_before : IsAtOrBefore a b → IsAtOrBefore b c → IsAtOrBefore a c
+  at_or_before first second =
+      ⊎_elim
+      (λ (above : a.line < b.line). inl (⊎_elim (λ (further : b.line < c.line). omega arith) (λ same. omega (arith, same.0)) second))
+      (λ equal. ⊎_elim (λ (further : b.line < c.line). inl (omega (arith, equal.0))) (λ same. inr (omega (arith, equal.0, same.0), omega (arith, equal.1, same.1))) second)
+      first
+
+  pub before_through : IsAtOrBefore a b → IsBefore b c → IsBefore a c
+  before_through first second =
+      ⊎_elim
+      (λ (above : a.line < b.line). inl (⊎_elim (λ (further : b.line < c.line). omega arith) (λ same. omega (arith, same.0)) second))
+      (λ equal. ⊎_elim (λ (further : b.line < c.line). inl (omega (arith, equal.0))) (λ same. inr (omega (arith, equal.0, same.0), omega (arith, equal.1, same.1))) second)
+      first
+
+  pub before_from : IsBefore a b → IsAtOrBefore b c → IsBefore a c
+  before_from first second =
+      ⊎_elim
+      (λ (above : a.line < b.line). inl (⊎_elim (λ (further : b.line < c.line). omega arith) (λ same. omega (arith, same.0)) second))
+      (λ equal. ⊎_elim (λ (further : b.line < c.line). inl (omega (arith, equal.0))) (λ same. inr (omega (arith, equal.0, same.0), omega (arith, equal.1, same.1))) second)
+      first
+
+-- ---- the test
+
+pub before : (a b : Mapping) → stands_before a b ≡ true → IsBefore a b
+before a b is =
+    ⊎_elim
+    (λ above. inl (ltb-true _ _ above))
+    (λ same. let parts = and_parts _ _ same in inr (eqb-true _ _ parts.0, ltb-true _ _ parts.1))
+    (or_cases _ _ is)
+
+module _ (a b : Mapping) where
+  pub from_before : IsBefore a b → stands_before a b ≡ true
+  from_before is =
+      ⊎_elim
+      (λ above. or_left _ _ (lt-ltb _ _ above))
+      (λ same. or_right _ _ (and_from _ _ (eq-eqb _ _ same.0) (lt-ltb _ _ same.1)))
+      is
+
+  pub not_before : stands_before b a ≡ false → IsAtOrBefore a b
+  not_before is =
+      let tests = or_parts _ _ is in
+      let line = ltb-false b.line a.line tests.0 in
+      ⊎_elim
+      (λ (above : a.line < b.line). inl above)
+      (λ (least : b.line ≤ a.line).
+      let same : b.line ≡ a.line = omega arith in
+      ⊎_elim (λ other. absurd (eqb-false _ _ other same)) (λ column. inr (sym same, ltb-false b.column a.column column)) (and_cases _ _ tests.1))
+      (cases_lt a.line b.line)
+
+  pub from_not_before : IsAtOrBefore a b → stands_before b a ≡ false
+  from_not_before order =
+      ⊎_elim
+      (λ yes.
+      absurd
+      (⊎_elim
+      (λ (above : a.line < b.line). ⊎_elim (λ (below : b.line < a.line). omega arith) (λ same. omega (arith, same.0)) (before b a yes))
+      (λ equal. ⊎_elim (λ (below : b.line < a.line). omega (arith, equal.0)) (λ same. omega (arith, equal.1, same.1)) (before b a yes))
+      order))
+      (λ no. no)
+      (cases_Bool (stands_before b a))

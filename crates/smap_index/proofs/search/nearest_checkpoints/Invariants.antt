@@ -1,0 +1,22 @@
+use Rattle.std.proofs.Common.{ℕ, ◌-◌, ◌≡◌, ◌+◌, ◌^◌, ◌<◌, ◌≤◌, length, None, take}
+use Rattle.std.specs.List.{last_or, slice_get}
+use Rattle.std.specs.Option.{option_copied}
+use Rattle.smap_index.specs.Search.{mappings_at, front_up_to}
+use Rattle.smap_index.proofs.search.nearest_checkpoints.Given as goal
+
+-- the front ends between `low` and `high`, `last` is the last below `low` and `next` the one at `high`, and with each
+-- comparison so far the number of checkpoints between them came below a power of two that is one lower
+abbrev pub invariant-loop-low : goal.invariant-loop-low
+invariant-loop-low l = record {
+  low : l.low ≤ front_up_to l.bound (mappings_at l.table);
+  high : front_up_to l.bound (mappings_at l.table) ≤ l.high;
+  inside : l.high ≤ length l.table;
+  last : option_copied l.last ≡ last_or None (take l.low l.table);
+  next : option_copied l.next ≡ slice_get l.table l.high;
+  onward : l.fn.meter.comparisons ≤ l.meter.comparisons;
+  few : (b : ℕ) → length l.table < 2 ^ b → (d : ℕ) × (l.meter.comparisons + d ≡ l.fn.meter.comparisons + b) × (l.high - l.low < 2 ^ d);
+  none_decoded : l.meter.segments ≡ l.fn.meter.segments;
+}
+
+abbrev pub decreases-loop-low : goal.decreases-loop-low
+decreases-loop-low l = l.high - l.low

@@ -1,0 +1,38 @@
+//! The bound of a search: a position, and whether the mappings at it are before the bound or behind it.
+
+ghost use Rattle.std.specs.Prelude.{◌≡◌};
+ghost use Rattle.smap_index.specs.Search.{is_up_to};
+
+use crate::position::Position;
+use smap_mappings::Mapping;
+
+// Which mappings stand up to a bound: those before its position, or those at it too.
+#[derive(Clone, Copy)]
+pub enum Side {
+    Before,
+    Through,
+}
+
+// Where a search ends. It finds what stands next to the bound, on either side.
+#[derive(Clone, Copy)]
+pub struct Bound {
+    pub position: Position,
+    pub side: Side,
+}
+
+impl Bound {
+    // Whether the mapping stands up to the bound.
+    #[inline(always)]
+    pub fn reaches(&self, mapping: &Mapping) -> bool
+        ensures { result ≡ is_up_to self.now mapping.now }
+    {
+        let place = Position {
+            line: mapping.line as u64,
+            column: mapping.column as u64,
+        };
+        match self.side {
+            Side::Before => place.is_before(&self.position),
+            Side::Through => !self.position.is_before(&place),
+        }
+    }
+}
