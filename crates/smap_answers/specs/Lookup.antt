@@ -1,12 +1,12 @@
 -- What `lookup` answers: where a generated place comes from, by the names that the map gives.
-use Rattle.std.specs.Prelude.{ℕ, Bool, false, List, [], ◌∷◌, ◌++◌, Option, Some, None, codes, option_and_then, slice_get}
+use Rattle.std.specs.Prelude.{ℕ, Bool, false, List, [], ◌∷◌, ◌++◌, Option, Some, None, codes, if◌then◌else◌, option_and_then, slice_get}
 use Rattle.std.specs.Fmt.{decimal}
 use Rattle.smap_mappings.specs.declared.mapping.Origin.{Origin}
 use Rattle.smap_index.specs.declared.answer.Answer.{Answer}
 use Rattle.smap_index.specs.declared.answer.Answer.TheVariants.{Nothing, Unmapped, Found}
 use Rattle.smap_resolve.specs.SourceName.{Name, name_text}
 use Rattle.smap_record.specs.Sources.{StatedSource}
-use Rattle.smap_record.specs.Record.{MapRecord, answer_of_map}
+use Rattle.smap_record.specs.Record.{MapRecord, answer_of_map, answer_of_map_from}
 use Rattle.smap_text.specs.Excerpt.{excerpt_of}
 use Rattle.smap_command.specs.Shown.{shown}
 use Rattle.smap_answers.specs.Lines.{line_from, none_line, unmapped_line, place_line}
@@ -50,6 +50,12 @@ map_answer_text stated Nothing = none_line
 map_answer_text stated (Unmapped column) = unmapped_line
 map_answer_text stated (Found column origin) = origin_text stated origin
 
--- what is printed for a generated line and column, from 0: a line, and behind that of a place its excerpt
-abbrev pub lookup_text : (line column : ℕ) → MapRecord → List ℕ
-lookup_text line column stated = map_answer_text stated (answer_of_map stated line column)
+-- what the map answers for a generated line and column, from 0: at the position or before it or, where that is asked, at
+-- it or after it
+abbrev pub lookup_answer : (after : Bool) (line column : ℕ) → MapRecord → Answer
+lookup_answer after line column stated =
+    if after then answer_of_map_from stated line column else answer_of_map stated line column
+
+-- what is printed for it: a line, and behind that of a place its excerpt
+abbrev pub lookup_text : (after : Bool) (line column : ℕ) → MapRecord → List ℕ
+lookup_text after line column stated = map_answer_text stated (lookup_answer after line column stated)

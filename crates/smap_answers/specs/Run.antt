@@ -52,8 +52,8 @@ Tells (Check path base interval) files =
     TellsAside (IsMapAnswer (check_line interval) (string_bytes path) (record_of (first_bytes files) base interval))
 Tells (Show path base) files =
     TellsAside (IsMapTelling show_result (string_bytes path) (record_of (first_bytes files) base usual_interval))
-Tells (Lookup path line column base interval) files =
-    TellsAside (IsMapAnswer (lookup_text line column) (string_bytes path) (record_of (first_bytes files) base interval))
+Tells (Lookup path line column base interval after) files =
+    TellsAside (IsMapAnswer (lookup_text after line column) (string_bytes path) (record_of (first_bytes files) base interval))
 Tells (Rewrite maps base interval) files =
     RewriteTells base interval (zip (map word_of maps.items) (map (λ file. file.bytes.items) files))
 Tells (Compose outer source inner base) files =

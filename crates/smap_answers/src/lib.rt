@@ -2,7 +2,8 @@
 //! standard input, and the lines that tell this.
 //!
 //! ```text
-//! let command = Command::Lookup { path, line: 0, column: 5, base: None, interval: USUAL_INTERVAL };
+//! let interval = USUAL_INTERVAL;
+//! let command = Command::Lookup { path, line: 0, column: 5, base: None, interval, after: false };
 //! let files = load_files(&rt, &command)?;
 //! let status = run(rt.alloc(), &command, &files, &mut input, &mut output, &mut errors);
 //! ```

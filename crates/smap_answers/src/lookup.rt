@@ -2,7 +2,7 @@
 ghost use Rattle.std.specs.Prelude.{◌≡◌, option_and_then, option_map, slice_get, string_bytes, option_copied, IfOk};
 ghost use Rattle.smap_record.specs.Record.{record_of};
 ghost use Rattle.smap_record.specs.Sources.{source_of};
-ghost use Rattle.smap_answers.specs.Lookup.{is_passed_over, lookup_text, origin_line, origin_text};
+ghost use Rattle.smap_answers.specs.Lookup.{is_passed_over, lookup_answer, lookup_text, origin_line, origin_text};
 ghost use Rattle.smap_answers.specs.Lookup.{source_excerpt, source_text};
 ghost use Rattle.smap_answers.specs.Map.{IsMapAnswer};
 ghost use Rattle.smap_answers.specs.Outcome.{telling_of};
@@ -16,7 +16,7 @@ use smap_text::excerpt;
 use std::alloc::{AllocError, Global};
 
 /// Looks up a generated line and column, both from 0, in the map that the bytes of the file at this path are, over
-/// checkpoints at this interval.
+/// checkpoints at this interval: at the position or before it or, with `after`, at it or after it.
 pub fn answer_lookup(
     alloc: Global,
     path: &str,
@@ -25,25 +25,43 @@ pub fn answer_lookup(
     line: u32,
     column: u32,
     interval: u32,
+    after: bool,
 ) -> Result<Outcome, AllocError>
     ensures { IfOk result (λ outcome.
-        IsMapAnswer (lookup_text line column) path.now (record_of bytes.now (option_copied base.entry) interval) (telling_of outcome)) }
+        IsMapAnswer (lookup_text after line column) path.now (record_of bytes.now (option_copied base.entry) interval) (telling_of outcome)) }
 {
     match MapFile::read(alloc, bytes, base, interval) {
-        Ok(map) => Ok(Outcome::Answer(lookup_text(alloc, &map, line, column)?)),
+        Ok(map) => Ok(Outcome::Answer(lookup_text(alloc, &map, line, column, after)?)),
         Err(refusal) => refuse(alloc, path, refusal),
     }
 }
 
-// The text for what a map answers at a position.
-fn lookup_text(alloc: Global, map: &MapFile, line: u32, column: u32) -> Result<String, AllocError>
-    ensures { IfOk result (λ text. string_bytes text ≡ lookup_text line column map.now.stated) }
+// The text for what a map answers for a position.
+fn lookup_text(
+    alloc: Global,
+    map: &MapFile,
+    line: u32,
+    column: u32,
+    after: bool,
+) -> Result<String, AllocError>
+    ensures { IfOk result (λ text. string_bytes text ≡ lookup_text after line column map.now.stated) }
 {
-    let mut meter = Meter::new(alloc);
-    match map.look_up(line, column, &mut meter) {
+    match lookup_answer(alloc, map, line, column, after) {
         Answer::Nothing => String::from_str(alloc, lines::NONE),
         Answer::Unmapped { .. } => String::from_str(alloc, lines::UNMAPPED),
         Answer::Found { origin, .. } => origin_text(alloc, map, &origin),
+    }
+}
+
+// What a map answers for a position, at it or before it or, with `after`, at it or after it.
+fn lookup_answer(alloc: Global, map: &MapFile, line: u32, column: u32, after: bool) -> Answer
+    ensures { result ≡ lookup_answer after line column map.now.stated }
+{
+    let mut meter = Meter::new(alloc);
+    if after {
+        map.look_up_from(line, column, &mut meter)
+    } else {
+        map.look_up(line, column, &mut meter)
     }
 }
 

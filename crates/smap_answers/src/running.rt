@@ -86,6 +86,7 @@ fn outcome_of<R: ByteSource, W: ByteSink>(
             column,
             base,
             interval,
+            after,
         } => or_memory(answer_lookup(
             alloc,
             path,
@@ -94,6 +95,7 @@ fn outcome_of<R: ByteSource, W: ByteSink>(
             *line,
             *column,
             *interval,
+            *after,
         )),
         Command::Rewrite {
             maps,

@@ -23,14 +23,16 @@ pub enum Command {
         path: String,
         base: Option<Url>,
     },
-    /// Looks up a generated line and column in the source map in the file at this path. Its sources are resolved
-    /// against the base.
+    /// Looks up a generated line and column in the source map in the file at this path: the last mapping at the
+    /// position or before it answers or, with `after`, the first at it or after it. Its sources are resolved against
+    /// the base.
     Lookup {
         path: String,
         line: u32,
         column: u32,
         base: Option<Url>,
         interval: u32,
+        after: bool,
     },
     /// Rewrites the stack trace on standard input over maps: pairs of the URL that frames name and of the path of the
     /// map's file. A map's sources are resolved against the base or, where there is none, against the map's URL, where

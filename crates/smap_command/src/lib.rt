@@ -3,7 +3,8 @@
 //! that do not know each other.
 //!
 //! ```text
-//! let command = Command::Lookup { path, line: 0, column: 5, base: None, interval: USUAL_INTERVAL };
+//! let interval = USUAL_INTERVAL;
+//! let command = Command::Lookup { path, line: 0, column: 5, base: None, interval, after: false };
 //! print(shown(alloc, "a\nb.map")?); // a?b.map
 //! ```
 #![tactic(auto)]

@@ -1,7 +1,8 @@
 -- The mappings of a map file, and its answers, keep to the limit and to its sources and names.
 use Rattle.std.proofs.Common.{◌≡◌, ℕ, ◌+◌, ◌≤◌, List, [], ◌∷◌, length, map, filter, string_bytes, Bool, true, false, ◌||◌, Option, Some, None, refl, sym, ap, subst, ◌∙◌, arith, ltb-false}
 use Rattle.std.specs.Prelude.{IfSome, option_map}
-use Rattle.std.specs.List.{All, AllByRecursion, last_or, list_any}
+use Rattle.std.specs.List.{All, AllByRecursion, find, last_or, list_any}
+use Rattle.std.proofs.lemmas.Bool.{cond_both}
 use Rattle.std.proofs.lemmas.List.{length-map}
 use Rattle.std.proofs.lemmas.List.Elements.{All-nil, All-filter, All-weaker, All-append, All-from_recursion, recursion_from_All}
 use Rattle.std.proofs.lemmas.List.Folds.{list_any-append}
@@ -9,7 +10,7 @@ use Rattle.smap_mappings.specs.Mappings.{mappings_of}
 use Rattle.smap_mappings.specs.Within.{IsIndexWithin, IsOriginWithin, IsWithin}
 use Rattle.smap_mappings.specs.declared.mapping.Mapping.{Mapping}
 use Rattle.smap_mappings.specs.declared.mapping.Origin.{Origin}
-use Rattle.smap_index.specs.Answer.{is_on_line_at_or_before, answer_with, answer_of_last, answer_at_or_before}
+use Rattle.smap_index.specs.Answer.{is_on_line_at_or_before, answer_with, answer_of_last, is_on_line_at_or_after, answer_at_or_before, answer_at_or_after}
 use Rattle.smap_mappings.specs.Range.{is_number_past_limit, is_name_past_limit, is_origin_past_limit, is_mapping_past_limit}
 use Rattle.smap_index.specs.Parts.{placed, placed_mapping, placed_origin, joined}
 use Rattle.smap_index.specs.declared.answer.Answer.{Answer}
@@ -98,6 +99,10 @@ last_holds : (P : Mapping → Type 0) (o : Option Mapping) (list : List Mapping)
 last_holds P o [] holds all = holds
 last_holds P o (m ∷ list) holds all = last_holds P (Some m) list all.0 all.1
 
+found_holds : (P : Mapping → Type 0) (test : Mapping → Bool) (list : List Mapping) → AllByRecursion P list → IfSome (find test list) P
+found_holds P test [] all = tt
+found_holds P test (m ∷ list) all = cond_both (test m) (Some m) (find test list) (λ found. IfSome found P) (λ _. all.0) (λ _. found_holds P test list all.1)
+
 module _ (sources names : ℕ) where
   with_origin : (column : ℕ) (origin : Option Origin) → IfSome origin (IsOriginWithin sources names) → IsAnswerWithin sources names (answer_with column origin)
   unfolding IsAnswerWithin
@@ -116,6 +121,11 @@ module _ (sources names : ℕ) where
       of_last (last_or None kept)
       (last_holds (IsWithin sources names) None kept tt (recursion_from_All (IsWithin sources names) kept (All-filter (is_on_line_at_or_before line column) (IsWithin sources names) list all)))
 
+  of_list_from : (list : List Mapping) (line column : ℕ) → All (IsWithin sources names) list → IsAnswerWithin sources names (answer_at_or_after list line column)
+  unfolding answer_at_or_after
+  of_list_from list line column all =
+      of_last (find (is_on_line_at_or_after line column) list) (found_holds (IsWithin sources names) (is_on_line_at_or_after line column) list (recursion_from_All (IsWithin sources names) list all))
+
 -- ---- a map file
 
 pub file_within : (inside : Inside) (seen : Map) → map_seen inside ≡ seen → IsCounted inside → All (IsWithin (length seen.stated.sources) (length seen.stated.names)) (joined seen.stated.parts)
@@ -124,9 +134,18 @@ file_within inside seen seen_is counted =
     (with_counts (length inside.sources.items) (length inside.names.items) (length (map source_of inside.sources.items)) (length (map string_bytes inside.names.items)) (joined inside.index.parts)
     (sym (length-map inside.sources.items source_of)) (sym (length-map inside.names.items string_bytes)) counted.within)
 
-pub answer_within : (inside : Inside) (seen : Map) → map_seen inside ≡ seen → IsCounted inside → (line column : ℕ) (answer : Answer) → answer ≡ answer_at_or_before (joined inside.index.parts) line column
-    → IsAnswerWithin (length seen.stated.sources) (length seen.stated.names) answer
-answer_within inside seen seen_is counted line column answer answer_is =
-    let answer_seen : answer ≡ answer_at_or_before (joined seen.stated.parts) line column = answer_is ∙ ap (λ (m : Map). answer_at_or_before (joined m.stated.parts) line column) seen_is in
-    subst (IsAnswerWithin (length seen.stated.sources) (length seen.stated.names)) (sym answer_seen)
-    (of_list (length seen.stated.sources) (length seen.stated.names) (joined seen.stated.parts) line column (file_within inside seen seen_is counted))
+module _ (inside : Inside) (seen : Map) (seen_is : map_seen inside ≡ seen) (counted : IsCounted inside) where
+  -- what answers from the list, within what the list keeps to
+  within : (answer_in : List Mapping → Answer) → ((sources names : ℕ) (list : List Mapping) → All (IsWithin sources names) list → IsAnswerWithin sources names (answer_in list)) → (answer : Answer) → answer ≡ answer_in (joined inside.index.parts)
+      → IsAnswerWithin (length seen.stated.sources) (length seen.stated.names) answer
+  within answer_in of_all answer answer_is =
+      let answer_seen : answer ≡ answer_in (joined seen.stated.parts) = answer_is ∙ ap (λ (m : Map). answer_in (joined m.stated.parts)) seen_is in
+      subst (IsAnswerWithin (length seen.stated.sources) (length seen.stated.names)) (sym answer_seen)
+      (of_all (length seen.stated.sources) (length seen.stated.names) (joined seen.stated.parts) (file_within inside seen seen_is counted))
+
+  module _ (line column : ℕ) where
+    pub answer_within : (answer : Answer) → answer ≡ answer_at_or_before (joined inside.index.parts) line column → IsAnswerWithin (length seen.stated.sources) (length seen.stated.names) answer
+    answer_within = within (λ list. answer_at_or_before list line column) (λ sources names list. of_list sources names list line column)
+
+    pub answer_from_within : (answer : Answer) → answer ≡ answer_at_or_after (joined inside.index.parts) line column → IsAnswerWithin (length seen.stated.sources) (length seen.stated.names) answer
+    answer_from_within = within (λ list. answer_at_or_after list line column) (λ sources names list. of_list_from sources names list line column)

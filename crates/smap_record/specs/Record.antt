@@ -5,7 +5,7 @@ use Rattle.std.specs.Prelude.{ℕ, List, [], ◌∷◌, ◌++◌, Option, Some, 
 use Rattle.serde_json.specs.Data.{Data}
 use Rattle.serde_json.specs.Find.{as_object}
 use Rattle.url.specs.Parts.{Parts}
-use Rattle.smap_index.specs.Answer.{answer_at_or_before}
+use Rattle.smap_index.specs.Answer.{answer_at_or_before, answer_at_or_after}
 use Rattle.smap_index.specs.Faults.{build_fault}
 use Rattle.smap_index.specs.Parts.{joined}
 use Rattle.smap_index.specs.declared.answer.Answer.{Answer}
@@ -63,3 +63,7 @@ record_of bytes base k = if nat_lt most_file_bytes (length bytes) then Err TooLa
 -- what a map answers at a generated position
 abbrev pub answer_of_map : MapRecord → ℕ → ℕ → Answer
 answer_of_map stated line column = answer_at_or_before (joined stated.parts) line column
+
+-- and in the other direction, at the position or after it
+abbrev pub answer_of_map_from : MapRecord → ℕ → ℕ → Answer
+answer_of_map_from stated line column = answer_at_or_after (joined stated.parts) line column

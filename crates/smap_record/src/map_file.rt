@@ -11,7 +11,7 @@ ghost use Rattle.smap_index.specs.Marks.{marks, used_lines_in};
 ghost use Rattle.smap_record.specs.Limits.{most_file_bytes};
 ghost use Rattle.smap_record.specs.MapFile.{IsAnswerWithin};
 ghost use Rattle.smap_record.specs.ReadBack.{ReadsBackAs};
-ghost use Rattle.smap_record.specs.Record.{answer_of_map, record_of};
+ghost use Rattle.smap_record.specs.Record.{answer_of_map, answer_of_map_from, record_of};
 ghost use Rattle.smap_record.specs.Sources.{source_of};
 ghost use Rattle.smap_record.specs.Written.{written};
 ghost use Rattle.smap_record.specs.declared.refusal.MapRefusal.TheVariants as refusals;
@@ -172,6 +172,22 @@ impl MapFile {
         ensures onward { (meter.old.comparisons ≤ meter.new.comparisons) × (meter.old.segments ≤ meter.new.segments) }
     {
         self.index.look_up(line, column, meter)
+    }
+
+    /// Looks a generated position up in the other direction, from 0 and in UTF-16 code units: the first mapping on the
+    /// line whose column is not before the asked one answers, and of equal columns the first. Of fewer than 2 ^ b
+    /// checkpoints it compares at most b, and it decodes fewer than `k` segments; the meter has room for both. The call
+    /// takes no memory.
+    pub fn look_up_from(&self, line: u32, column: u32, meter: &mut Meter) -> Answer
+        requires room { HasRoom meter.old }
+        ensures answer { result ≡ answer_of_map_from self.now.stated line column }
+        ensures within { IsAnswerWithin (length self.now.stated.sources) (length self.now.stated.names) result }
+        ensures compared { (b : ℕ) → length (marks self.now.stated.parts self.now.k) < 2 ^ b
+            → meter.new.comparisons ≤ meter.old.comparisons + b }
+        ensures decoded { meter.new.segments ≤ meter.old.segments + (self.now.k - 1) }
+        ensures onward { (meter.old.comparisons ≤ meter.new.comparisons) × (meter.old.segments ≤ meter.new.segments) }
+    {
+        self.index.look_up_from(line, column, meter)
     }
 
     /// A walk through all mappings, section after section, in order. It takes no memory.

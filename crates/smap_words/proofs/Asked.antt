@@ -1,5 +1,5 @@
 -- What the words ask for, where clap finds no fault in them.
-use Rattle.std.proofs.Common.{◌≡◌, ◌∙◌, ◌||◌, ◌&&◌, ℕ, Bool, true, false, refl, sym, subst, inl, inr, List, [], ◌∷◌, not, fold, find, Option, Some, None, true≢false, codes, cond, is_some}
+use Rattle.std.proofs.Common.{◌≡◌, ◌∙◌, ◌||◌, ◌&&◌, ◌⊎◌, ⊎_elim, ℕ, Bool, true, false, refl, sym, subst, inl, inr, List, [], ◌∷◌, not, fold, find, Option, Some, None, true≢false, codes, cond, is_some}
 use Rattle.std.specs.Prelude.{⊤, option_map, unwrap_or}
 use Rattle.std.specs.List.{list_any}
 use Rattle.std.proofs.lemmas.Slice.Eq.{bytes_eq-Decides}
@@ -11,6 +11,7 @@ use Rattle.clap.specs.Simple.{App, HasMatchesOf, subcommand_rows_of, Shape, argu
 use Rattle.clap.specs.Kinds.{HasKind, check_kinds}
 use Rattle.clap.specs.Faults.{check_fault, is_simple_and_free, entered_fault, fault_of, defaults_fault, level_fault, settle_fault, walk_fault}
 use Rattle.clap.specs.Takes.{is_given}
+use Rattle.clap.specs.ValueTests.{accepts}
 use Rattle.clap.specs.Values.{kind_of}
 use Rattle.clap.proofs.OnLiterals.{clap_on_literals}
 use Rattle.clap.specs.declared.builder.action.ArgAction.TheVariants.{Append}
@@ -18,11 +19,11 @@ use Rattle.clap.specs.declared.builder.value_parser.ValueParser.{ValueParser}
 use Rattle.clap.specs.declared.builder.value_parser.ValueParser.TheVariants as parser
 use Rattle.clap.specs.declared.error.Error.{Error}
 use Rattle.clap.specs.declared.error.kind.ErrorKind.TheVariants.{DisplayHelp, DisplayVersion, OutOfMemory}
-use Rattle.smap_words.specs.CommandLine.{base_rule, check, compose, interval_number, interval_rule, lookup, named, number, raw, rewrite, show, smap, source_number}
+use Rattle.smap_words.specs.CommandLine.{after_rule, base_rule, check, compose, interval_number, interval_rule, lookup, named, number, raw, rewrite, show, smap, source_number}
 use Rattle.smap_words.specs.declared.usage.Usage.{Usage}
 use Rattle.smap_words.specs.declared.usage.Usage.TheVariants.{Help, Words, Memory}
 use Rattle.smap_words.specs.Words.{HasArguments, HasCommand, HasValue, HasValues, IsNamedRefusal, IsUsageOf, IsRefusalOf, SubcommandTells}
-use Rattle.smap_words.proofs.Rows.{AreReadRows, Keeps, first_none, given_value, help_keeps, long_option_keeps, more_values_keeps, no_default_keeps, second_none, settle_keeps, text_value, value_keeps, walk_keeps}
+use Rattle.smap_words.proofs.Rows.{AreReadRows, Keeps, first_none, flag_at, flag_default_keeps, flag_keeps, given_value, help_keeps, long_option_keeps, more_values_keeps, no_default_keeps, second_none, settle_keeps, text_value, value_keeps, walk_keeps}
 use Rattle.smap_words.proofs.Stops.{IsNoHelp, walk_names}
 
 -- ---- the rules of a level
@@ -57,13 +58,18 @@ none_missing false false true true = λ none. cc
 none_missing false false false true = λ none. cc
 
 module _ (parser_at : Text → ValueParser) where
-  -- the argument has no default, and its values are read by the parser
+  -- the argument has no default, or it is read too, and its values are read by the parser
   abbrev IsPlain : Rule → Type 0
-  IsPlain a = Keeps parser_at a × (a.defaults ≡ []) × (parser_at a.id ≡ unwrap_or a.parser parser.String)
+  IsPlain a = Keeps parser_at a
+      × ((a.defaults ≡ []) ⊎ ((rows : List Row) → AreReadRows parser_at rows → AreReadRows parser_at (with_default rows a)))
+      × (parser_at a.id ≡ unwrap_or a.parser parser.String)
+
+  default_keeps : (rows : List Row) (a : Rule) → IsPlain a → AreReadRows parser_at rows → AreReadRows parser_at (with_default rows a)
+  default_keeps rows a plain good = ⊎_elim (λ none. no_default_keeps parser_at rows a none good) (λ keeps. keeps rows good) plain.1
 
   finished_keeps : (rules : List Rule) (rows : List Row) → Each IsPlain rules → AreReadRows parser_at rows → AreReadRows parser_at (fold with_default rows rules)
   finished_keeps [] rows plain good = good
-  finished_keeps (a ∷ rest) rows plain good = finished_keeps rest (with_default rows a) plain.1 (no_default_keeps parser_at rows a plain.0.1 good)
+  finished_keeps (a ∷ rest) rows plain good = finished_keeps rest (with_default rows a) plain.1 (default_keeps rows a plain.0 good)
 
   each_keeps : (rules : List Rule) (p : Rule → Bool) → Each IsPlain rules → Each (λ a. p a ≡ true → Keeps parser_at a) rules
   each_keeps [] p plain = tt
@@ -97,30 +103,37 @@ module _ (parser_at : Text → ValueParser) where
       (none_missing _ _ s.subcommand_negates_reqs (list_any (λ a. a.required && not (is_given a.id rows)) s.rules) last)
 
   value : (i : ℕ) (id : Text) → IsPlain (with_index i (filled (record (new_rule id) { required = true; parser = Some (parser_at id) })))
-  value i id = (value_keeps parser_at i id true, refl, refl)
+  value i id = (value_keeps parser_at i id true, inl refl, refl)
 
   more_values : (i : ℕ) (id : Text) → IsPlain (with_index i (filled (record (new_rule id) { required = true; action = Some Append; parser = Some (parser_at id) })))
-  more_values i id = (more_values_keeps parser_at i id true, refl, refl)
+  more_values i id = (more_values_keeps parser_at i id true, inl refl, refl)
 
   option : (i : ℕ) (id long : Text) → IsPlain (with_index i (filled (record (new_rule id) { long = Some long; parser = Some (parser_at id) })))
-  option i id long = (long_option_keeps parser_at i id long, refl, refl)
+  option i id long = (long_option_keeps parser_at i id long, inl refl, refl)
+
+  flag : (i : ℕ) (id long : Text) → accepts false (parser_at id) (codes "false") ≡ true → IsPlain (flag_at parser_at i id long)
+  flag i id long accepted = (flag_keeps parser_at i id long, inr (flag_default_keeps parser_at i id long accepted), refl)
 
   help : parser_at (codes "help") ≡ parser.String → IsPlain (filled help_rule)
-  help any = (help_keeps parser_at, refl, any)
+  help any = (help_keeps parser_at, inl refl, any)
 
 -- ---- the commands of `smap`
 
--- lines, columns, sources and intervals are numbers, and the other arguments are any text
+-- lines, columns, sources and intervals are numbers, flags are true or false, and the other arguments are any text
 abbrev at_argument : Text → ValueParser
 at_argument id = cond (bytes_eq id (codes "SOURCE")) source_number
     (cond (bytes_eq id (codes "K")) interval_number
-    (cond (bytes_eq id (codes "LINE") || bytes_eq id (codes "COLUMN")) number parser.String))
+    (cond (bytes_eq id (codes "after")) parser.Bool
+    (cond (bytes_eq id (codes "LINE") || bytes_eq id (codes "COLUMN")) number parser.String)))
 
 base_plain : (i : ℕ) → IsPlain at_argument (with_index i (filled base_rule))
 base_plain i = option at_argument i (codes "URL") (codes "base")
 
 interval_plain : (i : ℕ) → IsPlain at_argument (with_index i (filled interval_rule))
 interval_plain i = option at_argument i (codes "K") (codes "interval")
+
+after_plain : (i : ℕ) → IsPlain at_argument (with_index i (filled after_rule))
+after_plain i = flag at_argument i (codes "after") (codes "after") refl
 
 help_plain : IsPlain at_argument (filled help_rule)
 help_plain = help at_argument refl
@@ -130,7 +143,7 @@ lookup_plain = (
   value at_argument 1 (codes "PATH"),
   (
     value at_argument 2 (codes "LINE"),
-    (value at_argument 3 (codes "COLUMN"), (base_plain 4, (interval_plain 4, (help_plain, tt)))),
+    (value at_argument 3 (codes "COLUMN"), (base_plain 4, (interval_plain 4, (after_plain 4, (help_plain, tt))))),
   ),
 )
 

@@ -1,3 +1,4 @@
+mod Flags
 mod Growth
 mod Named
 mod Numbers

@@ -1,5 +1,5 @@
 -- What the rows of a walk hold where clap finds no fault in the words.
-use Rattle.std.proofs.Common.{◌≡◌, ◌++◌, ◌&&◌, ℕ, Bool, zero, suc, true, false, refl, sym, ap, subst, List, [], ◌∷◌, length, drop, not, fold, find, Option, Some, None, cond, is_some}
+use Rattle.std.proofs.Common.{◌≡◌, ◌++◌, ◌&&◌, ℕ, Bool, zero, suc, true, false, refl, sym, ap, subst, List, [], ◌∷◌, length, drop, not, fold, find, Option, Some, None, codes, cond, is_some}
 use Rattle.std.specs.Prelude.{⊤, encode_utf8, option_and_then, slice_get}
 use Rattle.std.proofs.lemmas.Slice.Eq.{bytes_eq-Decides}
 use Rattle.std.specs.Option.{IsSome, option_map_or}
@@ -9,7 +9,7 @@ use Rattle.clap.specs.Walk.{Held, Names, Outcome, Row, Rule, Step, Text, Waiting
 use Rattle.clap.specs.Walk as w
 use Rattle.clap.specs.Simple.{Shape, new_rule, filled, help_rule, with_index}
 use Rattle.clap.specs.Kinds.{Kinds, or_else, values_kinds}
-use Rattle.clap.specs.declared.builder.action.ArgAction.TheVariants.{Append}
+use Rattle.clap.specs.declared.builder.action.ArgAction.TheVariants.{Append, SetTrue}
 use Rattle.clap.specs.Faults.{values_fault, bundle_step_fault, flags_fault, flag_word_fault, long_fault, option_fault, other_fault, positional_fault, react_fault, repeat_fault, set_fault, stray_fault, bundle_fault, settle_fault, short_fault, step_fault, turn_fault, use_fault, walk_fault, word_fault}
 use Rattle.clap.specs.Lexer.{short_of, long_of}
 use Rattle.clap.specs.Takes.{is_given}
@@ -18,7 +18,7 @@ use Rattle.clap.specs.Values.{Accepts, read_as, reading_of, refused_kind}
 use Rattle.clap.proofs.ValueTestLemmas.{accepts-Accepts}
 use Rattle.clap.specs.declared.builder.value_parser.ValueParser.{ValueParser}
 use Rattle.clap.specs.declared.error.kind.ErrorKind.TheVariants.{DisplayHelp, OutOfMemory}
-use Rattle.clap.specs.declared.parser.matches.ValueSource.TheVariants.{CommandLine}
+use Rattle.clap.specs.declared.parser.matches.ValueSource.TheVariants.{CommandLine, DefaultValue}
 use Rattle.clap.specs.declared.error.kind.ErrorKind.TheVariants as kind
 use Rattle.clap.specs.declared.parser.matches.ValueSource.{ValueSource}
 
@@ -124,8 +124,30 @@ module _ (parser_at : Text → ValueParser) where
       go none = with_values_keeps id CommandLine (v ∷ vs) (without id rows)
           (accepted_values id v vs (second_none (repeat_fault again id rows) _ none)) (without_keeps id rows good)
 
+  -- a flag
+  abbrev pub flag_at : (i : ℕ) (id long : Text) → Rule
+  flag_at i id long = with_index i (filled (record (new_rule id) { long = Some long; action = Some SetTrue; parser = Some (parser_at id) }))
+
+  flag_value_keeps : (i : ℕ) (id long : Text) (again : Bool) (v : Text) (vs : List Text) (rows : List Row) → set_fault again (flag_at i id long) (v ∷ vs) rows ≡ [] → AreReadRows rows
+      → AreReadRows (with_values id (reading_of (parser_at id)) CommandLine (v ∷ vs) (without id rows))
+  flag_value_keeps i id long again v vs rows none good = with_values_keeps id CommandLine (v ∷ vs) (without id rows)
+      (accepted_values id v vs (second_none (repeat_fault again id rows) _ none)) (without_keeps id rows good)
+
+  pub flag_keeps : (i : ℕ) (id long : Text) → Keeps (flag_at i id long)
+  flag_keeps i id long again [] rows none good = flag_value_keeps i id long again (codes "true") [] rows none good
+  flag_keeps i id long again (v ∷ vs) rows none good = flag_value_keeps i id long again v vs rows (second_none _ (set_fault again (flag_at i id long) (v ∷ vs) rows) none) good
+
   pub help_keeps : Keeps (filled help_rule)
   help_keeps again values rows none good = good
+
+  -- a flag that is not given is false
+  pub flag_default_keeps : (i : ℕ) (id long : Text) → accepts false (parser_at id) (codes "false") ≡ true → (rows : List Row) → AreReadRows rows
+      → AreReadRows (with_default rows (flag_at i id long))
+  flag_default_keeps i id long accepted rows good = go (has_row id rows)
+    where
+      go : (b : Bool) → AreReadRows (cond b rows (with_values id (reading_of (parser_at id)) DefaultValue (codes "false" ∷ []) rows))
+      go true = good
+      go false = with_values_keeps id DefaultValue (codes "false" ∷ []) rows accepted good
 
   pub no_default_keeps : (rows : List Row) (a : Rule) → a.defaults ≡ [] → AreReadRows rows → AreReadRows (with_default rows a)
   no_default_keeps rows a none good = go (has_row a.id rows) a.defaults none

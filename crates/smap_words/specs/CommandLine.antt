@@ -5,7 +5,7 @@ use Rattle.std.specs.Str.{bytes_eq}
 use Rattle.smap_command.specs.Limits.{limit, most_interval}
 use Rattle.clap.specs.Simple.{on_top}
 use Rattle.clap.specs.Words.{App, Rule, Shape, Text, app_of, new_app, new_rule, rule_of, with_rule, with_subcommand}
-use Rattle.clap.specs.declared.builder.action.ArgAction.TheVariants.{Append}
+use Rattle.clap.specs.declared.builder.action.ArgAction.TheVariants.{Append, SetTrue}
 use Rattle.clap.specs.declared.builder.arg.Arg.{Arg as ClapArgument}
 use Rattle.clap.specs.declared.builder.command.Command.{Command as ClapCommand}
 use Rattle.clap.specs.declared.builder.command.Command.TheViews.{out-Command}
@@ -46,6 +46,10 @@ base_rule = record (new_rule (codes "URL")) { long = Some (codes "base") }
 abbrev pub interval_rule : Rule
 interval_rule = record (new_rule (codes "K")) { long = Some (codes "interval"); parser = Some interval_number }
 
+-- the flag that looks up in the other direction
+abbrev pub after_rule : Rule
+after_rule = record (new_rule (codes "after")) { long = Some (codes "after"); action = Some SetTrue }
+
 -- clap's argument is the one described, and does not hold in subcommands too
 abbrev pub IsLocalArgument : Rule → ClapArgument → Type 0
 IsLocalArgument rule argument = (rule_of argument ≡ rule) × (argument.global ≡ false)
@@ -58,7 +62,7 @@ with_rules name rules = fold with_rule (new_app name) rules
 
 abbrev pub lookup : App
 lookup = with_rules (codes "lookup") (text_rule (codes "PATH") ∷ number_rule number (codes "LINE")
-    ∷ number_rule number (codes "COLUMN") ∷ base_rule ∷ interval_rule ∷ [])
+    ∷ number_rule number (codes "COLUMN") ∷ base_rule ∷ interval_rule ∷ after_rule ∷ [])
 
 abbrev pub rewrite : App
 rewrite = with_rules (codes "rewrite") (pairs_rule ∷ base_rule ∷ interval_rule ∷ [])

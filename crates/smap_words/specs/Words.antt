@@ -1,6 +1,6 @@
 -- What the words of the command line ask for.
 use Rattle.std.specs.Prelude.{◌≡◌, ◌≢◌, ◌≤◌, ◌+◌, ◌++◌, ◌==◌, ◌⊎◌, ◌∷◌, ℕ, Bool, false, true, codes, List, []}
-use Rattle.std.specs.Prelude.{None, Ok, Option, Some, String, find, map, not, unwrap_or, ⊤}
+use Rattle.std.specs.Prelude.{None, Ok, Option, Some, String, find, if◌then◌else◌, map, not, unwrap_or, ⊤}
 use Rattle.std.specs.List.{AllZip, list_any}
 use Rattle.std.specs.Option.{IsSome}
 use Rattle.std.specs.Str.Parse.{digits_value, without_leading_plus}
@@ -29,7 +29,7 @@ abbrev pub HasPlace : Command → Type 0
 HasPlace (Raw line column interval) = (line ≤ limit) × (column ≤ limit)
 HasPlace (Check path base interval) = ⊤
 HasPlace (Show path base) = ⊤
-HasPlace (Lookup path line column base interval) = (line ≤ limit) × (column ≤ limit)
+HasPlace (Lookup path line column base interval after) = (line ≤ limit) × (column ≤ limit)
 HasPlace (Rewrite maps base interval) = ⊤
 HasPlace (Compose outer source inner base) = ⊤
 
@@ -79,6 +79,15 @@ IsIntervalOf (Some text) interval = digits_value 10 (without_leading_plus text) 
 abbrev pub GivesInterval : List Row → ℕ → Type 0
 GivesInterval rows = IsIntervalOf (one_of (codes "K") rows)
 
+-- the text, where there is one, says whether a flag is given
+abbrev pub IsFlagOf : Option Text → Bool → Type 0
+IsFlagOf None given = given ≡ false
+IsFlagOf (Some text) given = text ≡ (if given then codes "true" else codes "false")
+
+-- a flag
+abbrev pub GivesFlag : List Row → (name : Text) → Bool → Type 0
+GivesFlag rows name = IsFlagOf (one_of name rows)
+
 -- ---- the words of `rewrite`
 
 -- the text has an `=`
@@ -108,7 +117,7 @@ abbrev pub name_of : Command → Text
 name_of (Raw line column interval) = codes "raw"
 name_of (Check path base interval) = codes "check"
 name_of (Show path base) = codes "show"
-name_of (Lookup path line column base interval) = codes "lookup"
+name_of (Lookup path line column base interval after) = codes "lookup"
 name_of (Rewrite maps base interval) = codes "rewrite"
 name_of (Compose outer source inner base) = codes "compose"
 
@@ -119,9 +128,9 @@ RowsAskFor rows (Raw line column interval) = GivesNumber rows (codes "LINE") (li
 RowsAskFor rows (Check path base interval) =
     GivesText rows (codes "PATH") (string_bytes path) × GivesBase rows base × GivesInterval rows interval
 RowsAskFor rows (Show path base) = GivesText rows (codes "PATH") (string_bytes path) × GivesBase rows base
-RowsAskFor rows (Lookup path line column base interval) = GivesText rows (codes "PATH") (string_bytes path)
+RowsAskFor rows (Lookup path line column base interval after) = GivesText rows (codes "PATH") (string_bytes path)
     × GivesNumber rows (codes "LINE") (line + 1) × GivesNumber rows (codes "COLUMN") (column + 1) × GivesBase rows base
-    × GivesInterval rows interval
+    × GivesInterval rows interval × GivesFlag rows (codes "after") after
 RowsAskFor rows (Rewrite maps base interval) = GivesPairs rows maps.items × GivesBase rows base × GivesInterval rows interval
 RowsAskFor rows (Compose outer source inner base) = GivesText rows (codes "OUTER") (string_bytes outer)
     × GivesNumber rows (codes "SOURCE") source × GivesText rows (codes "INNER") (string_bytes inner) × GivesBase rows base

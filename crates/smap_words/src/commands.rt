@@ -3,7 +3,7 @@ ghost use Rattle.std.specs.Prelude.{◌≡◌, ◌≤◌, ◌+◌, ◌∷◌, []
 ghost use Rattle.clap.specs.Words.{all_of, found_of, rows_of, subcommand_rows_of};
 ghost use Rattle.smap_command.specs.Limits.{is_interval, limit};
 ghost use Rattle.smap_words.specs.CommandLine.{interval_number, named, number, source_number};
-ghost use Rattle.smap_words.specs.Words.{ArePairs, GivesBase, GivesInterval, GivesNumber, GivesText};
+ghost use Rattle.smap_words.specs.Words.{ArePairs, GivesBase, GivesFlag, GivesInterval, GivesNumber, GivesText};
 ghost use Rattle.smap_words.specs.Words.{HasArguments, HasCommand, HasValue, HasValueIfGiven};
 ghost use Rattle.smap_words.specs.Words.{IsInRange, IsNamedRefusal, IsPair};
 ghost use Rattle.smap_words.specs.Words.{NamedAsksFor, SubcommandAsksFor, SubcommandTells, TellsBadBase};
@@ -62,6 +62,7 @@ fn lookup_in(
     requires line { HasValue number (rows_of (found_of matches.now)) (codes "LINE") }
     requires column { HasValue number (rows_of (found_of matches.now)) (codes "COLUMN") }
     requires interval { HasValueIfGiven interval_number (rows_of (found_of matches.now)) (codes "K") }
+    requires after { HasValueIfGiven parser.Bool (rows_of (found_of matches.now)) (codes "after") }
     requires given { GivesBase (rows_of (found_of matches.now)) base }
     ensures asked { IfOk result (NamedAsksFor (codes "lookup") (rows_of (found_of matches.now))) }
     ensures in_range { IfOk result IsInRange }
@@ -72,6 +73,7 @@ fn lookup_in(
         column: place_in(matches, "COLUMN"),
         base,
         interval: interval_in(matches),
+        after: flag_in(matches, "after"),
     })
 }
 
@@ -200,6 +202,14 @@ fn interval_in(matches: &ArgMatches<'_>) -> u32
         Some(interval) => interval,
         None => USUAL_INTERVAL,
     }
+}
+
+// Whether a flag is given.
+fn flag_in(matches: &ArgMatches<'_>, name: &str) -> bool
+    requires { HasValueIfGiven parser.Bool (rows_of (found_of matches.now)) name.now }
+    ensures { GivesFlag (rows_of (found_of matches.now)) name.now result }
+{
+    matches.get_flag(name)
 }
 
 // The URL of the option `--base`, where it is given.

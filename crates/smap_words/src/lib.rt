@@ -2,7 +2,7 @@
 //!
 //! ```text
 //! let words = vec![in alloc; "smap", "lookup", "app.js.map", "1", "6"]?;
-//! let command = parse(alloc, words)?; // Command::Lookup { path, line: 0, column: 5, base: None, interval: 64 }
+//! let command = parse(alloc, words)?; // Command::Lookup { path, line: 0, column: 5, .. }
 //! ```
 #![tactic(auto)]
 

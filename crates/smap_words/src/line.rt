@@ -1,8 +1,8 @@
 //! The command line as clap gets it, with the texts of its help.
 ghost use Rattle.std.specs.Prelude.{◌≡◌, All, IfOk, codes, false, map};
 ghost use Rattle.clap.specs.Words.{app_of, rule_of};
-ghost use Rattle.smap_words.specs.CommandLine.{IsLocalArgument, IsLocalCommand, base_rule, check, compose};
-ghost use Rattle.smap_words.specs.CommandLine.{interval_rule, lookup, number, number_rule, pairs_rule, raw, rewrite};
+ghost use Rattle.smap_words.specs.CommandLine.{IsLocalArgument, IsLocalCommand, after_rule, base_rule, check};
+ghost use Rattle.smap_words.specs.CommandLine.{compose, interval_rule, lookup, number, number_rule, pairs_rule, raw, rewrite};
 ghost use Rattle.smap_words.specs.CommandLine.{show, smap, source_number, text_rule, with_rules};
 
 use clap::{Arg, ArgAction, Command, value_parser};
@@ -26,6 +26,8 @@ Answers:
                       identifier there, and ` ignored` where the map says to pass over the source
   unmapped            the mapping is of generated code without an original
   none                no mapping stands at the position or before it on its line
+
+The last mapping at the position or before it answers or, with --after, the first at it or after it.
 
 Where the map holds the text of the source, its line follows, and a caret under the position.
 
@@ -106,6 +108,9 @@ const INTERVAL_HELP: &str = "\
 Checkpoints in the index stand at every K-th segment of a line, 1 to 4096, else 64. A
 smaller K answers look-ups faster and takes more memory; their answers are the same";
 
+const AFTER_HELP: &str =
+    "Answer by the first mapping on the line at the position or after it, not the last before";
+
 /// The command line of `smap`. Its lifetime is the caller's, since clap keeps its texts and the words under one.
 pub fn command_line<'a>(alloc: Global) -> Result<Command<'a>, AllocError>
     ensures { IfOk result (λ command. app_of command ≡ smap) }
@@ -137,6 +142,7 @@ fn lookup_words<'a>(alloc: Global) -> Result<Command<'a>, AllocError>
         place(alloc, "COLUMN", COLUMN_HELP),
         base_url(alloc),
         interval(alloc),
+        after(alloc),
     ]?;
     described(alloc, "lookup", LOOKUP_ABOUT, LOOKUP_NOTES, arguments)
 }
@@ -265,4 +271,14 @@ fn interval<'a>(alloc: Global) -> Arg<'a>
         .long("interval")
         .value_parser(value_parser!(u32).range(1..=i64::from(MOST_INTERVAL)))
         .help(INTERVAL_HELP)
+}
+
+// The flag that looks up in the other direction.
+fn after<'a>(alloc: Global) -> Arg<'a>
+    ensures { IsLocalArgument after_rule result }
+{
+    Arg::new(alloc, "after")
+        .long("after")
+        .action(ArgAction::SetTrue)
+        .help(AFTER_HELP)
 }

@@ -38,7 +38,7 @@ returns-in-Lookup-clause-tells g c =
     rw c.in-Lookup.is (
       cc,
       file_told c.answer_lookup.result (telling_of c.or_memory-in-Lookup.result)
-          (λ path bytes base. IsMapAnswer (lookup_text c.in-Lookup.line c.in-Lookup.column) path (record_of bytes base c.in-Lookup.interval))
+          (λ path bytes base. IsMapAnswer (lookup_text c.in-Lookup.after c.in-Lookup.line c.in-Lookup.column) path (record_of bytes base c.in-Lookup.interval))
           _ _ _ _ _ _ c.deref-in-Lookup.ensures (c.deref-in-Lookup-2.ensures.value ∙ first) c.as_ref-in-Lookup.ensures.value c.or_memory-in-Lookup.ensures c.answer_lookup.ensures,
     )
 
