@@ -20,6 +20,11 @@ function answerOf(lines, line, column) {
   return answer;
 }
 
+// The first mapping on the line whose column is not before the asked one. Both count from 1.
+function answerFrom(lines, line, column) {
+  return (lines[line - 1] || []).find((segment) => segment[0] >= column - 1) ?? null;
+}
+
 // A text as it is printed: each control character as a question mark.
 function shownText(text) {
   return text.replace(/[\x00-\x1f\x7f]/g, '?');
@@ -47,4 +52,4 @@ function spread(list, most) {
   return Array.from({ length: most }, (_, i) => list[Math.round((i * (list.length - 1)) / (most - 1))]);
 }
 
-module.exports = { linesOf, answerOf, isIgnored, printedLine, shownText, spread };
+module.exports = { linesOf, answerFrom, answerOf, isIgnored, printedLine, shownText, spread };

@@ -9,11 +9,11 @@
 
 const fs = require('fs');
 const path = require('path');
-const { TraceMap, traceSegment } = require('@jridgewell/trace-mapping');
+const { LEAST_UPPER_BOUND, TraceMap, originalPositionFor, traceSegment } = require('@jridgewell/trace-mapping');
 const { SourceMapConsumer } = require('source-map');
 const { checked } = require('./checker.js');
 const { excerptOf } = require('./excerpt.js');
-const { linesOf, answerOf, printedLine, spread } = require('./lookup.js');
+const { linesOf, answerFrom, answerOf, printedLine, spread } = require('./lookup.js');
 
 const NAME = 'preset-react.js.map';
 const MOST = 2147483648;
@@ -77,7 +77,7 @@ const ASKED = {
 // The rows, each put to two other look-ups.
 // ---------------------------------------------------------------------------------------------
 
-const counts = { traced: 0, consumed: 0, equalColumns: 0 };
+const counts = { traced: 0, consumed: 0, equalColumns: 0, from: 0 };
 const traced = new TraceMap(text);
 const consumer = new SourceMapConsumer(text);
 
@@ -97,16 +97,32 @@ function compare(line, column, answer) {
   const segment = traceSegment(traced, line - 1, column - 1);
   insist(printedLine(map, segment) === expected, `trace-mapping differs: ${line} ${column}`);
   counts.traced += 1;
-  const place = consumer.originalPositionFor({ line, column: column - 1 });
-  let said = null;
-  if (place.line !== null) {
-    said = [0, indexOf(map.sources, place.source), place.line - 1, place.column];
-    if (place.name !== null) said.push(indexOf(map.names, place.name));
-  }
+  const said = saidOf(consumer.originalPositionFor({ line, column: column - 1 }));
   // source-map has one answer for 'none' and 'unmapped'.
   const asked = answer !== null && answer.length === 1 ? null : answer;
   insist(printedLine(map, said) === printedLine(map, asked), `source-map differs: ${line} ${column}`);
   counts.consumed += 1;
+}
+
+// What a look-up says that answers with a place and not with a mapping, which has one answer for 'none' and 'unmapped'.
+function saidOf(place) {
+  if (place.line === null) return null;
+  const said = [0, indexOf(map.sources, place.source), place.line - 1, place.column];
+  if (place.name !== null) said.push(indexOf(map.names, place.name));
+  return said;
+}
+
+// In the other direction, too. Where several mappings have the asked column, trace-mapping takes the last.
+function compareFrom(line, column, answer) {
+  const onLine = lines[line - 1] || [];
+  insist(onLine.filter((segment) => segment[0] === column - 1).length < 2, 'equal columns');
+  const asked = printedLine(map, answer !== null && answer.length === 1 ? null : answer);
+  const place = { line, column: column - 1 };
+  const byTrace = originalPositionFor(traced, { ...place, bias: LEAST_UPPER_BOUND });
+  insist(printedLine(map, saidOf(byTrace)) === asked, `trace-mapping differs from ${line} ${column}`);
+  const consumed = consumer.originalPositionFor({ ...place, bias: SourceMapConsumer.LEAST_UPPER_BOUND });
+  insist(printedLine(map, saidOf(consumed)) === asked, `source-map differs from ${line} ${column}`);
+  counts.from += 1;
 }
 
 // How many spaces stand before the caret and what shows of the original line, behind a bar each; nothing where no
@@ -120,6 +136,7 @@ function shownBehind(answer) {
 }
 
 const rows = [];
+const rowsFrom = [];
 const seen = new Set();
 const tally = {};
 
@@ -132,6 +149,9 @@ for (const [kind, places] of Object.entries(ASKED)) {
     const expected = printedLine(map, answer);
     insist(!/[|\n\r]/.test(expected), 'a line that no row can hold');
     rows.push(`${line}|${column}|${expected}${shownBehind(answer)}`);
+    const next = answerFrom(lines, line, column);
+    compareFrom(line, column, next);
+    rowsFrom.push(`${line}|${column}|${printedLine(map, next)}${shownBehind(next)}`);
     tally[kind] = (tally[kind] || 0) + 1;
   }
 }
@@ -154,6 +174,16 @@ writeConstant(
   `pub const LOOKUPS: &str = r#"\n${rows.join('\n')}\n"#;`,
 );
 
+insist(rowsFrom.every((row) => !/"#|[\n\r]/.test(row)), 'a row that ends the constant');
+writeConstant(
+  'lookups_after.rt',
+  [
+    '//! Look-ups in the other direction in the example map, at the places of `lookups.rt`, and written as they are there.',
+    '//! Written by `tests/vectors/make-lookups.js`.',
+  ],
+  `pub const LOOKUPS_AFTER: &str = r#"\n${rowsFrom.join('\n')}\n"#;`,
+);
+
 insist(!text.includes('"#') && !text.includes('\r'), 'a map that the constant cannot hold');
 writeConstant(
   'example_map.rt',
@@ -174,5 +204,6 @@ console.log(
 );
 console.log(`${rows.length} look-ups`);
 console.log(`trace-mapping agreed on ${counts.traced}, source-map's consumer on ${counts.consumed}`);
+console.log(`both agreed on ${counts.from} in the other direction`);
 console.log(`not compared: ${counts.equalColumns} answered among equal columns`);
 console.log(tally);
