@@ -2,7 +2,7 @@
 // Compares `smap check` and `smap lookup` with other people's decoder, over the map files of some
 // packages. README.md beside this file says how.
 //
-//   node compare.js [--program PROGRAM] [--jobs N] [--most N | --all] [--count] [FILE...]
+//   node compare.js [--program PROGRAM] [--jobs N] [--most N | --all] [--after] [--count] [FILE...]
 //
 // No expected line is made from smap's own output.
 'use strict';
@@ -25,7 +25,7 @@ const MILLIS_PER_MB = 3;
 
 function usage(what) {
   console.error(what);
-  console.error('usage: compare.js [--program PROGRAM] [--jobs N] [--most N | --all] [--count] [FILE...]');
+  console.error('usage: compare.js [--program PROGRAM] [--jobs N] [--most N | --all] [--after] [--count] [FILE...]');
   process.exit(2);
 }
 
@@ -35,6 +35,7 @@ function options() {
     jobs: { type: 'string', default: '3' },
     most: { type: 'string', default: '5000' },
     all: { type: 'boolean', default: false },
+    after: { type: 'boolean', default: false },
     count: { type: 'boolean', default: false },
   };
   let read;
@@ -43,13 +44,14 @@ function options() {
   } catch (error) {
     usage(error.message);
   }
-  const { program, jobs, most, all, count } = read.values;
+  const { program, jobs, most, all, after, count } = read.values;
   if (![jobs, most].every((word) => /^[1-9]\d*$/.test(word))) usage('--jobs and --most take a number from 1');
   if (!count && !fs.existsSync(program)) usage(`there is no ${program}; ./smap --help builds the program`);
   return {
     program,
     jobs: Number(jobs),
     most: all ? Infinity : Number(most),
+    after,
     count,
     files: read.positionals.length > 0 ? read.positionals : filesOfPackages(),
   };
@@ -141,7 +143,25 @@ function placesOf(lines) {
   return places;
 }
 
-function stateOf(file) {
+// The same in the other direction: each mapping's column, the one before it where the answer there is this mapping too,
+// and the one behind the last of a line.
+function placesFrom(lines) {
+  const places = [];
+  lines.forEach((line, i) => {
+    line.forEach((segment, j) => {
+      const column = segment[0] + 1;
+      const before = j > 0 ? line[j - 1][0] + 1 : 0;
+      // Of several at one column the first answers.
+      if (before === column) return;
+      if (before < column - 1) places.push({ line: i + 1, column: column - 1, segment });
+      places.push({ line: i + 1, column, segment });
+    });
+    if (line.length > 0) places.push({ line: i + 1, column: line[line.length - 1][0] + 2, segment: null });
+  });
+  return places;
+}
+
+function stateOf(file, after) {
   const bytes = fs.readFileSync(file);
   const code = codeOf(bytes);
   if (code !== null) return { file, bytes: bytes.length, code, places: [] };
@@ -157,7 +177,7 @@ function stateOf(file) {
   const counts =
     `ok sections 1 sources ${map.sources.length} names ${names} ` +
     `segments ${segments} lines ${used} checkpoints ${checkpoints}`;
-  return { file, bytes: bytes.length, code, map, segments, counts, places: placesOf(lines) };
+  return { file, bytes: bytes.length, code, map, segments, counts, places: after ? placesFrom(lines) : placesOf(lines) };
 }
 
 // ---------------------------------------------------------------------------------------------
@@ -167,14 +187,14 @@ function stateOf(file) {
 // A worker is a shell that starts the program for each place that it reads. It is much quicker at
 // that than node. What the program says is followed by a line with U+0001, which it never prints, and its status.
 const WORKER = `while read -r line column; do
-  "$0" lookup "$1" "$line" "$column" 2>&1 </dev/null
+  "$0" lookup $2 "$1" "$line" "$column" 2>&1 </dev/null
   printf '\\001%s\\n' "$?"
 done`;
 
 // What the program says at each place: its lines and its status.
-function askAll(program, file, places) {
+function askAll(program, file, places, after) {
   return new Promise((resolve, reject) => {
-    const worker = spawn('sh', ['-c', WORKER, program, file], { stdio: ['pipe', 'pipe', 'inherit'] });
+    const worker = spawn('sh', ['-c', WORKER, program, file, after ? '--after' : ''], { stdio: ['pipe', 'pipe', 'inherit'] });
     const said = [];
     let lines = [];
     let rest = '';
@@ -201,11 +221,11 @@ function askAll(program, file, places) {
   });
 }
 
-async function askInParts(program, jobs, file, places) {
+async function askInParts(program, jobs, file, places, after) {
   const size = Math.ceil(places.length / jobs);
   const parts = [];
   for (let i = 0; i < places.length; i += size) parts.push(places.slice(i, i + size));
-  const said = await Promise.all(parts.map((part) => askAll(program, file, part)));
+  const said = await Promise.all(parts.map((part) => askAll(program, file, part, after)));
   return said.flat();
 }
 
@@ -256,11 +276,11 @@ function shownTime(millis) {
 }
 
 async function main() {
-  const { program, jobs, most, count, files } = options();
+  const { program, jobs, most, after, count, files } = options();
   const total = { refused: 0, segments: 0, places: 0, compared: 0, millis: 0, differences: 0 };
   const begin = process.hrtime.bigint();
   for (const file of files) {
-    const state = stateOf(file);
+    const state = stateOf(file, after);
     const places = spread(state.places, most);
     total.places += state.places.length;
     total.segments += state.segments ?? 0;
@@ -276,7 +296,7 @@ async function main() {
     const { told, wrong } = differencesOfCheck(program, state);
     // Where the counts are refused or wrong, most look-ups would be so too.
     if (wrong.length === 0 && places.length > 0) {
-      const said = await askInParts(program, jobs, file, places);
+      const said = await askInParts(program, jobs, file, places, after);
       wrong.push(...differencesOfLookUps(state, places, said));
       total.compared += places.length;
     }

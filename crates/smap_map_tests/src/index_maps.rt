@@ -1,11 +1,11 @@
 //! Index maps: their sections joined, as other readers join them, and what answers at each position.
+use crate::lists::{answer_among, answer_from};
 use crate::meters::assert_few;
 use crate::same::assert_same;
 use crate::shown::mappings_text;
-use smap_index::Answer;
 use smap_mappings::{Mapping, Meter};
 use smap_record::{MapFile, MapRefusal};
-use smap_vectors::{INTERVALS, halves, index_map_rows, rows_of};
+use smap_vectors::{INTERVALS, example_text, halves, index_map_rows, rows_of};
 use std::alloc::{AllocError, Global};
 use std::process::Abort;
 use std::test::Fail;
@@ -91,21 +91,6 @@ const INSIDE_HOLDS: &str =
 
 const INSIDE_CHECKPOINTS: &[u64] = &[20, 11, 9, 6, 6];
 
-// What the last of these mappings answers that stands on the line and whose column is not after this one.
-fn answer_among(list: &[Mapping], line: u32, column: u32) -> Answer {
-    let mut answer = Answer::Nothing;
-    for mapping in list {
-        if mapping.line == line && mapping.column <= column {
-            let column = mapping.column;
-            answer = match mapping.origin {
-                Some(origin) => Answer::Found { column, origin },
-                None => Answer::Unmapped { column },
-            };
-        }
-    }
-    answer
-}
-
 // The greatest line and the greatest column of these mappings.
 fn greatest(list: &[Mapping]) -> (u32, u32) {
     let (mut line, mut column) = (0, 0);
@@ -116,19 +101,29 @@ fn greatest(list: &[Mapping]) -> (u32, u32) {
     (line, column)
 }
 
-// What a map answers that is read at this interval.
+// What a map answers that is read at this interval, in both directions. The list has its mappings.
 fn assert_answer(
     rt: &impl Abort,
     alloc: Global,
     map: &MapFile,
+    list: &[Mapping],
     line: u32,
     column: u32,
-    wanted: &Answer,
     interval: u32,
 ) {
     let mut meter = Meter::new(alloc);
     let answer = map.look_up(line, column, &mut meter);
-    assert!(rt; answer == *wanted, "at {line} {column}");
+    assert!(rt;
+        answer == answer_among(list, line, column),
+        "at {line} {column}"
+    );
+    assert_few(rt, &meter, map.checkpoints(), interval);
+    let mut meter = Meter::new(alloc);
+    let answer = map.look_up_from(line, column, &mut meter);
+    assert!(rt;
+        answer == answer_from(list, line, column),
+        "from {line} {column}"
+    );
     assert_few(rt, &meter, map.checkpoints(), interval);
 }
 
@@ -137,8 +132,7 @@ fn assert_answers(rt: &impl Abort, alloc: Global, map: &MapFile, list: &[Mapping
     let (most_line, most_column) = greatest(list);
     for line in 0..=most_line.saturating_add(1) {
         for column in 0..=most_column.saturating_add(1) {
-            let wanted = answer_among(list, line, column);
-            assert_answer(rt, alloc, map, line, column, &wanted, interval);
+            assert_answer(rt, alloc, map, list, line, column, interval);
         }
     }
 }
@@ -189,6 +183,14 @@ fn each_position_of_joined_sections_is_answered(rt: HostRuntime) -> Result<(), F
         for interval in INTERVALS {
             assert_all_answers(&rt, rt.alloc(), text, *interval)?;
         }
+    }
+    Ok(())
+}
+
+#[test]
+fn each_position_of_the_example_is_answered(rt: HostRuntime) -> Result<(), Fail> {
+    for interval in INTERVALS {
+        assert_all_answers(&rt, rt.alloc(), example_text(), *interval)?;
     }
     Ok(())
 }

@@ -13,6 +13,8 @@ mod index_maps;
 #[cfg(test)]
 mod indexes;
 #[cfg(test)]
+mod lists;
+#[cfg(test)]
 mod maps;
 #[cfg(test)]
 mod meters;

@@ -1,8 +1,12 @@
 //! `check` and `lookup` over maps in memory.
 use crate::same::assert_same;
 use smap_record::Url;
-use smap_runs::{ALL_SOUND, Device, Devices, SOUND, run_check, run_lookup, run_lookup_at};
-use smap_vectors::{INTERVALS, caret_text, example_text, halves, lookup_rows, rows_of};
+use smap_runs::{
+    ALL_SOUND, Device, Devices, SOUND, run_check, run_lookup, run_lookup_after, run_lookup_at,
+};
+use smap_vectors::{
+    INTERVALS, caret_text, example_text, halves, lookup_after_rows, lookup_rows, rows_of,
+};
 use std::alloc::{AllocError, Global};
 use std::process::Abort;
 use std::test::Fail;
@@ -309,6 +313,92 @@ const PLACES: &[(&str, u32, u32, &str)] = &[
     ("[]", 1, 1, "1||refused: m.map: M3 NotObject\n"),
 ];
 
+// Maps, a line and a column from 1, and what `lookup --after` leaves.
+const PLACES_AFTER: &[(&str, u32, u32, &str)] = &[
+    (
+        r#"{"version":3,"sections":[{"offset":{"line":0,"column":0},"map":{"version":3,"sources":["a.js"],"mappings":"AAAA,UAAA"}},{"offset":{"line":0,"column":10},"map":{"version":3,"sources":["b.js"],"mappings":"AAAA"}}]}"#,
+        1,
+        2,
+        "0|a.js:1:1\n|",
+    ),
+    // Of equal columns the first answers.
+    (
+        r#"{"version":3,"sections":[{"offset":{"line":0,"column":0},"map":{"version":3,"sources":["a.js"],"mappings":"AAAA,UAAA"}},{"offset":{"line":0,"column":10},"map":{"version":3,"sources":["b.js"],"mappings":"AAAA"}}]}"#,
+        1,
+        11,
+        "0|a.js:1:1\n|",
+    ),
+    // The first section has none left, and the next one answers.
+    (
+        r#"{"version":3,"sections":[{"offset":{"line":0,"column":0},"map":{"version":3,"sources":["a.js"],"mappings":"AAAA"}},{"offset":{"line":0,"column":10},"map":{"version":3,"sources":["b.js"],"mappings":"CAAA"}}]}"#,
+        1,
+        2,
+        "0|b.js:1:1\n|",
+    ),
+    (
+        r#"{"version":3,"sections":[{"offset":{"line":0,"column":0},"map":{"version":3,"sources":["a.js"],"mappings":"AAAA"}},{"offset":{"line":0,"column":10},"map":{"version":3,"sources":["b.js"],"mappings":"CAAA"}}]}"#,
+        1,
+        12,
+        "0|b.js:1:1\n|",
+    ),
+    (
+        r#"{"version":3,"sections":[{"offset":{"line":0,"column":0},"map":{"version":3,"sources":["a.js"],"mappings":"AAAA"}},{"offset":{"line":0,"column":10},"map":{"version":3,"sources":["b.js"],"mappings":"CAAA"}}]}"#,
+        1,
+        13,
+        "0|none\n|",
+    ),
+    (
+        r#"{"version":3,"sections":[{"offset":{"line":2,"column":10},"map":{"sources":["a.js"],"mappings":"AAAA;AAAA"}}]}"#,
+        3,
+        1,
+        "0|a.js:1:1\n|",
+    ),
+    (
+        r#"{"version":3,"sections":[{"offset":{"line":2,"column":10},"map":{"sources":["a.js"],"mappings":"AAAA;AAAA"}}]}"#,
+        3,
+        11,
+        "0|a.js:1:1\n|",
+    ),
+    // The next line never answers.
+    (
+        r#"{"version":3,"sections":[{"offset":{"line":2,"column":10},"map":{"sources":["a.js"],"mappings":"AAAA;AAAA"}}]}"#,
+        3,
+        12,
+        "0|none\n|",
+    ),
+    (
+        r#"{"version":3,"sections":[{"offset":{"line":2,"column":10},"map":{"sources":["a.js"],"mappings":"AAAA;AAAA"}}]}"#,
+        2,
+        1,
+        "0|none\n|",
+    ),
+    (
+        r#"{"version":3,"sections":[{"offset":{"line":2,"column":10},"map":{"sources":["a.js"],"mappings":"AAAA;AAAA"}}]}"#,
+        4,
+        2,
+        "0|none\n|",
+    ),
+    (
+        r#"{"version":3,"sources":[],"mappings":"C"}"#,
+        1,
+        1,
+        "0|unmapped\n|",
+    ),
+    (
+        r#"{"version":3,"sources":["a.js"],"names":["f"],"ignoreList":[0],"mappings":"KAAAA"}"#,
+        1,
+        1,
+        "0|a.js:1:1 name f ignored\n|",
+    ),
+    (
+        r#"{"version":3,"sources":["a.ts"],"sourcesContent":["let 😀x"],"mappings":"A,EAAM"}"#,
+        1,
+        2,
+        "0|a.ts:1:7\nlet 😀x\n     ^\n|",
+    ),
+    ("[]", 1, 1, "1||refused: m.map: M3 NotObject\n"),
+];
+
 #[test]
 fn maps_are_counted(rt: HostRuntime) -> Result<(), Fail> {
     for (map, counts, checkpoints) in ACCEPTED {
@@ -343,6 +433,17 @@ fn places_are_found(rt: HostRuntime) -> Result<(), Fail> {
     Ok(())
 }
 
+#[test]
+fn places_are_found_in_the_other_direction(rt: HostRuntime) -> Result<(), Fail> {
+    for (map, line, column, wanted) in PLACES_AFTER {
+        for interval in INTERVALS {
+            let left = run_lookup_after(rt.alloc(), map, *line, *column, *interval, ALL_SOUND)?;
+            assert_same(&rt, map, &left, wanted);
+        }
+    }
+    Ok(())
+}
+
 // What is printed of the line of a row, and of its excerpt where it has one.
 fn printed_text(alloc: Global, row: &str) -> Result<String, Fail> {
     let (line, shown) = halves(row);
@@ -354,14 +455,19 @@ fn printed_text(alloc: Global, row: &str) -> Result<String, Fail> {
     Ok(["0|", line, "\n", &excerpt, "\n|"].concat(alloc)?)
 }
 
-// Puts a row of the vectors to `lookup` at each interval: the line, the column, and what is printed.
-fn assert_row(rt: &impl Abort, alloc: Global, row: &str) -> Result<(), Fail> {
+// Puts a row of the vectors to `lookup` at each interval, or to `lookup --after`: the line, the column, and what is
+// printed.
+fn assert_row(rt: &impl Abort, alloc: Global, row: &str, after: bool) -> Result<(), Fail> {
     let (line, rest) = halves(row);
     let (column, printed) = halves(rest);
     let (line, column) = (line.parse()?, column.parse()?);
     let wanted = printed_text(alloc, printed)?;
     for interval in INTERVALS {
-        let left = run_lookup(alloc, example_text(), line, column, *interval, ALL_SOUND)?;
+        let left = if after {
+            run_lookup_after(alloc, example_text(), line, column, *interval, ALL_SOUND)?
+        } else {
+            run_lookup(alloc, example_text(), line, column, *interval, ALL_SOUND)?
+        };
         assert_same(rt, row, &left, &wanted);
     }
     Ok(())
@@ -370,7 +476,10 @@ fn assert_row(rt: &impl Abort, alloc: Global, row: &str) -> Result<(), Fail> {
 #[test]
 fn places_of_the_example_are_found(rt: HostRuntime) -> Result<(), Fail> {
     for row in rows_of(lookup_rows(), 63)?.lines() {
-        assert_row(&rt, rt.alloc(), row)?;
+        assert_row(&rt, rt.alloc(), row, false)?;
+    }
+    for row in rows_of(lookup_after_rows(), 63)?.lines() {
+        assert_row(&rt, rt.alloc(), row, true)?;
     }
     Ok(())
 }

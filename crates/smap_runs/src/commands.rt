@@ -39,8 +39,15 @@ pub fn check(path: String, base: Option<Url>, interval: u32) -> Command
     }
 }
 
-/// `lookup` in the file at this path, at a line and a column that count from 1.
-pub fn lookup(path: String, line: u32, column: u32, base: Option<Url>, interval: u32) -> Command
+/// `lookup` in the file at this path, at a line and a column that count from 1, or from there on.
+pub fn lookup(
+    path: String,
+    line: u32,
+    column: u32,
+    base: Option<Url>,
+    interval: u32,
+    after: bool,
+) -> Command
     ensures paths { paths_of result ≡ string_bytes path ∷ [] }
     ensures interval { HasInterval result }
 {
@@ -50,6 +57,7 @@ pub fn lookup(path: String, line: u32, column: u32, base: Option<Url>, interval:
         column: column.saturating_sub(1),
         base,
         interval: in_range(interval),
+        after,
     }
 }
 

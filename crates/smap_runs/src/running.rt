@@ -118,7 +118,21 @@ pub fn run_lookup_at(
     devices: Devices,
 ) -> Result<String, AllocError> {
     let path = String::from_str(alloc, "m.map")?;
-    let command = commands::lookup(path, line, column, base, interval);
+    let command = commands::lookup(path, line, column, base, interval, false);
+    run_on_file(alloc, &command, "m.map", map.as_bytes(), devices)
+}
+
+/// What `lookup --after` leaves in a map at `m.map`. The line and the column count from 1.
+pub fn run_lookup_after(
+    alloc: Global,
+    map: &str,
+    line: u32,
+    column: u32,
+    interval: u32,
+    devices: Devices,
+) -> Result<String, AllocError> {
+    let path = String::from_str(alloc, "m.map")?;
+    let command = commands::lookup(path, line, column, None, interval, true);
     run_on_file(alloc, &command, "m.map", map.as_bytes(), devices)
 }
 

@@ -16,6 +16,7 @@ mod example_map;
 mod index_maps;
 mod intervals;
 mod lookups;
+mod lookups_after;
 mod mappings;
 mod names;
 mod places;
@@ -30,6 +31,6 @@ pub use intervals::INTERVALS;
 pub use rows::{caret_text, halves, rows_of};
 pub use tables::{
     answered_texts, composed_rows, encoded_texts, example_text, excerpt_rows, index_map_rows,
-    lookup_rows, mappings_rows, name_rows, place_rows, refused_texts, trace_maps, trace_rows,
-    written_rows,
+    lookup_after_rows, lookup_rows, mappings_rows, name_rows, place_rows, refused_texts,
+    trace_maps, trace_rows, written_rows,
 };

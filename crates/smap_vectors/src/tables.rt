@@ -6,6 +6,7 @@ use crate::encodings::ENCODINGS;
 use crate::example_map::EXAMPLE_MAP;
 use crate::index_maps::INDEX_MAPS;
 use crate::lookups::LOOKUPS;
+use crate::lookups_after::LOOKUPS_AFTER;
 use crate::mappings::MAPPINGS;
 use crate::names::NAMES;
 use crate::places::{EXCERPTS, PLACES};
@@ -41,6 +42,11 @@ pub fn example_text() -> &'static str {
 /// Look-ups in that map: a line and a column from 1, and what is printed.
 pub fn lookup_rows() -> &'static str {
     LOOKUPS
+}
+
+/// The same in the other direction.
+pub fn lookup_after_rows() -> &'static str {
+    LOOKUPS_AFTER
 }
 
 /// Roots, sources and bases, and the name that each source has.

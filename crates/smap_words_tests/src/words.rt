@@ -39,10 +39,12 @@ fn read(alloc: Global, words: &[&str]) -> Result<String, AllocError> {
                 column,
                 base,
                 interval,
+                after,
             },
         ) => {
             let base = base_text(&base);
-            format!(in alloc; "lookup {path} {line} {column}{base} every {interval}")
+            let after = if after { " after" } else { "" };
+            format!(in alloc; "lookup {path} {line} {column}{base} every {interval}{after}")
         }
         Ok(
             Command::Rewrite {
@@ -89,7 +91,7 @@ fn read_usage(alloc: Global, usage: &Usage) -> Result<String, AllocError> {
 }
 
 // Words, and the command that they give, with lines and columns from 0.
-const COMMANDS: [(&[&str], &str); 38] = [
+const COMMANDS: [(&[&str], &str); 41] = [
     (&["smap", "raw", "1", "6"], "raw 0 5 every 64"),
     (&["smap", "raw", "1", "1"], "raw 0 0 every 64"),
     (&["./smap", "raw", "007", "+2"], "raw 6 1 every 64"),
@@ -230,6 +232,18 @@ const COMMANDS: [(&[&str], &str); 38] = [
         "lookup r.map 2 3 every 2",
     ),
     (
+        &["smap", "lookup", "--after", "r.map", "3", "4"],
+        "lookup r.map 2 3 every 64 after",
+    ),
+    (
+        &["smap", "lookup", "r.map", "3", "--after", "4"],
+        "lookup r.map 2 3 every 64 after",
+    ),
+    (
+        &["smap", "lookup", "--", "--after", "3", "4"],
+        "lookup --after 2 3 every 64",
+    ),
+    (
         &[
             "smap",
             "rewrite",
@@ -256,7 +270,7 @@ fn reads_commands(rt: HostRuntime) -> Result<(), Fail> {
 }
 
 // Words that are no command, and how the text for them begins.
-const MISTAKES: [(&[&str], &str); 55] = [
+const MISTAKES: [(&[&str], &str); 60] = [
     (
         &["smap", "check", "--base", "nope", "r.map"],
         "usage: bad base URL\n",
@@ -437,6 +451,26 @@ const MISTAKES: [(&[&str], &str); 55] = [
     (
         &["smap", "check", "--interval", "0", "r.map"],
         "error: invalid value '0' for '--interval <K>': 0 is not in 1..=4096\n",
+    ),
+    (
+        &["smap", "lookup", "--after", "--after", "r.map", "1", "1"],
+        "error: the argument '--after' cannot be used multiple times\n",
+    ),
+    (
+        &["smap", "lookup", "--after=false", "r.map", "1", "1"],
+        "error: unexpected value 'false' for '--after' found; no more were expected\n",
+    ),
+    (
+        &["smap", "raw", "--after", "1", "1"],
+        "error: unexpected argument '--after' found\n",
+    ),
+    (
+        &["smap", "check", "--after", "r.map"],
+        "error: unexpected argument '--after' found\n",
+    ),
+    (
+        &["smap", "--after", "lookup", "r.map", "1", "1"],
+        "error: unexpected argument '--after' found\n",
     ),
     (
         &["smap", "lookup", "r.map", "1", "1", "--interval=4097"],
