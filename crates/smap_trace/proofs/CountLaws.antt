@@ -1,15 +1,15 @@
 -- What the editor of frames has counted behind a text.
-use Rattle.std.proofs.Common.{◌≡◌, ◌+◌, ◌≤◌, ℕ, Bool, true, false, cond, List, [], ◌∷◌, ◌++◌, length, filter, fold, Option, Some, None, is_some, option_map, refl, sym, ap, ◌∙◌, arith, subst, take, ◌-◌}
-use Rattle.std.specs.Prelude.{nat_le, not, ◌&&◌, ◌==◌}
+use Rattle.std.proofs.Common.{◌≡◌, ◌+◌, ◌≤◌, ℕ, Bool, true, false, cond, List, [], ◌∷◌, length, filter, fold, Option, Some, None, is_some, option_map, refl, sym, ap, ◌∙◌, arith, subst, take, ◌-◌}
+use Rattle.std.specs.Prelude.{not, ◌&&◌, ◌==◌}
 use Rattle.std.specs.List.{list_any}
 use Rattle.std.proofs.lemmas.Bool.{cond-false}
 use Rattle.smap_lines.specs.Edited.{behind_line, behind_text, is_short}
-use Rattle.smap_lines.specs.Lines.{Line, end_in, lines_of}
+use Rattle.smap_lines.specs.Lines.{Line, lines_of}
 use Rattle.smap_record.specs.Record.{MapRecord}
 use Rattle.smap_trace.specs.Frame.{FrameParts, is_line}
-use Rattle.smap_trace.specs.FrameOf.{frame_in, frame_of}
+use Rattle.smap_trace.specs.FrameOf.{frame_of}
 use Rattle.smap_trace.specs.FrameRewriter.{behind_frame, mapped_in, sight_of, staying_in}
-use Rattle.smap_trace.specs.Rewritten.{Counts, counts_of, is_frame_line, is_mapped_line, line_or, original_of, replacement, replacement_at, replacement_of}
+use Rattle.smap_trace.specs.Rewritten.{counts_of, is_frame_line, is_mapped_line, original_of, replacement, replacement_at, replacement_of}
 use Rattle.smap_trace.specs.declared.frame_rewriter.FrameRewriter.{FrameRewriter}
 
 -- ---- a line

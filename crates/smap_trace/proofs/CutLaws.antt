@@ -1,10 +1,10 @@
 -- Where the cuts are, and that there is no other.
-use Rattle.std.proofs.Common.{◌≡◌, ◌≢◌, ◌==◌, ◌&&◌, ◌+◌, ◌<◌, ℕ, false, List, [], ◌∷◌, ◌++◌, length, get_or, take, drop, Option, Some, None, option_map, refl, sym, ap, ◌∙◌, arith, append_assoc, append-nil, length-drop, ◌≤◌}
+use Rattle.std.proofs.Common.{◌≡◌, ◌≢◌, ◌==◌, ◌&&◌, ◌+◌, ◌<◌, ℕ, true, false, suc, List, [], ◌∷◌, ◌++◌, length, get_or, take, drop, Option, Some, None, option_map, refl, sym, ap, ◌∙◌, arith, append_assoc, append-nil, length-drop, length-take, ◌≤◌}
 use Rattle.std.specs.List.{list_any}
 use Rattle.std.specs.Option.{MatchOption}
 use Rattle.std.proofs.lemmas.Bool.{or_parts, or_from, cond-true, cond-false, cond_both, eqb-true, eq-eqb, ne_eqb, and_parts, and_from, false_from_ne_true, both_ways}
-use Rattle.std.proofs.lemmas.List.{drop_more, take_more}
-use Rattle.smap_trace.specs.Cuts.{put_before, later_cut, cut_at_last, cut_at_call, without_last}
+use Rattle.std.proofs.lemmas.List.{drop_more, get_or-take, take-append-drop, take_more}
+use Rattle.smap_trace.specs.Cuts.{put_before, later_cut, cut_at_first, cut_at_last, cut_at_call, without_last}
 
 -- ---- the last of these bytes
 
@@ -35,6 +35,53 @@ later_step byte x xs None is =
 pub cut_is_last : (byte : ℕ) (xs : List ℕ) → MatchOption (cut_at_last byte xs) (is_without byte xs) (IsLastCut byte xs)
 cut_is_last byte [] = refl
 cut_is_last byte (x ∷ xs) = later_step byte x xs (cut_at_last byte xs) (cut_is_last byte xs)
+
+-- ---- the first of these bytes
+
+pub no_first : (byte : ℕ) (xs : List ℕ) → is_without byte xs → cut_at_first byte xs ≡ None
+no_first byte [] none = refl
+no_first byte (x ∷ xs) none =
+    let parts = or_parts (x == byte) (list_any (λ y. y == byte) xs) none in
+    cond-false (x == byte) (Some ([], xs)) (option_map (put_before x) (cut_at_first byte xs)) parts.0 ∙ ap (option_map (put_before x)) (no_first byte xs parts.1)
+
+pub first_cut : (byte : ℕ) (front rest : List ℕ) → is_without byte front → cut_at_first byte (front ++ byte ∷ rest) ≡ Some (front, rest)
+first_cut byte [] rest none = cond-true (byte == byte) (Some ([], rest)) (option_map (put_before byte) (cut_at_first byte rest)) (eq-eqb byte byte refl)
+first_cut byte (x ∷ front) rest none =
+    let parts = or_parts (x == byte) (list_any (λ y. y == byte) front) none in
+    cond-false (x == byte) (Some ([], front ++ byte ∷ rest)) (option_map (put_before x) (cut_at_first byte (front ++ byte ∷ rest))) parts.0
+    ∙ ap (option_map (put_before x)) (first_cut byte front rest parts.1)
+
+-- what a cut at the first byte says
+abbrev pub IsFirstCut : ℕ → List ℕ → List ℕ × List ℕ → Type 0
+IsFirstCut byte xs cut = (xs ≡ cut.0 ++ byte ∷ cut.1) × is_without byte cut.0
+
+first_step : (byte x : ℕ) (xs : List ℕ) (cut : Option (List ℕ × List ℕ)) → (x == byte) ≡ false → MatchOption cut (is_without byte xs) (IsFirstCut byte xs) →
+    MatchOption (option_map (put_before x) cut) (is_without byte (x ∷ xs)) (IsFirstCut byte (x ∷ xs))
+first_step byte x xs None other is = or_from (x == byte) _ other is
+first_step byte x xs (Some (front, rest)) other is = (ap (λ l. x ∷ l) is.0, or_from (x == byte) _ other is.1)
+
+pub cut_is_first : (byte : ℕ) (xs : List ℕ) → MatchOption (cut_at_first byte xs) (is_without byte xs) (IsFirstCut byte xs)
+cut_is_first byte [] = refl
+cut_is_first byte (x ∷ xs) =
+    cond_both (x == byte) (Some ([], xs)) (option_map (put_before x) (cut_at_first byte xs)) (λ o. MatchOption o (is_without byte (x ∷ xs)) (IsFirstCut byte (x ∷ xs)))
+    (λ same. (ap (λ y. y ∷ xs) (eqb-true x byte same), refl))
+    (λ other. first_step byte x xs (cut_at_first byte xs) other (cut_is_first byte xs))
+
+-- where a search for the byte finds it
+pub without_anywhere : (byte : ℕ) (text : List ℕ) → ((k : ℕ) → k < length text → (get_or text k 0 == byte) ≡ true → ⊥) → is_without byte text
+without_anywhere byte [] none = refl
+without_anywhere byte (x ∷ text) none =
+    or_from (x == byte) _ (false_from_ne_true (x == byte) (none 0 (omega arith))) (without_anywhere byte text (λ k within. none (suc k) (omega (arith, within))))
+
+pub found_at : (byte : ℕ) (text : List ℕ) (k : ℕ) → k < length text → ((i : ℕ) → i < k → (get_or text i 0 == byte) ≡ true → ⊥) → (get_or text k 0 == byte) ≡ true →
+    cut_at_first byte text ≡ Some (take k text, drop (k + 1) text)
+found_at byte text k within none here =
+    let whole : text ≡ take k text ++ byte ∷ drop (k + 1) text =
+    sym (take-append-drop k text) ∙ ap (λ l. take k text ++ l) (drop_more text k 0 within ∙ ap (λ b. b ∷ drop (k + 1) text) (eqb-true _ byte here)) in
+    let front : is_without byte (take k text) = without_anywhere byte (take k text) (λ i below there.
+    let inside : i < k = omega (arith, below, length-take k text) in
+    none i inside (ap (λ b. b == byte) (sym (get_or-take k text i 0 inside)) ∙ there)) in
+    ap (cut_at_first byte) whole ∙ first_cut byte (take k text) (drop (k + 1) text) front
 
 -- ---- the first ` (`
 

@@ -11,6 +11,24 @@ a_module : frame_of (codes "at async a.js:10:6\r") ≡ Some (record { head = cod
 unfolding frame_of
 a_module = refl
 
+-- the first `@` ends the function, which may be missing
+a_sign : frame_of (codes "a@b@u:1:6\r") ≡ Some (record { head = codes "a@"; url = codes "b@u"; line = 1; column = 6; tail = codes "\r" })
+unfolding frame_of
+a_sign = refl
+
+a_bare_sign : frame_of (codes "@u:1:6") ≡ Some (record { head = codes "@"; url = codes "u"; line = 1; column = 6; tail = [] })
+unfolding frame_of
+a_bare_sign = refl
+
+-- behind `at `, an `@` belongs to the URL
+an_at_before_a_sign : frame_of (codes " at f@u:1:1") ≡ Some (record { head = codes " at "; url = codes "f@u"; line = 1; column = 1; tail = [] })
+unfolding frame_of
+an_at_before_a_sign = refl
+
+no_column : frame_of (codes "f@u:1") ≡ None
+unfolding frame_of
+no_column = refl
+
 -- the function is missing
 no_function : frame_of (codes "at  (u:1:1)") ≡ None
 unfolding frame_of

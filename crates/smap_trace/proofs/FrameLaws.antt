@@ -1,18 +1,18 @@
 -- A line is a frame of exactly the parts that `frame_of` computes, and so in at most one way.
-use Rattle.std.proofs.Common.{◌≡◌, ◌≢◌, ◌+◌, ◌<◌, ℕ, Bool, true, false, cond, List, [], ◌∷◌, ◌++◌, length, take, drop, Option, Some, None, IsTrue, refl, sym, ap, ◌∙◌, arith, subst, suc, ◌⊎◌, inl, inr, ⊎_elim, append_assoc, append-nil, length-append}
+use Rattle.std.proofs.Common.{◌≡◌, ◌≢◌, ◌==◌, ◌+◌, ◌<◌, ℕ, Bool, true, false, cond, List, [], ◌∷◌, ◌++◌, length, take, drop, Option, Some, None, IsTrue, refl, sym, ap, ◌∙◌, arith, subst, suc, ◌⊎◌, inl, inr, ⊎_elim, append_assoc, append-nil, length-append}
 use Rattle.std.specs.Fmt.{decimal}
 use Rattle.std.specs.List.{AllByRecursion, prefix_len, starts_with}
 use Rattle.std.specs.Bool.{nat_eq}
 use Rattle.std.specs.Option.{MatchOption}
-use Rattle.std.proofs.lemmas.Bool.{cond-true, cond-false, cond_both, false_from_ne_true, both_ways}
+use Rattle.std.proofs.lemmas.Bool.{cond-true, cond-false, cond_both, eqb-true, eq-eqb, false_from_ne_true, false≢true, both_ways}
 use Rattle.std.proofs.lemmas.Bool.Decides.{Decides-eqb}
 use Rattle.std.proofs.lemmas.List.{take_at, drop_at, take-append-drop, drop-drop, append_cancel_right}
 use Rattle.std.proofs.lemmas.Slice.Eq.{starts_is}
-use Rattle.smap_trace.specs.Cuts.{cut_at_last, cut_at_call, without_last}
-use Rattle.smap_trace.specs.Frame.{FrameParts, is_line, is_blank, IsLineEnd, IsPrinted, IsCallFrame, IsPlainFrame, IsFrame}
-use Rattle.smap_trace.specs.FrameOf.{Place, place_of, place_cut, place_before, place_with, parts_with, call_frame, is_async, unless_async, plain_frame, frame_behind, frame_after, frame_in, frame_of, number_of}
-use Rattle.smap_trace.proofs.CutLaws.{IsLastCut, cut_is_last, last_cut, is_without, IsFirstCall, HasNoCall, call_is_first, first_call, last_is, last_is_other, last_stands}
-use Rattle.smap_trace.proofs.NumberLaws.{none_else, number_is, number_reads, number_without, number_ends}
+use Rattle.smap_trace.specs.Cuts.{cut_at_first, cut_at_last, cut_at_call, without_last}
+use Rattle.smap_trace.specs.Frame.{FrameParts, is_line, is_blank, IsLineEnd, IsPrinted, IsCallFrame, IsPlainFrame, IsSignFrame, IsForm, IsFrame}
+use Rattle.smap_trace.specs.FrameOf.{Place, place_of, place_cut, place_before, place_with, parts_with, call_frame, is_async, unless_async, plain_frame, ends_in_digit, sign_frame, sign_frame_at, frame_behind, frame_after, frame_in, frame_of, number_of}
+use Rattle.smap_trace.proofs.CutLaws.{IsFirstCut, IsLastCut, cut_is_first, cut_is_last, first_cut, last_cut, is_without, IsFirstCall, HasNoCall, call_is_first, first_call, last_is, last_is_other, last_stands}
+use Rattle.smap_trace.proofs.NumberLaws.{none_else, number_is, number_reads, number_without, number_ends, number_last_digit}
 
 -- ---- places
 
@@ -97,9 +97,24 @@ blanks_end [] byte rest blank other = cond-false (is_blank byte) (1 + prefix_len
 blanks_end (x ∷ blanks) byte rest blank other =
     cond-true (is_blank x) (1 + prefix_len is_blank (blanks ++ byte ∷ rest)) 0 blank.0 ∙ ap (λ n. 1 + n) (blanks_end blanks byte rest blank.1 other) ∙ omega arith
 
+-- a line whose blanks an `at ` follows
+at_found : (body blanks text : List ℕ) → body ≡ blanks ++ (at_word ++ text) → AllByRecursion (λ b. IsTrue (is_blank b)) blanks →
+    (prefix_len is_blank body ≡ length blanks) × (starts_with nat_eq (drop (prefix_len is_blank body) body) at_word ≡ true)
+at_found body blanks text split blank =
+    let n : prefix_len is_blank body ≡ length blanks = ap (prefix_len is_blank) split ∙ blanks_end blanks 97 (116 ∷ 32 ∷ text) blank refl in
+    let rest : drop (prefix_len is_blank body) body ≡ at_word ++ text = ap (λ k. drop k body) n ∙ ap (drop (length blanks)) split ∙ drop_at blanks (at_word ++ text) (length blanks) refl in
+    (n, (starts_is Decides-eqb (drop (prefix_len is_blank body) body) at_word _ refl).1 text rest)
+
+at_split : (body : List ℕ) → starts_with nat_eq (drop (prefix_len is_blank body) body) at_word ≡ true →
+    body ≡ take (prefix_len is_blank body) body ++ (at_word ++ drop (prefix_len is_blank body + 3) body)
+at_split body holds =
+    let n : ℕ = prefix_len is_blank body in
+    let begins : drop n body ≡ at_word ++ drop 3 (drop n body) = (starts_is Decides-eqb (drop n body) at_word _ refl).0 holds in
+    sym (take-append-drop n body) ∙ ap (λ l. take n body ++ l) (begins ∙ ap (λ l. at_word ++ l) (drop-drop 3 n body))
+
 module _ (line : List ℕ) (bounded : IsTrue (is_line line)) where
   at_place : (head text tail : List ℕ) (place : Option Place) (parts : FrameParts) → MatchOption place (Unit {0}) (IsPlace text) → line ≡ head ++ (text ++ tail) →
-      parts_with head place tail ≡ Some parts → ((p : FrameParts) → p.head ≡ head → p.tail ≡ tail → p ≡ parts → IsCallFrame p ⊎ IsPlainFrame p) → IsFrame line parts
+      parts_with head place tail ≡ Some parts → ((p : FrameParts) → p.head ≡ head → p.tail ≡ tail → p ≡ parts → IsForm p) → IsFrame line parts
   at_place head text tail None parts stands whole is form = cc
   at_place head text tail (Some place) parts stands whole is form =
       let found : FrameParts = record { head = head; url = place.url; line = place.line; column = place.column; tail = tail } in
@@ -115,7 +130,7 @@ module _ (line : List ℕ) (bounded : IsTrue (is_line line)) where
       })
 
   at_text : (head text tail : List ℕ) (parts : FrameParts) → line ≡ head ++ (text ++ tail) →
-      parts_with head (place_of text) tail ≡ Some parts → ((p : FrameParts) → p.head ≡ head → p.tail ≡ tail → p ≡ parts → IsCallFrame p ⊎ IsPlainFrame p) → IsFrame line parts
+      parts_with head (place_of text) tail ≡ Some parts → ((p : FrameParts) → p.head ≡ head → p.tail ≡ tail → p ≡ parts → IsForm p) → IsFrame line parts
   at_text head text tail parts whole is form = at_place head text tail (place_of text) parts (seen (place_of text) refl) whole is form
     where
       seen : (o : Option Place) → place_of text ≡ o → MatchOption o (Unit {0}) (IsPlace text)
@@ -161,8 +176,8 @@ module _ (line : List ℕ) (bounded : IsTrue (is_line line)) where
       go true holds e =
           let begins : text ≡ async_word ++ drop 6 text = (starts_is Decides-eqb text async_word (is_async text) refl).0 holds in
           at_text ((blanks ++ at_word) ++ async_word) (drop 6 text) end parts (whole ∙ ap (λ t. (blanks ++ at_word) ++ (t ++ end)) begins ∙ simp append_assoc) e
-          (λ p head_is tail_is same. inr (form p tail_is same (inr (head_is ∙ append_assoc blanks at_word async_word))))
-      go false fails e = at_text (blanks ++ at_word) text end parts whole e (λ p head_is tail_is same. inr (form p tail_is same (inl head_is)))
+          (λ p head_is tail_is same. inr (inl (form p tail_is same (inr (head_is ∙ append_assoc blanks at_word async_word)))))
+      go false fails e = at_text (blanks ++ at_word) text end parts whole e (λ p head_is tail_is same. inr (inl (form p tail_is same (inl head_is))))
 
   behind_is : (blanks text end : List ℕ) (parts : FrameParts) (inner : Option (List ℕ)) → AllByRecursion (λ byte. IsTrue (is_blank byte)) blanks → IsLineEnd end → MatchOption inner (Unit {0}) (λ front. text ≡ front ++ 41 ∷ []) →
       line ≡ (blanks ++ at_word) ++ (text ++ end) → frame_behind (blanks ++ at_word) text inner end ≡ Some parts → IsFrame line parts
@@ -170,17 +185,34 @@ module _ (line : List ℕ) (bounded : IsTrue (is_line line)) where
   behind_is blanks text end parts (Some inner) blank ends stands whole is =
       call_is blanks inner end parts (cut_at_call inner) blank ends (call_is_first inner) (whole ∙ ap (λ t. (blanks ++ at_word) ++ (t ++ end)) stands) is
 
+  sign_is : (text end : List ℕ) (parts : FrameParts) (cut : Option (List ℕ × List ℕ)) → IsLineEnd end → starts_with nat_eq (drop (prefix_len is_blank text) text) at_word ≡ false →
+      MatchOption cut (is_without 64 text) (IsFirstCut 64 text) → line ≡ text ++ end → sign_frame_at cut end ≡ Some parts → IsFrame line parts
+  sign_is text end parts None ends off first whole is = cc
+  sign_is text end parts (Some (function, place)) ends off first whole is =
+      at_text (function ++ 64 ∷ []) place end parts (whole ∙ ap (λ t. t ++ end) first.0 ∙ simp append_assoc) is
+      (λ p head_is tail_is same. inr (inr (record {
+        function = function;
+        first = first.1;
+        not_at = λ blanks rest blank e. both_ways _ off (at_found text blanks (rest ++ 64 ∷ place) (first.0 ∙ ap (λ f. f ++ 64 ∷ place) e ∙ append_assoc (blanks ++ at_word) rest (64 ∷ place) ∙ append_assoc blanks at_word (rest ++ 64 ∷ place)) blank).1;
+        head_is = head_is;
+        tail_is = let P : List ℕ → Type 0 = λ e. IsLineEnd e in subst P (sym tail_is) ends;
+      })))
+
   after_is : (body end : List ℕ) (parts : FrameParts) → IsLineEnd end → line ≡ body ++ end → frame_after (prefix_len is_blank body) body end ≡ Some parts → IsFrame line parts
-  after_is body end parts ends whole is =
-      let n : ℕ = prefix_len is_blank body in
-      let found = none_else (starts_with nat_eq (drop n body) at_word) _ parts is in
-      let begins : drop n body ≡ at_word ++ drop 3 (drop n body) = (starts_is Decides-eqb (drop n body) at_word _ refl).0 found.0 in
-      let split : body ≡ (take n body ++ at_word) ++ drop (n + 3) body =
-      sym (take-append-drop n body) ∙ ap (λ l. take n body ++ l) (begins ∙ ap (λ l. at_word ++ l) (drop-drop 3 n body)) ∙ sym (append_assoc (take n body) at_word (drop (n + 3) body)) in
-      let head : take (n + 3) body ≡ take n body ++ at_word = append_cancel_right (take (n + 3) body) (take n body ++ at_word) (drop (n + 3) body) (take-append-drop (n + 3) body ∙ split) in
-      behind_is (take n body) (drop (n + 3) body) end parts (without_last 41 (drop (n + 3) body)) (blank_prefix body) ends (last_stands 41 (drop (n + 3) body))
-      (whole ∙ ap (λ b. b ++ end) split ∙ append_assoc (take n body ++ at_word) (drop (n + 3) body) end)
-      (ap (λ h. frame_behind h (drop (n + 3) body) (without_last 41 (drop (n + 3) body)) end) (sym head) ∙ found.1)
+  after_is body end parts ends whole is = go (starts_with nat_eq (drop n body) at_word) refl is
+    where
+      n : ℕ
+      n = prefix_len is_blank body
+
+      go : (t : Bool) → starts_with nat_eq (drop n body) at_word ≡ t →
+          cond t (frame_behind (take (n + 3) body) (drop (n + 3) body) (without_last 41 (drop (n + 3) body)) end) (sign_frame body end) ≡ Some parts → IsFrame line parts
+      go true holds e =
+          let split : body ≡ (take n body ++ at_word) ++ drop (n + 3) body = at_split body holds ∙ sym (append_assoc (take n body) at_word (drop (n + 3) body)) in
+          let head : take (n + 3) body ≡ take n body ++ at_word = append_cancel_right (take (n + 3) body) (take n body ++ at_word) (drop (n + 3) body) (take-append-drop (n + 3) body ∙ split) in
+          behind_is (take n body) (drop (n + 3) body) end parts (without_last 41 (drop (n + 3) body)) (blank_prefix body) ends (last_stands 41 (drop (n + 3) body))
+          (whole ∙ ap (λ b. b ++ end) split ∙ append_assoc (take n body ++ at_word) (drop (n + 3) body) end)
+          (ap (λ h. frame_behind h (drop (n + 3) body) (without_last 41 (drop (n + 3) body)) end) (sym head) ∙ e)
+      go false fails e = sign_is body end parts (cut_at_first 64 body) ends fails (cut_is_first 64 body) whole (none_else (ends_in_digit body) _ parts e).1
 
   in_is : (parts : FrameParts) (body : Option (List ℕ)) → MatchOption body (Unit {0}) (λ front. line ≡ front ++ 13 ∷ []) → frame_in line body ≡ Some parts → IsFrame line parts
   in_is parts None stands is = after_is line [] parts (inl refl) (sym (append-nil line)) is
@@ -198,14 +230,13 @@ after_reads : (blanks text end : List ℕ) → AllByRecursion (λ b. IsTrue (is_
     frame_after (prefix_len is_blank ((blanks ++ at_word) ++ text)) ((blanks ++ at_word) ++ text) end ≡ frame_behind (blanks ++ at_word) text (without_last 41 text) end
 after_reads blanks text end blank =
     let body : List ℕ = (blanks ++ at_word) ++ text in
-    let split : body ≡ blanks ++ (at_word ++ text) = append_assoc blanks at_word text in
-    let n : prefix_len is_blank body ≡ length blanks = ap (prefix_len is_blank) split ∙ blanks_end blanks 97 (116 ∷ 32 ∷ text) blank refl in
-    let rest : drop (length blanks) body ≡ at_word ++ text = ap (drop (length blanks)) split ∙ drop_at blanks (at_word ++ text) (length blanks) refl in
-    let begins : starts_with nat_eq (drop (length blanks) body) at_word ≡ true = (starts_is Decides-eqb (drop (length blanks) body) at_word _ refl).1 text rest in
+    let found = at_found body blanks text (append_assoc blanks at_word text) blank in
+    let n : prefix_len is_blank body ≡ length blanks = found.0 in
+    let begins : starts_with nat_eq (drop (length blanks) body) at_word ≡ true = ap (λ k. starts_with nat_eq (drop k body) at_word) (sym n) ∙ found.1 in
     let long : length (blanks ++ at_word) ≡ length blanks + 3 = length-append blanks at_word in
     let head : take (length blanks + 3) body ≡ blanks ++ at_word = take_at (blanks ++ at_word) text (length blanks + 3) long in
     let tail : drop (length blanks + 3) body ≡ text = drop_at (blanks ++ at_word) text (length blanks + 3) long in
-    ap (λ k. frame_after k body end) n ∙ cond-true (starts_with nat_eq (drop (length blanks) body) at_word) _ None begins ∙ (λ i. frame_behind (head i) (tail i) (without_last 41 (tail i)) end)
+    ap (λ k. frame_after k body end) n ∙ cond-true (starts_with nat_eq (drop (length blanks) body) at_word) _ (sign_frame body end) begins ∙ (λ i. frame_behind (head i) (tail i) (without_last 41 (tail i)) end)
 
 -- a line that ends in another byte than a CR, and the end of a line behind it
 ended : (line body end : List ℕ) → IsLineEnd end → line ≡ body ++ end → without_last 13 body ≡ None → frame_in line (without_last 13 line) ≡ frame_after (prefix_len is_blank body) body end
@@ -216,6 +247,18 @@ ended line body end ends whole other = ⊎_elim
     (λ (cr : end ≡ 13 ∷ []).
     ap (frame_in line) (ap (without_last 13) (whole ∙ ap (λ e. body ++ e) cr) ∙ last_is 13 body) ∙ ap (frame_after (prefix_len is_blank body) body) (sym cr))
     ends
+
+-- what a place ends in
+before_column : (opening url : List ℕ) (line column : ℕ) → (opening ++ url ++ 58 ∷ [] ++ decimal line ++ 58 ∷ []) ++ decimal column ≡ opening ++ place_text url line column
+before_column opening url line column = simp append_assoc
+
+place_ends : (byte : ℕ) (opening url : List ℕ) (line column : ℕ) → (byte < 48) ⊎ (57 < byte) → IsPrinted column → without_last byte (opening ++ place_text url line column) ≡ None
+place_ends byte opening url line column outside printed =
+    ap (without_last byte) (sym (before_column opening url line column)) ∙ number_ends byte (opening ++ url ++ 58 ∷ [] ++ decimal line ++ 58 ∷ []) column outside printed
+
+place_digit : (opening url : List ℕ) (line column : ℕ) → IsPrinted column → ends_in_digit (opening ++ place_text url line column) ≡ true
+place_digit opening url line column printed =
+    ap ends_in_digit (sym (before_column opening url line column)) ∙ number_last_digit (opening ++ url ++ 58 ∷ [] ++ decimal line ++ 58 ∷ []) column printed
 
 record_is : (parts : FrameParts) (head tail : List ℕ) → parts.head ≡ head → parts.tail ≡ tail → record { head = head; url = parts.url; line = parts.line; column = parts.column; tail = tail } ≡ parts
 record_is parts head tail h t = λ i. record { head = sym h i; url = parts.url; line = parts.line; column = parts.column; tail = sym t i }
@@ -280,22 +323,56 @@ plain_reads line parts is plain = ⊎_elim
         ap (λ p. parts_with head p parts.tail) (place_reads parts.url parts.line parts.column is.located is.line_printed is.column_printed)
         ∙ ap Some (record_is parts head parts.tail head_is refl)
 
-    number_last : (byte : ℕ) (opening : List ℕ) → (byte < 48) ⊎ (57 < byte) → without_last byte (opening ++ place_text parts.url parts.line parts.column) ≡ None
-    number_last byte opening outside =
-        let e : (opening ++ parts.url ++ 58 ∷ [] ++ decimal parts.line ++ 58 ∷ []) ++ decimal parts.column ≡ opening ++ place_text parts.url parts.line parts.column = simp append_assoc in
-        ap (without_last byte) (sym e) ∙ number_ends byte (opening ++ parts.url ++ 58 ∷ [] ++ decimal parts.line ++ 58 ∷ []) parts.column outside is.column_printed
-
     to_text : (text : List ℕ) → line ≡ ((plain.blanks ++ at_word) ++ text) ++ parts.tail → (word : List ℕ) → word ++ place_text parts.url parts.line parts.column ≡ text →
         frame_in line (without_last 13 line) ≡ plain_frame (plain.blanks ++ at_word) text parts.tail
     to_text text whole word text_is =
         let head : List ℕ = plain.blanks ++ at_word in
         let same : (head ++ word) ++ place_text parts.url parts.line parts.column ≡ head ++ text = append_assoc head word (place_text parts.url parts.line parts.column) ∙ ap (λ t. head ++ t) text_is in
-        ended line (head ++ text) parts.tail plain.tail_is whole (ap (without_last 13) (sym same) ∙ number_last 13 (head ++ word) (inl (omega arith)))
+        ended line (head ++ text) parts.tail plain.tail_is whole (ap (without_last 13) (sym same) ∙ place_ends 13 (head ++ word) parts.url parts.line parts.column (inl (omega arith)) is.column_printed)
         ∙ after_reads plain.blanks text parts.tail plain.blank
-        ∙ ap (λ o. frame_behind head text o parts.tail) (ap (without_last 41) (sym text_is) ∙ number_last 41 word (inl (omega arith)))
+        ∙ ap (λ o. frame_behind head text o parts.tail) (ap (without_last 41) (sym text_is) ∙ place_ends 41 word parts.url parts.line parts.column (inl (omega arith)) is.column_printed)
+
+-- a byte before an `@` stands at the beginning of what it ends
+before_sign : (function place rest : List ℕ) (byte : ℕ) → (byte == 64) ≡ false → function ++ 64 ∷ place ≡ byte ∷ rest → (more : List ℕ) × (function ≡ byte ∷ more) × (more ++ 64 ∷ place ≡ rest)
+before_sign [] place rest byte other e = let same : byte ≡ 64 = cc in absurd (both_ways _ other (eq-eqb byte 64 same))
+before_sign (x ∷ function) place rest byte other e = let same : x ≡ byte = cc in (function, ap (λ y. y ∷ function) same, (cc))
+
+-- so do blanks and an `at `
+at_before_sign : (function place blanks rest : List ℕ) → AllByRecursion (λ b. IsTrue (is_blank b)) blanks → function ++ 64 ∷ place ≡ blanks ++ (at_word ++ rest) →
+    (more : List ℕ) × (function ≡ blanks ++ (at_word ++ more))
+at_before_sign function place [] rest blank e =
+    let one = before_sign function place (116 ∷ 32 ∷ rest) 97 refl e in
+    let two = before_sign one.0 place (32 ∷ rest) 116 refl one.2 in
+    let three = before_sign two.0 place rest 32 refl two.2 in
+    (three.0, one.1 ∙ ap (λ l. 97 ∷ l) (two.1 ∙ ap (λ l. 116 ∷ l) three.1))
+at_before_sign function place (x ∷ blanks) rest blank e =
+    let P : ℕ → Type 0 = λ b. IsTrue (is_blank b) in
+    let one = before_sign function place (blanks ++ (at_word ++ rest)) x (false_from_ne_true (x == 64) (λ same. false≢true (subst P (eqb-true x 64 same) blank.0))) e in
+    let more = at_before_sign one.0 place blanks rest blank.1 one.2 in
+    (more.0, one.1 ∙ ap (λ l. x ∷ l) more.1)
+
+sign_reads : (line : List ℕ) (parts : FrameParts) (is : IsFrame line parts) (sign : IsSignFrame parts) → frame_in line (without_last 13 line) ≡ Some parts
+sign_reads line parts is sign =
+    let place : List ℕ = place_text parts.url parts.line parts.column in
+    let head : List ℕ = sign.function ++ 64 ∷ [] in
+    let body : List ℕ = sign.function ++ 64 ∷ place in
+    let joined : head ++ place ≡ body = append_assoc sign.function (64 ∷ []) place in
+    let whole : line ≡ body ++ parts.tail = is.joined ∙ ap (λ h. h ++ parts.url ++ 58 ∷ [] ++ decimal parts.line ++ 58 ∷ [] ++ decimal parts.column ++ parts.tail) sign.head_is ∙ simp append_assoc in
+    let other : without_last 13 body ≡ None = ap (without_last 13) (sym joined) ∙ place_ends 13 head parts.url parts.line parts.column (inl (omega arith)) is.column_printed in
+    let digit : ends_in_digit body ≡ true = ap ends_in_digit (sym joined) ∙ place_digit head parts.url parts.line parts.column is.column_printed in
+    let off : starts_with nat_eq (drop (prefix_len is_blank body) body) at_word ≡ false = false_from_ne_true _ (λ holds.
+    let front = at_before_sign sign.function place (take (prefix_len is_blank body) body) (drop (prefix_len is_blank body + 3) body) (blank_prefix body) (at_split body holds) in
+    sign.not_at (take (prefix_len is_blank body) body) front.0 (blank_prefix body) (front.1 ∙ sym (append_assoc (take (prefix_len is_blank body) body) at_word front.0))) in
+    ended line body parts.tail sign.tail_is whole other
+    ∙ cond-false (starts_with nat_eq (drop (prefix_len is_blank body) body) at_word) _ (sign_frame body parts.tail) off
+    ∙ cond-true (ends_in_digit body) (sign_frame_at (cut_at_first 64 body) parts.tail) None digit
+    ∙ ap (λ cut. sign_frame_at cut parts.tail) (first_cut 64 sign.function place sign.first)
+    ∙ ap (λ p. parts_with head p parts.tail) (place_reads parts.url parts.line parts.column is.located is.line_printed is.column_printed)
+    ∙ ap Some (record_is parts head parts.tail sign.head_is refl)
 
 pub frame_has_parts : (line : List ℕ) (parts : FrameParts) → IsFrame line parts → frame_of line ≡ Some parts
 unfolding frame_of
 frame_has_parts line parts is =
     cond-true (is_line line) (frame_in line (without_last 13 line)) None is.bounded
-    ∙ ⊎_elim (λ (call : IsCallFrame parts). call_reads line parts is call) (λ (plain : IsPlainFrame parts). plain_reads line parts is plain) is.form
+    ∙ ⊎_elim (λ (call : IsCallFrame parts). call_reads line parts is call)
+    (⊎_elim (λ (plain : IsPlainFrame parts). plain_reads line parts is plain) (λ (sign : IsSignFrame parts). sign_reads line parts is sign)) is.form

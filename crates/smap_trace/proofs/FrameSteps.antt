@@ -1,5 +1,5 @@
 -- The steps that the code takes from a line to its frame.
-use Rattle.std.proofs.Common.{◌≡◌, ◌≤◌, ◌+◌, ◌-◌, ◌==◌, ℕ, Bool, true, false, List, [], ◌∷◌, ◌++◌, length, take, drop, slice_range, Option, Some, None, IsSome, is_some, option_map, refl, sym, ap, ◌∙◌, arith, append_assoc, append-nil, length-drop, length-take, length-append}
+use Rattle.std.proofs.Common.{◌≡◌, ◌≤◌, ◌+◌, ◌-◌, ◌==◌, ℕ, Bool, true, false, cond, List, [], ◌∷◌, ◌++◌, length, take, drop, slice_range, Option, Some, None, IsSome, is_some, option_map, refl, sym, ap, ◌∙◌, arith, append_assoc, append-nil, length-drop, length-take, length-append}
 use Rattle.std.specs.List.{prefix_len, starts_with}
 use Rattle.std.specs.Bool.{nat_eq}
 use Rattle.std.proofs.lemmas.Bool.{cond-true, cond-false}
@@ -7,10 +7,10 @@ use Rattle.std.proofs.lemmas.Option.{MatchOption-at_some}
 use Rattle.std.proofs.lemmas.List.{take_at, drop_at, take-take, take_rest, length-take-le, take-append-drop, drop-drop, drop-take}
 use Rattle.std.proofs.lemmas.Slice.Eq.{starts_is}
 use Rattle.std.proofs.lemmas.Bool.Decides.{Decides-eqb}
-use Rattle.smap_trace.specs.Cuts.{cut_at_call, without_last}
+use Rattle.smap_trace.specs.Cuts.{cut_at_call, cut_at_first, without_last}
 use Rattle.smap_trace.specs.Frame.{is_line, is_blank}
-use Rattle.smap_trace.specs.FrameOf.{frame_of, frame_in, frame_after, frame_behind, call_frame, plain_frame, parts_with, place_of, is_async, unless_async}
-use Rattle.smap_trace.proofs.CutLaws.{last_stands, call_is_first}
+use Rattle.smap_trace.specs.FrameOf.{ends_in_digit, frame_of, frame_in, frame_after, frame_behind, call_frame, plain_frame, parts_with, place_of, is_async, sign_frame, sign_frame_at, unless_async}
+use Rattle.smap_trace.proofs.CutLaws.{last_stands, call_is_first, cut_is_first}
 
 -- ---- the whole line
 
@@ -58,7 +58,7 @@ begun : (blanks : ℕ) (line : List ℕ) (end : ℕ) → starts_with nat_eq (dro
 begun blanks line end at within =
     let head : take (blanks + 3) (take end line) ≡ take (blanks + 3) line = take-take (blanks + 3) end line within in
     let text : drop (blanks + 3) (take end line) ≡ slice_range line (blanks + 3) end = range_of_front line (blanks + 3) end within in
-    cond-true (starts_with nat_eq (drop blanks (take end line)) (97 ∷ 116 ∷ 32 ∷ [])) _ None at
+    cond-true (starts_with nat_eq (drop blanks (take end line)) (97 ∷ 116 ∷ 32 ∷ [])) _ (sign_frame (take end line) (drop end line)) at
     ∙ (λ i. frame_behind (head i) (text i) (without_last 41 (text i)) (drop end line))
 
 -- the bytes from one place to another, where the last of them is this one
@@ -104,7 +104,7 @@ plain_form : (blanks : ℕ) (line : List ℕ) (end : ℕ) → starts_with nat_eq
 plain_form blanks line end at within none =
     ap (λ o. frame_behind (take (blanks + 3) line) (slice_range line (blanks + 3) end) o (drop end line)) (sym none) ∙ sym (begun blanks line end at within)
 
--- ---- the two forms, as the code finds them
+-- ---- the forms, as the code finds them
 
 begins : (blanks end : ℕ) (line : List ℕ) (found : Bool) → found ≡ starts_with nat_eq (rest_from blanks (take end line)) (97 ∷ 116 ∷ 32 ∷ []) → found ≡ true →
     starts_with nat_eq (drop blanks (take end line)) (97 ∷ 116 ∷ 32 ∷ []) ≡ true
@@ -112,10 +112,10 @@ begins blanks end line found is holds = ap (λ l. starts_with nat_eq l (97 ∷ 1
 
 pub none_begun : (blanks end : ℕ) (line : List ℕ) (found : Bool) → found ≡ starts_with nat_eq (rest_from blanks (take end line)) (97 ∷ 116 ∷ 32 ∷ []) → found ≡ false →
     blanks ≡ prefix_len is_blank (take end line) →
-    None ≡ frame_after (prefix_len is_blank (take end line)) (take end line) (drop end line)
+    sign_frame (take end line) (drop end line) ≡ frame_after (prefix_len is_blank (take end line)) (take end line) (drop end line)
 none_begun blanks end line found is fails counted =
     let not_at = ap (λ l. starts_with nat_eq l (97 ∷ 116 ∷ 32 ∷ [])) (sym (take_rest (take end line) blanks)) ∙ sym is ∙ fails in
-    sym (ap (λ n. frame_after n (take end line) (drop end line)) (sym counted) ∙ cond-false (starts_with nat_eq (drop blanks (take end line)) (97 ∷ 116 ∷ 32 ∷ [])) _ None not_at)
+    sym (ap (λ n. frame_after n (take end line) (drop end line)) (sym counted) ∙ cond-false (starts_with nat_eq (drop blanks (take end line)) (97 ∷ 116 ∷ 32 ∷ [])) _ (sign_frame (take end line) (drop end line)) not_at)
 
 seen_text : (start end : ℕ) (line : List ℕ) → start ≤ end → rest_from start (take end line) ≡ slice_range line start end
 seen_text start end line within = take_rest (take end line) start ∙ range_of_front line start end within
@@ -207,3 +207,34 @@ behind_async line start end found ordered inside is holds =
     let both = into_range line start end 6 word (drop 6 text) refl ordered inside begins in
     (λ i. unless_async (parts_with (both.0 i) (place_of (both.1 i)) (drop end line)))
     ∙ ap unless_async (sym (cond-true (is_async text) (parts_with (take start line ++ word) (place_of (drop 6 text)) (drop end line)) (parts_with (take start line) (place_of text) (drop end line)) (sym is ∙ holds)))
+
+-- a line that ends in no digit
+pub unsigned : (text tail : List ℕ) → ends_in_digit text ≡ false → None ≡ sign_frame text tail
+unsigned text tail fails = sym (cond-false (ends_in_digit text) (sign_frame_at (cut_at_first 64 text) tail) None fails)
+
+-- a line without an `@`
+pub uncut : (text tail : List ℕ) → None ≡ cut_at_first 64 text → None ≡ sign_frame text tail
+uncut text tail none = sym (none_both (ends_in_digit text))
+  where
+    none_both : (digit : Bool) → cond digit (sign_frame_at (cut_at_first 64 text) tail) None ≡ None
+    none_both true = ap (λ cut. sign_frame_at cut tail) (sym none)
+    none_both false = refl
+
+-- the cut at the first `@`, and what follows from it
+pub signed : (line : List ℕ) (end : ℕ) (function rest : List ℕ) → end ≤ length line → ends_in_digit (take end line) ≡ true → Some (function, rest) ≡ cut_at_first 64 (take end line) →
+    (length function + 1 ≤ end)
+    × (parts_with (take (length function + 1) line) (place_of (slice_range line (length function + 1) end)) (drop end line) ≡ sign_frame (take end line) (drop end line))
+signed line end function rest inside digit is =
+    let text : List ℕ = take end line in
+    let k : ℕ = length function + 1 in
+    let first = MatchOption-at_some _ _ (function, rest) (sym is) (cut_is_first 64 text) in
+    let opening : List ℕ = function ++ 64 ∷ [] in
+    let whole : text ≡ opening ++ rest = first.0 ∙ sym (append_assoc function (64 ∷ []) rest) in
+    let long : length opening ≡ k = length-append function (64 ∷ []) in
+    let fits : k ≤ end = omega (arith, long, ap length whole ∙ length-append opening rest, length-take-le end line inside) in
+    let head : take k line ≡ opening = sym (take-take k end line fits) ∙ ap (take k) whole ∙ take_at opening rest k long in
+    let place : slice_range line k end ≡ rest = sym (range_of_front line k end fits) ∙ ap (drop k) whole ∙ drop_at opening rest k long in (
+      fits,
+      (λ i. parts_with (head i) (place_of (place i)) (drop end line)) ∙ ap (λ cut. sign_frame_at cut (drop end line)) is
+          ∙ sym (cond-true (ends_in_digit text) (sign_frame_at (cut_at_first 64 text) (drop end line)) None digit),
+    )

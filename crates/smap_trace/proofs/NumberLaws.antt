@@ -7,7 +7,7 @@ use Rattle.std.proofs.lemmas.Bool.{and_parts, and_from, cond-true, leb-true, le-
 use Rattle.std.proofs.lemmas.Fmt.{decimal_digit, decimal-digits_value, digits_decimal, digits_value-decimal, first_decimal, decimal_nonempty}
 use Rattle.std.proofs.lemmas.Str.Parse.{IsNumeralModel, numerals_by_fold}
 use Rattle.smap_trace.specs.Frame.{IsPrinted}
-use Rattle.smap_trace.specs.FrameOf.{read_on, number_of}
+use Rattle.smap_trace.specs.FrameOf.{ends_in_digit, read_on, number_of}
 use Rattle.smap_trace.proofs.CutLaws.{is_without, last_is_other}
 use Rattle.smap_trace.specs.Cuts.{without_last}
 
@@ -95,3 +95,19 @@ digits_end byte front (c ∷ d ∷ ds) outside digits some =
 
 pub number_ends : (byte : ℕ) (front : List ℕ) (n : ℕ) → (byte < 48) ⊎ (57 < byte) → IsPrinted n → without_last byte (front ++ decimal n) ≡ None
 number_ends byte front n outside printed = digits_end byte front (decimal n) outside (digits_decimal own n (omega arith)) (decimal_nonempty n (omega arith))
+
+-- it ends in a digit
+pub last_digit : (front : List ℕ) (c : ℕ) → ends_in_digit (front ++ c ∷ []) ≡ is_ascii_digit c
+last_digit [] c = refl
+last_digit (x ∷ []) c = refl
+last_digit (x ∷ y ∷ front) c = last_digit (y ∷ front) c
+
+digits_last : (front ds : List ℕ) → AreDigits ds → 0 < length ds → ends_in_digit (front ++ ds) ≡ true
+digits_last front [] digits some = absurd (omega arith)
+digits_last front (c ∷ []) digits some = last_digit front c ∙ (and_parts (is_ascii_digit c) true digits).0
+digits_last front (c ∷ d ∷ ds) digits some =
+    ap ends_in_digit (sym (append_assoc front (c ∷ []) (d ∷ ds)))
+    ∙ digits_last (front ++ c ∷ []) (d ∷ ds) (and_parts (is_ascii_digit c) (all_ascii_digits (d ∷ ds)) digits).1 (omega arith)
+
+pub number_last_digit : (front : List ℕ) (n : ℕ) → IsPrinted n → ends_in_digit (front ++ decimal n) ≡ true
+number_last_digit front n printed = digits_last front (decimal n) (digits_decimal own n (omega arith)) (decimal_nonempty n (omega arith))

@@ -15,6 +15,11 @@ abbrev pub cut_at_last : (byte : ℕ) → List ℕ → Option (List ℕ × List 
 cut_at_last byte [] = None
 cut_at_last byte (x ∷ xs) = later_cut byte x xs (cut_at_last byte xs)
 
+-- what stands before the first of these bytes, and what stands behind it
+abbrev pub cut_at_first : (byte : ℕ) → List ℕ → Option (List ℕ × List ℕ)
+cut_at_first byte [] = None
+cut_at_first byte (x ∷ xs) = if x == byte then Some ([], xs) else option_map (put_before x) (cut_at_first byte xs)
+
 -- what stands before the first ` (`, and what stands behind it
 abbrev pub cut_at_call : List ℕ → Option (List ℕ × List ℕ)
 cut_at_call [] = None

@@ -1,8 +1,10 @@
--- The frames of a stack trace, as V8 prints them, narrowed to two forms (this project's own grammar):
+-- The frames of a stack trace, narrowed to three forms (this project's own grammar): as V8 prints them,
 --   blanks, `at `, a function, ` (`, a URL, `:`, a line, `:`, a column, `)`
 --   blanks, `at ` or `at async `, a URL, `:`, a line, `:`, a column
--- A CR may end either. Lines and columns count from 1.
-use Rattle.std.specs.Prelude.{◌≡◌, ◌≢◌, ◌≤◌, ◌-◌, ℕ, ◌==◌, ◌||◌, ◌&&◌, Bool, not, nat_le, IsTrue, List, [], ◌++◌, ◌⊎◌, codes, length, take}
+-- and as Firefox and Safari do, in a line that does not begin with `at ` behind its blanks,
+--   a function, `@`, a URL, `:`, a line, `:`, a column
+-- A CR may end each. Lines and columns count from 1.
+use Rattle.std.specs.Prelude.{◌≡◌, ◌≢◌, ◌≤◌, ◌-◌, ℕ, ◌==◌, ◌||◌, ◌&&◌, Bool, false, not, nat_le, IsTrue, List, [], ◌++◌, ◌⊎◌, codes, length, take}
 use Rattle.std.specs.Fmt.{decimal}
 use Rattle.std.specs.List.{AllByRecursion, list_any}
 use Rattle.smap_trace.specs.Limits.{most_line_bytes, most_printed}
@@ -51,6 +53,19 @@ pub record IsPlainFrame (parts : FrameParts) : Type 0 where
   pub head_is : (parts.head ≡ blanks ++ codes "at ") ⊎ (parts.head ≡ blanks ++ codes "at async ")
   pub tail_is : IsLineEnd parts.tail
 
+-- the third form. The function may be empty, and the first `@` ends it; what begins with it begins with no `at ` behind
+-- blanks
+pub record IsSignFrame (parts : FrameParts) : Type 0 where
+  pub function : List ℕ
+  pub first : list_any (λ byte. byte == 64) function ≡ false
+  pub not_at : (blanks rest : List ℕ) → AllByRecursion (λ byte. IsTrue (is_blank byte)) blanks → function ≢ blanks ++ codes "at " ++ rest
+  pub head_is : parts.head ≡ function ++ codes "@"
+  pub tail_is : IsLineEnd parts.tail
+
+-- what stands before the URL and behind the column is that of a frame, in one of the forms
+abbrev pub IsForm : FrameParts → Type 0
+IsForm parts = IsCallFrame parts ⊎ (IsPlainFrame parts ⊎ IsSignFrame parts)
+
 -- the line is a frame of these parts
 pub record IsFrame (line : List ℕ) (parts : FrameParts) : Type 0 where
   pub bounded : IsTrue (is_line line)
@@ -58,4 +73,4 @@ pub record IsFrame (line : List ℕ) (parts : FrameParts) : Type 0 where
   pub located : parts.url ≢ []
   pub line_printed : IsPrinted parts.line
   pub column_printed : IsPrinted parts.column
-  pub form : IsCallFrame parts ⊎ IsPlainFrame parts
+  pub form : IsForm parts

@@ -1,9 +1,9 @@
 -- The parts of a frame line: the one choice of them of which `IsFrame` holds.
-use Rattle.std.specs.Prelude.{ℕ, ◌+◌, ◌-◌, ◌*◌, ◌&&◌, Bool, nat_lt, nat_le, List, [], ◌∷◌, ◌++◌, Option, Some, None, if◌then◌else◌, codes, take, drop, slice_index}
+use Rattle.std.specs.Prelude.{ℕ, ◌+◌, ◌-◌, ◌*◌, ◌&&◌, Bool, false, nat_lt, nat_le, List, [], ◌∷◌, ◌++◌, Option, Some, None, if◌then◌else◌, codes, take, drop, slice_index}
 use Rattle.std.specs.Char.{is_ascii_digit}
 use Rattle.std.specs.List.{prefix_len, starts_with}
 use Rattle.std.specs.Bool.{nat_eq}
-use Rattle.smap_trace.specs.Cuts.{cut_at_last, cut_at_call, without_last}
+use Rattle.smap_trace.specs.Cuts.{cut_at_first, cut_at_last, cut_at_call, without_last}
 use Rattle.smap_trace.specs.Frame.{FrameParts, is_line, is_blank}
 use Rattle.smap_trace.specs.Limits.{most_printed}
 
@@ -45,7 +45,7 @@ place_cut (Some (front, column)) = place_before (cut_at_last 58 front) (number_o
 abbrev pub place_of : List ℕ → Option Place
 place_of text = place_cut (cut_at_last 58 text)
 
--- ---- the two forms
+-- ---- the three forms
 
 abbrev pub parts_with : (head : List ℕ) → Option Place → (tail : List ℕ) → Option FrameParts
 parts_with head None tail = None
@@ -73,6 +73,20 @@ abbrev pub frame_behind : (head text : List ℕ) → Option (List ℕ) → (end 
 frame_behind head text (Some inner) end = call_frame head (cut_at_call inner) (codes ")" ++ end)
 frame_behind head text None end = plain_frame head text end
 
+-- the last byte is a digit, as a column's is: a line that ends otherwise is not searched for an `@`
+abbrev pub ends_in_digit : List ℕ → Bool
+ends_in_digit [] = false
+ends_in_digit (byte ∷ []) = is_ascii_digit byte
+ends_in_digit (byte ∷ next ∷ text) = ends_in_digit (next ∷ text)
+
+-- the frame whose function the first `@` ends
+abbrev pub sign_frame_at : Option (List ℕ × List ℕ) → (tail : List ℕ) → Option FrameParts
+sign_frame_at None tail = None
+sign_frame_at (Some (function, place)) tail = parts_with (function ++ codes "@") (place_of place) tail
+
+abbrev pub sign_frame : (text tail : List ℕ) → Option FrameParts
+sign_frame text tail = if ends_in_digit text then sign_frame_at (cut_at_first 64 text) tail else None
+
 -- ---- the line
 
 -- the frame of a line with this end, whose blanks are this many
@@ -80,7 +94,7 @@ abbrev pub frame_after : ℕ → (body end : List ℕ) → Option FrameParts
 frame_after blanks body end =
     if starts_with nat_eq (drop blanks body) (codes "at ")
     then frame_behind (take (blanks + 3) body) (drop (blanks + 3) body) (without_last 41 (drop (blanks + 3) body)) end
-    else None
+    else sign_frame body end
 
 abbrev pub frame_in : (line : List ℕ) → Option (List ℕ) → Option FrameParts
 frame_in line (Some body) = frame_after (prefix_len is_blank body) body (codes "\r")

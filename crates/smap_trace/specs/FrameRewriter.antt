@@ -3,8 +3,7 @@ use Rattle.std.specs.Prelude.{ℕ, ◌+◌, ◌-◌, ◌^◌, List, Option, Some
 use Rattle.smap_lines.specs.Lines.{Line}
 use Rattle.smap_record.specs.Record.{MapRecord}
 use Rattle.smap_trace.specs.FrameOf.{frame_of}
-use Rattle.smap_trace.specs.FrameSeen.{parts_seen}
-use Rattle.smap_trace.specs.Rewritten.{SourcePlace, frame_text, original_of, replacement_at}
+use Rattle.smap_trace.specs.Rewritten.{original_of, replacement_at}
 use Rattle.smap_trace.specs.declared.frame_rewriter.FrameRewriter.{FrameRewriter}
 
 -- of a line: nothing where it is no frame; what its frame is replaced by, where it is

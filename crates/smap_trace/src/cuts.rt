@@ -1,6 +1,16 @@
 //! Bytes, cut in two.
 ghost use Rattle.std.specs.Prelude.{◌≡◌, option_map};
-ghost use Rattle.smap_trace.specs.Cuts.{cut_at_call, cut_at_last, without_last};
+ghost use Rattle.smap_trace.specs.Cuts.{cut_at_call, cut_at_first, cut_at_last, without_last};
+
+use memchr::memchr;
+
+/// What stands before the first of these bytes, and what stands behind it.
+pub fn cut_at_first(byte: u8, text: &[u8]) -> Option<(&[u8], &[u8])>
+    ensures { option_map (λ cut. (cut.0.now, cut.1.now)) result ≡ cut_at_first byte text.now }
+{
+    let place = memchr(byte, text)?;
+    Some((&text[..place], &text[place + 1..]))
+}
 
 /// What stands before the last of these bytes, and what stands behind it.
 pub fn cut_at_last(byte: u8, text: &[u8]) -> Option<(&[u8], &[u8])>

@@ -4,10 +4,10 @@ ghost use Rattle.std.specs.List.{prefix_len};
 ghost use Rattle.smap_trace.specs.Cuts.{cut_at_call, without_last};
 ghost use Rattle.smap_trace.specs.Frame.{FrameParts, IsFrame, is_blank, is_line};
 ghost use Rattle.smap_trace.specs.FrameOf.{call_frame, frame_after, frame_of, parts_with, place_of};
-ghost use Rattle.smap_trace.specs.FrameOf.{plain_frame, unless_async};
+ghost use Rattle.smap_trace.specs.FrameOf.{ends_in_digit, plain_frame, sign_frame, unless_async};
 ghost use Rattle.smap_trace.specs.FrameSeen.{parts_seen, place_seen};
 
-use crate::cuts::{cut_at_call, cut_at_last, without_last};
+use crate::cuts::{cut_at_call, cut_at_first, cut_at_last, without_last};
 use crate::number::number;
 use crate::parts::Frame;
 
@@ -47,7 +47,7 @@ fn frame_before(line: &[u8], end: usize) -> Option<Frame<'_>>
     let body = &line[..end];
     let blanks = blanks(body);
     if !body[blanks..].starts_with(b"at ") {
-        return None;
+        return sign_frame(line, end);
     }
     let start = blanks + b"at ".len();
     if without_last(b')', &body[start..]).is_some() {
@@ -90,6 +90,29 @@ fn plain_frame(line: &[u8], start: usize, end: usize) -> Option<Frame<'_>>
         unless_async(frame_at(line, start + b"async ".len(), end))
     } else {
         unless_async(frame_at(line, start, end))
+    }
+}
+
+// The frame of the third form that stands before `end`.
+fn sign_frame(line: &[u8], end: usize) -> Option<Frame<'_>>
+    requires { end ≤ length line.now }
+    ensures { option_map parts_seen result ≡ sign_frame (take end line.now) (drop end line.now) }
+{
+    let body = &line[..end];
+    if !ends_in_digit(body) {
+        return None;
+    }
+    let (function, _) = cut_at_first(b'@', body)?;
+    frame_at(line, function.len() + b"@".len(), end)
+}
+
+// Whether the last byte of a text is a digit.
+fn ends_in_digit(text: &[u8]) -> bool
+    ensures { result ≡ ends_in_digit text.now }
+{
+    match text.split_last() {
+        Some((last, _)) => last.is_ascii_digit(),
+        None => false,
     }
 }
 

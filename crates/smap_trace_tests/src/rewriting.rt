@@ -48,7 +48,7 @@ const LINES: &[(&str, &str)] = &[
     ),
     (
         "f@https://ex.test/app.js:1:6",
-        "0|f@https://ex.test/app.js:1:6|",
+        "0|f@https://ex.test/a.ts:1:2|",
     ),
     (
         "    at async f (https://ex.test/app.js:1:6)\n    at new Foo (https://ex.test/app.js:1:1)\n",

@@ -68,7 +68,10 @@ const FRAMES: &[(&str, &str)] = &[
     ("at u:1:1\r\r", "none"),
     ("at u:1:1\n", "none"),
     ("x at u:1:1", "none"),
-    ("f@https://ex.test/app.js:1:6", "none"),
+    (
+        "f@https://ex.test/app.js:1:6",
+        "f@|https://ex.test/app.js|1|6|",
+    ),
     ("at", "none"),
     ("", "none"),
 ];
@@ -175,7 +178,7 @@ const TRACES: &[(&str, &str)] = &[
     ),
     (
         "f@https://ex.test/app.js:1:6",
-        "1 0 0|f@https://ex.test/app.js:1:6",
+        "1 1 1|f@https://ex.test/a.ts:1:2",
     ),
     ("", "0 0 0|"),
     ("\n", "1 0 0|\n"),

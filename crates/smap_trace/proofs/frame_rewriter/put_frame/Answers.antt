@@ -1,6 +1,5 @@
-use Rattle.std.proofs.Common.{◌≡◌, ◌++◌, map, subst}
+use Rattle.std.proofs.Common.{◌++◌, subst}
 use Rattle.std.proofs.lemmas.Result.{on_err_weaker, on_ok_weaker}
-use Rattle.std.specs.List.{concat}
 use Rattle.smap_io.specs.Device.{TakesFront}
 use Rattle.smap_lines.specs.Gathered.{HandsOn}
 use Rattle.smap_trace.proofs.frame_rewriter.put_frame.Goals as goal

@@ -1,6 +1,11 @@
 use Rattle.std.proofs.Common.{sym, ◌∙◌}
-use Rattle.smap_trace.proofs.FrameSteps.{at_fits, found_call, found_plain}
+use Rattle.smap_trace.proofs.FrameSteps.{at_fits, found_call, found_plain, none_begun}
 use Rattle.smap_trace.proofs.frames.frame_before.Goals as goal
+
+pub returns-then-not-starts_with : goal.returns-then-not-starts_with
+returns-then-not-starts_with c =
+    c.sign_frame.ensures ∙ none_begun c.blanks-blanks.result c.args.end c.args.line.now c.starts_with.result c.starts_with.ensures.value
+    c.if-not-starts_with.true c.blanks-blanks.ensures.count
 
 pub returns-then-is_some : goal.returns-then-is_some
 returns-then-is_some c =
