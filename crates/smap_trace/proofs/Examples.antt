@@ -1,6 +1,9 @@
 -- Worked examples of the definitions: each holds by computing both sides.
-use Rattle.std.proofs.Common.{◌≡◌, true, false, [], ◌∷◌, Some, None, refl, codes}
+use Rattle.std.proofs.Common.{◌≡◌, true, false, [], ◌∷◌, Option, Some, None, refl, codes}
+use Rattle.smap_resolve.specs.SourceName.{Name, kept}
+use Rattle.smap_trace.specs.Frame.{FrameParts}
 use Rattle.smap_trace.specs.FrameOf.{frame_of, number_of}
+use Rattle.smap_trace.specs.Rewritten.{SourcePlace, fate_at, frame_text, hidden, line_after, replaced, stays}
 use Rattle.smap_trace.specs.Table.{is_bad_url}
 
 a_call : frame_of (codes "  at async f (a.js:1:6)") ≡ Some (record { head = codes "  at async f ("; url = codes "a.js"; line = 1; column = 6; tail = codes ")" })
@@ -44,3 +47,21 @@ numbers = refl
 urls : is_bad_url (codes "eval at u") ∷ is_bad_url (codes "") ∷ is_bad_url (codes "a\nb") ∷ is_bad_url (codes "u") ∷ [] ≡ true ∷ true ∷ true ∷ false ∷ []
 unfolding is_bad_url
 urls = refl
+
+-- a frame of an ignored source is hidden where that is asked, also where the source has no name; else it stays there
+abbrev of_ignored : Option Name → SourcePlace
+of_ignored name = record { source = Some (record { name = name; content = None; ignored = true }); line = 1; column = 2 }
+
+abbrev a_parts : FrameParts
+a_parts = record { head = codes "f@"; url = codes "u"; line = 1; column = 6; tail = [] }
+
+hiding : fate_at true a_parts (Some (of_ignored None)) ∷ fate_at true a_parts (Some (of_ignored (Some (kept (codes "a"))))) ∷ fate_at true a_parts None ∷ [] ≡ hidden ∷ hidden ∷ stays ∷ []
+hiding = refl
+
+not_hiding : fate_at false a_parts (Some (of_ignored None)) ∷ fate_at false a_parts (Some (of_ignored (Some (kept (codes "a"))))) ∷ []
+    ≡ stays ∷ replaced (frame_text a_parts (of_ignored (Some (kept (codes "a")))) (codes "a")) ∷ []
+not_hiding = refl
+
+-- a hidden line goes with its LF
+dropped : line_after (record { bytes = codes "f@u:1:6"; is_ended = true }) hidden ≡ []
+dropped = refl

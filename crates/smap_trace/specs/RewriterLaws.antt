@@ -1,14 +1,16 @@
 -- A law of the editor that rewrites frames, which its trait asks for: a line takes room for one.
-use Rattle.std.specs.Prelude.{◌≤◌, ◌+◌, ℕ, List, Option, Some, None}
+use Rattle.std.specs.Prelude.{◌≤◌, ◌+◌}
 use Rattle.std.proofs.Common.{arith}
 use Rattle.smap_lines.specs.Lines.{Line}
-use Rattle.smap_trace.specs.FrameRewriter.{behind_frame, mapped_in, room_of, sight_of, staying_in}
+use Rattle.smap_trace.specs.FrameRewriter.{behind_frame, hidden_in, mapped_in, room_of, staying_in}
+use Rattle.smap_trace.specs.Rewritten.{Fate, fate, hidden, no_frame, replaced, stays}
 use Rattle.smap_trace.specs.declared.frame_rewriter.FrameRewriter.{FrameRewriter}
 
-one_at_most : (sight : Option (Option (List ℕ))) → staying_in sight + mapped_in sight ≤ 1
-one_at_most None = omega arith
-one_at_most (Some None) = omega arith
-one_at_most (Some (Some text)) = omega arith
+one_at_most : (met : Fate) → staying_in met + mapped_in met + hidden_in met ≤ 1
+one_at_most no_frame = omega arith
+one_at_most stays = omega arith
+one_at_most (replaced text) = omega arith
+one_at_most hidden = omega arith
 
 pub room_behind : (rewriter : FrameRewriter) (line : Line) → room_of rewriter ≤ room_of (behind_frame rewriter line) + 1
-room_behind rewriter line = let one = one_at_most (sight_of rewriter.table.now line.bytes) in omega (arith, one)
+room_behind rewriter line = let one = one_at_most (fate line.bytes rewriter.table.now rewriter.hide_ignored) in omega (arith, one)

@@ -10,13 +10,13 @@ use Rattle.smap_trace.specs.declared.outcome.RewriteFault.TheVariants.{Read, Wri
 use Rattle.smap_trace.specs.declared.outcome.Summary.{Summary}
 
 abbrev pub counts_seen : Summary → Counts
-counts_seen summary = record { lines = summary.lines; frames = summary.frames; mapped = summary.mapped }
+counts_seen summary = record { lines = summary.lines; frames = summary.frames; mapped = summary.mapped; hidden = summary.hidden }
 
 -- all that the input had, which is not too much, was read, and what it becomes was written, and nothing else
-pub record Rewrites (before after : Streams) (table : List (List ℕ × MapRecord)) (summary : Summary) : Type 0 where
+pub record Rewrites (before after : Streams) (table : List (List ℕ × MapRecord)) (hide : Bool) (summary : Summary) : Type 0 where
   pub bytes : List ℕ
-  pub edits : Edits (rewritten_line table) before after bytes summary.lines
-  pub counted : counts_seen summary ≡ counts_of bytes table
+  pub edits : Edits (rewritten_line table hide) before after bytes summary.lines
+  pub counted : counts_seen summary ≡ counts_of bytes table hide
 
 -- the same failure, of the lines
 abbrev pub line_fault : RewriteFault → LineFault
@@ -27,8 +27,8 @@ line_fault Memory = fault.Memory
 
 -- these bytes were read, and a front of what they become was written; where a read failed, all of what their whole
 -- lines become
-abbrev pub RewritesFront : (before after : Streams) → List (List ℕ × MapRecord) → RewriteFault → Type 0
-RewritesFront before after table fault = EditsFront (rewritten_line table) before after (line_fault fault)
+abbrev pub RewritesFront : (before after : Streams) → List (List ℕ × MapRecord) → (hide : Bool) → RewriteFault → Type 0
+RewritesFront before after table hide fault = EditsFront (rewritten_line table hide) before after (line_fault fault)
 
 -- whether the input failed, and whether the output did
 abbrev pub is_read_fault : Result Summary RewriteFault → Bool

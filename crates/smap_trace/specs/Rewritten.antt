@@ -1,11 +1,12 @@
--- What a trace becomes: each of its lines by itself, over a table of the maps and their URLs (this project's own).
-use Rattle.std.specs.Prelude.{ℕ, ◌+◌, ◌-◌, ◌==◌, ◌||◌, Bool, List, ◌++◌, Option, Some, None, is_some, codes, length, nat_lt, if◌then◌else◌, slice_get, filter, option_map}
+-- What a trace becomes: each of its lines by itself, over a table of the maps and their URLs, with the frames of sources
+-- that a map says to pass over hidden or not (this project's own).
+use Rattle.std.specs.Prelude.{ℕ, ◌+◌, ◌-◌, ◌==◌, ◌||◌, ◌&&◌, Bool, true, false, List, [], ◌++◌, Option, Some, None, is_some, codes, length, nat_lt, if◌then◌else◌, slice_get, filter}
 use Rattle.std.specs.Fmt.{decimal}
 use Rattle.std.specs.List.{list_any}
 use Rattle.smap_index.specs.declared.answer.Answer.{Answer}
 use Rattle.smap_index.specs.declared.answer.Answer.TheVariants.{Nothing, Unmapped, Found}
 use Rattle.smap_lines.specs.Edited.{edited}
-use Rattle.smap_lines.specs.Lines.{Line, end_in, lines_of}
+use Rattle.smap_lines.specs.Lines.{Line, end_in, line_text, lines_of}
 use Rattle.smap_record.specs.Record.{MapRecord, answer_of_map}
 use Rattle.smap_record.specs.Sources.{StatedSource}
 use Rattle.smap_resolve.specs.SourceName.{Name, name_text}
@@ -55,50 +56,90 @@ original_of parts table = place_in_map parts (record_for parts.url table)
 abbrev pub frame_text : FrameParts → SourcePlace → (name : List ℕ) → List ℕ
 frame_text parts place name = parts.head ++ name ++ codes ":" ++ decimal place.line ++ codes ":" ++ decimal place.column ++ parts.tail
 
--- what a frame is replaced by, if its source has a name that prints
-abbrev pub replacement_at : FrameParts → Option SourcePlace → Option (List ℕ)
-replacement_at parts None = None
-replacement_at parts (Some place) = option_map (frame_text parts place) (name_in place.source)
+-- ---- a line
 
-abbrev pub replacement_of : Option FrameParts → List (List ℕ × MapRecord) → Option (List ℕ)
-replacement_of None table = None
-replacement_of (Some parts) table = replacement_at parts (original_of parts table)
+-- what a line is to a trace: no frame, or a frame that stays, is replaced by this text, or is hidden
+pub data Fate : Type 0 where
+  no_frame : Fate
+  stays : Fate
+  replaced : List ℕ → Fate
+  hidden : Fate
 
--- what a line is replaced by, if it is
-unfoldable pub replacement : List ℕ → List (List ℕ × MapRecord) → Option (List ℕ)
-replacement line table = replacement_of (frame_of line) table
+-- the map says to pass over the source
+abbrev pub is_ignored : Option StatedSource → Bool
+is_ignored None = false
+is_ignored (Some source) = source.ignored
+
+-- the fate of a frame at a place in a source of this name, if it has one that prints
+abbrev pub named_fate : FrameParts → SourcePlace → (name : Option (List ℕ)) → Fate
+named_fate parts place None = stays
+named_fate parts place (Some name) = replaced (frame_text parts place name)
+
+-- that of a frame from this place, with the frames of ignored sources hidden or not; a hidden one needs no name
+abbrev pub fate_at : (hide : Bool) → FrameParts → Option SourcePlace → Fate
+fate_at hide parts None = stays
+fate_at hide parts (Some place) = if hide && is_ignored place.source then hidden else named_fate parts place (name_in place.source)
+
+abbrev pub fate_of : (hide : Bool) → List (List ℕ × MapRecord) → Option FrameParts → Fate
+fate_of hide table None = no_frame
+fate_of hide table (Some parts) = fate_at hide parts (original_of parts table)
+
+-- the fate of a line, without its LF
+unfoldable pub fate : List ℕ → List (List ℕ × MapRecord) → (hide : Bool) → Fate
+fate line table hide = fate_of hide table (frame_of line)
 
 -- ---- a trace
 
-abbrev pub line_or : (line : List ℕ) → Option (List ℕ) → List ℕ
-line_or line None = line
-line_or line (Some replaced) = replaced
+-- what becomes of a line with its LF, where it has one: a hidden one goes with it
+abbrev pub line_after : Line → Fate → List ℕ
+line_after line no_frame = line_text line
+line_after line stays = line_text line
+line_after line (replaced text) = text ++ end_in line.is_ended
+line_after line hidden = []
 
 -- a line, rewritten
-abbrev pub rewritten_line : List (List ℕ × MapRecord) → Line → List ℕ
-rewritten_line table line = line_or line.bytes (replacement line.bytes table) ++ end_in line.is_ended
+abbrev pub rewritten_line : List (List ℕ × MapRecord) → (hide : Bool) → Line → List ℕ
+rewritten_line table hide line = line_after line (fate line.bytes table hide)
 
 -- a trace, rewritten
-abbrev pub rewritten : List ℕ → List (List ℕ × MapRecord) → List ℕ
-rewritten text table = edited (rewritten_line table) text
+abbrev pub rewritten : List ℕ → List (List ℕ × MapRecord) → (hide : Bool) → List ℕ
+rewritten text table hide = edited (rewritten_line table hide) text
 
 -- ---- what is counted
 
 abbrev pub is_frame_line : Line → Bool
 is_frame_line line = is_some (frame_of line.bytes)
 
-abbrev pub is_mapped_line : List (List ℕ × MapRecord) → Line → Bool
-is_mapped_line table line = is_some (replacement line.bytes table)
+-- the frame is replaced
+abbrev pub is_mapped : Fate → Bool
+is_mapped no_frame = false
+is_mapped stays = false
+is_mapped (replaced text) = true
+is_mapped hidden = false
+
+abbrev pub is_hidden : Fate → Bool
+is_hidden no_frame = false
+is_hidden stays = false
+is_hidden (replaced text) = false
+is_hidden hidden = true
+
+abbrev pub is_mapped_line : List (List ℕ × MapRecord) → (hide : Bool) → Line → Bool
+is_mapped_line table hide line = is_mapped (fate line.bytes table hide)
+
+abbrev pub is_hidden_line : List (List ℕ × MapRecord) → (hide : Bool) → Line → Bool
+is_hidden_line table hide line = is_hidden (fate line.bytes table hide)
 
 pub record Counts : Type 0 where
   pub lines : ℕ
   pub frames : ℕ
   pub mapped : ℕ
+  pub hidden : ℕ
 
--- the lines of a trace, those that are frames, and those that are replaced
-unfoldable pub counts_of : List ℕ → List (List ℕ × MapRecord) → Counts
-counts_of text table = record {
+-- the lines of a trace, those that are frames, those that are replaced, and those that are hidden
+unfoldable pub counts_of : List ℕ → List (List ℕ × MapRecord) → (hide : Bool) → Counts
+counts_of text table hide = record {
   lines = length (lines_of text);
   frames = length (filter is_frame_line (lines_of text));
-  mapped = length (filter (is_mapped_line table) (lines_of text));
+  mapped = length (filter (is_mapped_line table hide) (lines_of text));
+  hidden = length (filter (is_hidden_line table hide) (lines_of text));
 }

@@ -1,12 +1,12 @@
 -- Of private contracts only: what contracts see of a line that was looked at.
-use Rattle.std.specs.Prelude.{ℕ, List, Option, Some, None, option_map}
+use Rattle.std.specs.Prelude.{ℕ, List, option_map}
 use Rattle.smap_record.specs.Sources.{source_of}
 use Rattle.smap_trace.specs.FrameSeen.{parts_seen}
-use Rattle.smap_trace.specs.Rewritten.{SourcePlace, frame_text}
+use Rattle.smap_trace.specs.Rewritten.{Fate, SourcePlace, frame_text, hidden, no_frame, replaced, stays}
 use Rattle.smap_trace.specs.declared.sight.Original.{Original}
 use Rattle.smap_trace.specs.declared.sight.Replacement.{Replacement}
 use Rattle.smap_trace.specs.declared.sight.Sight.{Sight}
-use Rattle.smap_trace.specs.declared.sight.Sight.TheVariants.{Other, Staying, Replaced}
+use Rattle.smap_trace.specs.declared.sight.Sight.TheVariants.{Other, Staying, Replaced, Hidden}
 
 -- where a frame comes from
 abbrev pub original_seen : Original → SourcePlace
@@ -20,7 +20,8 @@ original_seen original = record {
 abbrev pub replacement_seen : Replacement → List ℕ
 replacement_seen replacement = frame_text (parts_seen replacement.frame) (original_seen replacement.original) replacement.name.now
 
-abbrev pub sight_seen : Sight → Option (Option (List ℕ))
-sight_seen Other = None
-sight_seen Staying = Some None
-sight_seen (Replaced replacement) = Some (Some (replacement_seen replacement))
+abbrev pub sight_seen : Sight → Fate
+sight_seen Other = no_frame
+sight_seen Staying = stays
+sight_seen (Replaced replacement) = replaced (replacement_seen replacement)
+sight_seen Hidden = hidden

@@ -13,13 +13,16 @@ use smap_io::{ByteSink, DeviceFault};
 use smap_lines::{Gathered, LineEditor, end_of_line};
 use std::alloc::Global;
 
-/// Rewrites the frames among the lines of a trace, and counts those that stay and those that are replaced.
+/// Rewrites the frames among the lines of a trace, and counts those that stay, those that are replaced and those that
+/// are hidden.
 #[derive(Drop)]
 pub struct FrameRewriter<'t> {
     pub alloc: Global,
     pub table: &'t Table,
+    pub hide_ignored: bool,
     pub staying: u64,
     pub mapped: u64,
+    pub hidden: u64,
 }
 
 impl LineEditor for FrameRewriter<'_> {
@@ -28,7 +31,7 @@ impl LineEditor for FrameRewriter<'_> {
     ghost use Rattle.smap_trace.specs.RewriterLaws.{room_behind};
     ghost use Rattle.std.specs.Prelude.{refl};
 
-    ghost becomes = { λ rewriter. rewritten_line rewriter.table.now };
+    ghost becomes = { λ rewriter. rewritten_line rewriter.table.now rewriter.hide_ignored };
 
     ghost behind = { behind_frame };
 
@@ -41,7 +44,7 @@ impl LineEditor for FrameRewriter<'_> {
         gathered: &mut Gathered,
         output: &mut W,
     ) -> Result<(), DeviceFault> {
-        match look_at(self.alloc, self.table, line) {
+        match look_at(self.alloc, self.table, self.hide_ignored, line) {
             Sight::Other => gathered.put_line(line, is_ended, output)?,
             Sight::Staying => {
                 gathered.put_line(line, is_ended, output)?;
@@ -51,6 +54,7 @@ impl LineEditor for FrameRewriter<'_> {
                 put_frame(&replacement, is_ended, gathered, output)?;
                 self.mapped += 1;
             }
+            Sight::Hidden => self.hidden += 1,
         }
         Ok(())
     }

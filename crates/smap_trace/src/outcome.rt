@@ -9,6 +9,8 @@ pub struct Summary {
     pub frames: u64,
     /// How many frames were replaced.
     pub mapped: u64,
+    /// How many frames were hidden: their lines were dropped.
+    pub hidden: u64,
 }
 
 /// Why the rewriting of a trace ended before its end.

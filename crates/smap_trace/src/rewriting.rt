@@ -11,7 +11,9 @@ use smap_lines::{LineFault, edit_lines};
 use std::alloc::Global;
 
 /// Rewrites a trace while it is read: a frame whose URL is in the table and whose place has an original gets it in its
-/// place, and every other byte stays. The caller gives devices that have not failed. The output is not flushed.
+/// place, and every other byte stays. With `hide_ignored` the line of a frame whose original is in a source that the map
+/// says to pass over is dropped, with its LF, whatever the source's name. The caller gives devices that have not failed.
+/// The output is not flushed.
 ///
 /// What became of each line that was read was written before more is read. The first failure ends it. What was written
 /// is then a front of what the bytes that were read become; where a read failed, all of what the whole lines among them
@@ -21,15 +23,16 @@ pub fn rewrite<R: ByteSource, W: ByteSink>(
     input: &mut R,
     output: &mut W,
     table: &Table,
+    hide_ignored: bool,
 ) -> Result<Summary, RewriteFault>
     requires input_works { R.has_failed input.old ≡ false }
     requires output_works { W.has_failed output.old ≡ false }
     ensures rewrites { IfOk result (λ summary. Rewrites
         (record { left = R.left input.old; taken = W.taken output.old })
-        (record { left = R.left input.new; taken = W.taken output.new }) table.now summary) }
+        (record { left = R.left input.new; taken = W.taken output.new }) table.now hide_ignored summary) }
     ensures front { IfErr result (λ fault. RewritesFront
         (record { left = R.left input.old; taken = W.taken output.old })
-        (record { left = R.left input.new; taken = W.taken output.new }) table.now fault) }
+        (record { left = R.left input.new; taken = W.taken output.new }) table.now hide_ignored fault) }
     ensures input_failure { R.has_failed input.new ≡ is_read_fault result }
     ensures output_failure { W.has_failed output.new ≡ is_write_fault result }
     ensures memory_input { IfErr result (λ fault. fault ≡ Memory → input.new ≡ input.old) }
@@ -38,14 +41,17 @@ pub fn rewrite<R: ByteSource, W: ByteSink>(
     let mut rewriter = FrameRewriter {
         alloc,
         table,
+        hide_ignored,
         staying: 0,
         mapped: 0,
+        hidden: 0,
     };
     match edit_lines(alloc, input, output, &mut rewriter) {
         Ok(lines) => Ok(Summary {
             lines,
-            frames: rewriter.staying + rewriter.mapped,
+            frames: rewriter.staying + rewriter.mapped + rewriter.hidden,
             mapped: rewriter.mapped,
+            hidden: rewriter.hidden,
         }),
         Err(LineFault::Read) => Err(RewriteFault::Read),
         Err(LineFault::Write) => Err(RewriteFault::Write),

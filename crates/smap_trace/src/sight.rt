@@ -3,8 +3,7 @@ ghost use Rattle.std.specs.Prelude.{◌≡◌, option_map};
 ghost use Rattle.std.specs.List.{list_any};
 ghost use Rattle.smap_record.specs.Sources.{source_of};
 ghost use Rattle.smap_trace.specs.FrameSeen.{parts_seen};
-ghost use Rattle.smap_trace.specs.FrameRewriter.{sight_of};
-ghost use Rattle.smap_trace.specs.Rewritten.{is_control, name_in, original_of};
+ghost use Rattle.smap_trace.specs.Rewritten.{fate, is_control, is_ignored, name_in, original_of};
 ghost use Rattle.smap_trace.specs.SightSeen.{original_seen, sight_seen};
 
 use crate::frames::frame;
@@ -37,12 +36,19 @@ pub enum Sight<'l, 't> {
     Staying,
     // A frame that is replaced.
     Replaced(Replacement<'l, 't>),
+    // A frame that is hidden.
+    Hidden,
 }
 
-/// What a line, without its LF, is.
-#[tactic(auto, unfolding(crate::specs::FrameRewriter::sight_of))]
-pub fn look_at<'l, 't>(alloc: Global, table: &'t Table, line: &'l [u8]) -> Sight<'l, 't>
-    ensures { sight_seen result ≡ sight_of table.now line.now }
+/// What a line, without its LF, is, where the frames of sources that a map says to pass over are hidden or not.
+#[tactic(auto, unfolding(crate::specs::Rewritten::fate))]
+pub fn look_at<'l, 't>(
+    alloc: Global,
+    table: &'t Table,
+    hide_ignored: bool,
+    line: &'l [u8],
+) -> Sight<'l, 't>
+    ensures { sight_seen result ≡ fate line.now table.now hide_ignored }
 {
     let Some(frame) = frame(line) else {
         return Sight::Other;
@@ -50,6 +56,9 @@ pub fn look_at<'l, 't>(alloc: Global, table: &'t Table, line: &'l [u8]) -> Sight
     let Some(original) = find_original(alloc, table, &frame) else {
         return Sight::Staying;
     };
+    if hide_ignored && is_ignored(original.source) {
+        return Sight::Hidden;
+    }
     let Some(name) = printable_name(original.source) else {
         return Sight::Staying;
     };
@@ -76,6 +85,16 @@ fn find_original<'t>(alloc: Global, table: &'t Table, frame: &Frame<'_>) -> Opti
         line: u64::from(origin.line) + 1,
         column: u64::from(origin.column) + 1,
     })
+}
+
+// Whether the map says to pass over a source.
+fn is_ignored(source: Option<&SourceEntry>) -> bool
+    ensures { result ≡ is_ignored (option_map (λ entry. source_of entry.now) source.entry) }
+{
+    match source {
+        Some(entry) => entry.ignored,
+        None => false,
+    }
 }
 
 // The name of a source, where it has one that a frame can print.
