@@ -92,10 +92,10 @@ files_told outcome telling IsTelling files first second outer inner base base2 l
 -- ---- `rewrite`
 
 -- where it tells an answer, standard output works
-pub rewritten_works : (base : Option Parts) (k : ℕ) (words : List (MapWord × List ℕ)) (before after : Work) (telling : Telling)
-    → RewriteTells base k words before after telling → before.output.failed ≡ false → telling.status ≡ 0 → after.output.failed ≡ false
-rewritten_works base k words before after telling (Err refused, gathers, tells) works done = ap (λ (work : Work). work.output.failed) tells.1 ∙ works
-rewritten_works base k words before after telling (Ok maps, gathers, tells) works done = go tells.result tells.output_failed (ap (λ (t : Telling). t.status) (sym tells.told) ∙ done)
+pub rewritten_works : (base : Option Parts) (k : ℕ) (hide : Bool) (words : List (MapWord × List ℕ)) (before after : Work) (telling : Telling)
+    → RewriteTells base k hide words before after telling → before.output.failed ≡ false → telling.status ≡ 0 → after.output.failed ≡ false
+rewritten_works base k hide words before after telling (Err refused, gathers, tells) works done = ap (λ (work : Work). work.output.failed) tells.1 ∙ works
+rewritten_works base k hide words before after telling (Ok maps, gathers, tells) works done = go tells.result tells.output_failed (ap (λ (t : Telling). t.status) (sym tells.told) ∙ done)
   where
     go : (result : Result Summary RewriteFault) → after.output.failed ≡ is_write_fault result → (rewrite_telling result).status ≡ 0 → after.output.failed ≡ false
     go (Ok summary) failed done = failed

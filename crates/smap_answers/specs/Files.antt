@@ -17,7 +17,7 @@ paths_of (Raw line column interval) = []
 paths_of (Check path base interval) = string_bytes path ∷ []
 paths_of (Show path base) = string_bytes path ∷ []
 paths_of (Lookup path line column base interval after) = string_bytes path ∷ []
-paths_of (Rewrite maps base interval) = map path_in maps.items
+paths_of (Rewrite maps base interval hide_ignored) = map path_in maps.items
 paths_of (Compose outer source inner base) = string_bytes outer ∷ string_bytes inner ∷ []
 
 -- the path of a file

@@ -54,8 +54,8 @@ Tells (Show path base) files =
     TellsAside (IsMapTelling show_result (string_bytes path) (record_of (first_bytes files) base usual_interval))
 Tells (Lookup path line column base interval after) files =
     TellsAside (IsMapAnswer (lookup_text after line column) (string_bytes path) (record_of (first_bytes files) base interval))
-Tells (Rewrite maps base interval) files =
-    RewriteTells base interval (zip (map word_of maps.items) (map (λ file. file.bytes.items) files))
+Tells (Rewrite maps base interval hide_ignored) files =
+    RewriteTells base interval hide_ignored (zip (map word_of maps.items) (map (λ file. file.bytes.items) files))
 Tells (Compose outer source inner base) files =
     TellsAside (IsComposeTelling source (string_bytes outer) (record_of (first_bytes files) base usual_interval)
     (string_bytes inner) (record_of (second_bytes files) base usual_interval))

@@ -1,6 +1,6 @@
 -- What `rewrite` does: it reads a map for each of its words and puts it into a table, word by word, and rewrites the
 -- trace on standard input over that table.
-use Rattle.std.specs.Prelude.{◌≡◌, ℕ, ◌⊎◌, List, [], ◌∷◌, Option, Some, None, Result, Ok, Err, codes}
+use Rattle.std.specs.Prelude.{◌≡◌, ℕ, ◌⊎◌, Bool, List, [], ◌∷◌, Option, Some, None, Result, Ok, Err, codes}
 use Rattle.url.specs.Parser.{Parsed, parse_url}
 use Rattle.url.specs.Parts.{Parts}
 use Rattle.smap_record.specs.Record.{MapRecord, record_of}
@@ -114,10 +114,10 @@ gathered (Err outcome) = Err (telling_of outcome)
 abbrev pub trace_seen : Work → Streams
 trace_seen work = record { left = work.input.left; taken = work.output.taken }
 
--- the trace is rewritten to its end, or up to a fault
-abbrev pub IsRewritten : Maps → (before after : Streams) → Result Summary RewriteFault → Type 0
-IsRewritten maps before after (Ok summary) = Rewrites before after maps summary
-IsRewritten maps before after (Err fault) = RewritesFront before after maps fault
+-- the trace is rewritten to its end, or up to a fault, with the frames of ignored sources hidden or not
+abbrev pub IsRewritten : Maps → (hide : Bool) → (before after : Streams) → Result Summary RewriteFault → Type 0
+IsRewritten maps hide before after (Ok summary) = Rewrites before after maps hide summary
+IsRewritten maps hide before after (Err fault) = RewritesFront before after maps hide fault
 
 -- what is told then: nothing is added to a trace
 abbrev pub rewrite_telling : Result Summary RewriteFault → Telling
@@ -125,20 +125,20 @@ rewrite_telling (Ok summary) = answer []
 rewrite_telling (Err fault) = fault_telling fault
 
 -- rewriting the trace on standard input over these maps tells this; where memory was wanting, neither stream was asked
-pub record TraceTells (maps : Maps) (before after : Work) (telling : Telling) : Type 0 where
+pub record TraceTells (maps : Maps) (hide : Bool) (before after : Work) (telling : Telling) : Type 0 where
   pub result : Result Summary RewriteFault
-  pub rewritten : IsRewritten maps (trace_seen before) (trace_seen after) result
+  pub rewritten : IsRewritten maps hide (trace_seen before) (trace_seen after) result
   pub input_failed : after.input.failed ≡ is_read_fault result
   pub output_failed : after.output.failed ≡ is_write_fault result
   pub untouched : result ≡ Err fault.Memory → after ≡ before
   pub told : telling ≡ rewrite_telling result
 
 -- where a word is refused, this is told, and standard input and output stay as they are
-abbrev pub GatheredTells : Result Maps Telling → (before after : Work) → Telling → Type 0
-GatheredTells (Err refused) before after telling = (telling ≡ refused) × (after ≡ before)
-GatheredTells (Ok maps) before after telling = TraceTells maps before after telling
+abbrev pub GatheredTells : Result Maps Telling → (hide : Bool) → (before after : Work) → Telling → Type 0
+GatheredTells (Err refused) hide before after telling = (telling ≡ refused) × (after ≡ before)
+GatheredTells (Ok maps) hide before after telling = TraceTells maps hide before after telling
 
--- what `rewrite` tells, by its base, its interval, its words and the bytes of their files
-abbrev pub RewriteTells : Option Parts → (k : ℕ) → List (MapWord × List ℕ) → (before after : Work) → Telling → Type 0
-RewriteTells base k words before after telling =
-    (gathered : Result Maps Telling) × Gathers base k [] words gathered × GatheredTells gathered before after telling
+-- what `rewrite` tells, by its base, its interval, whether it hides, its words and the bytes of their files
+abbrev pub RewriteTells : Option Parts → (k : ℕ) → (hide : Bool) → List (MapWord × List ℕ) → (before after : Work) → Telling → Type 0
+RewriteTells base k hide words before after telling =
+    (gathered : Result Maps Telling) × Gathers base k [] words gathered × GatheredTells gathered hide before after telling

@@ -101,7 +101,17 @@ fn outcome_of<R: ByteSource, W: ByteSink>(
             maps,
             base,
             interval,
-        } => rewrite_trace(alloc, maps, base.as_ref(), *interval, files, input, output),
+            hide_ignored,
+        } => rewrite_trace(
+            alloc,
+            maps,
+            base.as_ref(),
+            *interval,
+            *hide_ignored,
+            files,
+            input,
+            output,
+        ),
         Command::Compose { source, base, .. } => or_memory(answer_compose(
             alloc,
             &files[0],

@@ -19,12 +19,14 @@ use std::alloc::{AllocError, Global};
 use url::ParseError;
 
 /// Reads the map of each word, which is a URL and a path, from its file, with checkpoints at this interval, and rewrites
-/// the trace on standard input over them. The caller gives a file for each word, in their order, and devices that have not failed.
+/// the trace on standard input over them, with the frames of ignored sources hidden or not. The caller gives a file for
+/// each word, in their order, and devices that have not failed.
 pub fn rewrite_trace<R: ByteSource, W: ByteSink>(
     alloc: Global,
     words: &[(String, String)],
     base: Option<&Url>,
     interval: u32,
+    hide_ignored: bool,
     files: &[Loaded],
     input: &mut R,
     output: &mut W,
@@ -32,14 +34,14 @@ pub fn rewrite_trace<R: ByteSource, W: ByteSink>(
     requires loaded { map path_of files.now ≡ map path_in words.now }
     requires input_works { R.has_failed input.old ≡ false }
     requires output_works { W.has_failed output.old ≡ false }
-    ensures { RewriteTells (option_copied base.entry) interval
+    ensures { RewriteTells (option_copied base.entry) interval hide_ignored
         (zip (map word_of words.now) (map (λ file. file.bytes.items) files.now))
         (work_seen (source_seen R.left R.has_failed input.old) (sink_seen W.taken W.is_flushed W.has_failed output.old))
         (work_seen (source_seen R.left R.has_failed input.new) (sink_seen W.taken W.is_flushed W.has_failed output.new))
         (telling_of result) }
 {
     match table_of(alloc, words, base, interval, files) {
-        Ok(table) => rewrite_over(alloc, &table, input, output),
+        Ok(table) => rewrite_over(alloc, &table, hide_ignored, input, output),
         Err(outcome) => outcome,
     }
 }
@@ -48,17 +50,18 @@ pub fn rewrite_trace<R: ByteSource, W: ByteSink>(
 fn rewrite_over<R: ByteSource, W: ByteSink>(
     alloc: Global,
     table: &Table,
+    hide_ignored: bool,
     input: &mut R,
     output: &mut W,
 ) -> Outcome
     requires input_works { R.has_failed input.old ≡ false }
     requires output_works { W.has_failed output.old ≡ false }
-    ensures { TraceTells table.now
+    ensures { TraceTells table.now hide_ignored
         (work_seen (source_seen R.left R.has_failed input.old) (sink_seen W.taken W.is_flushed W.has_failed output.old))
         (work_seen (source_seen R.left R.has_failed input.new) (sink_seen W.taken W.is_flushed W.has_failed output.new))
         (telling_of result) }
 {
-    match rewrite(alloc, input, output, table) {
+    match rewrite(alloc, input, output, table, hide_ignored) {
         Ok(_) => Outcome::Rewritten,
         Err(fault) => Outcome::Fault(fault),
     }

@@ -10,5 +10,5 @@ HasInterval (Raw line column interval) = is_interval interval ≡ true
 HasInterval (Check path base interval) = is_interval interval ≡ true
 HasInterval (Show path base) = ⊤
 HasInterval (Lookup path line column base interval after) = is_interval interval ≡ true
-HasInterval (Rewrite maps base interval) = is_interval interval ≡ true
+HasInterval (Rewrite maps base interval hide_ignored) = is_interval interval ≡ true
 HasInterval (Compose outer source inner base) = ⊤

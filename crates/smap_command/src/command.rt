@@ -36,11 +36,12 @@ pub enum Command {
     },
     /// Rewrites the stack trace on standard input over maps: pairs of the URL that frames name and of the path of the
     /// map's file. A map's sources are resolved against the base or, where there is none, against the map's URL, where
-    /// that is one.
+    /// that is one. With `hide_ignored` the lines of frames from sources that a map says to pass over are dropped.
     Rewrite {
         maps: Vec<(String, String)>,
         base: Option<Url>,
         interval: u32,
+        hide_ignored: bool,
     },
     /// Composes the source map in the file at the path `outer` with that of its source of this number, from 0, in the
     /// file at the path `inner`. The sources of both are resolved against the base.

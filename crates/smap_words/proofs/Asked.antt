@@ -14,12 +14,12 @@ use Rattle.clap.specs.Takes.{is_given}
 use Rattle.clap.specs.ValueTests.{accepts}
 use Rattle.clap.specs.Values.{kind_of}
 use Rattle.clap.proofs.OnLiterals.{clap_on_literals}
-use Rattle.clap.specs.declared.builder.action.ArgAction.TheVariants.{Append}
+use Rattle.clap.specs.declared.builder.action.ArgAction.TheVariants.{Append, SetTrue}
 use Rattle.clap.specs.declared.builder.value_parser.ValueParser.{ValueParser}
 use Rattle.clap.specs.declared.builder.value_parser.ValueParser.TheVariants as parser
 use Rattle.clap.specs.declared.error.Error.{Error}
 use Rattle.clap.specs.declared.error.kind.ErrorKind.TheVariants.{DisplayHelp, DisplayVersion, OutOfMemory}
-use Rattle.smap_words.specs.CommandLine.{after_rule, base_rule, check, compose, interval_number, interval_rule, lookup, named, number, raw, rewrite, show, smap, source_number}
+use Rattle.smap_words.specs.CommandLine.{after_rule, base_rule, check, compose, hide_rule, interval_number, interval_rule, lookup, named, number, raw, rewrite, show, smap, source_number}
 use Rattle.smap_words.specs.declared.usage.Usage.{Usage}
 use Rattle.smap_words.specs.declared.usage.Usage.TheVariants.{Help, Words, Memory}
 use Rattle.smap_words.specs.Words.{HasArguments, HasCommand, HasValue, HasValues, IsNamedRefusal, IsUsageOf, IsRefusalOf, SubcommandTells}
@@ -124,7 +124,8 @@ abbrev at_argument : Text → ValueParser
 at_argument id = cond (bytes_eq id (codes "SOURCE")) source_number
     (cond (bytes_eq id (codes "K")) interval_number
     (cond (bytes_eq id (codes "after")) parser.Bool
-    (cond (bytes_eq id (codes "LINE") || bytes_eq id (codes "COLUMN")) number parser.String)))
+    (cond (bytes_eq id (codes "hide-ignored")) parser.Bool
+    (cond (bytes_eq id (codes "LINE") || bytes_eq id (codes "COLUMN")) number parser.String))))
 
 base_plain : (i : ℕ) → IsPlain at_argument (with_index i (filled base_rule))
 base_plain i = option at_argument i (codes "URL") (codes "base")
@@ -134,6 +135,9 @@ interval_plain i = option at_argument i (codes "K") (codes "interval")
 
 after_plain : (i : ℕ) → IsPlain at_argument (with_index i (filled after_rule))
 after_plain i = flag at_argument i (codes "after") (codes "after") refl
+
+hide_plain : (i : ℕ) → IsPlain at_argument (with_index i (filled hide_rule))
+hide_plain i = flag at_argument i (codes "hide-ignored") (codes "hide-ignored") refl
 
 help_plain : IsPlain at_argument (filled help_rule)
 help_plain = help at_argument refl
@@ -148,7 +152,7 @@ lookup_plain = (
 )
 
 rewrite_plain : Each (IsPlain at_argument) (built_leaf rewrite.top).rules
-rewrite_plain = (more_values at_argument 1 (codes "URL=FILE"), (base_plain 2, (interval_plain 2, (help_plain, tt))))
+rewrite_plain = (more_values at_argument 1 (codes "URL=FILE"), (base_plain 2, (interval_plain 2, (hide_plain 2, (help_plain, tt)))))
 
 check_plain : Each (IsPlain at_argument) (built_leaf check.top).rules
 check_plain = (value at_argument 1 (codes "PATH"), (base_plain 2, (interval_plain 2, (help_plain, tt))))

@@ -50,6 +50,10 @@ interval_rule = record (new_rule (codes "K")) { long = Some (codes "interval"); 
 abbrev pub after_rule : Rule
 after_rule = record (new_rule (codes "after")) { long = Some (codes "after"); action = Some SetTrue }
 
+-- the flag that hides the frames of ignored sources
+abbrev pub hide_rule : Rule
+hide_rule = record (new_rule (codes "hide-ignored")) { long = Some (codes "hide-ignored"); action = Some SetTrue }
+
 -- clap's argument is the one described, and does not hold in subcommands too
 abbrev pub IsLocalArgument : Rule → ClapArgument → Type 0
 IsLocalArgument rule argument = (rule_of argument ≡ rule) × (argument.global ≡ false)
@@ -65,7 +69,7 @@ lookup = with_rules (codes "lookup") (text_rule (codes "PATH") ∷ number_rule n
     ∷ number_rule number (codes "COLUMN") ∷ base_rule ∷ interval_rule ∷ after_rule ∷ [])
 
 abbrev pub rewrite : App
-rewrite = with_rules (codes "rewrite") (pairs_rule ∷ base_rule ∷ interval_rule ∷ [])
+rewrite = with_rules (codes "rewrite") (pairs_rule ∷ base_rule ∷ interval_rule ∷ hide_rule ∷ [])
 
 abbrev pub check : App
 check = with_rules (codes "check") (text_rule (codes "PATH") ∷ base_rule ∷ interval_rule ∷ [])

@@ -30,7 +30,7 @@ HasPlace (Raw line column interval) = (line ≤ limit) × (column ≤ limit)
 HasPlace (Check path base interval) = ⊤
 HasPlace (Show path base) = ⊤
 HasPlace (Lookup path line column base interval after) = (line ≤ limit) × (column ≤ limit)
-HasPlace (Rewrite maps base interval) = ⊤
+HasPlace (Rewrite maps base interval hide_ignored) = ⊤
 HasPlace (Compose outer source inner base) = ⊤
 
 -- the same, and checkpoints may stand at its interval
@@ -118,7 +118,7 @@ name_of (Raw line column interval) = codes "raw"
 name_of (Check path base interval) = codes "check"
 name_of (Show path base) = codes "show"
 name_of (Lookup path line column base interval after) = codes "lookup"
-name_of (Rewrite maps base interval) = codes "rewrite"
+name_of (Rewrite maps base interval hide_ignored) = codes "rewrite"
 name_of (Compose outer source inner base) = codes "compose"
 
 -- what clap reads for the arguments of a command asks for it, with lines and columns counted from 1
@@ -131,7 +131,8 @@ RowsAskFor rows (Show path base) = GivesText rows (codes "PATH") (string_bytes p
 RowsAskFor rows (Lookup path line column base interval after) = GivesText rows (codes "PATH") (string_bytes path)
     × GivesNumber rows (codes "LINE") (line + 1) × GivesNumber rows (codes "COLUMN") (column + 1) × GivesBase rows base
     × GivesInterval rows interval × GivesFlag rows (codes "after") after
-RowsAskFor rows (Rewrite maps base interval) = GivesPairs rows maps.items × GivesBase rows base × GivesInterval rows interval
+RowsAskFor rows (Rewrite maps base interval hide_ignored) = GivesPairs rows maps.items × GivesBase rows base × GivesInterval rows interval
+    × GivesFlag rows (codes "hide-ignored") hide_ignored
 RowsAskFor rows (Compose outer source inner base) = GivesText rows (codes "OUTER") (string_bytes outer)
     × GivesNumber rows (codes "SOURCE") source × GivesText rows (codes "INNER") (string_bytes inner) × GivesBase rows base
 

@@ -81,6 +81,7 @@ fn lookup_in(
 fn rewrite_in(alloc: Global, matches: &ArgMatches<'_>, base: Option<Url>) -> Result<Command, Usage>
     requires words { HasValue parser.String (rows_of (found_of matches.now)) (codes "URL=FILE") }
     requires interval { HasValueIfGiven interval_number (rows_of (found_of matches.now)) (codes "K") }
+    requires hide { HasValueIfGiven parser.Bool (rows_of (found_of matches.now)) (codes "hide-ignored") }
     requires given { GivesBase (rows_of (found_of matches.now)) base }
     ensures asked { IfOk result (NamedAsksFor (codes "rewrite") (rows_of (found_of matches.now))) }
     ensures in_range { IfOk result IsInRange }
@@ -91,6 +92,7 @@ fn rewrite_in(alloc: Global, matches: &ArgMatches<'_>, base: Option<Url>) -> Res
         maps: pairs_of(alloc, words)?,
         base,
         interval: interval_in(matches),
+        hide_ignored: flag_in(matches, "hide-ignored"),
     })
 }
 

@@ -1,8 +1,8 @@
 //! The command line as clap gets it, with the texts of its help.
 ghost use Rattle.std.specs.Prelude.{◌≡◌, All, IfOk, codes, false, map};
 ghost use Rattle.clap.specs.Words.{app_of, rule_of};
-ghost use Rattle.smap_words.specs.CommandLine.{IsLocalArgument, IsLocalCommand, after_rule, base_rule, check};
-ghost use Rattle.smap_words.specs.CommandLine.{compose, interval_rule, lookup, number, number_rule, pairs_rule, raw, rewrite};
+ghost use Rattle.smap_words.specs.CommandLine.{IsLocalArgument, IsLocalCommand, after_rule, base_rule, check, compose};
+ghost use Rattle.smap_words.specs.CommandLine.{hide_rule, interval_rule, lookup, number, number_rule, pairs_rule, raw, rewrite};
 ghost use Rattle.smap_words.specs.CommandLine.{show, smap, source_number, text_rule, with_rules};
 
 use clap::{Arg, ArgAction, Command, value_parser};
@@ -42,8 +42,9 @@ Each URL=FILE is the URL of a generated file, as frames of the trace name it, an
 map; the last `=` of the word stands between them. Sources are resolved against the URL of --base or, where
 there is none, against the map's own.
 
-Answer: the trace, line by line. In a frame of V8 whose URL has a map, the place becomes the original one;
-the rest of the line stays, and so does each other line, byte for byte.
+Answer: the trace, line by line. In a frame of V8, Firefox or Safari whose URL has a map, the place becomes
+the original one; the rest of the line stays, and so does each other line, byte for byte. With --hide-ignored
+the lines of frames from sources that a map says to pass over are left out.
 
 Example:
   smap rewrite https://example.test/receipt.min.js=examples/receipt.min.js.map < examples/receipt.trace";
@@ -111,6 +112,9 @@ smaller K answers look-ups faster and takes more memory; their answers are the s
 const AFTER_HELP: &str =
     "Answer by the first mapping on the line at the position or after it, not the last before";
 
+const HIDE_HELP: &str =
+    "Leave out the frames from sources that a map says to pass over (its `ignoreList`)";
+
 /// The command line of `smap`. Its lifetime is the caller's, since clap keeps its texts and the words under one.
 pub fn command_line<'a>(alloc: Global) -> Result<Command<'a>, AllocError>
     ensures { IfOk result (λ command. app_of command ≡ smap) }
@@ -151,7 +155,12 @@ fn lookup_words<'a>(alloc: Global) -> Result<Command<'a>, AllocError>
 fn rewrite_words<'a>(alloc: Global) -> Result<Command<'a>, AllocError>
     ensures { IfOk result (IsLocalCommand rewrite) }
 {
-    let arguments = vec![in alloc; pairs(alloc), base_url(alloc), interval(alloc)]?;
+    let arguments = vec![in alloc;
+        pairs(alloc),
+        base_url(alloc),
+        interval(alloc),
+        hide_ignored(alloc),
+    ]?;
     described(alloc, "rewrite", REWRITE_ABOUT, REWRITE_NOTES, arguments)
 }
 
@@ -281,4 +290,14 @@ fn after<'a>(alloc: Global) -> Arg<'a>
         .long("after")
         .action(ArgAction::SetTrue)
         .help(AFTER_HELP)
+}
+
+// The flag that hides the frames of ignored sources.
+fn hide_ignored<'a>(alloc: Global) -> Arg<'a>
+    ensures { IsLocalArgument hide_rule result }
+{
+    Arg::new(alloc, "hide-ignored")
+        .long("hide-ignored")
+        .action(ArgAction::SetTrue)
+        .help(HIDE_HELP)
 }

@@ -46,7 +46,7 @@ pub returns-in-Rewrite-clause-tells : goal.returns-in-Rewrite-clause-tells
 returns-in-Rewrite-clause-tells g c = rw c.in-Rewrite.is (rw (← c.as_ref-in-Rewrite.ensures.value) (rw (← c.deref-in-Rewrite.ensures.value) c.rewrite_trace.ensures))
 
 pub returns-in-Rewrite-clause-output_works : goal.returns-in-Rewrite-clause-output_works
-returns-in-Rewrite-clause-output_works g c = rewritten_works _ _ _ _ _ _ c.rewrite_trace.ensures c.requires.output_works
+returns-in-Rewrite-clause-output_works g c = rewritten_works _ _ _ _ _ _ _ c.rewrite_trace.ensures c.requires.output_works
 
 pub returns-in-Compose-clause-tells : goal.returns-in-Compose-clause-tells
 returns-in-Compose-clause-tells g c =

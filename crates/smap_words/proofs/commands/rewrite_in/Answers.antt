@@ -26,4 +26,4 @@ returns-clause-asked c =
     let words = map (λ (word : Bor (List ℕ)). word.now) c.unwrap-words.result.now in
     let all : all_of (codes "URL=FILE") (rows_of (found_of c.args.matches.now)) ≡ Some words = sym (raw_values-rows (found_of c.args.matches.now) (codes "URL=FILE"))
     ∙ (sym c.get_strs.ensures ∙ ap (option_map (λ (s : Bor (List (Bor (List ℕ)))). map (λ v. v.now) s.now)) c.unwrap-words.ensures) in
-    (refl, ((words, all, c.in_ok-pairs_of.ensures.cut), c.requires.given, c.interval_in.ensures.given))
+    (refl, ((words, all, c.in_ok-pairs_of.ensures.cut), c.requires.given, c.interval_in.ensures.given, c.flag_in.ensures))
