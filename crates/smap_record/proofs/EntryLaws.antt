@@ -9,8 +9,7 @@ use Rattle.std.proofs.lemmas.List.FromFn.{length-enumerate_from}
 use Rattle.std.proofs.lemmas.Option.{slice_get-map}
 use Rattle.url.specs.Parts.{Parts}
 use Rattle.smap_resolve.specs.SourceName.{Name, source_name}
-use Rattle.smap_record.specs.Section.{Section}
-use Rattle.smap_record.specs.Sources.{StatedSource, StatedSources, stated_sources, source_at, sources_with, sources_stated, section_sources}
+use Rattle.smap_record.specs.Sources.{StatedSource, StatedSources, source_at, sources_with, sources_stated}
 use Rattle.smap_record.specs.Seen.{texts_seen, sources_seen}
 use Rattle.smap_record.specs.declared.section.SectionSources.{SectionSources}
 
@@ -68,8 +67,3 @@ length-all_sources base (sources ∷ all) =
     ∙ ap (λ n. n + length (flat_map (sources_stated base) (map sources_seen all))) (length-sources_stated base sources)
     ∙ ap (λ n. length sources.texts.items + n) (length-all_sources base all)
     ∙ sym (sum_by-cons (λ (s : SectionSources). length s.texts.items) sources all)
-
--- what the sections state of their sources gives the sources of the sections
-pub all_sources : (base : Option Parts) (sections : List Section) → flat_map (sources_stated base) (map stated_sources sections) ≡ flat_map (section_sources base) sections
-all_sources base [] = refl
-all_sources base (section ∷ sections) = ap (λ others. section_sources base section ++ others) (all_sources base sections)

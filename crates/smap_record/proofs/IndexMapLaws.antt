@@ -1,16 +1,14 @@
 -- An entry of `sections`, by what was taken out of its object.
-use Rattle.std.proofs.Common.{◌≡◌, ℕ, List, [], ◌∷◌, Option, Some, None, Bool, codes, map, option_map, refl, sym, ap, ◌∙◌}
+use Rattle.std.proofs.Common.{◌≡◌, ℕ, List, [], ◌∷◌, Option, Some, None, Bool, codes, map, option_map, refl, ap, ◌∙◌}
 use Rattle.std.specs.Prelude.{option_and_then, is_some, position, nat_lt, cond, not, ◌+◌}
 use Rattle.std.specs.List.{position_or_len}
 use Rattle.std.proofs.lemmas.List.{length-map}
 use Rattle.serde_json.specs.Data.{Data, Members, null, boolean, number, string, array, object}
 use Rattle.serde_json.specs.Find.{as_object}
 use Rattle.smap_record.specs.Fields.{Fields, section_fields_of}
-use Rattle.smap_record.specs.IndexMap.{SectionEntry, has_no_offset, is_index_map, entries_refusals, coordinate_in, offset_in, entry_in, entry_with, object_in}
+use Rattle.smap_record.specs.IndexMap.{SectionEntry, coordinate_in, offset_in, entry_in, entry_with, object_in}
 use Rattle.smap_record.specs.Json.{field}
-use Rattle.smap_record.specs.Refusals.{first_refusal}
 use Rattle.smap_record.specs.declared.index_map.Offset.{Offset}
-use Rattle.smap_record.specs.declared.refusal.MapRefusal.TheVariants.{SectionOffset, Nested}
 
 -- the offset with this line and this column, where they are there
 abbrev pub offset_with : Option ℕ → Option ℕ → Option Offset
@@ -78,7 +76,7 @@ pub is_some-map : {A B : Type 0} (f : A → B) (found : Option A) → is_some (o
 is_some-map f None = refl
 is_some-map f (Some one) = refl
 
--- ---- the first entry that is refused
+-- ---- the first entry that passes a test
 
 position_or_len-map : {A B : Type 0} (f : A → B) (p : B → Bool) (xs : List A) → position_or_len p (map f xs) ≡ position_or_len (λ x. p (f x)) xs
 position_or_len-map f p [] = refl
@@ -90,20 +88,3 @@ same_choice i_is m_is = rw (i_is, m_is) refl
 -- the first place at which a test passes is that of what is seen
 pub position-map : {A B : Type 0} (f : A → B) (p : B → Bool) (xs : List A) → position p (map f xs) ≡ position (λ x. p (f x)) xs
 position-map f p xs = same_choice (position_or_len-map f p xs) (length-map xs f)
-
-module _ (found : Option (List SectionEntry)) (entries : List SectionEntry) (there : Some entries ≡ found) where
-  reaches_offsets : first_refusal (entries_refusals found) ≡ first_refusal (entries_refusals (Some entries))
-  reaches_offsets = sym (ap (λ f. first_refusal (entries_refusals f)) there)
-
-  pub offset_first : (i : ℕ) → position has_no_offset entries ≡ Some i → first_refusal (entries_refusals found) ≡ Some (SectionOffset i)
-  offset_first i is = reaches_offsets ∙ ap (λ place. first_refusal (option_map SectionOffset place ∷ option_map Nested (position is_index_map entries) ∷ [])) is
-
-  module _ (offsets : position has_no_offset entries ≡ None) where
-    reaches_nested : first_refusal (entries_refusals found) ≡ first_refusal (option_map Nested (position is_index_map entries) ∷ [])
-    reaches_nested = reaches_offsets ∙ ap (λ place. first_refusal (option_map SectionOffset place ∷ option_map Nested (position is_index_map entries) ∷ [])) offsets
-
-    pub nested_first : (i : ℕ) → position is_index_map entries ≡ Some i → first_refusal (entries_refusals found) ≡ Some (Nested i)
-    nested_first i is = reaches_nested ∙ ap (λ place. first_refusal (option_map Nested place ∷ [])) is
-
-    pub entries_right : position is_index_map entries ≡ None → first_refusal (entries_refusals found) ≡ None
-    entries_right is = reaches_nested ∙ ap (λ place. first_refusal (option_map Nested place ∷ [])) is

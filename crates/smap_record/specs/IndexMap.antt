@@ -1,17 +1,20 @@
 -- The sections of an index map (ECMA-426, Index source map). This project's own are: that a regular map is the one
 -- section of itself, the limits, and that an index map in an index map is refused.
-use Rattle.std.specs.Prelude.{ℕ, List, [], ◌∷◌, ◌++◌, Option, Some, None, Bool, false, is_some, is_none, nat_lt, if◌then◌else◌, length, position, option_map, option_and_then, unwrap_or, codes}
+use Rattle.std.specs.Prelude.{ℕ, List, [], ◌∷◌, ◌++◌, Option, Some, None, Result, Ok, Bool, false, is_some, is_none, nat_lt, if◌then◌else◌, length, ok_or, position, option_map, option_and_then, unwrap_or, codes}
 use Rattle.std.specs.List.{sum_by}
 use Rattle.serde_json.specs.Data.{Data, null, boolean, number, string, array, object}
 use Rattle.smap_mappings.specs.Limits.{most_indices}
 use Rattle.smap_index.specs.Parts.{most_parts}
+use Rattle.smap_index.specs.declared.part.Part.{Part}
 use Rattle.smap_record.specs.Fields.{Fields, section_fields_of}
 use Rattle.smap_record.specs.Json.{field, list_of, number_below}
-use Rattle.smap_record.specs.Refusals.{refused_if}
-use Rattle.smap_record.specs.Section.{Section, sources_in, names_in}
+use Rattle.smap_record.specs.Refusals.{◌>>=◌, unless}
+use Rattle.smap_record.specs.Section.{StatedSection, section_in, part_at}
+use Rattle.smap_record.specs.Sources.{StatedSources}
 use Rattle.smap_record.specs.declared.index_map.Offset.{Offset}
 use Rattle.smap_record.specs.declared.refusal.MapRefusal.{MapRefusal}
 use Rattle.smap_record.specs.declared.refusal.MapRefusal.TheVariants.{Sections, SectionOffset, Nested}
+use Rattle.smap_record.specs.declared.section.SectionPlace.{SectionPlace}
 
 -- ---- an entry of `sections`
 
@@ -65,9 +68,9 @@ abbrev pub regular_entry : Fields → SectionEntry
 regular_entry fields = record { offset = Some start; is_nested = false; fields = fields }
 
 -- those of a map with these `sections`, if any, and these fields of its own, which an index map's are not read
-abbrev pub entries_in : Option Data → Fields → Option (List SectionEntry)
-entries_in None fields = Some (regular_entry fields ∷ [])
-entries_in (Some sections) fields = index_entries sections
+abbrev pub entries_of : Option Data → Fields → Option (List SectionEntry)
+entries_of None fields = Some (regular_entry fields ∷ [])
+entries_of (Some sections) fields = index_entries sections
 
 -- where it begins is not stated right
 abbrev pub has_no_offset : SectionEntry → Bool
@@ -77,37 +80,49 @@ has_no_offset entry = is_none entry.offset
 abbrev pub is_index_map : SectionEntry → Bool
 is_index_map entry = entry.is_nested
 
--- why they are refused: each is asked for its offset before any is for its map
-abbrev pub entries_refusals : Option (List SectionEntry) → List (Option MapRefusal)
-entries_refusals entries =
-    refused_if Sections (is_none entries)
-    ∷ option_map SectionOffset (position has_no_offset (unwrap_or entries []))
-    ∷ option_map Nested (position is_index_map (unwrap_or entries []))
-    ∷ []
+-- those of such a map, each of which is asked for its offset before any is for its map
+unfoldable pub entries_in : Option Data → Fields → Result (List SectionEntry) MapRefusal
+entries_in sections fields = do
+  entries ← ok_or (entries_of sections fields) Sections
+  placed ← unless (option_map SectionOffset (position has_no_offset entries)) entries
+  unless (option_map Nested (position is_index_map placed)) placed
 
 -- ---- the sections
 
--- how many sources an entry's map has
-abbrev pub source_count : SectionEntry → ℕ
-source_count entry = length (unwrap_or (sources_in entry.fields.sources) [])
+-- what the sections of a map state: their parts of the index, what each states of its sources, and the names of all
+pub record StatedSections : Type 0 where
+  pub parts : List Part
+  pub sources : List StatedSources
+  pub names : List (List ℕ)
 
-abbrev pub name_count : SectionEntry → ℕ
-name_count entry = length (unwrap_or (names_in entry.fields.names) [])
+abbrev pub no_sections : StatedSections
+no_sections = record { parts = []; sources = []; names = [] }
 
--- the section that an entry is, where these stand before it
-abbrev pub section_behind : List SectionEntry → SectionEntry → Section
-section_behind before entry = record {
-  place = record {
-    number = length before;
-    line = (unwrap_or entry.offset start).line;
-    column = (unwrap_or entry.offset start).column;
-    source_base = sum_by source_count before;
-    name_base = sum_by name_count before;
-  };
-  fields = entry.fields;
+-- how many sources sections have
+abbrev pub source_count : List StatedSources → ℕ
+source_count sections = sum_by (λ sources. length sources.texts) sections
+
+-- the place of an entry behind these sections
+abbrev pub place_behind : StatedSections → SectionEntry → SectionPlace
+place_behind before entry = record {
+  number = length before.parts;
+  line = (unwrap_or entry.offset start).line;
+  column = (unwrap_or entry.offset start).column;
+  source_base = source_count before.sources;
+  name_base = length before.names;
 }
 
--- the sections that entries are, where others stand before them
-abbrev pub sections_behind : List SectionEntry → List SectionEntry → List Section
-sections_behind before [] = []
-sections_behind before (entry ∷ entries) = section_behind before entry ∷ sections_behind (before ++ entry ∷ []) entries
+-- these sections, and one at this place behind them
+abbrev pub with_section : StatedSections → SectionPlace → StatedSection → StatedSections
+with_section before place section = record {
+  parts = before.parts ++ part_at place section.text ∷ [];
+  sources = before.sources ++ section.sources ∷ [];
+  names = before.names ++ section.names;
+}
+
+-- these sections, and those that entries are, one after another
+unfoldable pub sections_behind : StatedSections → List SectionEntry → Result StatedSections MapRefusal
+sections_behind before [] = Ok before
+sections_behind before (entry ∷ entries) = do
+  section ← section_in (place_behind before entry) entry.fields
+  sections_behind (with_section before (place_behind before entry) section) entries

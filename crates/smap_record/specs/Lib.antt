@@ -4,8 +4,8 @@ pub mod FileText
 pub mod Fields
 pub mod Refusals
 pub mod Ignored
-pub mod Section
 pub mod Sources
+pub mod Section
 pub mod IndexMap
 pub mod Outer
 pub mod Record

@@ -1,5 +1,5 @@
--- Refusals in the order in which they are asked, and what a call that reads a part of a map file gives.
-use Rattle.std.specs.Prelude.{◌≡◌, ◌⊎◌, List, [], ◌∷◌, Option, Some, None, Bool, Result, Ok, Err, if◌then◌else◌}
+-- Reading up to the first refusal, and what a call that reads a part of a map file gives.
+use Rattle.std.specs.Prelude.{◌≡◌, ◌⊎◌, Option, Some, None, Result, Ok, Err}
 use Rattle.smap_index.specs.declared.refusal.EncodeAllRefusal.{EncodeAllRefusal}
 use Rattle.smap_index.specs.declared.refusal.EncodeAllRefusal.TheVariants as texts
 use Rattle.smap_resolve.specs.declared.refusal.ResolveRefusal.{ResolveRefusal}
@@ -9,20 +9,21 @@ use Rattle.smap_record.specs.declared.refusal.MapRefusal.TheVariants.{Url, Memor
 use Rattle.smap_record.specs.declared.write.WriteRefusal.{WriteRefusal}
 use Rattle.smap_record.specs.declared.write.WriteRefusal.TheVariants as writes
 
--- a refusal, where it holds
-abbrev pub refused_if : MapRefusal → Bool → Option MapRefusal
-refused_if refusal holds = if holds then Some refusal else None
+-- what is read next, by what was read, where nothing was refused
+infixl 10 ◌>>=◌
+abbrev pub ◌>>=◌ : {A B : Type 0} → Result A MapRefusal → (A → Result B MapRefusal) → Result B MapRefusal
+(Ok value) >>= next = next value
+(Err refusal) >>= next = Err refusal
 
--- of some refusals, each there where it holds, the first
-abbrev pub first_refusal : List (Option MapRefusal) → Option MapRefusal
-first_refusal [] = None
-first_refusal (Some refusal ∷ others) = Some refusal
-first_refusal (None ∷ others) = first_refusal others
+-- a value, unless there is a refusal
+abbrev pub unless : {A : Type 0} → Option MapRefusal → A → Result A MapRefusal
+unless None value = Ok value
+unless (Some refusal) value = Err refusal
 
--- a value that is seen as what is stated, where there is no refusal; else that refusal, or want of memory
-abbrev pub GivesStated : {X Y : Type 0} → (X → Y) → Result X MapRefusal → Option MapRefusal → Y → Type 0
-GivesStated seen (Ok value) refusal stated = (refusal ≡ None) × (seen value ≡ stated)
-GivesStated seen (Err given) refusal stated = (given ≡ Memory) ⊎ (refusal ≡ Some given)
+-- a call gives what is read, as its value is seen, and refuses what is refused, unless memory ran out
+abbrev pub Gives : {X Y : Type 0} → (X → Y) → Result X MapRefusal → Result Y MapRefusal → Type 0
+Gives seen (Ok value) read = read ≡ Ok (seen value)
+Gives seen (Err refusal) read = (refusal ≡ Memory) ⊎ (read ≡ Err refusal)
 
 -- the refusal of a map of which a source gets no name
 abbrev pub name_refusal : ResolveRefusal → MapRefusal

@@ -1,15 +1,16 @@
 -- What the code's own values stand for.
-use Rattle.std.specs.Prelude.{ℕ, List, [], Option, Some, None, map, flat_map, option_map, unwrap_or, String, string_bytes}
+use Rattle.std.specs.Prelude.{ℕ, List, Option, Some, None, map, option_map, String, string_bytes}
 use Rattle.std.specs.declared.alloc.Global.{Global}
 use Rattle.serde_json.specs.Data.{Data, Members, object, put}
-use Rattle.serde_json.specs.View.{members_view}
+use Rattle.serde_json.specs.View.{members_view, view}
 use Rattle.serde_json.specs.declared.value.Value.{Value}
-use Rattle.smap_index.specs.declared.part.Part.{Part}
 use Rattle.smap_record.specs.Fields as spec
 use Rattle.smap_record.specs.IndexMap as entry
-use Rattle.smap_record.specs.Outer as outer
-use Rattle.smap_record.specs.Section.{Section, section_names, text_of, part_of}
-use Rattle.smap_record.specs.Sources.{StatedSources, stated_sources}
+use Rattle.smap_record.specs.IndexMap.{StatedSections}
+use Rattle.smap_record.specs.Outer.{StatedOuter}
+use Rattle.smap_record.specs.Section.{StatedSection}
+use Rattle.smap_record.specs.Sources.{StatedSources}
+use Rattle.smap_record.specs.declared.fields.SectionFields.{SectionFields}
 use Rattle.smap_record.specs.declared.index_map.SectionEntry.{SectionEntry}
 use Rattle.smap_record.specs.declared.joined.JoinedSections.{JoinedSections}
 use Rattle.smap_record.specs.declared.outer.Outer.{Outer}
@@ -24,6 +25,16 @@ texts_seen texts = map (option_map string_bytes) texts
 abbrev pub fields_seen : List (String Global × Value) → spec.Fields
 fields_seen members = spec.section_fields_of (object (members_view members))
 
+abbrev pub taken_seen : SectionFields → spec.Fields
+taken_seen fields = record {
+  sources = option_map view fields.sources;
+  names = option_map view fields.names;
+  contents = option_map view fields.contents;
+  ignored = option_map view fields.ignored;
+  root = option_map view fields.root;
+  mappings = option_map view fields.mappings;
+}
+
 -- ---- the outer object
 
 abbrev pub entry_seen : SectionEntry → entry.SectionEntry
@@ -32,27 +43,10 @@ entry_seen section = record { offset = section.offset; is_nested = section.is_ne
 abbrev pub entries_seen : List SectionEntry → List entry.SectionEntry
 entries_seen entries = map entry_seen entries
 
--- what the outer object states
-pub record StatedOuter : Type 0 where
-  pub entries : List entry.SectionEntry
-  pub file : Option (List ℕ)
-
-abbrev pub stated_outer : Data → StatedOuter
-stated_outer value = record { entries = unwrap_or (outer.entries_of value) []; file = outer.generated_file value }
-
 abbrev pub outer_seen : Outer → StatedOuter
 outer_seen fields = record { entries = entries_seen fields.entries.items; file = option_map string_bytes fields.file }
 
 -- ---- a section
-
--- what a section's map states
-pub record StatedSection : Type 0 where
-  pub sources : StatedSources
-  pub names : List (List ℕ)
-  pub text : List ℕ
-
-abbrev pub stated_section : Section → StatedSection
-stated_section section = record { sources = stated_sources section; names = section_names section; text = text_of section }
 
 abbrev pub sources_seen : SectionSources → StatedSources
 sources_seen sources = record {
@@ -66,15 +60,6 @@ abbrev pub section_seen : SectionMap → StatedSection
 section_seen section = record { sources = sources_seen section.sources; names = map string_bytes section.names.items; text = section.text }
 
 -- ---- all sections
-
--- what the sections of a map state
-pub record StatedSections : Type 0 where
-  pub parts : List Part
-  pub sources : List StatedSources
-  pub names : List (List ℕ)
-
-abbrev pub stated_sections : List Section → StatedSections
-stated_sections sections = record { parts = map part_of sections; sources = map stated_sources sections; names = flat_map section_names sections }
 
 abbrev pub sections_seen : JoinedSections → StatedSections
 sections_seen joined = record { parts = joined.parts.items; sources = map sources_seen joined.sources.items; names = map string_bytes joined.names.items }

@@ -1,11 +1,9 @@
 -- The sources of a section (ECMA-426, Source map format and Resolving sources), as contracts compare them.
-use Rattle.std.specs.Prelude.{ℕ, List, Option, Bool, false, length, map, option_map, slice_get, string_bytes, unwrap_or}
+use Rattle.std.specs.Prelude.{ℕ, List, Option, Bool, false, map, option_map, slice_get, string_bytes, unwrap_or}
 use Rattle.std.specs.List.{enumerate_from}
 use Rattle.std.specs.Option.{option_flatten}
 use Rattle.url.specs.Parts.{Parts}
 use Rattle.smap_resolve.specs.SourceName.{Name, name_of, source_name}
-use Rattle.smap_record.specs.Ignored.{ignored_flags}
-use Rattle.smap_record.specs.Section.{Section, source_texts, section_contents, ignored_of, root_of}
 use Rattle.smap_record.specs.declared.entry.SourceEntry.{SourceEntry}
 
 -- what a map states of a source: its name, its content, and whether it is to be passed over
@@ -26,14 +24,6 @@ pub record StatedSources : Type 0 where
   pub contents : List (Option (List ℕ))
   pub ignored : List Bool
 
-abbrev pub stated_sources : Section → StatedSources
-stated_sources section = record {
-  root = root_of section;
-  texts = source_texts section;
-  contents = section_contents section;
-  ignored = ignored_flags (length (source_texts section)) (ignored_of section);
-}
-
 -- source i, from 0, with this text, of a map that stands at this URL
 abbrev pub source_at : Option Parts → StatedSources → ℕ → Option (List ℕ) → StatedSource
 source_at base stated i text = record {
@@ -49,6 +39,3 @@ sources_with base stated texts = map (λ at. source_at base stated at.0 at.1) (e
 -- the sources that a section states, of a map that stands at this URL
 abbrev pub sources_stated : Option Parts → StatedSources → List StatedSource
 sources_stated base stated = sources_with base stated stated.texts
-
-abbrev pub section_sources : Option Parts → Section → List StatedSource
-section_sources base section = sources_stated base (stated_sources section)

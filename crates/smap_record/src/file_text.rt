@@ -1,13 +1,10 @@
 //! From the bytes of a map file to its JSON value.
-ghost use Rattle.std.specs.Prelude.{◌≡◌, ◌≤◌, ◌⊎◌, ℕ, Option, Some, Err, is_none, length, IfOk, IfErr};
-ghost use Rattle.serde_json.specs.Data.{object};
+ghost use Rattle.std.specs.Prelude.{◌≡◌, ok_or};
 ghost use Rattle.serde_json.specs.View.{members_view, view};
-ghost use Rattle.url.specs.Parts.{Parts};
 ghost use Rattle.smap_record.specs.FileText.{json_text, value_of_file, without_guard_line, without_mark};
-ghost use Rattle.smap_record.specs.Limits.{most_file_bytes};
-ghost use Rattle.smap_record.specs.Record.{record_of};
-ghost use Rattle.smap_record.specs.Refusals.{GivesStated, refused_if};
-ghost use Rattle.smap_record.specs.declared.refusal.MapRefusal.TheVariants.{Memory, NotJson};
+ghost use Rattle.smap_record.specs.Record.{members_in};
+ghost use Rattle.smap_record.specs.Refusals.{Gives};
+ghost use Rattle.smap_record.specs.declared.refusal.MapRefusal.TheVariants.{NotJson};
 
 use crate::json::object;
 use crate::refusal::MapRefusal;
@@ -16,11 +13,7 @@ use std::alloc::Global;
 
 /// The members of the object that is the JSON value of a file.
 pub fn file_members(alloc: Global, bytes: &[u8]) -> Result<Map<String, Value>, MapRefusal>
-    requires { length bytes.now ≤ most_file_bytes }
-    ensures value { IfOk result
-        (λ members. value_of_file bytes.now ≡ Some (object (members_view members.entries))) }
-    ensures refused { IfErr result (λ refusal. (refusal ≡ Memory)
-        ⊎ ((base : Option Parts) (k : ℕ) → record_of bytes.now base k ≡ Err refusal)) }
+    ensures { Gives (λ members. members_view members.entries) result (members_in bytes.now) }
 {
     match object(file_value(alloc, bytes)?) {
         Some(members) => Ok(members),
@@ -30,8 +23,7 @@ pub fn file_members(alloc: Global, bytes: &[u8]) -> Result<Map<String, Value>, M
 
 // The JSON value of a file.
 fn file_value(alloc: Global, bytes: &[u8]) -> Result<Value, MapRefusal>
-    ensures { GivesStated (λ value. Some (view value)) result
-        (refused_if NotJson (is_none (value_of_file bytes.now))) (value_of_file bytes.now) }
+    ensures { Gives view result (ok_or (value_of_file bytes.now) NotJson) }
 {
     match Value::from_slice(alloc, json_text(bytes)) {
         Ok(value) => Ok(value),

@@ -1,11 +1,10 @@
 //! The index of a map's mappings.
-ghost use Rattle.std.specs.Prelude.{◌≡◌, ◌≤◌, false, length, option_map, IfOk, OnOk};
+ghost use Rattle.std.specs.Prelude.{◌≡◌, ◌≤◌, false, length, IfOk, OnOk};
 ghost use Rattle.std.specs.List.{list_any};
 ghost use Rattle.smap_mappings.specs.Range.{is_mapping_past_limit};
-ghost use Rattle.smap_index.specs.Faults.{build_fault};
 ghost use Rattle.smap_index.specs.Parts.{joined, most_parts};
-ghost use Rattle.smap_record.specs.Refusals.{GivesStated};
-ghost use Rattle.smap_record.specs.declared.refusal.MapRefusal.TheVariants.{Build};
+ghost use Rattle.smap_record.specs.Record.{indexed};
+ghost use Rattle.smap_record.specs.Refusals.{Gives};
 
 use crate::refusal::MapRefusal;
 use smap_index::{BuildRefusal, Index, Part};
@@ -14,7 +13,7 @@ use std::alloc::Global;
 /// The index of these parts.
 pub fn build_index(alloc: Global, parts: Vec<Part>, k: u32) -> Result<Index, MapRefusal>
     requires { length parts.items ≤ most_parts }
-    ensures parts { GivesStated (λ index. index.parts) result (option_map Build (build_fault parts.items k)) parts.items }
+    ensures parts { Gives (λ index. index.parts) result (indexed parts.items k) }
     ensures interval { IfOk result (λ index. index.k ≡ k) }
     ensures in_range { OnOk result (list_any is_mapping_past_limit (joined parts.items) ≡ false) }
 {

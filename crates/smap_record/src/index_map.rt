@@ -1,11 +1,11 @@
 //! The sections of an index map, as its outer object lists them.
-ghost use Rattle.std.specs.Prelude.{◌≡◌, ◌≤◌, [], length, option_and_then, position, option_map, unwrap_or, IfOk, IfSome};
+ghost use Rattle.std.specs.Prelude.{◌≡◌, ◌≤◌, length, option_and_then, position, option_map, IfOk, IfSome};
 ghost use Rattle.serde_json.specs.View.{view};
 ghost use Rattle.smap_mappings.specs.Limits.{most_indices};
 ghost use Rattle.smap_index.specs.Parts.{most_parts};
-ghost use Rattle.smap_record.specs.IndexMap.{entries_in, entries_refusals, entry_in, has_no_offset, index_entries, is_index_map, offset_in, regular_entry};
+ghost use Rattle.smap_record.specs.IndexMap.{entries_in, entries_of, entry_in, has_no_offset, index_entries, is_index_map, offset_in, regular_entry};
 ghost use Rattle.smap_record.specs.Json.{list_of, number_below};
-ghost use Rattle.smap_record.specs.Refusals.{GivesStated, first_refusal};
+ghost use Rattle.smap_record.specs.Refusals.{Gives};
 ghost use Rattle.smap_record.specs.Seen.{entries_seen, entry_seen, fields_seen};
 
 use crate::MOST_SECTIONS;
@@ -34,14 +34,15 @@ pub struct SectionEntry {
     pub members: Map<String, Value>,
 }
 
-/// The entries of an index map with these `sections`, or the one entry of a regular map, with these members.
+/// Reads the entries of an index map with these `sections`, or the one entry of a regular map, with these members.
+#[tactic(auto, unfolding(crate::specs::IndexMap::entries_in))]
 pub fn read_entries(
     alloc: Global,
     sections: Option<Value>,
     members: Map<String, Value>,
 ) -> Result<Vec<SectionEntry>, MapRefusal>
-    ensures statement { let entries = entries_in (option_map view sections) (fields_seen members.entries)
-        in GivesStated (λ read. entries_seen read.items) result (first_refusal (entries_refusals entries)) (unwrap_or entries []) }
+    ensures statement { Gives (λ entries. entries_seen entries.items) result
+        (entries_in (option_map view sections) (fields_seen members.entries)) }
     ensures few { IfOk result (λ entries. length entries.items ≤ most_parts) }
 {
     let Some(entries) = entries(alloc, sections, members)? else {
@@ -77,7 +78,7 @@ fn entries(
     members: Map<String, Value>,
 ) -> Result<Option<Vec<SectionEntry>>, AllocError>
     ensures list { IfOk result (λ list. option_map (λ entries. entries_seen entries.items) list
-        ≡ entries_in (option_map view sections) (fields_seen members.entries)) }
+        ≡ entries_of (option_map view sections) (fields_seen members.entries)) }
     ensures few { IfOk result (λ list. IfSome list (λ entries. length entries.items ≤ most_parts)) }
 {
     match sections {

@@ -1,13 +1,13 @@
 //! All sections of a map, joined in order.
-ghost use Rattle.std.specs.Prelude.{◌≡◌, ◌≤◌, ◌++◌, ◌∷◌, [], length, flat_map, IfOk, OnOk};
+ghost use Rattle.std.specs.Prelude.{◌≡◌, ◌≤◌, ◌++◌, ◌∷◌, [], length, IfOk, OnOk};
 ghost use Rattle.std.specs.List.{All, sum_by};
 ghost use Rattle.smap_index.specs.Parts.{most_parts};
-ghost use Rattle.smap_record.specs.IndexMap.{sections_behind};
+ghost use Rattle.smap_record.specs.IndexMap.{no_sections, sections_behind};
 ghost use Rattle.smap_record.specs.Limits.{most_entries};
 ghost use Rattle.smap_record.specs.MapFile.{IsPartWithin};
-ghost use Rattle.smap_record.specs.Refusals.{GivesStated, first_refusal};
-ghost use Rattle.smap_record.specs.Section.{part_at, section_refusals};
-ghost use Rattle.smap_record.specs.Seen.{entries_seen, sections_seen, stated_sections};
+ghost use Rattle.smap_record.specs.Refusals.{Gives};
+ghost use Rattle.smap_record.specs.Section.{part_at};
+ghost use Rattle.smap_record.specs.Seen.{entries_seen, sections_seen};
 
 use crate::index_map::{Offset, SectionEntry};
 use crate::refusal::MapRefusal;
@@ -30,8 +30,8 @@ pub fn read_sections(
     entries: Vec<SectionEntry>,
 ) -> Result<JoinedSections, MapRefusal>
     requires { length entries.items ≤ most_parts }
-    ensures statement { let sections = sections_behind [] (entries_seen entries.items)
-        in GivesStated sections_seen result (first_refusal (flat_map section_refusals sections)) (stated_sections sections) }
+    ensures statement { Gives sections_seen result (sections_behind no_sections (entries_seen entries.items)) }
+    ensures count { IfOk result (λ joined. length joined.parts.items ≡ length entries.items) }
     ensures few_sources { IfOk result
         (λ joined. sum_by (λ sources. length sources.texts.items) joined.sources.items ≤ most_entries) }
     ensures few_names { IfOk result (λ joined. length joined.names.items ≤ most_entries) }

@@ -1,19 +1,18 @@
 //! The map of one section: its sources, its names and its mappings.
-ghost use Rattle.std.specs.Prelude.{◌≡◌, ◌≤◌, ◌+◌, [], ◌∷◌, ℕ, Some, length, map, option_map, string_bytes, unwrap_or, IfOk};
+ghost use Rattle.std.specs.Prelude.{◌≡◌, ◌≤◌, ◌+◌, ℕ, length, map, option_map, string_bytes, IfOk};
 ghost use Rattle.std.specs.List.{All};
 ghost use Rattle.serde_json.specs.View.{view};
 ghost use Rattle.smap_mappings.specs.Mappings.{mappings_of};
 ghost use Rattle.smap_mappings.specs.Within.{IsWithin};
-ghost use Rattle.smap_record.specs.Ignored.{ignored_flags};
 ghost use Rattle.smap_record.specs.Limits.{most_entries};
-ghost use Rattle.smap_record.specs.Refusals.{GivesStated, first_refusal};
-ghost use Rattle.smap_record.specs.Section.{Section, contents_in, contents_refusal, ignored_in, ignored_refusal, mappings_in, mappings_refusal, names_in, names_refusal, root_in, root_refusal, section_refusals, sources_in, sources_refusal, text_refusal};
-ghost use Rattle.smap_record.specs.Seen.{fields_seen, section_seen, stated_section, texts_seen};
+ghost use Rattle.smap_record.specs.Refusals.{Gives};
+ghost use Rattle.smap_record.specs.Section.{contents_in, ignored_in, mappings_in, names_in, section_in, sources_in};
+ghost use Rattle.smap_record.specs.Seen.{fields_seen, section_seen, texts_seen};
 
 use crate::MOST_ENTRIES;
-use crate::fields::{take, take_ignored};
+use crate::fields::{read_text, take_fields};
 use crate::ignored::{ignored_flags, none_ignored};
-use crate::json::{nullable_texts, text, texts};
+use crate::json::{nullable_texts, texts};
 use crate::refusal::MapRefusal;
 use serde_json::{Map, Value};
 use smap_mappings::{PackedText, TextRefusal};
@@ -48,15 +47,15 @@ pub struct SectionMap {
 }
 
 /// Reads the section at a place, whose map has these members.
+#[tactic(auto, unfolding(crate::specs::Section::section_in))]
 pub fn read_section(
     alloc: Global,
     place: SectionPlace,
-    mut members: Map<String, Value>,
+    members: Map<String, Value>,
 ) -> Result<SectionMap, MapRefusal>
     requires sources_before { place.source_base ≤ most_entries }
     requires names_before { place.name_base ≤ most_entries }
-    ensures statement { let section : Section = record { place = place; fields = fields_seen members.entries }
-        in GivesStated section_seen result (first_refusal (section_refusals section)) (stated_section section) }
+    ensures statement { Gives section_seen result (section_in place (fields_seen members.entries)) }
     ensures few_sources { IfOk result
         (λ section. place.source_base + length section.sources.texts.items ≤ most_entries) }
     ensures few_names { IfOk result
@@ -64,14 +63,15 @@ pub fn read_section(
     ensures within { IfOk result
         (λ section. All (IsWithin (length section.sources.texts.items) (length section.names.items)) (mappings_of section.text)) }
 {
-    let texts = read_sources(alloc, place.source_base, take(&mut members, "sources"))?;
-    let names = read_names(alloc, place.name_base, take(&mut members, "names"))?;
-    let contents = read_contents(alloc, take(&mut members, "sourcesContent"))?;
-    let ignored = read_ignored(alloc, take_ignored(&mut members), texts.len())?;
-    let root = read_root(take(&mut members, "sourceRoot"))?;
+    let fields = take_fields(members);
+    let texts = read_sources(alloc, place.source_base, fields.sources)?;
+    let names = read_names(alloc, place.name_base, fields.names)?;
+    let contents = read_contents(alloc, fields.contents)?;
+    let ignored = read_ignored(alloc, fields.ignored, texts.len())?;
+    let root = read_text(fields.root)?;
     let text = read_mappings(
         place.number,
-        take(&mut members, "mappings"),
+        fields.mappings,
         texts.len() as u32,
         names.len() as u32,
     )?;
@@ -94,8 +94,7 @@ fn read_sources(
     field: Option<Value>,
 ) -> Result<Vec<Option<String>>, MapRefusal>
     requires { before ≤ most_entries }
-    ensures statement { GivesStated (λ texts. Some (texts_seen texts.items)) result
-        (sources_refusal before (option_map view field)) (sources_in (option_map view field)) }
+    ensures statement { Gives (λ texts. texts_seen texts.items) result (sources_in before (option_map view field)) }
     ensures few { IfOk result (λ texts. before + length texts.items ≤ most_entries) }
 {
     let Some(value) = field else {
@@ -110,8 +109,7 @@ fn read_sources(
 // The names, where this many stand before them.
 fn read_names(alloc: Global, before: u32, field: Option<Value>) -> Result<Vec<String>, MapRefusal>
     requires { before ≤ most_entries }
-    ensures statement { GivesStated (λ names. Some (map string_bytes names.items)) result
-        (names_refusal before (option_map view field)) (names_in (option_map view field)) }
+    ensures statement { Gives (λ names. map string_bytes names.items) result (names_in before (option_map view field)) }
     ensures few { IfOk result (λ names. before + length names.items ≤ most_entries) }
 {
     let Some(value) = field else {
@@ -125,8 +123,7 @@ fn read_names(alloc: Global, before: u32, field: Option<Value>) -> Result<Vec<St
 
 // The texts of the sources.
 fn read_contents(alloc: Global, field: Option<Value>) -> Result<Vec<Option<String>>, MapRefusal>
-    ensures { GivesStated (λ contents. Some (texts_seen contents.items)) result
-        (contents_refusal (option_map view field)) (contents_in (option_map view field)) }
+    ensures { Gives (λ contents. texts_seen contents.items) result (contents_in (option_map view field)) }
 {
     let Some(value) = field else {
         return Ok(Vec::new(alloc));
@@ -143,9 +140,7 @@ fn read_ignored(
     field: Option<Value>,
     sources: usize,
 ) -> Result<Vec<bool>, MapRefusal>
-    ensures { GivesStated (λ flags. Some flags.items) result
-        (ignored_refusal sources (option_map view field))
-        (option_map (ignored_flags sources) (ignored_in sources (option_map view field))) }
+    ensures { Gives (λ flags. flags.items) result (ignored_in sources (option_map view field)) }
 {
     let Some(value) = field else {
         return Ok(none_ignored(alloc, sources)?);
@@ -156,20 +151,6 @@ fn read_ignored(
     }
 }
 
-// The `sourceRoot`, where it is there.
-fn read_root(field: Option<Value>) -> Result<Option<String>, MapRefusal>
-    ensures { GivesStated (λ root. Some (option_map string_bytes root)) result
-        (root_refusal (option_map view field)) (root_in (option_map view field)) }
-{
-    let Some(value) = field else {
-        return Ok(None);
-    };
-    match text(value) {
-        Some(root) => Ok(Some(root)),
-        None => Err(MapRefusal::FileOrRoot),
-    }
-}
-
 // The mappings of the section with this number, where it has this many sources and names.
 fn read_mappings(
     number: u64,
@@ -177,9 +158,7 @@ fn read_mappings(
     sources: u32,
     names: u32,
 ) -> Result<PackedText, MapRefusal>
-    ensures statement { let text = mappings_in (option_map view field) in GivesStated (λ packed. Some packed) result
-        (first_refusal (mappings_refusal (option_map view field) ∷ text_refusal number (unwrap_or text []) sources names ∷ []))
-        text }
+    ensures statement { Gives (λ text. text) result (mappings_in number sources names (option_map view field)) }
     ensures within { IfOk result (λ text. All (IsWithin sources names) (mappings_of text)) }
 {
     let Some(Value::String(text)) = field else {

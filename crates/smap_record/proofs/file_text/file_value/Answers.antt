@@ -1,17 +1,15 @@
 use Rattle.std.proofs.Common.{inr, sym, ap, ◌∙◌, true≢false}
-use Rattle.std.specs.Prelude.{is_none}
+use Rattle.std.specs.Prelude.{ok_or}
 use Rattle.smap_record.specs.FileText.{read_utf8}
-use Rattle.smap_record.specs.Refusals.{refused_if}
 use Rattle.smap_record.specs.declared.refusal.MapRefusal.TheVariants.{NotJson}
 use Rattle.smap_record.proofs.FileTextLaws.{value_of_utf8, no_value}
 use Rattle.smap_record.proofs.file_text.file_value.Goals as goal
 
 pub returns-in-Ok : goal.returns-in-Ok
 returns-in-Ok c =
-    let there = ap read_utf8 (sym c.json_text.ensures) ∙ value_of_utf8 _ _ c.in-Ok.ensures.ok.0 c.in-Ok.ensures.ok.1 in
-    (ap (λ found. refused_if NotJson (is_none found)) there, sym there)
+    ap (λ found. ok_or found NotJson) (ap read_utf8 (sym c.json_text.ensures) ∙ value_of_utf8 _ _ c.in-Ok.ensures.ok.0 c.in-Ok.ensures.ok.1)
 
 pub returns-in-Err-2 : goal.returns-in-Err-2
 returns-in-Err-2 c =
-    inr (ap (λ found. refused_if NotJson (is_none found))
+    inr (ap (λ found. ok_or found NotJson)
     (ap read_utf8 (sym c.json_text.ensures) ∙ no_value _ (c.in-Err.ensures.err (λ memory. true≢false (sym (c.is_memory.ensures.1 memory) ∙ c.if-is_memory.false)))))
