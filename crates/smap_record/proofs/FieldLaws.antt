@@ -1,5 +1,5 @@
 -- What a map's object has once an entry was removed.
-use Rattle.std.proofs.Common.{◌≡◌, ℕ, List, [], ◌∷◌, Bool, true, false, codes, String, Global, bytes_eq, nat_cmp, string_bytes, refl, sym, ap, ◌∙◌, true≢false, ⊎_elim}
+use Rattle.std.proofs.Common.{◌≡◌, ℕ, List, [], ◌∷◌, Bool, true, false, String, Global, bytes_eq, nat_cmp, string_bytes, refl, sym, ap, ◌∙◌, true≢false, ⊎_elim}
 use Rattle.std.proofs.lemmas.Bool.{cond-true, cond-false, cases_Bool}
 use Rattle.std.proofs.lemmas.Map.Text.{is_eq-slice_cmp}
 use Rattle.std.proofs.lemmas.Slice.Eq.{bytes_eq-Decides}
@@ -7,13 +7,10 @@ use Rattle.std.specs.Cmp.Lexicographic.{slice_cmp}
 use Rattle.std.specs.BTreeMap.{is_at}
 use Rattle.std.specs.Map.{remove_entry}
 use Rattle.std.specs.Ordering.{match_ordering}
-use Rattle.std.specs.Prelude.{Some, option_and_then}
-use Rattle.serde_json.specs.Data.{Members, object}
+use Rattle.std.specs.Prelude.{Some}
 use Rattle.serde_json.specs.Find.{get_member}
 use Rattle.serde_json.specs.View.{view, members_view}
 use Rattle.serde_json.proofs.Views.{Entry, member_later}
-use Rattle.smap_record.specs.Fields.{section_fields_of}
-use Rattle.smap_record.specs.Json.{field, not_null}
 
 module _ (other key : List ℕ) (apart : bytes_eq other key ≡ false) where
   -- whether a key is the one that was removed
@@ -35,15 +32,3 @@ module _ (other key : List ℕ) (apart : bytes_eq other key ≡ false) where
       (λ no. ap (λ rest. get_member other (members_view rest)) (cond-false (is_key e.0) es (e ∷ remove_entry is_key es) no)
       ∙ ap (λ found. match_ordering (slice_cmp nat_cmp other (string_bytes e.0)) found (Some (view e.1)) found) (kept es))
       (cases_Bool (is_key e.0))
-
--- ---- what stands at the other keys, once some were removed
-
--- the fields of a section's map, once those of the outer object were removed
-pub same_fields : (left all : Members)
-    → ((other : List ℕ) → bytes_eq other (codes "version") ≡ false → bytes_eq other (codes "sections") ≡ false → bytes_eq other (codes "file") ≡ false → get_member other left ≡ get_member other all)
-    → section_fields_of (object left) ≡ section_fields_of (object all)
-same_fields left all others =
-    rw (others (codes "sources") refl refl refl, others (codes "names") refl refl refl, others (codes "sourcesContent") refl refl refl, others (codes "ignoreList") refl refl refl, others (codes "x_google_ignoreList") refl refl refl, others (codes "sourceRoot") refl refl refl, others (codes "mappings") refl refl refl) refl
-
-pub same_field : (key : List ℕ) (left all : Members) → get_member key left ≡ get_member key all → field key (object left) ≡ field key (object all)
-same_field key left all is = ap (option_and_then not_null) is

@@ -2,7 +2,8 @@
 -- section of itself, the limits, and that an index map in an index map is refused.
 use Rattle.std.specs.Prelude.{ℕ, List, [], ◌∷◌, ◌++◌, Option, Some, None, Result, Ok, Bool, false, is_some, is_none, nat_lt, if◌then◌else◌, length, ok_or, position, option_map, option_and_then, unwrap_or, codes}
 use Rattle.std.specs.List.{sum_by}
-use Rattle.serde_json.specs.Data.{Data, null, boolean, number, string, array, object}
+use Rattle.serde_json.specs.Data.{Data, Members, object}
+use Rattle.serde_json.specs.Find.{as_object}
 use Rattle.smap_mappings.specs.Limits.{most_indices}
 use Rattle.smap_index.specs.Parts.{most_parts}
 use Rattle.smap_index.specs.declared.part.Part.{Part}
@@ -24,33 +25,33 @@ pub record SectionEntry : Type 0 where
   pub is_nested : Bool
   pub fields : Fields
 
--- a value, where it is an object
-abbrev pub object_in : Data → Option Data
-object_in (object members) = Some (object members)
-object_in null = None
-object_in (boolean b) = None
-object_in (number n) = None
-object_in (string s) = None
-object_in (array items) = None
-
 -- the line or the column at a key, a whole number up to the limit
-abbrev pub coordinate_in : List ℕ → Data → Option ℕ
-coordinate_in key offset = option_and_then (number_below most_indices) (field key offset)
+abbrev pub coordinate_in : List ℕ → Members → Option ℕ
+coordinate_in key offset = option_and_then (number_below most_indices) (field key (object offset))
 
-abbrev pub offset_in : Data → Option Offset
+abbrev pub offset_in : Members → Option Offset
 offset_in offset =
     option_and_then (λ line. option_map (λ column. record { line = line; column = column }) (coordinate_in (codes "column") offset))
     (coordinate_in (codes "line") offset)
 
--- an entry that begins at this offset and has this map
-abbrev pub entry_with : Option Offset → Data → SectionEntry
-entry_with offset map = record { offset = offset; is_nested = is_some (field (codes "sections") map); fields = section_fields_of map }
+-- the object at a key
+abbrev pub object_at : List ℕ → Members → Option Members
+object_at key members = option_and_then as_object (field key (object members))
 
--- the entry that a value is, where its `map` is an object
+-- an entry that begins at this offset and has this map
+abbrev pub entry_with : Option Offset → Members → SectionEntry
+entry_with offset map = record {
+  offset = offset;
+  is_nested = is_some (field (codes "sections") (object map));
+  fields = section_fields_of (object map);
+}
+
+-- the entry with these members, where its `map` is an object
+abbrev pub entry_of : Members → Option SectionEntry
+entry_of entry = option_map (entry_with (option_and_then offset_in (object_at (codes "offset") entry))) (object_at (codes "map") entry)
+
 abbrev pub entry_in : Data → Option SectionEntry
-entry_in value =
-    option_map (entry_with (option_and_then offset_in (field (codes "offset") value)))
-    (option_and_then object_in (field (codes "map") value))
+entry_in value = option_and_then entry_of (as_object value)
 
 -- ---- the entries of a map
 

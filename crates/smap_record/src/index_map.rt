@@ -1,5 +1,6 @@
 //! The sections of an index map, as its outer object lists them.
 ghost use Rattle.std.specs.Prelude.{◌≡◌, ◌≤◌, length, option_and_then, position, option_map, IfOk, IfSome};
+ghost use Rattle.serde_json.specs.Find.{as_object};
 ghost use Rattle.serde_json.specs.View.{view};
 ghost use Rattle.smap_mappings.specs.Limits.{most_indices};
 ghost use Rattle.smap_index.specs.Parts.{most_parts};
@@ -152,7 +153,7 @@ fn entry(value: Value) -> Option<SectionEntry>
 
 // The offset that a field states.
 fn read_offset(field: Option<Value>) -> Option<Offset>
-    ensures { result ≡ option_and_then offset_in (option_map view field) }
+    ensures { result ≡ option_and_then offset_in (option_and_then as_object (option_map view field)) }
 {
     let Some(value) = field else {
         return None;
