@@ -3,9 +3,15 @@
 #![tactic(auto)]
 
 #[cfg(test)]
+mod broken;
+#[cfg(test)]
 mod compose;
 #[cfg(test)]
 mod files;
+#[cfg(test)]
+mod hostile_files;
+#[cfg(test)]
+mod loaded_files;
 #[cfg(test)]
 mod loading;
 #[cfg(test)]

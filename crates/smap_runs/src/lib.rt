@@ -7,14 +7,16 @@
 //! ```
 #![tactic(auto)]
 
+mod broken;
 pub mod commands;
 mod devices;
 mod running;
 mod traces;
 
+pub use broken::{Break, run_broken};
 pub use devices::{ALL_SOUND, Device, Devices, MOST_TAKEN, SOUND};
 pub use running::{
-    left_text, run_check, run_compose, run_compose_at, run_lookup, run_lookup_after, run_lookup_at,
-    run_raw, run_show, run_show_at,
+    left_text, loaded, run_check, run_compose, run_compose_at, run_lookup, run_lookup_after,
+    run_lookup_at, run_over, run_raw, run_show, run_show_at,
 };
 pub use traces::{Word, named, run_rewrite};

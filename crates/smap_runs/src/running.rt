@@ -73,8 +73,8 @@ fn run_on_file(
     run_over(alloc, command, &[file], b"", devices)
 }
 
-// A file that was read.
-fn loaded(alloc: Global, path: &str, bytes: &[u8]) -> Result<Loaded, AllocError>
+/// A file that was read.
+pub fn loaded(alloc: Global, path: &str, bytes: &[u8]) -> Result<Loaded, AllocError>
     ensures { IfOk result (λ file. path_of file ≡ path.now) }
 {
     Ok(Loaded {

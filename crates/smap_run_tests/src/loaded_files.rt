@@ -1,0 +1,173 @@
+//! Files that are written first and loaded then: their bytes, what a command makes of them, and which one is told where
+//! some can't be read.
+ghost use Rattle.std.specs.Prelude.{IfOk};
+ghost use Rattle.smap_answers.specs.Run.{HasInterval};
+
+use crate::same::assert_same;
+use smap_answers::{Command, load_files};
+use smap_runs::{ALL_SOUND, commands, left_text, run_over};
+use smap_vectors::{INNER, OUTER};
+use std::alloc::{AllocError, Global};
+use std::test::Fail;
+use std::{env, fs};
+
+// A folder of this test's own.
+fn new_folder(rt: &HostRuntime) -> Result<String, Fail> {
+    let parent = env::temp_dir(rt)?;
+    for number in 0..1_000 {
+        let folder = format!(in rt.alloc(); "{}/smap-files-{number}", parent.as_str())?;
+        if fs::create_dir(rt, folder.as_str()).is_ok() {
+            return Ok(folder);
+        }
+    }
+    Err(Fail::new("no folder for the files"))
+}
+
+// The path of a file in a folder.
+fn path_in(alloc: Global, folder: &str, name: &str) -> Result<String, AllocError> {
+    [folder, "/", name].concat(alloc)
+}
+
+// `compose` of two files in a folder.
+fn compose_in(alloc: Global, folder: &str, outer: &str, inner: &str) -> Result<Command, AllocError>
+    ensures { IfOk result HasInterval }
+{
+    Ok(Command::Compose {
+        outer: path_in(alloc, folder, outer)?,
+        source: 0,
+        inner: path_in(alloc, folder, inner)?,
+        base: None,
+    })
+}
+
+// `rewrite` over two files in a folder.
+fn rewrite_in(
+    alloc: Global,
+    folder: &str,
+    first: &str,
+    second: &str,
+) -> Result<Command, AllocError> {
+    let mut maps = Vec::new(alloc);
+    maps.push((
+        String::from_str(alloc, "u")?,
+        path_in(alloc, folder, first)?,
+    ))?;
+    maps.push((
+        String::from_str(alloc, "v")?,
+        path_in(alloc, folder, second)?,
+    ))?;
+    Ok(commands::rewrite(maps, None, 64))
+}
+
+// What a command leaves over the files that it names.
+fn left_by(rt: &HostRuntime, command: &Command) -> Result<String, AllocError>
+    requires { HasInterval command.now }
+{
+    let alloc = rt.alloc();
+    let files = match load_files(rt, command) {
+        Ok(files) => files,
+        Err(outcome) => return left_text(alloc, outcome.status(), b"", outcome.bytes()),
+    };
+    run_over(alloc, command, &files, b"", ALL_SOUND)
+}
+
+#[test]
+fn written_files_are_composed(rt: HostRuntime) -> Result<(), Fail> {
+    let folder = new_folder(&rt)?;
+    for (name, text) in [("o.map", OUTER), ("i.map", INNER)] {
+        let path = path_in(rt.alloc(), &folder, name)?;
+        fs::write(&rt, path.as_str(), text)?;
+    }
+    let command = compose_in(rt.alloc(), &folder, "o.map", "i.map")?;
+    let one = left_by(&rt, &command)?;
+    let command = compose_in(rt.alloc(), &folder, "i.map", "o.map")?;
+    let other = left_by(&rt, &command)?;
+    fs::remove_dir_all(&rt, folder.as_str())?;
+    assert_same(
+        &rt,
+        "one in the other",
+        &one,
+        "0|{\"mappings\":\"ACAA,KACI\",\"names\":[],\"sources\":[\"mid.js\",\"a.ts\"],\"version\":3}\n|",
+    );
+    // The second mapping asks at a line that the outer map, as the inner one, does not have.
+    assert_same(
+        &rt,
+        "the other in the one",
+        &other,
+        "0|{\"mappings\":\"ACAA,G\",\"names\":[],\"sources\":[\"a.ts\",\"mid.js\"],\"version\":3}\n|",
+    );
+    Ok(())
+}
+
+// Bytes that take more than one read, and of which two files have none at the same place.
+fn bytes_of(alloc: Global, is_first: bool) -> Result<Vec<u8>, AllocError> {
+    let mut bytes = Vec::new(alloc);
+    for _ in 0..40 {
+        for byte in 0..=250u8 {
+            bytes.push(if is_first { byte } else { 255 - byte })?;
+        }
+    }
+    Ok(bytes)
+}
+
+// Whether a command loads files of these bytes, and no others.
+fn loads(rt: &HostRuntime, command: &Command, wanted: &[Vec<u8>]) -> bool {
+    let Ok(files) = load_files(rt, command) else {
+        return false;
+    };
+    files.len() == wanted.len()
+        && files
+            .iter()
+            .zip(wanted)
+            .all(|(file, bytes)| file.bytes.as_slice() == bytes.as_slice())
+}
+
+#[test]
+fn files_are_loaded_byte_by_byte(rt: HostRuntime) -> Result<(), Fail> {
+    let folder = new_folder(&rt)?;
+    let mut wanted = Vec::new(rt.alloc());
+    for (name, is_first) in [("a", true), ("b", false)] {
+        let bytes = bytes_of(rt.alloc(), is_first)?;
+        let path = path_in(rt.alloc(), &folder, name)?;
+        fs::write(&rt, path.as_str(), bytes.as_slice())?;
+        wanted.push(bytes)?;
+    }
+    let command = compose_in(rt.alloc(), &folder, "a", "b")?;
+    assert!(rt; loads(&rt, &command, &wanted), "for compose");
+    let command = rewrite_in(rt.alloc(), &folder, "a", "b")?;
+    assert!(rt; loads(&rt, &command, &wanted), "for rewrite");
+    let path = path_in(rt.alloc(), &folder, "b")?;
+    let command = commands::check(path, None, 64);
+    assert!(rt; loads(&rt, &command, &wanted[1..]), "for check");
+    fs::remove_dir_all(&rt, folder.as_str())?;
+    Ok(())
+}
+
+// Of two files, of which `there` alone exists, the one that is told.
+const UNREAD: &[(&str, &str, &str)] = &[
+    ("first", "second", "first"),
+    ("second", "first", "second"),
+    ("there", "second", "second"),
+    ("first", "there", "first"),
+];
+
+// What is told of a file of this name.
+fn told_text(alloc: Global, folder: &str, name: &str) -> Result<String, AllocError> {
+    format!(in alloc; "3||device: read {folder}/{name}\n")
+}
+
+#[test]
+fn the_first_unreadable_file_is_told(rt: HostRuntime) -> Result<(), Fail> {
+    let folder = new_folder(&rt)?;
+    let path = path_in(rt.alloc(), &folder, "there")?;
+    fs::write(&rt, path.as_str(), OUTER)?;
+    for (first, second, told) in UNREAD {
+        let wanted = told_text(rt.alloc(), &folder, told)?;
+        let command = compose_in(rt.alloc(), &folder, first, second)?;
+        assert_same(&rt, told, &left_by(&rt, &command)?, &wanted);
+        let command = rewrite_in(rt.alloc(), &folder, first, second)?;
+        assert_same(&rt, told, &left_by(&rt, &command)?, &wanted);
+    }
+    fs::remove_dir_all(&rt, folder.as_str())?;
+    Ok(())
+}

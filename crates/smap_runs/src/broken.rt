@@ -1,0 +1,117 @@
+//! Runs over a reader and a writer of std of which one call breaks off.
+ghost use Rattle.std.specs.Prelude.{◌≡◌, map};
+ghost use Rattle.smap_answers.specs.Files.{path_of, paths_of};
+ghost use Rattle.smap_answers.specs.Run.{HasInterval};
+
+use crate::devices::MOST_TAKEN;
+use crate::running::left_text;
+use smap_answers::{Command, Loaded, run};
+use smap_io::{FromStd, MemorySink};
+use std::alloc::{AllocError, Global};
+use std::io;
+
+/// How a call breaks off.
+#[derive(Clone, Copy)]
+pub enum Break {
+    /// It is interrupted.
+    Interrupted,
+    /// It fails for another reason.
+    Failed,
+    /// It moves nothing.
+    Empty,
+}
+
+/// A reader of some bytes, or a writer, and the call that breaks off, from 1, or 0 for none. A flush is a call.
+#[derive(Drop)]
+struct Broken {
+    bytes: Vec<u8>,
+    piece: usize,
+    breaks_at: u64,
+    how: Break,
+    calls: u64,
+}
+
+impl Broken {
+    // What this call comes to where it is the one that breaks off.
+    fn broken_off(&mut self) -> Option<io::Result<usize>> {
+        self.calls = self.calls.saturating_add(1);
+        if self.calls != self.breaks_at {
+            return None;
+        }
+        Some(match self.how {
+            Break::Interrupted => Err(io::ErrorKind::Interrupted.into()),
+            Break::Failed => Err(io::ErrorKind::Other.into()),
+            Break::Empty => Ok(0),
+        })
+    }
+}
+
+impl io::Read for Broken {
+    fn read(&mut self, room: &mut [u8]) -> io::Result<usize> {
+        if let Some(broken) = self.broken_off() {
+            return broken;
+        }
+        let count = room.len().min(self.bytes.len()).min(self.piece);
+        room[..count].copy_from_slice(&self.bytes[..count]);
+        self.bytes.drain(..count);
+        Ok(count)
+    }
+}
+
+impl io::Write for Broken {
+    fn write(&mut self, bytes: &[u8]) -> io::Result<usize> {
+        if let Some(broken) = self.broken_off() {
+            return broken;
+        }
+        let count = bytes.len().min(self.piece);
+        self.bytes.extend_from_slice(&bytes[..count])?;
+        Ok(count)
+    }
+
+    fn flush(&mut self) -> io::Result<()> {
+        match self.broken_off() {
+            Some(Err(error)) => Err(error),
+            _ => Ok(()),
+        }
+    }
+}
+
+/// What a command leaves of this input, over a reader and a writer that move so many bytes a call, of which these calls
+/// break off.
+pub fn run_broken(
+    alloc: Global,
+    command: &Command,
+    files: &[Loaded],
+    input: &[u8],
+    piece: usize,
+    breaks_at: (u64, u64),
+    how: Break,
+) -> Result<String, AllocError>
+    requires interval { HasInterval command.now }
+    requires loaded { map path_of files.now ≡ paths_of command.now }
+{
+    let mut reader = Broken {
+        bytes: input.to_vec(alloc)?,
+        piece,
+        breaks_at: breaks_at.0,
+        how,
+        calls: 0,
+    };
+    let mut writer = Broken {
+        bytes: Vec::with_capacity(alloc, MOST_TAKEN)?,
+        piece,
+        breaks_at: breaks_at.1,
+        how,
+        calls: 0,
+    };
+    let mut errors = MemorySink::new(Vec::with_capacity(alloc, MOST_TAKEN)?, 8_192, 0);
+    let status = run(
+        alloc,
+        command,
+        files,
+        &mut FromStd::new(&mut reader),
+        &mut FromStd::new(&mut writer),
+        &mut errors,
+    );
+    left_text(alloc, status, &writer.bytes, errors.bytes())
+}
