@@ -25,6 +25,8 @@ mod numbers;
 #[cfg(test)]
 mod places;
 #[cfg(test)]
+mod records;
+#[cfg(test)]
 mod same;
 #[cfg(test)]
 mod shown;
