@@ -23,6 +23,11 @@ function filesOfPackage(name) {
   }
 }
 
+// The map files of one package.
+function mapsOfPackage(name) {
+  return mapsAmong(filesOfPackage(name));
+}
+
 // The map files of the four packages.
 function mapsOfPackages() {
   return mapsAmong(PACKAGES.flatMap(filesOfPackage));
@@ -33,4 +38,4 @@ function mapsIn(folder) {
   return mapsAmong(fs.readdirSync(folder, { recursive: true }).map((name) => path.join(folder, name)));
 }
 
-module.exports = { BUILT, mapsIn, mapsOfPackages };
+module.exports = { BUILT, mapsIn, mapsOfPackage, mapsOfPackages };

@@ -63,7 +63,15 @@ fn left_by(alloc: Global, asked: Asked, breaks: Breaks) -> Result<String, AllocE
 fn raw(alloc: Global, breaks: Breaks) -> Result<String, AllocError> {
     let command = commands::raw(1, 6, 64);
     let (breaks_at, how) = breaks;
-    run_broken(alloc, &command, &[], b"AAAA,CAAC;AACA", 7, breaks_at, how)
+    run_broken(
+        alloc,
+        &command,
+        &[],
+        b"AAAA,CAAC;AACA",
+        (7, 7),
+        breaks_at,
+        how,
+    )
 }
 
 const MAP: &str = r#"{"version":3,"sources":["a.ts"],"mappings":"AAAA,CAAC"}"#;
@@ -79,7 +87,7 @@ fn on_map(
 {
     let file = loaded(alloc, path, MAP.as_bytes())?;
     let (breaks_at, how) = breaks;
-    run_broken(alloc, command, &[file], b"", 7, breaks_at, how)
+    run_broken(alloc, command, &[file], b"", (7, 7), breaks_at, how)
 }
 
 fn compose(alloc: Global, breaks: Breaks) -> Result<String, AllocError> {
@@ -94,7 +102,7 @@ fn compose(alloc: Global, breaks: Breaks) -> Result<String, AllocError> {
         loaded(alloc, "i.map", INNER.as_bytes())?,
     ];
     let (breaks_at, how) = breaks;
-    run_broken(alloc, &command, &files, b"", 7, breaks_at, how)
+    run_broken(alloc, &command, &files, b"", (7, 7), breaks_at, how)
 }
 
 // Call `call` of the writer breaks off, from 1: what was written before stands there, and no more.

@@ -76,14 +76,14 @@ impl io::Write for Broken {
     }
 }
 
-/// What a command leaves of this input, over a reader and a writer that move so many bytes a call, of which these calls
-/// break off.
+/// What a command leaves of this input, over a reader and a writer that move so many bytes a call each, of which these
+/// calls break off.
 pub fn run_broken(
     alloc: Global,
     command: &Command,
     files: &[Loaded],
     input: &[u8],
-    piece: usize,
+    pieces: (usize, usize),
     breaks_at: (u64, u64),
     how: Break,
 ) -> Result<String, AllocError>
@@ -92,14 +92,14 @@ pub fn run_broken(
 {
     let mut reader = Broken {
         bytes: input.to_vec(alloc)?,
-        piece,
+        piece: pieces.0,
         breaks_at: breaks_at.0,
         how,
         calls: 0,
     };
     let mut writer = Broken {
         bytes: Vec::with_capacity(alloc, MOST_TAKEN)?,
-        piece,
+        piece: pieces.1,
         breaks_at: breaks_at.1,
         how,
         calls: 0,

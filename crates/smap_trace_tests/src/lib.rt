@@ -5,6 +5,8 @@
 #[cfg(test)]
 mod awaited_traces;
 #[cfg(test)]
+mod broken_traces;
+#[cfg(test)]
 mod endless_traces;
 #[cfg(test)]
 mod failing_traces;
