@@ -1,5 +1,5 @@
 //! Runs over a reader and a writer of std of which one call breaks off.
-ghost use Rattle.std.specs.Prelude.{◌≡◌, map};
+ghost use Rattle.std.specs.Prelude.{◌≡◌, map, IfOk};
 ghost use Rattle.smap_answers.specs.Files.{path_of, paths_of};
 ghost use Rattle.smap_answers.specs.Run.{HasInterval};
 
@@ -32,24 +32,28 @@ struct Broken {
 }
 
 impl Broken {
-    // What this call comes to where it is the one that breaks off.
-    fn broken_off(&mut self) -> Option<io::Result<usize>> {
+    // Whether this call is the one that breaks off.
+    fn is_breaking(&mut self) -> bool {
         self.calls = self.calls.saturating_add(1);
-        if self.calls != self.breaks_at {
-            return None;
-        }
-        Some(match self.how {
-            Break::Interrupted => Err(io::ErrorKind::Interrupted.into()),
-            Break::Failed => Err(io::ErrorKind::Other.into()),
-            Break::Empty => Ok(0),
-        })
+        self.calls == self.breaks_at
+    }
+}
+
+// What a call comes to that breaks off.
+fn broken_off(how: Break) -> io::Result<usize>
+    ensures { IfOk result (λ count. count ≡ 0) }
+{
+    match how {
+        Break::Interrupted => Err(io::ErrorKind::Interrupted.into()),
+        Break::Failed => Err(io::ErrorKind::Other.into()),
+        Break::Empty => Ok(0),
     }
 }
 
 impl io::Read for Broken {
     fn read(&mut self, room: &mut [u8]) -> io::Result<usize> {
-        if let Some(broken) = self.broken_off() {
-            return broken;
+        if self.is_breaking() {
+            return broken_off(self.how);
         }
         let count = room.len().min(self.bytes.len()).min(self.piece);
         room[..count].copy_from_slice(&self.bytes[..count]);
@@ -60,8 +64,8 @@ impl io::Read for Broken {
 
 impl io::Write for Broken {
     fn write(&mut self, bytes: &[u8]) -> io::Result<usize> {
-        if let Some(broken) = self.broken_off() {
-            return broken;
+        if self.is_breaking() {
+            return broken_off(self.how);
         }
         let count = bytes.len().min(self.piece);
         self.bytes.extend_from_slice(&bytes[..count])?;
@@ -69,10 +73,10 @@ impl io::Write for Broken {
     }
 
     fn flush(&mut self) -> io::Result<()> {
-        match self.broken_off() {
-            Some(Err(error)) => Err(error),
-            _ => Ok(()),
+        if self.is_breaking() {
+            broken_off(self.how)?;
         }
+        Ok(())
     }
 }
 
