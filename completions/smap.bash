@@ -1,0 +1,38 @@
+# shellcheck shell=bash
+# Completions of smap for bash.
+
+_smap() {
+    local word=${COMP_WORDS[COMP_CWORD]} before=${COMP_WORDS[COMP_CWORD - 1]} command='' i
+    for ((i = 1; i < COMP_CWORD; i++)); do
+        if [[ ${COMP_WORDS[i]} != -* ]]; then
+            command=${COMP_WORDS[i]}
+            break
+        fi
+    done
+
+    local options='--help'
+    case $command in
+    '') options='--help --version' ;;
+    lookup) options='--after --base --interval --help' ;;
+    rewrite) options='--base --interval --hide-ignored --help' ;;
+    check) options='--base --interval --help' ;;
+    show | compose) options='--base --help' ;;
+    raw) options='--interval --help' ;;
+    esac
+
+    COMPREPLY=()
+    if [[ $before == --base ]]; then return; fi
+    if [[ $before == --interval ]]; then
+        mapfile -t COMPREPLY < <(compgen -W '1 4 16 64 256 1024 4096' -- "$word")
+    elif [[ $word == -* ]]; then
+        mapfile -t COMPREPLY < <(compgen -W "$options" -- "$word")
+    elif [[ -z $command || $command == help ]]; then
+        mapfile -t COMPREPLY < <(compgen -W 'lookup rewrite check show compose raw help' -- "$word")
+    elif [[ $command != raw ]]; then
+        # The last `=` of a word of `rewrite` stands before the path, and by default it parts words here.
+        compopt -o filenames
+        mapfile -t COMPREPLY < <(compgen -f -- "${word#=}")
+    fi
+}
+
+complete -F _smap smap
