@@ -24,7 +24,7 @@ use Rattle.smap_record.specs.Outer.{StatedOuter, outer_in, version_in}
 use Rattle.smap_record.specs.ReadBack.{IsReadBackOf, IsRegularMap, ReadsBackAs}
 use Rattle.smap_record.specs.Record.{MapRecord, members_in}
 use Rattle.smap_record.specs.Refusals.{◌>>=◌, unless}
-use Rattle.smap_record.specs.Section.{contents_in, few, ignored_in, mappings_in, names_in, sources_in, text_in}
+use Rattle.smap_record.specs.Section.{contents_in, few, ignored_in, mappings_in, names_in, section_in, sources_in, text_in}
 use Rattle.smap_record.specs.Sources.{StatedSource}
 use Rattle.smap_record.specs.Written.{content_of_source, has_content, ignored_indices, is_ignored_source, list_value, text_of_source, value_of_text, written, written_members, written_value}
 use Rattle.smap_record.specs.declared.refusal.MapRefusal.{MapRefusal}
@@ -35,7 +35,6 @@ use Rattle.smap_record.proofs.IndexLaws.{no_index}
 use Rattle.smap_record.proofs.JoinedLaws.{one_more}
 use Rattle.smap_record.proofs.ReadingLaws.{indices_read, nullable_read, texts_read}
 use Rattle.smap_record.proofs.RecordLaws.{stated}
-use Rattle.smap_record.proofs.SectionLaws.{mappings_last, section_with}
 use Rattle.smap_record.proofs.ShapeLaws.{no_float, not_deep}
 use Rattle.smap_record.proofs.WrittenFields.{fields_are, file_field, sections_field, version_field, written_fields}
 use Rattle.smap_record.proofs.WrittenMappings.{no_build_fault}
@@ -124,6 +123,7 @@ module _ (sources : List StatedSource) (names : List (List ℕ)) (file : Option 
 
     module _ (clean : first_fault mappings (length sources) (length names) ≡ None) where
       text_is : mappings_in 0 (length sources) (length names) fields.mappings ≡ Ok mappings
+      unfolding mappings_in
       text_is =
           ap (λ (long : Bool). ok_or (if long then None else Some mappings) refusals.Mappings >>= λ text. unless (option_map (refusals.Text 0) (first_fault text (length sources) (length names))) text)
           (le-ltb most_text_bytes (length mappings) regular.short)
@@ -135,12 +135,13 @@ module _ (sources : List StatedSource) (names : List (List ℕ)) (file : Option 
       abbrev place : SectionPlace
       place = place_behind no_sections (regular_entry fields)
 
+      section_read : section_in place fields ≡ Ok (record { sources = written_sources sources; names = names; text = mappings })
+      unfolding section_in
+      section_read = rw (sources_are, names_are, contents_are, ← many, ignored_are, text_is) refl
+
       sections_read : sections_behind no_sections outer.entries ≡ Ok sections
       unfolding sections_behind
-      sections_read =
-          one_more no_sections (regular_entry fields) [] place refl _
-          (mappings_last place fields (map text_of_source sources) names (contents_list sources (list_any has_content sources)) (map is_ignored_source sources) None (length sources) (length sources) (length names) many many refl sources_are names_are contents_are ignored_are refl
-          ∙ ap (λ read. read >>= λ text. Ok (section_with (map text_of_source sources) names (contents_list sources (list_any has_content sources)) (map is_ignored_source sources) None text)) text_is)
+      sections_read = one_more no_sections (regular_entry fields) [] place refl _ section_read
 
       module _ (list_is : joined (whole_text mappings ∷ []) ≡ mappings_of mappings) (sound : part_fault (whole_text mappings ∷ []) ≡ None) where
         -- what is read back
@@ -160,7 +161,7 @@ module _ (sources : List StatedSource) (names : List (List ℕ)) (file : Option 
         pub reads_back : (bytes : List ℕ) → length bytes ≤ most_file_bytes → value_of_file bytes ≡ Some value → ReadsBackAs bytes (mappings_of mappings) sources names file
         reads_back bytes short value_is k interval = (
           back,
-          stated bytes None k short members (members_there bytes members value_is) outer outer_read sections sections_read sections.parts
+          stated bytes None k members outer sections sections.parts short (members_there bytes members value_is) outer_read sections_read
               (ap (λ fault. unless (option_map refusals.Build fault) sections.parts) (no_build_fault mappings sound k interval))
               ∙ ap (λ list. Ok (record { parts = sections.parts; sources = list; names = names; file = file })) (append-nil (read_sources sources)),
           is_back,

@@ -47,7 +47,7 @@ abbrev pub short_text : Data → Option (List ℕ)
 short_text value = option_and_then (λ text. if nat_lt most_text_bytes (length text) then None else Some text) (as_str value)
 
 -- the mappings text of the section with this number, which has no fault for this many sources and names
-abbrev pub mappings_in : ℕ → ℕ → ℕ → Option Data → Result (List ℕ) MapRefusal
+unfoldable pub mappings_in : ℕ → ℕ → ℕ → Option Data → Result (List ℕ) MapRefusal
 mappings_in number sources names mappings = do
   text ← ok_or (option_and_then short_text mappings) Mappings
   unless (option_map (Text number) (first_fault text sources names)) text

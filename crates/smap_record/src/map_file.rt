@@ -56,6 +56,7 @@ impl MapFile {
     /// at the segments of number 0, `k`, 2`k` and so on of each line of a section; `k` is 1 to 4096, and any other is
     /// refused before the sources get their names. `Url` comes after all other refusals. After a refusal nothing is
     /// kept.
+    #[tactic(auto, unfolding(crate::specs::Record::record_of, crate::specs::Record::record_in))]
     pub fn read(
         alloc: Global,
         bytes: &[u8],

@@ -47,7 +47,7 @@ pub struct SectionMap {
 }
 
 /// Reads the section at a place, whose map has these members.
-#[tactic(auto, unfolding(crate::specs::Section::section_in))]
+#[tactic(auto, using(crate::proofs::SectionLaws::same_length), unfolding(crate::specs::Section::section_in))]
 pub fn read_section(
     alloc: Global,
     place: SectionPlace,
@@ -152,6 +152,7 @@ fn read_ignored(
 }
 
 // The mappings of the section with this number, where it has this many sources and names.
+#[tactic(auto, unfolding(crate::specs::Section::mappings_in))]
 fn read_mappings(
     number: u64,
     field: Option<Value>,
