@@ -1,5 +1,5 @@
 #!/usr/bin/env node
-// Writes the vectors for stack traces, of the traces and maps in traces/ and of the one in examples/. README.md beside
+// Writes the vectors for stack traces, of the traces and maps in traces/ and of those in examples/. README.md beside
 // this file says what they are.
 //
 //   node make-traces.js       writes src/traces.rt of smap_vectors and prints the counts
@@ -22,24 +22,28 @@ function insist(holds, what) {
 // The maps, each under the URL that its bundle ran under.
 // ---------------------------------------------------------------------------------------------
 
-function mapAt(url, file) {
+// `ignored` is put into the map, or into those of its sections, one behind another.
+function mapAt(url, file, ...ignored) {
   const whole = JSON.parse(fs.readFileSync(path.join(ROOT, file), 'utf8'));
   const { sourcesContent, ...map } = whole;
+  const parts = map.sections ? map.sections.map((section) => section.map) : [map];
+  insist(parts.length === ignored.length, `${file} has other sections`);
+  parts.forEach((part, i) => Object.assign(part, ignored[i]));
   return { url, path: path.basename(file), map, traced: new AnyMap(map), consumer: new SourceMapConsumer(map) };
 }
 
 const MAPS = [
-  mapAt('https://example.test/calls.js?v=3', 'tests/vectors/traces/calls.map'),
-  mapAt('file:///srv/app/waits.mjs', 'tests/vectors/traces/waits.map'),
-  mapAt('/srv/app/a (b)/texts.cjs', 'tests/vectors/traces/texts.map'),
-  mapAt('/srv/app/größe.cjs', 'tests/vectors/traces/typed.map'),
-  mapAt('https://example.test/pieces.js', 'tests/vectors/traces/pieces.map'),
-  mapAt('https://example.test/receipt.min.js', 'examples/receipt.min.js.map'),
+  mapAt('https://example.test/calls.js?v=3', 'tests/vectors/traces/calls.map', { ignoreList: [0] }),
+  mapAt('file:///srv/app/waits.mjs', 'tests/vectors/traces/waits.map', { ignoreList: [0] }),
+  mapAt('/srv/app/a (b)/texts.cjs', 'tests/vectors/traces/texts.map', { x_google_ignoreList: [1] }),
+  mapAt('/srv/app/größe.cjs', 'tests/vectors/traces/typed.map', { ignoreList: [] }),
+  mapAt('https://example.test/pieces.js', 'tests/vectors/traces/pieces.map', { ignoreList: [0] }, { ignoreList: [1] }),
+  mapAt('https://example.test/receipt.min.js', 'examples/receipt.min.js.map', { ignoreList: [0] }),
 ];
 
 const TRACES = [
   'examples/receipt.trace',
-  ...['calls', 'waits', 'worker', 'texts', 'typed', 'pieces'].map((name) => `tests/vectors/traces/${name}.trace`),
+  ...['calls', 'waits', 'worker', 'texts', 'typed', 'pieces', 'firefox', 'safari'].map((name) => `tests/vectors/traces/${name}.trace`),
 ];
 
 // ---------------------------------------------------------------------------------------------
@@ -69,8 +73,15 @@ function plain(head, text, end) {
   return frame && !frame.url.startsWith('async ') ? frame : null;
 }
 
+// A function, which may be missing, and a place behind the first `@`.
+function signed(line) {
+  const match = /^([^@\r]*@)([^\r]*)(\r?)$/.exec(line);
+  return match && placed(match[1], match[2], match[3]);
+}
+
 function frameOf(line) {
   if (Buffer.byteLength(line) > MOST_BYTES) return null;
+  if (!/^[ \t]*at /.test(line)) return signed(line);
   const match = /^([ \t]*at )([^\r]*)(\r?)$/.exec(line);
   if (!match) return null;
   const [, head, text, end] = match;
@@ -104,18 +115,20 @@ function nameOf(map, source, url) {
   return source === null ? null : parsed(prefix + source, isUrl(url) ? url : null);
 }
 
-// The map that a source stands in, by its index: the map itself, or that of a section, and the source.
+// The map that a source stands in, by its index: the map itself, or that of a section; the source; and whether that map
+// says to pass over it.
 function sourceAt({ map }, index) {
-  if (!map.sections) return [map, map.sources[index]];
   let rest = index;
-  for (const { map: part } of map.sections) {
-    if (rest < part.sources.length) return [part, part.sources[rest]];
+  for (const part of map.sections ? map.sections.map((section) => section.map) : [map]) {
+    const ignored = part.ignoreList ?? part.x_google_ignoreList ?? [];
+    if (rest < part.sources.length) return [part, part.sources[rest], ignored.includes(rest)];
     rest -= part.sources.length;
   }
   throw new Error(`there is no source ${index}`);
 }
 
-// The place of a frame in its source, as two other implementations have it: its line and column, from 1, and its name.
+// The place of a frame in its source, as two other implementations have it: its line and column, from 1, and its name,
+// where the source has one that prints; and whether the map says to pass over the source.
 function originalOf(frame) {
   const entry = MAPS.find(({ url }) => url === frame.url);
   if (!entry) return null;
@@ -128,9 +141,9 @@ function originalOf(frame) {
   }
   const [, index, line, column] = segment;
   insist(other.line === line + 1 && other.column === column, `${where} is ${other.line}:${other.column}`);
-  const [map, source] = sourceAt(entry, index);
+  const [map, source, ignored] = sourceAt(entry, index);
   const name = nameOf(map, source, frame.url);
-  return name && !/[\x00-\x1f\x7f]/.test(name) ? `${name}:${line + 1}:${column + 1}` : null;
+  return { text: name && !/[\x00-\x1f\x7f]/.test(name) ? `${name}:${line + 1}:${column + 1}` : null, ignored };
 }
 
 // ---------------------------------------------------------------------------------------------
@@ -165,25 +178,40 @@ const KINDS = {
   'deeper, in a `cause`': /^ {6,}at /,
   'a frame with something behind it': /^ +at .*:\d+\)[ ,]/,
   'a line of a message': /^ {2}of a message$/,
+  'a function, `@` and a place': /^[\w.]+@(https|file)/,
+  '`@` and a place alone': /^@(https|file)/,
+  'a function within one, behind `/`': /^[\w./]+<(\.\w+)?@/,
+  '`async*` and the like before a function': /^(async|promise callback|setTimeout handler)\*.*@/,
+  'in a text that was evaluated, behind a line': /@.* line \d+ > (eval|Function):/,
+  'with an `@` in the name of the function': /^\["@f"\]@/,
+  '`global code` or `module code`': /^(global|module) code@/,
+  '`[native code]`': /@\[native code\]$/,
+  'a place without an `@`': /^https:.*:\d+:\d+$/,
 };
 
 const counts = Object.fromEntries(Object.keys(KINDS).map((kind) => [kind, 0]));
 
-function rewritten(text) {
-  const lines = text.split('\n');
-  const summary = { lines: lines.length - (lines.at(-1) === '' ? 1 : 0), frames: 0, mapped: 0 };
-  const written = lines.map((line) => {
-    for (const [kind, form] of Object.entries(KINDS)) counts[kind] += form.test(line) ? 1 : 0;
+function rewritten(text, hide) {
+  const lines = text.match(/[^\n]*\n|[^\n]+$/g) ?? [];
+  const summary = { lines: lines.length, frames: 0, mapped: 0, hidden: 0 };
+  const written = lines.map((whole) => {
+    const end = whole.endsWith('\n') ? '\n' : '';
+    const line = whole.slice(0, whole.length - end.length);
+    if (!hide) for (const [kind, form] of Object.entries(KINDS)) counts[kind] += form.test(line) ? 1 : 0;
     const frame = frameOf(line);
-    if (!frame) return line;
+    if (!frame) return whole;
     summary.frames += 1;
     insist(`${frame.head}${frame.url}:${frame.line}:${frame.column}${frame.tail}` === line, `not a frame: ${line}`);
     const original = originalOf(frame);
-    if (!original) return line;
+    if (hide && original?.ignored) {
+      summary.hidden += 1;
+      return '';
+    }
+    if (!original?.text) return whole;
     summary.mapped += 1;
-    return `${frame.head}${original}${frame.tail}`;
+    return `${frame.head}${original.text}${frame.tail}${end}`;
   });
-  return { text: written.join('\n'), summary };
+  return { text: written.join(''), summary };
 }
 
 // ---------------------------------------------------------------------------------------------
@@ -202,12 +230,17 @@ function row(fields) {
   return `${fields.map(field).join('|')}\n`;
 }
 
-const total = { lines: 0, frames: 0, mapped: 0 };
-const rows = TRACES.map((file) => {
-  const trace = fs.readFileSync(path.join(ROOT, file), 'utf8');
-  const { text, summary } = rewritten(trace);
-  for (const key of Object.keys(total)) total[key] += summary[key];
+const total = { lines: 0, frames: 0, mapped: 0, hidden: 0 };
+const traces = TRACES.map((file) => fs.readFileSync(path.join(ROOT, file), 'utf8'));
+const rows = traces.map((trace) => {
+  const { text, summary: { hidden, ...summary } } = rewritten(trace, false);
+  for (const key of Object.keys(summary)) total[key] += summary[key];
   return row([Object.values(summary).join(' '), trace, text]);
+});
+const hiding = traces.map((trace) => {
+  const { text, summary } = rewritten(trace, true);
+  total.hidden += summary.hidden;
+  return row([Object.values(summary).join(' '), text]);
 });
 const maps = MAPS.map(({ url, path: name, map }) => row([url, name, JSON.stringify(map)]));
 
@@ -225,7 +258,12 @@ ${maps.join('')}"#;
 /// How many lines a trace has, how many are frames, and how many of these are mapped; the trace; and what it becomes.
 pub const TRACES: &str = r#"
 ${rows.join('')}"#;
+
+/// Of the same traces, with the frames of ignored sources hidden: how many lines there are, frames, mapped frames and
+/// hidden ones; and what the trace becomes.
+pub const HIDDEN_TRACES: &str = r#"
+${hiding.join('')}"#;
 `,
 );
-console.log(`${rows.length} traces, ${total.lines} lines, ${total.frames} frames, ${total.mapped} mapped`);
+console.log(`${rows.length} traces, ${total.lines} lines, ${total.frames} frames, ${total.mapped} mapped, ${total.hidden} to be hidden`);
 for (const [kind, count] of Object.entries(counts)) console.log(`${String(count).padStart(5)} ${kind}`);

@@ -61,8 +61,13 @@ pub fn lookup(
     }
 }
 
-/// `rewrite` over maps: pairs of a URL and a path.
-pub fn rewrite(maps: Vec<(String, String)>, base: Option<Url>, interval: u32) -> Command
+/// `rewrite` over maps: pairs of a URL and a path; with the frames of ignored sources hidden or not.
+pub fn rewrite(
+    maps: Vec<(String, String)>,
+    base: Option<Url>,
+    interval: u32,
+    hide_ignored: bool,
+) -> Command
     ensures paths { paths_of result ≡ map path_in maps.items }
     ensures interval { HasInterval result }
 {
@@ -70,5 +75,6 @@ pub fn rewrite(maps: Vec<(String, String)>, base: Option<Url>, interval: u32) ->
         maps,
         base,
         interval: in_range(interval),
+        hide_ignored,
     }
 }

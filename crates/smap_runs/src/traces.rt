@@ -45,6 +45,19 @@ pub fn run_rewrite(
     devices: Devices,
 ) -> Result<String, AllocError> {
     let (maps, files) = named(alloc, table)?;
-    let command = commands::rewrite(maps, base, interval);
+    let command = commands::rewrite(maps, base, interval, false);
+    run_over(alloc, &command, &files, trace, devices)
+}
+
+/// What `rewrite --hide-ignored` leaves of a trace.
+pub fn run_hiding(
+    alloc: Global,
+    table: &[Word],
+    trace: &[u8],
+    interval: u32,
+    devices: Devices,
+) -> Result<String, AllocError> {
+    let (maps, files) = named(alloc, table)?;
+    let command = commands::rewrite(maps, None, interval, true);
     run_over(alloc, &command, &files, trace, devices)
 }

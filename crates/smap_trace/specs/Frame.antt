@@ -53,8 +53,8 @@ pub record IsPlainFrame (parts : FrameParts) : Type 0 where
   pub head_is : (parts.head ≡ blanks ++ codes "at ") ⊎ (parts.head ≡ blanks ++ codes "at async ")
   pub tail_is : IsLineEnd parts.tail
 
--- the third form. The function may be empty, and the first `@` ends it; what begins with it begins with no `at ` behind
--- blanks
+-- the third form. The function may be empty, and the first `@` ends it. It does not begin with `at ` behind blanks, and so
+-- the line does not, since no `@` is in that
 pub record IsSignFrame (parts : FrameParts) : Type 0 where
   pub function : List ℕ
   pub first : list_any (λ byte. byte == 64) function ≡ false

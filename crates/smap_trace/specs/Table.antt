@@ -12,7 +12,7 @@ abbrev pub record_for : (url : List ℕ) → List (List ℕ × MapRecord) → Op
 record_for url [] = None
 record_for url ((there, stated) ∷ pairs) = if bytes_eq url there then Some stated else record_for url pairs
 
--- no frame of a trace has such a URL: it is empty, holds LF or CR, or begins with `async ` or `eval at `
+-- no table takes such a URL: it is empty, holds LF or CR, or begins with `async ` or `eval at `
 unfoldable pub is_bad_url : List ℕ → Bool
 is_bad_url url =
     length url == 0 || list_any (λ byte. byte == 10) url || list_any (λ byte. byte == 13) url

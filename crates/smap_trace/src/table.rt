@@ -75,7 +75,7 @@ fn text(bytes: Vec<u8>) -> String
     }
 }
 
-// Whether no frame has such a URL.
+// Whether no table takes such a URL.
 #[tactic(auto, unfolding(crate::specs::Table::is_bad_url))]
 fn is_bad_url(url: &[u8]) -> bool
     ensures { result ≡ is_bad_url url.now }

@@ -65,7 +65,7 @@ impl io::Write for Counted<'_> {
 fn nothing_waits_while_more_is_awaited(rt: HostRuntime) -> Result<(), Fail> {
     let alloc = rt.alloc();
     let (maps, files) = named(alloc, APP)?;
-    let command = commands::rewrite(maps, None, 64);
+    let command = commands::rewrite(maps, None, 64, false);
     let (written, late) = (Cell::new(0), Cell::new(0));
     let mut input = FromStd::new(Asked {
         written: &written,

@@ -55,7 +55,7 @@ fn assert_left<R: io::Read + Drop>(
     wanted: &str,
 ) -> Result<(), Fail> {
     let (maps, files) = named(alloc, APP)?;
-    let command = commands::rewrite(maps, None, 64);
+    let command = commands::rewrite(maps, None, 64, false);
     let mut errors = MemorySink::new(Vec::with_capacity(alloc, MOST_TAKEN)?, 1, 0);
     let mut input = FromStd::new(reader);
     let mut output = FromStd::new(Taking(most));

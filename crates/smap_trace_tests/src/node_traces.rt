@@ -1,10 +1,11 @@
-//! Stack traces that node printed, rewritten as other readers of maps have them.
+//! Stack traces that node printed, and some in the forms of Firefox and Safari, rewritten as other readers of maps have
+//! them.
 use crate::same::assert_same;
 use smap_io::{MemorySink, MemorySource};
 use smap_record::{MapFile, Url};
-use smap_runs::{ALL_SOUND, Device, Devices, MOST_TAKEN, SOUND, Word, run_rewrite};
+use smap_runs::{ALL_SOUND, Device, Devices, MOST_TAKEN, SOUND, Word, run_hiding, run_rewrite};
 use smap_trace::{Table, rewrite};
-use smap_vectors::{INTERVALS, halves, rows_of, trace_maps, trace_rows};
+use smap_vectors::{INTERVALS, halves, hidden_trace_rows, rows_of, trace_maps, trace_rows};
 use std::alloc::{AllocError, Global};
 use std::test::Fail;
 
@@ -42,19 +43,24 @@ fn words(alloc: Global) -> Result<Vec<Word>, AllocError> {
     Ok(words)
 }
 
+// What is left of a trace: status 0, this text of the rows, and nothing told.
+fn left_of(alloc: Global, text: &str) -> Result<String, AllocError> {
+    let text = plain(alloc, text)?;
+    ["0|", &text, "|"].concat(alloc)
+}
+
 // The trace of a row, without its counts, and what `rewrite` is to leave.
 fn texts(alloc: Global, row: &str) -> Result<(String, String), AllocError> {
     let (trace, wanted) = halves(row);
     let trace = plain(alloc, trace)?;
-    let wanted = plain(alloc, wanted)?;
-    Ok((trace, ["0|", &wanted, "|"].concat(alloc)?))
+    Ok((trace, left_of(alloc, wanted)?))
 }
 
 #[test]
-fn traces_of_node_are_rewritten(rt: HostRuntime) -> Result<(), Fail> {
+fn traces_are_rewritten(rt: HostRuntime) -> Result<(), Fail> {
     let words = words(rt.alloc())?;
     assert!(&rt; words.len() == 6);
-    for row in rows_of(trace_rows(), 7)?.lines() {
+    for row in rows_of(trace_rows(), 9)?.lines() {
         let (counts, row) = halves(row);
         let (trace, wanted) = texts(rt.alloc(), row)?;
         for devices in PIECES {
@@ -68,12 +74,33 @@ fn traces_of_node_are_rewritten(rt: HostRuntime) -> Result<(), Fail> {
 #[test]
 fn intervals_make_no_difference(rt: HostRuntime) -> Result<(), Fail> {
     let words = words(rt.alloc())?;
-    for row in rows_of(trace_rows(), 7)?.lines() {
+    for row in rows_of(trace_rows(), 9)?.lines() {
         let (counts, row) = halves(row);
         let (trace, wanted) = texts(rt.alloc(), row)?;
         for interval in INTERVALS {
             let bytes = trace.as_bytes();
             let left = run_rewrite(rt.alloc(), &words, None, bytes, *interval, ALL_SOUND)?;
+            assert_same(&rt, counts, &left, &wanted);
+        }
+    }
+    Ok(())
+}
+
+#[test]
+fn frames_of_traces_are_hidden(rt: HostRuntime) -> Result<(), Fail> {
+    let words = words(rt.alloc())?;
+    let hidden = rows_of(hidden_trace_rows(), 9)?;
+    for (row, hidden) in rows_of(trace_rows(), 9)?.lines().zip(hidden.lines()) {
+        let (_, row) = halves(row);
+        let (trace, _) = texts(rt.alloc(), row)?;
+        let (counts, wanted) = halves(hidden);
+        let wanted = left_of(rt.alloc(), wanted)?;
+        for devices in PIECES {
+            let left = run_hiding(rt.alloc(), &words, trace.as_bytes(), 64, *devices)?;
+            assert_same(&rt, counts, &left, &wanted);
+        }
+        for interval in INTERVALS {
+            let left = run_hiding(rt.alloc(), &words, trace.as_bytes(), *interval, ALL_SOUND)?;
             assert_same(&rt, counts, &left, &wanted);
         }
     }
@@ -93,15 +120,20 @@ fn table_of(alloc: Global, words: &[Word], interval: u32) -> Result<Table, Fail>
     Ok(table)
 }
 
-// How many lines, frames and mapped frames the trace of a row has.
-fn counts_text(alloc: Global, table: &Table, row: &str) -> Result<String, Fail> {
+// How many lines, frames, mapped frames and hidden frames the trace of a row has.
+fn counts_text(
+    alloc: Global,
+    table: &Table,
+    hide_ignored: bool,
+    row: &str,
+) -> Result<String, Fail> {
     let (trace, _) = texts(alloc, row)?;
     let mut input = MemorySource::new(trace.into_bytes(), 8_192, 0);
     let mut output = MemorySink::new(Vec::with_capacity(alloc, MOST_TAKEN)?, 8_192, 0);
-    match rewrite(alloc, &mut input, &mut output, table) {
+    match rewrite(alloc, &mut input, &mut output, table, hide_ignored) {
         Ok(summary) => Ok(format!(in alloc;
-            "{} {} {}",
-            summary.lines, summary.frames, summary.mapped
+            "{} {} {} {}",
+            summary.lines, summary.frames, summary.mapped, summary.hidden
         )?),
         Err(_) => Err(Fail::new("a device failed")),
     }
@@ -112,9 +144,23 @@ fn lines_and_frames_of_traces_are_counted(rt: HostRuntime) -> Result<(), Fail> {
     let words = words(rt.alloc())?;
     for interval in INTERVALS {
         let table = table_of(rt.alloc(), &words, *interval)?;
-        for row in trace_rows().trim().lines() {
+        let hidden = hidden_trace_rows().trim();
+        for (row, hidden) in trace_rows().trim().lines().zip(hidden.lines()) {
             let (wanted, row) = halves(row);
-            assert_same(&rt, row, &counts_text(rt.alloc(), &table, row)?, wanted);
+            let wanted = [wanted, " 0"].concat(rt.alloc())?;
+            assert_same(
+                &rt,
+                row,
+                &counts_text(rt.alloc(), &table, false, row)?,
+                &wanted,
+            );
+            let (wanted, _) = halves(hidden);
+            assert_same(
+                &rt,
+                row,
+                &counts_text(rt.alloc(), &table, true, row)?,
+                wanted,
+            );
         }
     }
     Ok(())

@@ -1,7 +1,7 @@
 //! `rewrite` over maps and traces in memory.
 use crate::same::assert_same;
 use smap_record::Url;
-use smap_runs::{ALL_SOUND, Device, Devices, Word, run_rewrite};
+use smap_runs::{ALL_SOUND, Device, Devices, Word, run_hiding, run_rewrite};
 use smap_vectors::INTERVALS;
 use std::alloc::Global;
 use std::test::Fail;
@@ -84,6 +84,41 @@ fn traces_are_rewritten_over_a_map(rt: HostRuntime) -> Result<(), Fail> {
         for interval in INTERVALS {
             let bytes = trace.as_bytes();
             let left = run_rewrite(rt.alloc(), APP, None, bytes, *interval, ALL_SOUND)?;
+            assert_same(&rt, trace, &left, wanted);
+        }
+    }
+    Ok(())
+}
+
+// Maps of which some say to pass over a source; a trace, and what it leaves where frames are hidden.
+const HIDDEN: &[(&[Word], &str, &str)] = &[
+    (
+        &[(
+            "https://ex.test/app.js",
+            "app.map",
+            r#"{"version":3,"sources":["a.ts"],"ignoreList":[0],"mappings":"AAAA,CAAC"}"#,
+        )],
+        "Error: x\n    at f (https://ex.test/app.js:1:6)\n    at g (https://ex.test/x.js:1:1)",
+        "0|Error: x\n    at g (https://ex.test/x.js:1:1)|",
+    ),
+    (
+        APP,
+        "Error: x\n    at f (https://ex.test/app.js:1:6)\n    at g (https://ex.test/x.js:1:1)",
+        "0|Error: x\n    at f (https://ex.test/a.ts:1:2)\n    at g (https://ex.test/x.js:1:1)|",
+    ),
+    (
+        &[("u:/x/y", "r.map", ROOTED)],
+        "at u:/x/y:1:1\nf@u:/x/y:1:2\r\n@u:/x/y:1:1\nat u:/x/y:1:2",
+        "0|at u:/x/src/a.ts:1:1\n@u:/x/src/a.ts:1:1\n|",
+    ),
+];
+
+#[test]
+fn frames_are_hidden(rt: HostRuntime) -> Result<(), Fail> {
+    for (words, trace, wanted) in HIDDEN {
+        for interval in INTERVALS {
+            let bytes = trace.as_bytes();
+            let left = run_hiding(rt.alloc(), words, bytes, *interval, ALL_SOUND)?;
             assert_same(&rt, trace, &left, wanted);
         }
     }

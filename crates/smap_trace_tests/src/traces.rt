@@ -10,6 +10,10 @@ use std::test::Fail;
 
 const MAP: &str = r#"{"version":3,"sources":["a.ts"],"mappings":"AAAA,CAAC"}"#;
 
+// The same, where the source is to be passed over.
+const IGNORING: &str =
+    r#"{"version":3,"sources":["a.ts"],"ignoreList":[0],"mappings":"AAAA,CAAC"}"#;
+
 const APP: &str = "https://ex.test/app.js";
 
 // The parts of a frame, with `|` between two.
@@ -72,6 +76,46 @@ const FRAMES: &[(&str, &str)] = &[
         "f@https://ex.test/app.js:1:6",
         "f@|https://ex.test/app.js|1|6|",
     ),
+    (
+        "@https://ex.test/app.js:1:1\r",
+        "@|https://ex.test/app.js|1|1|\r",
+    ),
+    (
+        "a@b@https://ex.test/app.js:1:1",
+        "a@|b@https://ex.test/app.js|1|1|",
+    ),
+    ("f@https://ex.test/app.js:1", "none"),
+    (
+        "    at f@https://ex.test/app.js:1:1",
+        "    at |f@https://ex.test/app.js|1|1|",
+    ),
+    // A line with `at ` behind its blanks is none of the third form, also where it is none of the others.
+    ("at async async f@u:1:1", "none"),
+    ("\t at  f (@u:1:1)", "\t at  f (|@u|1|1|)"),
+    (" at  (@u:1:1)", "none"),
+    ("at@u:1:1", "at@|u|1|1|"),
+    ("x at f@u:1:1", "x at f@|u|1|1|"),
+    (" \tf/<@u:1:1", " \tf/<@|u|1|1|"),
+    ("async*f@u:1:1", "async*f@|u|1|1|"),
+    ("f@async u:1:1", "f@|async u|1|1|"),
+    ("f@@u:1:1", "f@|@u|1|1|"),
+    (
+        "f@u line 3 > eval line 1 > eval:1:2",
+        "f@|u line 3 > eval line 1 > eval|1|2|",
+    ),
+    ("eval@[native code]", "none"),
+    ("u:1:1", "none"),
+    ("f@:1:1", "none"),
+    ("f@u:1:1 ", "none"),
+    ("f@u:1:1)", "none"),
+    ("f@u:01:1", "none"),
+    ("f@u:0:1", "none"),
+    ("f@u:1:2147483648", "f@|u|1|2147483648|"),
+    ("f@u:1:2147483649", "none"),
+    ("f\r@u:1:1", "none"),
+    ("f@u\r:1:1", "none"),
+    ("f@u:1:1\r\r", "none"),
+    ("f@u:1:1\n", "none"),
     ("at", "none"),
     ("", "none"),
 ];
@@ -84,9 +128,15 @@ fn frames_have_their_parts(rt: HostRuntime) -> Result<(), Fail> {
     Ok(())
 }
 
-// `at `, this many times a byte, and a place, as one line.
-fn long_line(alloc: Global, byte: u8, count: usize, rest: &str) -> Result<Vec<u8>, AllocError> {
-    let mut line = b"at ".to_vec(alloc)?;
+// An opening, this many times a byte, and a place, as one line.
+fn long_line(
+    alloc: Global,
+    opening: &str,
+    byte: u8,
+    count: usize,
+    rest: &str,
+) -> Result<Vec<u8>, AllocError> {
+    let mut line = opening.as_bytes().to_vec(alloc)?;
     let front = line.len().saturating_add(count);
     line.resize(front, byte)?;
     line.extend_from_slice(rest.as_bytes())?;
@@ -96,13 +146,17 @@ fn long_line(alloc: Global, byte: u8, count: usize, rest: &str) -> Result<Vec<u8
 #[test]
 fn a_longer_line_is_no_frame(rt: HostRuntime) -> Result<(), Fail> {
     let rest = " (https://ex.test/app.js:1:6)";
-    let longest = long_line(rt.alloc(), b'f', 65_504, rest)?;
+    let longest = long_line(rt.alloc(), "at ", b'f', 65_504, rest)?;
     assert_eq!(rt; longest.len(), 65_536);
     assert!(rt; frame(&longest).is_some());
-    assert!(rt; frame(&long_line(rt.alloc(), b'f', 65_505, rest)?).is_none());
+    assert!(rt; frame(&long_line(rt.alloc(), "at ", b'f', 65_505, rest)?).is_none());
+    assert!(rt; frame(&long_line(rt.alloc(), "", b'f', 65_530, "@u:1:1")?).is_some());
+    assert!(rt; frame(&long_line(rt.alloc(), "", b'f', 65_531, "@u:1:1")?).is_none());
     // As long, and each byte could begin a part.
-    assert!(rt; frame(&long_line(rt.alloc(), b':', 65_000, ")")?).is_none());
-    assert!(rt; frame(&long_line(rt.alloc(), b'(', 65_000, ":1:1")?).is_some());
+    assert!(rt; frame(&long_line(rt.alloc(), "at ", b':', 65_000, ")")?).is_none());
+    assert!(rt; frame(&long_line(rt.alloc(), "at ", b'(', 65_000, ":1:1")?).is_some());
+    assert!(rt; frame(&long_line(rt.alloc(), "", b'@', 65_000, "1")?).is_none());
+    assert!(rt; frame(&long_line(rt.alloc(), "", b'@', 65_000, "u:1:1")?).is_some());
     Ok(())
 }
 
@@ -117,7 +171,7 @@ fn table_of(alloc: Global, url: &str, map: &str, interval: u32) -> Result<Table,
     }
 }
 
-// How a call ended, `|`, and what the sink holds.
+// How a call ended, with the number of hidden frames only where it is not 0, `|`, and what the sink holds.
 fn ended_text(
     alloc: Global,
     outcome: Result<Summary, RewriteFault>,
@@ -126,19 +180,28 @@ fn ended_text(
     let written = String::from_utf8_lossy(alloc, sink.bytes())?;
     match outcome {
         Ok(summary) => {
-            format!(in alloc;
-                "{} {} {}|{written}",
-                summary.lines, summary.frames, summary.mapped
-            )
+            let Summary {
+                lines,
+                frames,
+                mapped,
+                hidden,
+            } = summary;
+            if hidden == 0 {
+                format!(in alloc; "{lines} {frames} {mapped}|{written}")
+            } else {
+                format!(in alloc; "{lines} {frames} {mapped} {hidden}|{written}")
+            }
         }
         Err(fault) => format!(in alloc; "{fault:?}|{written}"),
     }
 }
 
-// A trace rewritten over devices that move at most so many bytes a call, and fail at these calls, or at none at 0.
+// A trace rewritten, with the frames of ignored sources hidden or not, over devices that move at most so many bytes a
+// call, and fail at these calls, or at none at 0.
 fn rewritten(
     alloc: Global,
     table: &Table,
+    hide_ignored: bool,
     trace: &str,
     pieces: (usize, usize),
     fails_at: (u64, u64),
@@ -150,64 +213,113 @@ fn rewritten(
     let bytes = trace.as_bytes().to_vec(alloc)?;
     let mut input = MemorySource::new(bytes, read_piece, fails_at.0);
     let mut output = MemorySink::new(Vec::with_capacity(alloc, 100_000)?, write_piece, fails_at.1);
-    let outcome = rewrite(alloc, &mut input, &mut output, table);
+    let outcome = rewrite(alloc, &mut input, &mut output, table, hide_ignored);
     ended_text(alloc, outcome, &output)
 }
 
-// A trace over the one map of `app.js`; its lines, frames and replaced frames, and what it becomes.
-const TRACES: &[(&str, &str)] = &[
+// A trace over the one map of `app.js`; its lines, frames and replaced frames, and what it becomes; and that with the
+// hidden frames, where they are hidden and the map says to pass over its source.
+const TRACES: &[(&str, &str, &str)] = &[
     (
         "    at f (https://ex.test/app.js:1:6)",
         "1 1 1|    at f (https://ex.test/a.ts:1:2)",
+        "1 1 0 1|",
     ),
     (
         "    at f (https://ex.test/x.js:1:6)",
+        "1 1 0|    at f (https://ex.test/x.js:1:6)",
         "1 1 0|    at f (https://ex.test/x.js:1:6)",
     ),
     (
         "    at https://ex.test/app.js:01:1",
         "1 0 0|    at https://ex.test/app.js:01:1",
+        "1 0 0|    at https://ex.test/app.js:01:1",
     ),
     (
         "    at https://ex.test/app.js:0:1",
+        "1 0 0|    at https://ex.test/app.js:0:1",
         "1 0 0|    at https://ex.test/app.js:0:1",
     ),
     (
         "    at https://ex.test/app.js:2147483649:1",
         "1 0 0|    at https://ex.test/app.js:2147483649:1",
+        "1 0 0|    at https://ex.test/app.js:2147483649:1",
     ),
     (
         "f@https://ex.test/app.js:1:6",
         "1 1 1|f@https://ex.test/a.ts:1:2",
+        "1 1 0 1|",
     ),
-    ("", "0 0 0|"),
-    ("\n", "1 0 0|\n"),
+    (
+        "@https://ex.test/app.js:1:1\r\n",
+        "1 1 1|@https://ex.test/a.ts:1:1\r\n",
+        "1 1 0 1|",
+    ),
+    (
+        "a@b@https://ex.test/app.js:1:1",
+        "1 1 0|a@b@https://ex.test/app.js:1:1",
+        "1 1 0|a@b@https://ex.test/app.js:1:1",
+    ),
+    (
+        "f@https://ex.test/app.js:1",
+        "1 0 0|f@https://ex.test/app.js:1",
+        "1 0 0|f@https://ex.test/app.js:1",
+    ),
+    (
+        "    at f@https://ex.test/app.js:1:1",
+        "1 1 0|    at f@https://ex.test/app.js:1:1",
+        "1 1 0|    at f@https://ex.test/app.js:1:1",
+    ),
+    ("", "0 0 0|", "0 0 0|"),
+    ("\n", "1 0 0|\n", "1 0 0|\n"),
     (
         "    at async https://ex.test/app.js:1:1\r\n",
         "1 1 1|    at async https://ex.test/a.ts:1:1\r\n",
+        "1 1 0 1|",
     ),
     (
         "Error: x\n    at f (https://ex.test/app.js:1:6)\n    at https://ex.test/app.js:2:1\n\nx",
         "5 2 1|Error: x\n    at f (https://ex.test/a.ts:1:2)\n    at https://ex.test/app.js:2:1\n\nx",
+        "5 2 0 1|Error: x\n    at https://ex.test/app.js:2:1\n\nx",
+    ),
+    (
+        "Error: x\n    at f (https://ex.test/app.js:1:6)\n    at g (https://ex.test/x.js:1:1)",
+        "3 2 1|Error: x\n    at f (https://ex.test/a.ts:1:2)\n    at g (https://ex.test/x.js:1:1)",
+        "3 2 0 1|Error: x\n    at g (https://ex.test/x.js:1:1)",
+    ),
+    // The line before a hidden one keeps its end, also where the hidden one is the last.
+    (
+        "x\r\nf@https://ex.test/app.js:1:6\n@https://ex.test/app.js:1:1",
+        "3 2 2|x\r\nf@https://ex.test/a.ts:1:2\n@https://ex.test/a.ts:1:1",
+        "3 2 0 2|x\r\n",
     ),
     (
         "    at eval (eval at f (https://ex.test/app.js:1:2), <anonymous>:1:3)\n",
+        "1 1 0|    at eval (eval at f (https://ex.test/app.js:1:2), <anonymous>:1:3)\n",
         "1 1 0|    at eval (eval at f (https://ex.test/app.js:1:2), <anonymous>:1:3)\n",
     ),
 ];
 
 const PIECES: &[(usize, usize)] = &[(8_192, 8_192), (1, 1), (7, 1), (8_192, 1), (7, 8_192)];
 
-// Puts the rows of traces to a table, over devices that move at most so many bytes a call.
+// Puts the rows of traces to the table of a map and to that of the same map with an ignored source, over devices that
+// move at most so many bytes a call.
 fn assert_traces(
     rt: &impl Abort,
     alloc: Global,
     table: &Table,
+    ignoring: &Table,
     pieces: (usize, usize),
 ) -> Result<(), Fail> {
-    for (trace, wanted) in TRACES {
-        let got = rewritten(alloc, table, trace, pieces, (0, 0))?;
+    for (trace, wanted, hidden) in TRACES {
+        let got = rewritten(alloc, table, false, trace, pieces, (0, 0))?;
         assert_same(rt, trace, &got, wanted);
+        let got = rewritten(alloc, table, true, trace, pieces, (0, 0))?;
+        assert_same(rt, trace, &got, wanted);
+        let got = rewritten(alloc, ignoring, false, trace, pieces, (0, 0))?;
+        assert_same(rt, trace, &got, wanted);
+        let got = rewritten(alloc, ignoring, true, trace, pieces, (0, 0))?;
+        assert_same(rt, trace, &got, hidden);
     }
     Ok(())
 }
@@ -216,8 +328,9 @@ fn assert_traces(
 fn traces_are_rewritten(rt: HostRuntime) -> Result<(), Fail> {
     for interval in INTERVALS {
         let table = table_of(rt.alloc(), APP, MAP, *interval)?;
+        let ignoring = table_of(rt.alloc(), APP, IGNORING, *interval)?;
         for pieces in PIECES {
-            assert_traces(&rt, rt.alloc(), &table, *pieces)?;
+            assert_traces(&rt, rt.alloc(), &table, &ignoring, *pieces)?;
         }
     }
     Ok(())
@@ -261,18 +374,73 @@ const NAMES: &[(&str, &str)] = &[
 ];
 
 // What `at u:1:6` becomes over this map of `u`, behind the counts of the trace and a `|`.
-fn line_of(alloc: Global, map: &str, interval: u32) -> Result<String, Fail> {
+fn line_of(alloc: Global, map: &str, hide_ignored: bool, interval: u32) -> Result<String, Fail> {
     let table = table_of(alloc, "u", map, interval)?;
-    Ok(rewritten(alloc, &table, "at u:1:6", (99, 99), (0, 0))?)
+    Ok(rewritten(alloc, &table, hide_ignored, "at u:1:6", (99, 99), (0, 0))?)
 }
 
 #[test]
 fn names_that_do_not_print_leave_the_line(rt: HostRuntime) -> Result<(), Fail> {
     for (map, wanted) in NAMES {
         for interval in INTERVALS {
-            let got = line_of(rt.alloc(), map, *interval)?;
+            let got = line_of(rt.alloc(), map, false, *interval)?;
             let (_, line) = halves(&got);
             assert_same(&rt, map, line, wanted);
+        }
+    }
+    Ok(())
+}
+
+// The map of `u`, and what `at u:1:6` becomes where frames of ignored sources are hidden.
+const HIDDEN: &[(&str, &str)] = &[
+    (IGNORING, "1 1 0 1|"),
+    (MAP, "1 1 1|at a.ts:1:2"),
+    // A source needs no name that prints.
+    (
+        r#"{"version":3,"sources":[null],"ignoreList":[0],"mappings":"AAAA,CAAC"}"#,
+        "1 1 0 1|",
+    ),
+    (
+        r#"{"version":3,"sources":[""],"ignoreList":[0],"mappings":"AAAA,CAAC"}"#,
+        "1 1 0 1|",
+    ),
+    (
+        r#"{"version":3,"sources":["a\u0001"],"ignoreList":[0],"mappings":"AAAA,CAAC"}"#,
+        "1 1 0 1|",
+    ),
+    (
+        r#"{"version":3,"sources":["a.ts"],"x_google_ignoreList":[0],"mappings":"AAAA,CAAC"}"#,
+        "1 1 0 1|",
+    ),
+    (
+        r#"{"version":3,"sources":["a.ts"],"ignoreList":[],"x_google_ignoreList":[0],"mappings":"AAAA,CAAC"}"#,
+        "1 1 1|at a.ts:1:2",
+    ),
+    (
+        r#"{"version":3,"sources":["b.ts","a.ts"],"ignoreList":[0],"mappings":"ACAA,CAAC"}"#,
+        "1 1 1|at a.ts:1:2",
+    ),
+    // A look-up that finds no origin.
+    (
+        r#"{"version":3,"sources":["a.ts"],"ignoreList":[0],"mappings":"A"}"#,
+        "1 1 0|at u:1:6",
+    ),
+    (
+        r#"{"version":3,"sources":["a.ts"],"ignoreList":[0],"mappings":"MAAA"}"#,
+        "1 1 0|at u:1:6",
+    ),
+    (
+        r#"{"version":3,"sources":[null],"mappings":"AAAA,CAAC"}"#,
+        "1 1 0|at u:1:6",
+    ),
+];
+
+#[test]
+fn frames_of_ignored_sources_are_hidden(rt: HostRuntime) -> Result<(), Fail> {
+    for (map, wanted) in HIDDEN {
+        for interval in INTERVALS {
+            let got = line_of(rt.alloc(), map, true, *interval)?;
+            assert_same(&rt, map, &got, wanted);
         }
     }
     Ok(())
@@ -303,7 +471,7 @@ fn a_failing_device_ends_a_trace(rt: HostRuntime) -> Result<(), Fail> {
     for interval in INTERVALS {
         let table = table_of(rt.alloc(), APP, MAP, *interval)?;
         for (fails_at, wanted) in FAILURES {
-            let got = rewritten(rt.alloc(), &table, trace, (10, 10), *fails_at)?;
+            let got = rewritten(rt.alloc(), &table, false, trace, (10, 10), *fails_at)?;
             assert_same(&rt, "a failing device", &got, wanted);
         }
     }
@@ -343,7 +511,14 @@ fn a_table_takes_each_url_once(rt: HostRuntime) -> Result<(), Fail> {
             let got = added_text(rt.alloc(), &mut table, url, *interval)?;
             assert_same(&rt, url, &got, wanted);
         }
-        let got = rewritten(rt.alloc(), &table, "at v:1:1\nat w:1:1", (99, 99), (0, 0))?;
+        let got = rewritten(
+            rt.alloc(),
+            &table,
+            false,
+            "at v:1:1\nat w:1:1",
+            (99, 99),
+            (0, 0),
+        )?;
         assert_same(&rt, "a table of five", &got, "2 2 1|at a.ts:1:1\nat w:1:1");
     }
     Ok(())

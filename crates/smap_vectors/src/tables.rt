@@ -11,7 +11,7 @@ use crate::mappings::MAPPINGS;
 use crate::names::NAMES;
 use crate::places::{EXCERPTS, PLACES};
 use crate::refusals::REFUSALS;
-use crate::traces::{TRACE_MAPS, TRACES};
+use crate::traces::{HIDDEN_TRACES, TRACE_MAPS, TRACES};
 use crate::written_maps::WRITTEN_MAPS;
 
 /// Texts that are accepted, each with a line and a column from 1, and what is printed.
@@ -87,4 +87,9 @@ pub fn trace_maps() -> &'static str {
 /// Counts of a trace, the trace, and what it becomes over these maps.
 pub fn trace_rows() -> &'static str {
     TRACES
+}
+
+/// Of the same traces, in order, with the frames of ignored sources hidden: counts, and what the trace becomes.
+pub fn hidden_trace_rows() -> &'static str {
+    HIDDEN_TRACES
 }

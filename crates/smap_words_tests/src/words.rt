@@ -51,10 +51,12 @@ fn read(alloc: Global, words: &[&str]) -> Result<String, AllocError> {
                 maps,
                 base,
                 interval,
+                hide_ignored,
             },
         ) => {
             let base = base_text(&base);
-            let mut told = format!(in alloc; "rewrite{base} every {interval}")?;
+            let hiding = if hide_ignored { " hiding" } else { "" };
+            let mut told = format!(in alloc; "rewrite{base} every {interval}{hiding}")?;
             for (url, path) in maps {
                 told = format!(in alloc; "{told} [{url}][{path}]")?;
             }
@@ -91,7 +93,7 @@ fn read_usage(alloc: Global, usage: &Usage) -> Result<String, AllocError> {
 }
 
 // Words, and the command that they give, with lines and columns from 0.
-const COMMANDS: [(&[&str], &str); 41] = [
+const COMMANDS: [(&[&str], &str); 45] = [
     (&["smap", "raw", "1", "6"], "raw 0 5 every 64"),
     (&["smap", "raw", "1", "1"], "raw 0 0 every 64"),
     (&["./smap", "raw", "007", "+2"], "raw 6 1 every 64"),
@@ -258,6 +260,30 @@ const COMMANDS: [(&[&str], &str); 41] = [
         &["smap", "rewrite", "--", "--interval=7"],
         "rewrite every 64 [--interval][7]",
     ),
+    (
+        &["smap", "rewrite", "--hide-ignored", "u=1.map"],
+        "rewrite every 64 hiding [u][1.map]",
+    ),
+    (
+        &["smap", "rewrite", "u=1.map", "v=2.map", "--hide-ignored"],
+        "rewrite every 64 hiding [u][1.map] [v][2.map]",
+    ),
+    (
+        &[
+            "smap",
+            "rewrite",
+            "--interval=7",
+            "u=1.map",
+            "--hide-ignored",
+            "--base=https://ex.test/",
+            "v=2.map",
+        ],
+        "rewritehttps://ex.test/ every 7 hiding [u][1.map] [v][2.map]",
+    ),
+    (
+        &["smap", "rewrite", "--", "--hide-ignored=x"],
+        "rewrite every 64 [--hide-ignored][x]",
+    ),
 ];
 
 #[test]
@@ -270,7 +296,29 @@ fn reads_commands(rt: HostRuntime) -> Result<(), Fail> {
 }
 
 // Words that are no command, and how the text for them begins.
-const MISTAKES: [(&[&str], &str); 60] = [
+const MISTAKES: [(&[&str], &str); 64] = [
+    (
+        &["smap", "rewrite", "u=1.map", "--hide-ignored=true"],
+        "error: unexpected value 'true' for '--hide-ignored' found; no more were expected\n",
+    ),
+    (
+        &[
+            "smap",
+            "rewrite",
+            "--hide-ignored",
+            "u=1.map",
+            "--hide-ignored",
+        ],
+        "error: the argument '--hide-ignored' cannot be used multiple times\n",
+    ),
+    (
+        &["smap", "rewrite", "--hide-ignored"],
+        "error: the following required arguments were not provided:\n",
+    ),
+    (
+        &["smap", "lookup", "--hide-ignored", "r.map", "1", "1"],
+        "error: unexpected argument '--hide-ignored' found\n",
+    ),
     (
         &["smap", "check", "--base", "nope", "r.map"],
         "usage: bad base URL\n",
