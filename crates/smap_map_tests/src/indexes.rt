@@ -120,12 +120,20 @@ enum Direction {
     After,
 }
 
-// What an index answers.
-fn asked(index: &Index, direction: Direction, line: u32, column: u32, meter: &mut Meter) -> Answer {
-    match direction {
-        Direction::Before => index.look_up(line, column, meter),
-        Direction::After => index.look_up_from(line, column, meter),
-    }
+// What an index answers, and what that counts.
+fn asked(
+    alloc: Global,
+    index: &Index,
+    direction: Direction,
+    line: u32,
+    column: u32,
+) -> (Answer, Meter) {
+    let mut meter = Meter::new(alloc);
+    let answer = match direction {
+        Direction::Before => index.look_up(line, column, &mut meter),
+        Direction::After => index.look_up_from(line, column, &mut meter),
+    };
+    (answer, meter)
 }
 
 // What an index of this interval answers. The counts of the look-up are few.
@@ -138,8 +146,7 @@ fn answer_in(
     line: u32,
     column: u32,
 ) -> Answer {
-    let mut meter = Meter::new(alloc);
-    let answer = asked(index, direction, line, column, &mut meter);
+    let (answer, meter) = asked(alloc, index, direction, line, column);
     assert_few(rt, &meter, index.checkpoints(), interval);
     answer
 }
@@ -216,8 +223,7 @@ fn assert_counted(
     let (text, interval, checkpoints, line, column, decoded, compared) = counted;
     let index = index_of(alloc, packed(alloc, text)?, *interval)?;
     assert!(rt; index.checkpoints() == *checkpoints, "of {text}");
-    let mut meter = Meter::new(alloc);
-    let _ = asked(&index, direction, *line, *column, &mut meter);
+    let (_, meter) = asked(alloc, &index, direction, *line, *column);
     assert!(rt; meter.segments() == *decoded, "of {text} at {column}");
     assert!(rt; meter.comparisons() <= *compared, "of {text} at {column}");
     Ok(())
@@ -352,7 +358,8 @@ fn an_index_of_no_part_is_empty(rt: HostRuntime) -> Result<(), Fail> {
         assert_same(&rt, "no part", &held(rt.alloc(), &index)?, "0|0|");
         let mut meter = Meter::new(rt.alloc());
         assert!(&rt; index.look_up(0, 0, &mut meter) == Answer::Nothing);
-        assert!(&rt; index.look_up_from(0, 0, &mut meter) == Answer::Nothing);
+        let first = answer_in(&rt, rt.alloc(), &index, *interval, Direction::After, 0, 0);
+        assert!(&rt; first == Answer::Nothing);
         assert!(&rt; index.checkpoints() == 0);
         assert!(&rt; meter.comparisons() == 0 && meter.segments() == 0);
     }
