@@ -1,7 +1,6 @@
 -- What the rows of a walk hold where clap finds no fault in the words.
 use Rattle.std.proofs.Common.{◌≡◌, ◌++◌, ◌&&◌, ℕ, Bool, zero, suc, true, false, refl, sym, ap, subst, List, [], ◌∷◌, length, drop, not, fold, find, Option, Some, None, codes, cond, is_some}
 use Rattle.std.specs.Prelude.{⊤, encode_utf8, option_and_then, slice_get}
-use Rattle.std.proofs.lemmas.Bool.{eqb-true}
 use Rattle.std.proofs.lemmas.Slice.Eq.{bytes_eq-Decides}
 use Rattle.std.specs.Option.{IsSome, option_map_or}
 use Rattle.std.specs.Str.{bytes_eq, chars}
@@ -18,7 +17,6 @@ use Rattle.clap.specs.Facts.{explicit_source}
 use Rattle.clap.specs.Values.{Accepts, read_as, reading_of, refused_kind}
 use Rattle.clap.proofs.ValueTestLemmas.{accepts-Accepts}
 use Rattle.clap.specs.declared.builder.value_parser.ValueParser.{ValueParser}
-use Rattle.clap.specs.declared.builder.value_parser.ValueParser.TheVariants as parser
 use Rattle.clap.specs.declared.error.kind.ErrorKind.TheVariants.{DisplayHelp, OutOfMemory}
 use Rattle.clap.specs.declared.parser.matches.ValueSource.TheVariants.{CommandLine, DefaultValue}
 use Rattle.clap.specs.declared.error.kind.ErrorKind.TheVariants as kind
@@ -33,14 +31,6 @@ first_none (k ∷ ks) b none = none
 pub second_none : (a b : Kinds) → or_else a b ≡ [] → b ≡ []
 second_none [] b none = none
 second_none (k ∷ ks) b none = cc
-
--- a flag has no value
-no_value : (v : Text) (vs : List Text) → range_kinds 0 0 (length (v ∷ vs)) ≡ [] → ⊥
-no_value v vs none = go (0 == length (v ∷ vs)) refl none
-  where
-    go : (b : Bool) → (0 == length (v ∷ vs)) ≡ b → cond b [] (kind.WrongNumberOfValues ∷ []) ≡ [] → ⊥
-    go true is none = let no : 0 ≡ length (v ∷ vs) = eqb-true 0 _ is in omega arith
-    go false is none = cc
 
 -- ---- rows
 
