@@ -52,7 +52,7 @@ fn left_by(alloc: Global, asked: Asked, breaks: Breaks) -> Result<String, AllocE
         Asked::Raw => raw(alloc, breaks),
         Asked::Check => on_map(alloc, &commands::check(path, None, 64), "m.map", breaks),
         Asked::Lookup => {
-            let command = commands::lookup(path, 1, 6, None, 64);
+            let command = commands::lookup(path, 1, 6, None, 64, false);
             on_map(alloc, &command, "m.map", breaks)
         }
         Asked::Show => on_map(alloc, &Command::Show { path, base: None }, "m.map", breaks),

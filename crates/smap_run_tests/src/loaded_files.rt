@@ -53,7 +53,7 @@ fn rewrite_in(alloc: Global, folder: &str, first: &str, second: &str) -> Result<
         String::from_str(alloc, "v")?,
         path_in(alloc, folder, second)?,
     ))?;
-    Ok(commands::rewrite(maps, None, 64))
+    Ok(commands::rewrite(maps, None, 64, false))
 }
 
 // What a command leaves over the files that it names.

@@ -42,7 +42,7 @@ fn left_of(
     how: Break,
 ) -> Result<String, AllocError> {
     let (maps, files) = named(alloc, APP)?;
-    let command = commands::rewrite(maps, None, 64);
+    let command = commands::rewrite(maps, None, 64, false);
     run_broken(
         alloc,
         &command,
