@@ -102,7 +102,11 @@ fn are_too_many(outer: u64, inner: u64) -> bool
 }
 
 // The canonical text of these mappings, which has this length.
-fn text_of(alloc: Global, mappings: &[Mapping], length: &TextLength) -> Result<String, ComposeRefusal>
+fn text_of(
+    alloc: Global,
+    mappings: &[Mapping],
+    length: &TextLength,
+) -> Result<String, ComposeRefusal>
     requires measured { IsLengthOf mappings.now length.now }
     requires no_fault { list_fault mappings.now ≡ None }
     ensures text { IfOk result (λ text. string_bytes text ≡ canonical_text mappings.now) }

@@ -26,11 +26,12 @@ loop-mapping-preserved c =
     record {
       can = tt;
       finite = tt;
-      front =
-          (front ++ m ∷ [],
-          append_assoc front (m ∷ []) _ ∙ ap (λ left. front ++ left) (sym c.in-Some.ensures.steps) ∙ so_far.front.1,
-          pushed ∙ ap (λ items. items ++ c.follow-followed.result ∷ []) so_far.front.2 ∙ ap (λ followed. map following front ++ followed ∷ []) c.follow-followed.ensures.followed
-          ∙ sym (map-append following front (m ∷ [])));
+      front = (
+        front ++ m ∷ [],
+        append_assoc front (m ∷ []) _ ∙ ap (λ left. front ++ left) (sym c.in-Some.ensures.steps) ∙ so_far.front.1,
+        pushed ∙ ap (λ items. items ++ c.follow-followed.result ∷ []) so_far.front.2 ∙ ap (λ followed. map following front ++ followed ∷ []) c.follow-followed.ensures.followed
+            ∙ sym (map-append following front (m ∷ [])),
+      );
       length = subst (λ items. IsLengthOf items c.add.new.self) (sym pushed) (c.add.ensures before so_far.length);
       within = subst (All P) (sym pushed) (All-push P before c.follow-followed.result so_far.within c.follow-followed.ensures.within);
     }
