@@ -2,11 +2,11 @@
 use Rattle.std.proofs.Common.{◌≡◌, ℕ, List, ◌∷◌, ◌++◌}
 use Rattle.std.proofs.lemmas.List.{map-append}
 use Rattle.smap_command.specs.Shown.{shown}
-use Rattle.smap_answers.specs.Trace.{MapWord, word_text}
+use Rattle.smap_answers.specs.Trace.{word_text}
 
 shown_pair : (url path : List ℕ) → shown (url ++ 61 ∷ path) ≡ shown url ++ 61 ∷ shown path
 unfolding shown
 shown_pair url path = map-append _ url (61 ∷ path)
 
-pub shown_word : (word : MapWord) → shown (word_text word) ≡ shown word.url ++ 61 ∷ shown word.path
-shown_word word = shown_pair word.url word.path
+pub shown_word : (url path : List ℕ) → shown (word_text url path) ≡ shown url ++ 61 ∷ shown path
+shown_word url path = shown_pair url path

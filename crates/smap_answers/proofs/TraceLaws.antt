@@ -8,66 +8,65 @@ use Rattle.smap_record.specs.Record.{MapRecord}
 use Rattle.smap_trace.specs.Table.{IsWith, url_refusal}
 use Rattle.smap_trace.specs.declared.refusal.TableRefusal.{TableRefusal}
 use Rattle.smap_trace.specs.declared.refusal.TableRefusal.TheVariants.{Memory}
-use Rattle.smap_answers.specs.Outcome.{Telling, out_of_memory}
-use Rattle.smap_answers.specs.Trace.{Gathers, IsReadAs, Maps, MapWord, Puts, PutsRead, PutsWord, word_refusal}
+use Rattle.smap_answers.specs.Files.{path_of}
+use Rattle.smap_answers.specs.Outcome.{OrMemory, Telling, out_of_memory}
+use Rattle.smap_answers.specs.declared.load.Loaded.{Loaded}
+use Rattle.smap_answers.specs.Trace.{Gathers, IsReadAs, Maps, Puts, PutsFound, PutsMap, url_refusal_result}
 use Rattle.url.specs.Parts.{Parts}
 
 -- ---- a map and the table
 
 -- a map that the table took
-pub puts_taken : (maps more : Maps) (word : MapWord) (stated : MapRecord) (refusal : Option TableRefusal) → IsWith maps word.url stated more
-    → MatchOption refusal ⊤ (λ _. ⊥) → Puts maps word stated refusal (Ok more)
-puts_taken maps more word stated (Some refused) is never = absurd never
-puts_taken maps more word stated None is free = (more, is, refl)
+pub puts_taken : (maps more : Maps) (url path : List ℕ) (stated : MapRecord) (refusal : Option TableRefusal) → IsWith maps url stated more
+    → MatchOption refusal ⊤ (λ _. ⊥) → Puts maps url path stated refusal (Ok more)
+puts_taken maps more url path stated (Some refused) is never = absurd never
+puts_taken maps more url path stated None is free = (more, is, refl)
 
 -- and one that it did not take
-pub puts_refused : (maps : Maps) (word : MapWord) (stated : MapRecord) (refusal : Option TableRefusal) (refused : TableRefusal) (telling : Telling) (result : Result Maps Telling)
-    → result ≡ Err telling → MatchOption refusal (refused ≡ Memory) (λ first. refused ≡ first) → (telling ≡ out_of_memory) ⊎ (telling ≡ word_refusal refused word)
-    → (result ≡ Err out_of_memory) ⊎ Puts maps word stated refusal result
-puts_refused maps word stated refusal refused telling result given is (inl no_memory) = inl (given ∙ ap Err no_memory)
-puts_refused maps word stated None refused telling result given is (inr told) = inl (given ∙ ap Err (told ∙ ap (λ r. word_refusal r word) is))
-puts_refused maps word stated (Some first) refused telling result given is (inr told) = inr (given ∙ ap Err (told ∙ ap (λ r. word_refusal r word) is))
+pub puts_refused : (maps : Maps) (url path : List ℕ) (stated : MapRecord) (refusal : Option TableRefusal) (refused : TableRefusal) (telling : Telling) (result : Result Maps Telling)
+    → result ≡ Err telling → MatchOption refusal (refused ≡ Memory) (λ first. refused ≡ first) → OrMemory (λ t. t ≡ url_refusal_result refused url path) telling
+    → (result ≡ Err out_of_memory) ⊎ Puts maps url path stated refusal result
+puts_refused maps url path stated refusal refused telling result given is (inl no_memory) = inl (given ∙ ap Err no_memory)
+puts_refused maps url path stated None refused telling result given is (inr told) = inl (given ∙ ap Err (told ∙ ap (λ r. url_refusal_result r url path) is))
+puts_refused maps url path stated (Some first) refused telling result given is (inr told) = inr (given ∙ ap Err (told ∙ ap (λ r. url_refusal_result r url path) is))
 
--- ---- a word
+-- ---- a file
 
--- its file gives a map
-pub word_of_map : (base : Option Parts) (k : ℕ) (maps : Maps) (word : MapWord) (bytes : List ℕ) (stated : MapRecord) (result : Result Maps Telling) → IsReadAs base k word.url bytes (Ok stated)
-    → (result ≡ Err out_of_memory) ⊎ Puts maps word stated (url_refusal maps word.url) result → PutsWord base k maps word bytes result
-word_of_map base k maps word bytes stated result read (inl no_memory) = inl no_memory
-word_of_map base k maps word bytes stated result read (inr puts) =
-    inr (read.0, read.1, subst (λ found. PutsRead maps word found result) (sym read.2) (inr puts))
+-- it gives a map, which the table takes or refuses
+pub puts_read : (base : Option Parts) (k : ℕ) (maps : Maps) (url : List ℕ) (file : Loaded) (stated : MapRecord) (result : Result Maps Telling) → IsReadAs base k url file (Ok stated)
+    → (result ≡ Err out_of_memory) ⊎ Puts maps url (path_of file) stated (url_refusal maps url) result → PutsMap base k maps url file result
+puts_read base k maps url file stated result read (inl no_memory) = inl no_memory
+puts_read base k maps url file stated result read (inr puts) =
+    inr (read.0, read.1, subst (λ found. PutsFound maps url (path_of file) found result) (sym read.2) (inr puts))
 
--- ---- all words
+-- ---- all files
 
--- the words from a place on, with the bytes of their files
-pub next_pair : {W F A B : Type 0} (word_in : W → A) (bytes_in : F → B) (words : List W) (files : List F) (i : ℕ) (word : W) (file : F)
+-- the words from a place on, with their files
+pub next_pair : {W F A : Type 0} (word_in : W → A) (words : List W) (files : List F) (i : ℕ) (word : W) (file : F)
     → (i < length words) × (i < length files) × ((d : W) → word ≡ get_or words i d) × ((d : F) → file ≡ get_or files i d)
-    → drop i (zip (map word_in words) (map bytes_in files)) ≡ (word_in word, bytes_in file) ∷ drop (i + 1) (zip (map word_in words) (map bytes_in files))
-next_pair {A = A} {B = B} word_in bytes_in words files i word file is =
-    let firsts = map word_in words in let seconds = map bytes_in files in let default : A × B = (word_in word, bytes_in file) in
+    → drop i (zip (map word_in words) files) ≡ (word_in word, file) ∷ drop (i + 1) (zip (map word_in words) files)
+next_pair {F = F} {A = A} word_in words files i word file is =
+    let firsts = map word_in words in let default : A × F = (word_in word, file) in
     let one : i < length firsts = rw length-map is.0 in
-    let two : i < length seconds = rw length-map is.1 in
     let first : get_or firsts i (word_in word) ≡ word_in word = get_or-map word_in words i word (word_in word) is.0 ∙ ap word_in (sym (is.2 word)) in
-    let second : get_or seconds i (bytes_in file) ≡ bytes_in file = get_or-map bytes_in files i file (bytes_in file) is.1 ∙ ap bytes_in (sym (is.3 file)) in
-    let there : get_or (zip firsts seconds) i default ≡ default = get_or-zip firsts seconds i default one two ∙ (λ k. (first k, second k)) in
-    rw (add-one) (drop-cons (zip firsts seconds) i default (omega (arith, length-zip firsts seconds)) ∙ ap (λ pair. pair ∷ drop (suc i) (zip firsts seconds)) there)
+    let there : get_or (zip firsts files) i default ≡ default = get_or-zip firsts files i default one is.1 ∙ (λ k. (first k, sym (is.3 file) k)) in
+    rw (add-one) (drop-cons (zip firsts files) i default (omega (arith, length-zip firsts files)) ∙ ap (λ pair. pair ∷ drop (suc i) (zip firsts files)) there)
 
-pub no_pair_left : {W F A B : Type 0} (word_in : W → A) (bytes_in : F → B) (words : List W) (files : List F) (i : ℕ)
-    → i ≡ min (length words) (length files) → drop i (zip (map word_in words) (map bytes_in files)) ≡ []
-no_pair_left word_in bytes_in words files i is =
-    drop_all i (zip (map word_in words) (map bytes_in files))
-    (omega (arith, is, length-zip (map word_in words) (map bytes_in files), length-map words word_in, length-map files bytes_in))
+pub no_pair_left : {W F A : Type 0} (word_in : W → A) (words : List W) (files : List F) (i : ℕ)
+    → i ≡ min (length words) (length files) → drop i (zip (map word_in words) files) ≡ []
+no_pair_left word_in words files i is =
+    drop_all i (zip (map word_in words) files) (omega (arith, is, length-zip (map word_in words) files, length-map words word_in))
 
--- the word at a place went into the table
-pub gathers_next : (base : Option Parts) (k : ℕ) (words rest : List (MapWord × List ℕ)) (maps more : Maps) (word : MapWord) (bytes : List ℕ) (result : Result Maps Telling)
-    → words ≡ (word, bytes) ∷ rest → PutsWord base k maps word bytes (Ok more) → Gathers base k more rest result → Gathers base k maps words result
-gathers_next base k words rest maps more word bytes result is puts gathers = subst (λ ws. Gathers base k maps ws result) (sym is) (Ok more, puts, gathers)
+-- the map of the file at a place went into the table
+pub gathers_next : (base : Option Parts) (k : ℕ) (words rest : List (List ℕ × Loaded)) (maps more : Maps) (url : List ℕ) (file : Loaded) (result : Result Maps Telling)
+    → words ≡ (url, file) ∷ rest → PutsMap base k maps url file (Ok more) → Gathers base k more rest result → Gathers base k maps words result
+gathers_next base k words rest maps more url file result is puts gathers = subst (λ ws. Gathers base k maps ws result) (sym is) (Ok more, puts, gathers)
 
 -- or was refused
-pub gathers_refused : (base : Option Parts) (k : ℕ) (words rest : List (MapWord × List ℕ)) (maps : Maps) (word : MapWord) (bytes : List ℕ) (telling : Telling)
-    → words ≡ (word, bytes) ∷ rest → PutsWord base k maps word bytes (Err telling) → Gathers base k maps words (Err telling)
-gathers_refused base k words rest maps word bytes telling is puts = subst (λ ws. Gathers base k maps ws (Err telling)) (sym is) (Err telling, puts, refl)
+pub gathers_refused : (base : Option Parts) (k : ℕ) (words rest : List (List ℕ × Loaded)) (maps : Maps) (url : List ℕ) (file : Loaded) (telling : Telling)
+    → words ≡ (url, file) ∷ rest → PutsMap base k maps url file (Err telling) → Gathers base k maps words (Err telling)
+gathers_refused base k words rest maps url file telling is puts = subst (λ ws. Gathers base k maps ws (Err telling)) (sym is) (Err telling, puts, refl)
 
--- no word is left
-pub gathers_end : (base : Option Parts) (k : ℕ) (words : List (MapWord × List ℕ)) (maps : Maps) → words ≡ [] → Gathers base k maps words (Ok maps)
+-- no file is left
+pub gathers_end : (base : Option Parts) (k : ℕ) (words : List (List ℕ × Loaded)) (maps : Maps) → words ≡ [] → Gathers base k maps words (Ok maps)
 gathers_end base k words maps is = subst (λ ws. Gathers base k maps ws (Ok maps)) (sym is) refl

@@ -1,16 +1,17 @@
 -- What `compose` tells of two map files.
-use Rattle.std.specs.Prelude.{◌≡◌, ℕ, ◌⊎◌, List, [], ◌∷◌, Option, Some, None, Result, Ok, Err}
+use Rattle.std.specs.Prelude.{ℕ, List, [], ◌∷◌, Option, Some, None}
 use Rattle.smap_mappings.specs.Canonical.{canonical_text}
 use Rattle.smap_record.specs.Record.{MapRecord}
 use Rattle.smap_record.specs.Written.{written}
-use Rattle.smap_record.specs.declared.refusal.MapRefusal.{MapRefusal}
-use Rattle.smap_record.specs.declared.refusal.MapRefusal.TheVariants.{Url}
 use Rattle.smap_compose.specs.Composition.{Composition, compose_refusal, composition}
 use Rattle.smap_compose.specs.declared.refusal.ComposeRefusal.{ComposeRefusal}
 use Rattle.smap_compose.specs.declared.refusal.ComposeRefusal.TheVariants.{SourceIndex, TooLarge, Memory}
 use Rattle.smap_answers.specs.Lines.{composed_too_large_line, line_from, no_source_line}
-use Rattle.smap_answers.specs.Map.{IsMapTelling, refusal_result}
+use Rattle.smap_answers.specs.Map.{IsResult, TellsMap}
 use Rattle.smap_answers.specs.Outcome.{Telling, answer, out_of_memory, refusal}
+use Rattle.smap_answers.specs.declared.load.Loaded.{Loaded}
+use Rattle.smap_command.specs.Limits.{usual_interval}
+use Rattle.url.specs.Parts.{Parts}
 
 -- why two maps are not composed
 abbrev pub compose_refusal_result : ComposeRefusal → Telling
@@ -32,9 +33,9 @@ composed_result None composed = answer (composed_line composed)
 abbrev pub compose_result : (outer : MapRecord) (source : ℕ) (inner : MapRecord) → Telling
 compose_result outer source inner = composed_result (compose_refusal outer source inner) (composition outer source inner)
 
--- what is told of both files, of which the outer one is read first; a source's URL that is too long refuses either
-abbrev pub IsComposeTelling : (source : ℕ) → (outer_path : List ℕ) → Result MapRecord MapRefusal
-    → (inner_path : List ℕ) → Result MapRecord MapRefusal → Telling → Type 0
-IsComposeTelling source outer_path (Err refused) inner_path inner_found telling = telling ≡ refusal_result outer_path refused
-IsComposeTelling source outer_path (Ok outer) inner_path inner_found telling =
-    (telling ≡ refusal_result outer_path Url) ⊎ IsMapTelling (compose_result outer source) inner_path inner_found telling
+-- what is told of both files, of which the outer one is read first
+abbrev pub TellsComposed : (outer : Loaded) (source : ℕ) (inner : Loaded) → Option Parts → Telling → Type 0
+TellsComposed outer source inner base telling =
+    TellsMap outer base usual_interval
+    (λ stated. TellsMap inner base usual_interval (IsResult (compose_result stated source)))
+    telling

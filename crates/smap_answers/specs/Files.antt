@@ -24,16 +24,6 @@ paths_of (Compose outer source inner base) = string_bytes outer ∷ string_bytes
 abbrev pub path_of : Loaded → List ℕ
 path_of file = string_bytes file.path
 
--- the bytes of the first file, and none where there is no file
-abbrev pub first_bytes : List Loaded → List ℕ
-first_bytes [] = []
-first_bytes (file ∷ files) = file.bytes.items
-
--- the bytes of the second
-abbrev pub second_bytes : List Loaded → List ℕ
-second_bytes [] = []
-second_bytes (file ∷ files) = first_bytes files
-
 -- it is told that memory ran out, or that the file at this path can't be read
 abbrev pub IsUnreadAt : (path : List ℕ) → Telling → Type 0
 IsUnreadAt path telling = (telling ≡ out_of_memory) ⊎ (telling ≡ failure (file_failed_line path))

@@ -1,11 +1,12 @@
 -- What a command comes to: the text that is told, and the status with which the program ends.
-use Rattle.std.specs.Prelude.{ℕ, List, [], Result, Ok, Err, string_bytes}
-use Rattle.std.specs.declared.alloc.AllocError.{AllocError}
+use Rattle.std.specs.Prelude.{◌≡◌, ℕ, ◌⊎◌, List, [], Result, Ok, Err, string_bytes}
 use Rattle.smap_trace.specs.declared.outcome.RewriteFault.{RewriteFault}
 use Rattle.smap_trace.specs.declared.outcome.RewriteFault.TheVariants.{Read, Write, TooMuch, Memory}
 use Rattle.smap_answers.specs.Lines.{input_failed_line, memory_line, trace_too_long_line, trace_unread_line, trace_unwritten_line, words_not_utf8_line}
-use Rattle.smap_answers.specs.declared.outcome.Outcome.{Outcome}
-use Rattle.smap_answers.specs.declared.outcome.Outcome.TheVariants as outcome
+use Rattle.smap_answers.specs.declared.outcome.Failure.{Failure}
+use Rattle.smap_answers.specs.declared.outcome.Failure.TheVariants as failures
+use Rattle.smap_answers.specs.declared.outcome.Reply.{Reply}
+use Rattle.smap_answers.specs.declared.outcome.Reply.TheVariants as replies
 
 -- a text and a status: with status 0 it is for standard output, with any other for standard error
 pub record Telling : Type 0 where
@@ -38,19 +39,27 @@ fault_telling Write = failure trace_unwritten_line
 fault_telling TooMuch = refusal trace_too_long_line
 fault_telling Memory = out_of_memory
 
-abbrev pub telling_of : Outcome → Telling
-telling_of (outcome.Answer text) = answer (string_bytes text)
-telling_of (outcome.Map bytes) = answer bytes.items
-telling_of (outcome.Refusal text) = refusal (string_bytes text)
-telling_of (outcome.Misuse text) = misuse (string_bytes text)
-telling_of outcome.WordsNotUtf8 = misuse words_not_utf8_line
-telling_of (outcome.Unreadable text) = failure (string_bytes text)
-telling_of outcome.InputFailure = failure input_failed_line
-telling_of outcome.Rewritten = answer []
-telling_of (outcome.Fault fault) = fault_telling fault
-telling_of outcome.Memory = out_of_memory
+-- an answer
+abbrev pub reply_telling : Reply → Telling
+reply_telling (replies.Text text) = answer (string_bytes text)
+reply_telling (replies.Map bytes) = answer bytes.items
+reply_telling replies.Rewritten = answer []
 
--- an outcome for which there was memory, or that it ran out
-abbrev pub telling_or_memory : Result Outcome AllocError → Telling
-telling_or_memory (Ok outcome) = telling_of outcome
-telling_or_memory (Err error) = out_of_memory
+-- why there is none
+abbrev pub failure_telling : Failure → Telling
+failure_telling (failures.Refusal text) = refusal (string_bytes text)
+failure_telling (failures.Misuse text) = misuse (string_bytes text)
+failure_telling failures.WordsNotUtf8 = misuse words_not_utf8_line
+failure_telling (failures.Unreadable text) = failure (string_bytes text)
+failure_telling failures.InputFailure = failure input_failed_line
+failure_telling (failures.Fault fault) = fault_telling fault
+failure_telling failures.Memory = out_of_memory
+
+-- either
+abbrev pub telling_of : Result Reply Failure → Telling
+telling_of (Ok reply) = reply_telling reply
+telling_of (Err failure) = failure_telling failure
+
+-- this is told, or that memory ran out
+abbrev pub OrMemory : (Telling → Type 0) → Telling → Type 0
+OrMemory IsTelling telling = (telling ≡ out_of_memory) ⊎ IsTelling telling

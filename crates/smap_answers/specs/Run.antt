@@ -1,29 +1,27 @@
 -- What a run of the program does to its streams, and the status with which it ends.
-use Rattle.std.specs.Prelude.{◌≡◌, ℕ, ◌⊎◌, Bool, true, false, List, String, map, zip, IfSome, string_bytes}
+use Rattle.std.specs.Prelude.{◌≡◌, ℕ, Bool, true, false, List, [], ◌∷◌, map, zip, IfSome}
 pub use Rattle.smap_command.specs.Interval.{HasInterval}
 use Rattle.smap_command.specs.Limits.{usual_interval}
 use Rattle.smap_answers.specs.Check.{check_line}
-use Rattle.smap_answers.specs.Compose.{IsComposeTelling}
-use Rattle.smap_answers.specs.Files.{first_bytes, second_bytes}
+use Rattle.smap_answers.specs.Compose.{TellsComposed}
 use Rattle.smap_answers.specs.Lines.{input_failed_line}
 use Rattle.smap_answers.specs.Lookup.{lookup_text}
-use Rattle.smap_answers.specs.Map.{IsMapAnswer, IsMapTelling}
-use Rattle.smap_answers.specs.Outcome.{Telling, failure, out_of_memory}
+use Rattle.smap_answers.specs.Map.{IsLine, IsResult, TellsMap}
+use Rattle.smap_answers.specs.Outcome.{OrMemory, Telling, failure}
 use Rattle.smap_answers.specs.Raw.{raw_result}
 use Rattle.smap_answers.specs.Show.{show_result}
 use Rattle.smap_answers.specs.Streams.{SinkSeen, Streams, Work, Ends, sinks_seen, work_seen}
-use Rattle.smap_answers.specs.Trace.{MapWord, RewriteTells}
+use Rattle.smap_answers.specs.Trace.{RewriteTells, url_in_word}
 use Rattle.smap_command.specs.declared.command.Command.{Command}
 use Rattle.smap_command.specs.declared.command.Command.TheVariants.{Raw, Check, Show, Lookup, Rewrite, Compose}
 use Rattle.smap_answers.specs.declared.load.Loaded.{Loaded}
-use Rattle.smap_record.specs.Record.{record_of}
 
 -- ---- `raw`
 
 -- what is told where standard input failed in the run, or did not
 abbrev pub IsRawTelling : (line column : ℕ) (input : List ℕ) (failed : Bool) → Telling → Type 0
 IsRawTelling line column input true telling = telling ≡ failure input_failed_line
-IsRawTelling line column input false telling = (telling ≡ out_of_memory) ⊎ (telling ≡ raw_result input line column)
+IsRawTelling line column input false telling = OrMemory (λ told. told ≡ raw_result input line column) telling
 
 -- `raw` reads standard input, and leaves standard output alone
 pub record RawTells (line column : ℕ) (before after : Work) (telling : Telling) : Type 0 where
@@ -37,11 +35,17 @@ pub record RawTells (line column : ℕ) (before after : Work) (telling : Telling
 
 -- such a command leaves standard input and output alone, and tells this, or that memory ran out
 abbrev pub TellsAside : (Telling → Type 0) → (before after : Work) → Telling → Type 0
-TellsAside IsTelling before after telling = (after ≡ before) × ((telling ≡ out_of_memory) ⊎ IsTelling telling)
+TellsAside IsTelling before after telling = (after ≡ before) × OrMemory IsTelling telling
 
--- a word of `rewrite`
-abbrev pub word_of : {A : Type 0} → String A × String A → MapWord
-word_of pair = record { url = string_bytes pair.0; path = string_bytes pair.1 }
+-- this is told of the first file, and there is one
+abbrev pub OfFirst : List Loaded → (Loaded → Telling → Type 0) → Telling → Type 0
+OfFirst [] Tells telling = ⊥
+OfFirst (first ∷ files) Tells telling = Tells first telling
+
+-- this is told of the first file and the second, and there are two
+abbrev pub OfBoth : List Loaded → (Loaded → Loaded → Telling → Type 0) → Telling → Type 0
+OfBoth [] Tells telling = ⊥
+OfBoth (first ∷ files) Tells telling = OfFirst files (Tells first) telling
 
 -- ---- all commands
 
@@ -49,16 +53,15 @@ word_of pair = record { url = string_bytes pair.0; path = string_bytes pair.1 }
 abbrev pub Tells : Command → List Loaded → (before after : Work) → Telling → Type 0
 Tells (Raw line column interval) files = RawTells line column
 Tells (Check path base interval) files =
-    TellsAside (IsMapAnswer (check_line interval) (string_bytes path) (record_of (first_bytes files) base interval))
+    TellsAside (OfFirst files (λ file. TellsMap file base interval (IsLine (check_line interval))))
 Tells (Show path base) files =
-    TellsAside (IsMapTelling show_result (string_bytes path) (record_of (first_bytes files) base usual_interval))
+    TellsAside (OfFirst files (λ file. TellsMap file base usual_interval (IsResult show_result)))
 Tells (Lookup path line column base interval after) files =
-    TellsAside (IsMapAnswer (lookup_text after line column) (string_bytes path) (record_of (first_bytes files) base interval))
+    TellsAside (OfFirst files (λ file. TellsMap file base interval (IsLine (lookup_text after line column))))
 Tells (Rewrite maps base interval hide_ignored) files =
-    RewriteTells base interval hide_ignored (zip (map word_of maps.items) (map (λ file. file.bytes.items) files))
+    RewriteTells base interval hide_ignored (zip (map url_in_word maps.items) files)
 Tells (Compose outer source inner base) files =
-    TellsAside (IsComposeTelling source (string_bytes outer) (record_of (first_bytes files) base usual_interval)
-    (string_bytes inner) (record_of (second_bytes files) base usual_interval))
+    TellsAside (OfBoth files (λ first second. TellsComposed first source second base))
 
 -- a run of a command, which ends with this status
 pub record Runs (command : Command) (files : List Loaded) (status : ℕ) (before after : Streams) : Type 0 where

@@ -1,9 +1,9 @@
--- What `rewrite` does: it reads a map for each of its words and puts it into a table, word by word, and rewrites the
+-- What `rewrite` does: it reads the map of each of its words and puts it into a table, word by word, and rewrites the
 -- trace on standard input over that table.
-use Rattle.std.specs.Prelude.{◌≡◌, ℕ, ◌⊎◌, Bool, List, [], ◌∷◌, Option, Some, None, Result, Ok, Err, codes}
+use Rattle.std.specs.Prelude.{◌≡◌, ℕ, ◌⊎◌, Bool, List, [], ◌∷◌, Option, Some, None, Result, Ok, Err, String, codes, string_bytes}
 use Rattle.url.specs.Parser.{Parsed, parse_url}
 use Rattle.url.specs.Parts.{Parts}
-use Rattle.smap_record.specs.Record.{MapRecord, record_of}
+use Rattle.smap_record.specs.Record.{MapRecord}
 use Rattle.smap_record.specs.declared.refusal.MapRefusal.{MapRefusal}
 use Rattle.smap_record.specs.declared.refusal.MapRefusal.TheVariants.{Url}
 use Rattle.smap_lines.specs.Editing.{Streams}
@@ -15,21 +15,22 @@ use Rattle.smap_trace.specs.declared.outcome.Summary.{Summary}
 use Rattle.smap_trace.specs.declared.refusal.TableRefusal.{TableRefusal}
 use Rattle.smap_trace.specs.declared.refusal.TableRefusal.TheVariants.{BadUrl, Twice, Memory}
 use Rattle.smap_answers.specs.Lines.{bad_url_line, text_from, twice_line}
-use Rattle.smap_answers.specs.Map.{refusal_result}
-use Rattle.smap_answers.specs.Outcome.{Telling, answer, fault_telling, misuse, out_of_memory, telling_of}
+use Rattle.smap_answers.specs.Map.{IsFoundRefusal, map_in, refusal_result}
+use Rattle.smap_answers.specs.Files.{path_of}
+use Rattle.smap_answers.specs.Outcome.{Telling, answer, failure_telling, fault_telling, misuse, out_of_memory}
 use Rattle.smap_answers.specs.Streams.{Work}
-use Rattle.smap_answers.specs.declared.outcome.Outcome.{Outcome}
+use Rattle.smap_answers.specs.declared.load.Loaded.{Loaded}
+use Rattle.smap_answers.specs.declared.outcome.Failure.{Failure}
 
 -- ---- the table
 
--- a word: the URL that frames name, and the path of the map's file
-pub record MapWord : Type 0 where
-  pub url : List ℕ
-  pub path : List ℕ
+-- the URL in a word of `rewrite`, which is that and a path
+abbrev pub url_in_word : {A : Type 0} → String A × String A → List ℕ
+url_in_word word = string_bytes word.0
 
--- how it is written
-abbrev pub word_text : MapWord → List ℕ
-word_text word = text_from (word.url ∷ codes "=" ∷ word.path ∷ [])
+-- how such a word is written
+abbrev pub word_text : (url path : List ℕ) → List ℕ
+word_text url path = text_from (url ∷ codes "=" ∷ path ∷ [])
 
 -- the URL that the parser gave, if it did
 abbrev pub url_in : Parsed Parts → Option Parts
@@ -50,63 +51,59 @@ IsBaseUsed base url used = (used ≡ base_of base url) ⊎ ((base ≡ None) × (
 abbrev pub Maps : Type 0
 Maps = List (List ℕ × MapRecord)
 
--- why a map is not put under the URL of a word
-abbrev pub word_refusal : TableRefusal → MapWord → Telling
-word_refusal BadUrl word = misuse (bad_url_line (word_text word))
-word_refusal Twice word = misuse (twice_line (word_text word))
-word_refusal Memory word = out_of_memory
+-- why the map of the file at this path is not put under this URL
+abbrev pub url_refusal_result : TableRefusal → (url path : List ℕ) → Telling
+url_refusal_result BadUrl url path = misuse (bad_url_line (word_text url path))
+url_refusal_result Twice url path = misuse (twice_line (word_text url path))
+url_refusal_result Memory url path = out_of_memory
 
--- a map goes under the URL of its word, or is refused
-abbrev pub Puts : Maps → MapWord → MapRecord → Option TableRefusal → Result Maps Telling → Type 0
-Puts maps word stated (Some refused) result = result ≡ Err (word_refusal refused word)
-Puts maps word stated None result = (more : Maps) × IsWith maps word.url stated more × (result ≡ Ok more)
+-- a map goes under a URL, or is refused
+abbrev pub Puts : Maps → (url path : List ℕ) → MapRecord → Option TableRefusal → Result Maps Telling → Type 0
+Puts maps url path stated (Some refused) result = result ≡ Err (url_refusal_result refused url path)
+Puts maps url path stated None result = (more : Maps) × IsWith maps url stated more × (result ≡ Ok more)
 
--- what a word's file gives goes into the table, or is refused; a source's URL that is too long refuses it too
-abbrev pub PutsRead : Maps → MapWord → Result MapRecord MapRefusal → Result Maps Telling → Type 0
-PutsRead maps word (Err refused) result = result ≡ Err (refusal_result word.path refused)
-PutsRead maps word (Ok stated) result =
-    (result ≡ Err (refusal_result word.path Url)) ⊎ Puts maps word stated (url_refusal maps word.url) result
+-- what a file gives goes into the table, or is refused; a source's URL that is too long refuses it too
+abbrev pub PutsFound : Maps → (url path : List ℕ) → Result MapRecord MapRefusal → Result Maps Telling → Type 0
+PutsFound maps url path (Err refused) result = result ≡ Err (refusal_result path refused)
+PutsFound maps url path (Ok stated) result =
+    (result ≡ Err (refusal_result path Url)) ⊎ Puts maps url path stated (url_refusal maps url) result
 
--- the bytes of a word's file are read, with checkpoints at the interval k, and go into the table, unless memory runs out
-abbrev pub PutsWord : Option Parts → (k : ℕ) → Maps → MapWord → (bytes : List ℕ) → Result Maps Telling → Type 0
-PutsWord base k maps word bytes result =
+-- a file is read, with checkpoints at the interval k, and its map goes into the table, unless memory runs out
+abbrev pub PutsMap : Option Parts → (k : ℕ) → Maps → (url : List ℕ) → Loaded → Result Maps Telling → Type 0
+PutsMap base k maps url file result =
     (result ≡ Err out_of_memory)
-    ⊎ ((used : Option Parts) × IsBaseUsed base word.url used × PutsRead maps word (record_of bytes used k) result)
+    ⊎ ((used : Option Parts) × IsBaseUsed base url used × PutsFound maps url (path_of file) (map_in file used k) result)
 
--- behind a word: its refusal decides, or the next words do
+-- behind a file: its refusal decides, or the next files do
 abbrev pub GathersOn : Result Maps Telling → (rest : Maps → Type 0) → Result Maps Telling → Type 0
 GathersOn (Err refused) rest result = result ≡ Err refused
 GathersOn (Ok more) rest result = rest more
 
--- the maps of these words, with the bytes of their files, go into the table one after another, up to the first refusal
-abbrev pub Gathers : Option Parts → (k : ℕ) → Maps → List (MapWord × List ℕ) → Result Maps Telling → Type 0
+-- the maps of these files, each with its URL, go into the table one after another, up to the first refusal
+abbrev pub Gathers : Option Parts → (k : ℕ) → Maps → List (List ℕ × Loaded) → Result Maps Telling → Type 0
 Gathers base k maps [] result = result ≡ Ok maps
-Gathers base k maps ((word, bytes) ∷ words) result =
-    (put : Result Maps Telling) × PutsWord base k maps word bytes put × GathersOn put (λ more. Gathers base k more words result) result
+Gathers base k maps ((url, file) ∷ files) result =
+    (put : Result Maps Telling) × PutsMap base k maps url file put × GathersOn put (λ more. Gathers base k more files result) result
 
 -- ---- what the parts of the call give, which only contracts of private functions cite
 
--- the file's bytes give this at the URL that is used
-abbrev pub IsReadAs : Option Parts → (k : ℕ) → (url bytes : List ℕ) → Result MapRecord MapRefusal → Type 0
-IsReadAs base k url bytes found = (used : Option Parts) × IsBaseUsed base url used × (record_of bytes used k ≡ found)
+-- the file gives this at the URL that is used
+abbrev pub IsReadAs : Option Parts → (k : ℕ) → (url : List ℕ) → Loaded → Result MapRecord MapRefusal → Type 0
+IsReadAs base k url file found = (used : Option Parts) × IsBaseUsed base url used × (map_in file used k ≡ found)
 
--- a file that gives this is refused so, or memory runs out; a source's URL that is too long refuses it too
-abbrev pub IsFoundRefusal : (path : List ℕ) → Result MapRecord MapRefusal → Telling → Type 0
-IsFoundRefusal path (Err refused) telling = (telling ≡ out_of_memory) ⊎ (telling ≡ refusal_result path refused)
-IsFoundRefusal path (Ok stated) telling = (telling ≡ out_of_memory) ⊎ (telling ≡ refusal_result path Url)
-
-abbrev pub IsReadRefusal : Option Parts → (k : ℕ) → MapWord → (bytes : List ℕ) → Telling → Type 0
-IsReadRefusal base k word bytes telling = (used : Option Parts) × IsBaseUsed base word.url used × IsFoundRefusal word.path (record_of bytes used k) telling
+-- and is refused so
+abbrev pub IsReadRefusal : Option Parts → (k : ℕ) → (url : List ℕ) → Loaded → Telling → Type 0
+IsReadRefusal base k url file telling = (used : Option Parts) × IsBaseUsed base url used × IsFoundRefusal (path_of file) (map_in file used k) telling
 
 -- what a call that puts a map into a table gives
-abbrev pub put_seen : Result Unit Outcome → Maps → Result Maps Telling
+abbrev pub put_seen : Result Unit Failure → Maps → Result Maps Telling
 put_seen (Ok done) maps = Ok maps
-put_seen (Err outcome) maps = Err (telling_of outcome)
+put_seen (Err failure) maps = Err (failure_telling failure)
 
 -- and one that makes the table
-abbrev pub gathered : Result Maps Outcome → Result Maps Telling
+abbrev pub gathered : Result Maps Failure → Result Maps Telling
 gathered (Ok maps) = Ok maps
-gathered (Err outcome) = Err (telling_of outcome)
+gathered (Err failure) = Err (failure_telling failure)
 
 -- ---- the trace
 
@@ -133,12 +130,12 @@ pub record TraceTells (maps : Maps) (hide : Bool) (before after : Work) (telling
   pub untouched : result ≡ Err fault.Memory → after ≡ before
   pub told : telling ≡ rewrite_telling result
 
--- where a word is refused, this is told, and standard input and output stay as they are
+-- where a file or its URL is refused, this is told, and standard input and output stay as they are
 abbrev pub GatheredTells : Result Maps Telling → (hide : Bool) → (before after : Work) → Telling → Type 0
 GatheredTells (Err refused) hide before after telling = (telling ≡ refused) × (after ≡ before)
 GatheredTells (Ok maps) hide before after telling = TraceTells maps hide before after telling
 
--- what `rewrite` tells, by its base, its interval, whether it hides, its words and the bytes of their files
-abbrev pub RewriteTells : Option Parts → (k : ℕ) → (hide : Bool) → List (MapWord × List ℕ) → (before after : Work) → Telling → Type 0
-RewriteTells base k hide words before after telling =
-    (gathered : Result Maps Telling) × Gathers base k [] words gathered × GatheredTells gathered hide before after telling
+-- what `rewrite` tells, by its base, its interval, whether it hides, and its files, each with its URL
+abbrev pub RewriteTells : Option Parts → (k : ℕ) → (hide : Bool) → List (List ℕ × Loaded) → (before after : Work) → Telling → Type 0
+RewriteTells base k hide files before after telling =
+    (gathered : Result Maps Telling) × Gathers base k [] files gathered × GatheredTells gathered hide before after telling

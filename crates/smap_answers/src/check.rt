@@ -1,32 +1,28 @@
 //! Counting what a map file holds.
 ghost use Rattle.std.specs.Prelude.{◌≡◌, string_bytes, option_copied, IfOk};
-ghost use Rattle.smap_record.specs.Record.{record_of};
 ghost use Rattle.smap_answers.specs.Check.{check_line, counts_of};
-ghost use Rattle.smap_answers.specs.Map.{IsMapAnswer};
-ghost use Rattle.smap_answers.specs.Outcome.{telling_of};
+ghost use Rattle.smap_answers.specs.Map.{IsLine, TellsMap};
+ghost use Rattle.smap_answers.specs.Outcome.{OrMemory, telling_of};
 
 use crate::lines::{self, MapCounts};
-use crate::outcome::Outcome;
-use crate::refusal::refuse;
+use crate::load::Loaded;
+use crate::map::read_map;
+use crate::outcome::{Failure, Reply};
 use smap_record::{MapFile, Url};
 use std::alloc::{AllocError, Global};
 
-/// Reads the map that the bytes of the file at this path are, and counts what it holds, with its checkpoints at this
-/// interval.
+/// Reads the map that the file is, and counts what it holds, with its checkpoints at this interval.
 pub fn answer_check(
     alloc: Global,
-    path: &str,
-    bytes: &[u8],
+    file: &Loaded,
     base: Option<&Url>,
     interval: u32,
-) -> Result<Outcome, AllocError>
-    ensures { IfOk result (λ outcome.
-        IsMapAnswer (check_line interval) path.now (record_of bytes.now (option_copied base.entry) interval) (telling_of outcome)) }
+) -> Result<Reply, Failure>
+    ensures { OrMemory (TellsMap file.now (option_copied base.entry) interval
+        (IsLine (check_line interval))) (telling_of result) }
 {
-    match MapFile::read(alloc, bytes, base, interval) {
-        Ok(map) => Ok(Outcome::Answer(check_line(alloc, &map)?)),
-        Err(refusal) => refuse(alloc, path, refusal),
-    }
+    let map = read_map(alloc, file, base, interval)?;
+    Ok(Reply::Text(check_line(alloc, &map)?))
 }
 
 // The line of the counts of a map.

@@ -15,6 +15,7 @@ mod limits;
 mod lines;
 mod load;
 mod lookup;
+mod map;
 mod outcome;
 mod raw;
 mod refusal;
@@ -24,7 +25,7 @@ mod telling;
 mod trace;
 
 pub use load::{Loaded, load_files};
-pub use outcome::Outcome;
+pub use outcome::{Failure, Reply};
 pub use running::run;
 pub use smap_command::{Command, USUAL_INTERVAL};
 pub use telling::tell;

@@ -94,7 +94,8 @@ pub fn place_line(
 
 // What prints of a name.
 fn name_suffix(alloc: Global, name: Option<&str>) -> Result<String, AllocError>
-    ensures { IfOk result (λ text. string_bytes text ≡ name_suffix (option_map (λ name. name.now) name.entry)) }
+    ensures { IfOk result (λ text. string_bytes text ≡ name_suffix
+        (option_map (λ name. name.now) name.entry)) }
 {
     match name {
         Some(name) => {
@@ -177,7 +178,7 @@ pub fn file_failed_line(alloc: Global, path: &str) -> Result<String, AllocError>
 /// Standard error: a word of `rewrite` whose URL no frame has.
 pub fn bad_url_line(alloc: Global, url: &str, path: &str) -> Result<String, AllocError>
     ensures { IfOk result (λ text. string_bytes text
-        ≡ bad_url_line (word_text (record { url = url.now; path = path.now }))) }
+        ≡ bad_url_line (word_text url.now path.now)) }
 {
     let word = shown_word(alloc, url, path)?;
     format!(in alloc; "usage: A1 BadUrl: {word}\n")
@@ -186,7 +187,7 @@ pub fn bad_url_line(alloc: Global, url: &str, path: &str) -> Result<String, Allo
 /// Standard error: a word of `rewrite` whose URL has a map already.
 pub fn twice_line(alloc: Global, url: &str, path: &str) -> Result<String, AllocError>
     ensures { IfOk result (λ text. string_bytes text
-        ≡ twice_line (word_text (record { url = url.now; path = path.now }))) }
+        ≡ twice_line (word_text url.now path.now)) }
 {
     let word = shown_word(alloc, url, path)?;
     format!(in alloc; "usage: A2 Twice: {word}\n")
@@ -195,7 +196,7 @@ pub fn twice_line(alloc: Global, url: &str, path: &str) -> Result<String, AllocE
 // A word of `rewrite`, for one line.
 fn shown_word(alloc: Global, url: &str, path: &str) -> Result<String, AllocError>
     ensures { IfOk result (λ text. string_bytes text
-        ≡ shown (word_text (record { url = url.now; path = path.now }))) }
+        ≡ shown (word_text url.now path.now)) }
 {
     let (url, path) = (shown(alloc, url)?, shown(alloc, path)?);
     format!(in alloc; "{url}={path}")

@@ -1,10 +1,10 @@
 //! Reading the files that a command names, before it runs.
 ghost use Rattle.std.specs.Prelude.{◌≡◌, ◌++◌, ◌∷◌, [], map, IfErr, IfOk, OnOk};
 ghost use Rattle.smap_answers.specs.Files.{IsUnread, IsUnreadAt, IsUnreadOf, path_in, path_of, paths_of};
-ghost use Rattle.smap_answers.specs.Outcome.{telling_of};
+ghost use Rattle.smap_answers.specs.Outcome.{failure_telling};
 
 use crate::lines;
-use crate::outcome::Outcome;
+use crate::outcome::Failure;
 use smap_command::Command;
 use smap_io::{FromStd, ReadFailure, read_all};
 use smap_record::MOST_FILE_BYTES;
@@ -23,9 +23,9 @@ pub struct Loaded {
 
 /// Loads the file of each path of the command, in their order. An `Err` tells of the first that can't be read, or that
 /// memory ran out.
-pub fn load_files(rt: &HostRuntime, command: &Command) -> Result<Vec<Loaded>, Outcome>
+pub fn load_files(rt: &HostRuntime, command: &Command) -> Result<Vec<Loaded>, Failure>
     ensures loaded { IfOk result (λ files. map path_of files.items ≡ paths_of command.now) }
-    ensures unread { IfErr result (λ outcome. IsUnread command.now (telling_of outcome)) }
+    ensures unread { IfErr result (λ failure. IsUnread command.now (failure_telling failure)) }
 {
     let mut files = Vec::new(rt.alloc());
     match command {
@@ -47,10 +47,11 @@ fn load_maps(
     rt: &HostRuntime,
     files: &mut Vec<Loaded>,
     maps: &[(String, String)],
-) -> Result<(), Outcome>
+) -> Result<(), Failure>
     ensures loaded { OnOk result
         (map path_of files.new.items ≡ map path_of files.old.items ++ map path_in maps.now) }
-    ensures unread { IfErr result (λ outcome. IsUnreadOf (map path_in maps.now) (telling_of outcome)) }
+    ensures unread { IfErr result (λ failure. IsUnreadOf (map path_in maps.now)
+        (failure_telling failure)) }
 {
     for (_, path) in maps {
         load_next(rt, files, path)?;
@@ -59,40 +60,40 @@ fn load_maps(
 }
 
 // Loads the file at a path, behind those that are loaded.
-fn load_next(rt: &HostRuntime, files: &mut Vec<Loaded>, path: &str) -> Result<(), Outcome>
+fn load_next(rt: &HostRuntime, files: &mut Vec<Loaded>, path: &str) -> Result<(), Failure>
     ensures loaded { OnOk result
         (map path_of files.new.items ≡ map path_of files.old.items ++ path.now ∷ []) }
-    ensures unread { IfErr result (λ outcome. IsUnreadAt path.now (telling_of outcome)) }
+    ensures unread { IfErr result (λ failure. IsUnreadAt path.now (failure_telling failure)) }
 {
     let file = load(rt, path)?;
     match files.push(file) {
         Ok(_) => Ok(()),
-        Err(_) => Err(Outcome::Memory),
+        Err(_) => Err(Failure::Memory),
     }
 }
 
 // Loads the file at a path.
-fn load(rt: &HostRuntime, path: &str) -> Result<Loaded, Outcome>
+fn load(rt: &HostRuntime, path: &str) -> Result<Loaded, Failure>
     ensures loaded { IfOk result (λ file. path_of file ≡ path.now) }
-    ensures unread { IfErr result (λ outcome. IsUnreadAt path.now (telling_of outcome)) }
+    ensures unread { IfErr result (λ failure. IsUnreadAt path.now (failure_telling failure)) }
 {
     match read_file(rt, path) {
-        Ok(bytes) => match String::from_str(rt.alloc(), path) {
-            Ok(path) => Ok(Loaded { path, bytes }),
-            Err(_) => Err(Outcome::Memory),
-        },
+        Ok(bytes) => Ok(Loaded {
+            path: String::from_str(rt.alloc(), path)?,
+            bytes,
+        }),
         Err(ReadFailure::Device) => Err(unreadable(rt.alloc(), path)),
-        Err(ReadFailure::Memory) => Err(Outcome::Memory),
+        Err(ReadFailure::Memory) => Err(Failure::Memory),
     }
 }
 
 // The file at this path can't be read.
-fn unreadable(alloc: Global, path: &str) -> Outcome
-    ensures { IsUnreadAt path.now (telling_of result) }
+fn unreadable(alloc: Global, path: &str) -> Failure
+    ensures { IsUnreadAt path.now (failure_telling result) }
 {
     match lines::file_failed_line(alloc, path) {
-        Ok(line) => Outcome::Unreadable(line),
-        Err(_) => Outcome::Memory,
+        Ok(line) => Failure::Unreadable(line),
+        Err(_) => Failure::Memory,
     }
 }
 

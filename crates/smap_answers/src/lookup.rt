@@ -1,39 +1,37 @@
 //! Looking a position up in a map file.
 ghost use Rattle.std.specs.Prelude.{◌≡◌, option_and_then, option_map, slice_get, string_bytes, option_copied, IfOk};
-ghost use Rattle.smap_record.specs.Record.{record_of};
 ghost use Rattle.smap_record.specs.Sources.{source_of};
 ghost use Rattle.smap_answers.specs.Lookup.{is_passed_over, lookup_answer, lookup_text, origin_line, origin_text};
 ghost use Rattle.smap_answers.specs.Lookup.{source_excerpt, source_text};
-ghost use Rattle.smap_answers.specs.Map.{IsMapAnswer};
-ghost use Rattle.smap_answers.specs.Outcome.{telling_of};
+ghost use Rattle.smap_answers.specs.Map.{IsLine, TellsMap};
+ghost use Rattle.smap_answers.specs.Outcome.{OrMemory, telling_of};
 
 use crate::lines;
-use crate::outcome::Outcome;
-use crate::refusal::refuse;
+use crate::load::Loaded;
+use crate::map::read_map;
+use crate::outcome::{Failure, Reply};
 use smap_command::shown;
 use smap_record::{Answer, MapFile, Meter, Origin, SourceEntry, Url};
 use smap_text::excerpt;
 use std::alloc::{AllocError, Global};
 
-/// Looks up a generated line and column, both from 0, in the map that the bytes of the file at this path are, over
-/// checkpoints at this interval: at the position or before it or, with `after`, at it or after it.
+/// Looks up a generated line and column, both from 0, in the map that the file is, over checkpoints at this interval: at
+/// the position or before it or, with `after`, at it or after it.
 pub fn answer_lookup(
     alloc: Global,
-    path: &str,
-    bytes: &[u8],
+    file: &Loaded,
     base: Option<&Url>,
+    interval: u32,
     line: u32,
     column: u32,
-    interval: u32,
     after: bool,
-) -> Result<Outcome, AllocError>
-    ensures { IfOk result (λ outcome.
-        IsMapAnswer (lookup_text after line column) path.now (record_of bytes.now (option_copied base.entry) interval) (telling_of outcome)) }
+) -> Result<Reply, Failure>
+    ensures { OrMemory
+        (TellsMap file.now (option_copied base.entry) interval
+        (IsLine (lookup_text after line column))) (telling_of result) }
 {
-    match MapFile::read(alloc, bytes, base, interval) {
-        Ok(map) => Ok(Outcome::Answer(lookup_text(alloc, &map, line, column, after)?)),
-        Err(refusal) => refuse(alloc, path, refusal),
-    }
+    let map = read_map(alloc, file, base, interval)?;
+    Ok(Reply::Text(lookup_text(alloc, &map, line, column, after)?))
 }
 
 // The text for what a map answers for a position.

@@ -1,9 +1,11 @@
 //! What a command comes to, and how that is told.
 ghost use Rattle.std.specs.Prelude.{◌≡◌};
-ghost use Rattle.smap_answers.specs.Outcome.{fault_telling, telling_of};
+ghost use Rattle.smap_answers.specs.Outcome.{failure_telling, fault_telling, reply_telling};
+ghost use Rattle.smap_answers.specs.declared.outcome.Failure.TheVariants.{Memory};
 
 use crate::lines;
 use smap_trace::RewriteFault;
+use std::alloc::AllocError;
 
 /// The exit status of a run that did what it was asked.
 pub const DONE: u8 = 0;
@@ -14,14 +16,21 @@ pub const MISUSED: u8 = 2;
 /// The exit status of a run in which a device failed, or memory ran out.
 pub const FAILED: u8 = 3;
 
-/// What a command comes to. Each text is whole, with its last LF.
+/// What a command answers: for standard output, with status 0.
 #[derive(Drop)]
-pub enum Outcome {
-    /// What was asked for: for standard output, with status 0.
-    Answer(String),
-    /// The map that was asked for, for standard output, with status 0.
+pub enum Reply {
+    /// The text that was asked for, whole, with its last LF.
+    Text(String),
+    /// The map that was asked for, with an LF.
     Map(Vec<u8>),
-    /// Why the input is refused: for standard error, as all that follow, with status 1.
+    /// The trace is rewritten, and standard output has it already: nothing is added.
+    Rewritten,
+}
+
+/// Why a command does not answer: for standard error. Each text is whole, with its last LF.
+#[derive(Drop)]
+pub enum Failure {
+    /// Why the input is refused: status 1.
     Refusal(String),
     /// Why the words of the command line give no command: status 2.
     Misuse(String),
@@ -31,43 +40,58 @@ pub enum Outcome {
     Unreadable(String),
     /// Standard input failed: status 3.
     InputFailure,
-    /// The trace is rewritten, and standard output has it already: status 0, and nothing is added.
-    Rewritten,
     /// The trace is rewritten up to this fault: status 1 for a trace that is too long, and 3 for the others.
     Fault(RewriteFault),
     /// Memory ran out: status 3.
     Memory,
 }
 
-impl Outcome {
-    /// The exit status. The call takes no memory.
-    pub fn status(&self) -> u8
-        ensures { result ≡ (telling_of self.now).status }
+impl From<AllocError> for Failure {
+    ghost from_gives = { λ _ failure. failure ≡ Memory };
+
+    fn from(_error: AllocError) -> Failure {
+        Failure::Memory
+    }
+}
+
+impl Reply {
+    /// What the user reads. The call takes no memory.
+    pub fn bytes(&self) -> &[u8]
+        ensures { result.now ≡ (reply_telling self.now).text }
     {
         match self {
-            Outcome::Answer(_) | Outcome::Map(_) | Outcome::Rewritten => DONE,
-            Outcome::Refusal(_) | Outcome::Fault(RewriteFault::TooMuch) => REFUSED,
-            Outcome::Misuse(_) | Outcome::WordsNotUtf8 => MISUSED,
-            Outcome::Unreadable(_) | Outcome::InputFailure | Outcome::Fault(_) | Outcome::Memory =>
+            Reply::Text(text) => text.as_bytes(),
+            Reply::Map(bytes) => bytes,
+            Reply::Rewritten => &[],
+        }
+    }
+}
+
+impl Failure {
+    /// The exit status. The call takes no memory.
+    pub fn status(&self) -> u8
+        ensures { result ≡ (failure_telling self.now).status }
+    {
+        match self {
+            Failure::Refusal(_) | Failure::Fault(RewriteFault::TooMuch) => REFUSED,
+            Failure::Misuse(_) | Failure::WordsNotUtf8 => MISUSED,
+            Failure::Unreadable(_) | Failure::InputFailure | Failure::Fault(_) | Failure::Memory =>
                 FAILED,
         }
     }
 
     /// What the user reads. The call takes no memory.
     pub fn bytes(&self) -> &[u8]
-        ensures { result.now ≡ (telling_of self.now).text }
+        ensures { result.now ≡ (failure_telling self.now).text }
     {
         match self {
-            Outcome::Answer(text) => text.as_bytes(),
-            Outcome::Map(bytes) => bytes,
-            Outcome::Refusal(text) => text.as_bytes(),
-            Outcome::Misuse(text) => text.as_bytes(),
-            Outcome::WordsNotUtf8 => lines::WORDS_NOT_UTF8.as_bytes(),
-            Outcome::Unreadable(text) => text.as_bytes(),
-            Outcome::InputFailure => lines::INPUT_FAILED.as_bytes(),
-            Outcome::Rewritten => &[],
-            Outcome::Fault(fault) => fault_line(*fault).as_bytes(),
-            Outcome::Memory => lines::NO_MEMORY.as_bytes(),
+            Failure::Refusal(text) => text.as_bytes(),
+            Failure::Misuse(text) => text.as_bytes(),
+            Failure::WordsNotUtf8 => lines::WORDS_NOT_UTF8.as_bytes(),
+            Failure::Unreadable(text) => text.as_bytes(),
+            Failure::InputFailure => lines::INPUT_FAILED.as_bytes(),
+            Failure::Fault(fault) => fault_line(*fault).as_bytes(),
+            Failure::Memory => lines::NO_MEMORY.as_bytes(),
         }
     }
 }

@@ -1,5 +1,5 @@
 //! Looking a position up in a bare mappings text.
-ghost use Rattle.std.specs.Prelude.{◌≡◌, ◌≤◌, IfOk, length, string_bytes, true};
+ghost use Rattle.std.specs.Prelude.{◌≡◌, ◌≤◌, IfOk, false, length, string_bytes, true};
 ghost use Rattle.std.specs.List.{All};
 ghost use Rattle.smap_mappings.specs.Faults.{first_fault};
 ghost use Rattle.smap_mappings.specs.Mappings.{mappings_of};
@@ -7,28 +7,54 @@ ghost use Rattle.smap_mappings.specs.Limits.{most_indices, most_text_bytes};
 ghost use Rattle.smap_mappings.specs.Within.{IsWithin};
 ghost use Rattle.smap_index.specs.Answer.{answer_at_or_before};
 ghost use Rattle.smap_index.specs.Faults.{is_interval};
-ghost use Rattle.smap_answers.specs.Outcome.{telling_of};
+ghost use Rattle.smap_answers.specs.Outcome.{OrMemory, telling_of};
 ghost use Rattle.smap_answers.specs.Raw.{answer_line, fault_or_answer, raw_result, text_result};
 ghost use Rattle.smap_answers.specs.Raw.{without_last_line_end};
+ghost use Rattle.smap_answers.specs.Run.{RawTells};
+ghost use Rattle.smap_answers.specs.Streams.{SinkSeen, source_seen, work_seen};
 
 use crate::lines;
-use crate::outcome::Outcome;
+use crate::outcome::{Failure, Reply};
+use crate::refusal::refused;
 use smap_index::laws::one_text_is_its_mappings;
 use smap_index::{Answer, BuildRefusal, Index, Part};
+use smap_io::{ByteSource, ReadFailure, read_all};
 use smap_mappings::{MOST_BYTES, MOST_INDICES, Meter, PackedText, TextRefusal};
 use std::alloc::{AllocError, Global};
 
-/// Looks up a generated line and column, both from 0, in the mappings text that the bytes are, over checkpoints at this
-/// interval. The caller gives one at which they may stand.
-pub fn answer_raw(
+/// Looks up a generated line and column, both from 0, in the mappings text on standard input, over checkpoints at this
+/// interval. The caller gives one at which they may stand, and an input that has not failed.
+pub fn answer_raw<R: ByteSource>(
+    alloc: Global,
+    input: &mut R,
+    line: u32,
+    column: u32,
+    interval: u32,
+) -> Result<Reply, Failure>
+    requires may_stand { is_interval interval ≡ true }
+    requires input_works { R.has_failed input.old ≡ false }
+    ensures { (output : SinkSeen) → RawTells line column
+        (work_seen (source_seen R.left R.has_failed input.old) output)
+        (work_seen (source_seen R.left R.has_failed input.new) output) (telling_of result) }
+{
+    // Two bytes more than a text may have: one of them may be the LF that is dropped.
+    match read_all(alloc, input, MOST_BYTES + 2) {
+        Ok(bytes) => answer_bytes(alloc, bytes, line, column, interval),
+        Err(ReadFailure::Device) => Err(Failure::InputFailure),
+        Err(ReadFailure::Memory) => Err(Failure::Memory),
+    }
+}
+
+// Looks the position up in the mappings text that the bytes are.
+fn answer_bytes(
     alloc: Global,
     bytes: Vec<u8>,
     line: u32,
     column: u32,
     interval: u32,
-) -> Result<Outcome, AllocError>
+) -> Result<Reply, Failure>
     requires { is_interval interval ≡ true }
-    ensures { IfOk result (λ outcome. telling_of outcome ≡ raw_result bytes.items line column) }
+    ensures { OrMemory (λ telling. telling ≡ raw_result bytes.items line column) (telling_of result) }
 {
     answer_text(alloc, without_last_line_end(bytes), line, column, interval)
 }
@@ -51,16 +77,17 @@ fn answer_text(
     line: u32,
     column: u32,
     interval: u32,
-) -> Result<Outcome, AllocError>
+) -> Result<Reply, Failure>
     requires { is_interval interval ≡ true }
-    ensures { IfOk result (λ outcome. telling_of outcome ≡ text_result bytes.items line column) }
+    ensures { OrMemory (λ telling. telling ≡ text_result bytes.items line column)
+        (telling_of result) }
 {
     if bytes.len() > MOST_BYTES {
-        return Ok(Outcome::Refusal(String::from_str(alloc, lines::TEXT_TOO_LONG)?));
+        return Err(refused(alloc, lines::TEXT_TOO_LONG));
     }
     match String::from_utf8(bytes) {
         Ok(text) => answer_mappings(alloc, text, line, column, interval),
-        Err(_) => Ok(Outcome::Refusal(String::from_str(alloc, lines::NOT_UTF8)?)),
+        Err(_) => Err(refused(alloc, lines::NOT_UTF8)),
     }
 }
 
@@ -71,20 +98,20 @@ fn answer_mappings(
     line: u32,
     column: u32,
     interval: u32,
-) -> Result<Outcome, AllocError>
+) -> Result<Reply, Failure>
     requires short { length (string_bytes text) ≤ most_text_bytes }
     requires may_stand { is_interval interval ≡ true }
-    ensures { IfOk result (λ outcome. telling_of outcome
+    ensures { OrMemory (λ telling. telling
         ≡ fault_or_answer (first_fault (string_bytes text) most_indices most_indices)
-        (answer_at_or_before (mappings_of (string_bytes text)) line column)) }
+        (answer_at_or_before (mappings_of (string_bytes text)) line column)) (telling_of result) }
 {
     match PackedText::check(text, MOST_INDICES, MOST_INDICES) {
         Ok(packed) => {
             let answer = look_up(alloc, packed, line, column, interval)?;
-            Ok(Outcome::Answer(answer_line(alloc, &answer)?))
+            Ok(Reply::Text(answer_line(alloc, &answer)?))
         }
         Err((TextRefusal::Fault(fault), _)) => {
-            Ok(Outcome::Refusal(lines::refused_line(alloc, fault)?))
+            Err(Failure::Refusal(lines::refused_line(alloc, fault)?))
         }
         Err((TextRefusal::TextTooLong, _)) => unreachable!(
             "the text is no longer than a text may be"

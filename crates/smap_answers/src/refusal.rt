@@ -1,26 +1,48 @@
 //! Telling why a map file is refused.
 ghost use Rattle.std.specs.Prelude.{◌≡◌, ◌≢◌, string_bytes, IfOk};
+ghost use Rattle.smap_answers.specs.Lines.{map_refused_line};
 ghost use Rattle.smap_answers.specs.Map.{refusal_result};
-ghost use Rattle.smap_answers.specs.Outcome.{telling_of};
+ghost use Rattle.smap_answers.specs.Outcome.{OrMemory, failure_telling, refusal};
 ghost use Rattle.smap_answers.specs.Refusal.{build_text, cause_text, parts_text, refusal_text, section_fault_text};
 ghost use Rattle.smap_record.specs.declared.refusal.MapRefusal.TheVariants.{Memory};
 
 use crate::lines;
-use crate::outcome::Outcome;
+use crate::outcome::Failure;
 use smap_record::{BuildRefusal, Fault, MapRefusal};
 use std::alloc::{AllocError, Global};
 
-/// What the refusal of the map file at this path comes to. Want of memory is no refusal of the map.
-pub fn refuse(alloc: Global, path: &str, refused: MapRefusal) -> Result<Outcome, AllocError>
-    ensures told { IfOk result (λ outcome.
-        telling_of outcome ≡ refusal_result path.now refused) }
+/// Why the map file at this path is not read. Want of memory is no refusal of the map.
+pub fn refusal_of(alloc: Global, path: &str, refused: MapRefusal) -> Failure
+    ensures { OrMemory (λ telling. (refused ≢ Memory) × (telling ≡ refusal_result path.now refused))
+        (failure_telling result) }
+{
+    match refusal_line(alloc, path, refused) {
+        Ok(line) => Failure::Refusal(line),
+        Err(_) => Failure::Memory,
+    }
+}
+
+// The line that tells it.
+fn refusal_line(alloc: Global, path: &str, refused: MapRefusal) -> Result<String, AllocError>
+    ensures told { IfOk result (λ line. string_bytes line ≡ map_refused_line path.now
+        (refusal_text refused)) }
     ensures not_memory { IfOk result (λ _. refused ≢ Memory) }
 {
     if let MapRefusal::Memory = refused {
         return Err(AllocError);
     }
     let refused = refusal_text(alloc, refused)?;
-    Ok(Outcome::Refusal(lines::map_refused_line(alloc, path, &refused)?))
+    lines::map_refused_line(alloc, path, &refused)
+}
+
+/// A refusal that is told by this line.
+pub fn refused(alloc: Global, line: &str) -> Failure
+    ensures { OrMemory (λ telling. telling ≡ refusal line.now) (failure_telling result) }
+{
+    match String::from_str(alloc, line) {
+        Ok(line) => Failure::Refusal(line),
+        Err(_) => Failure::Memory,
+    }
 }
 
 // A refusal: its number and name, and then its parts.

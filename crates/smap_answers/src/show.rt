@@ -1,44 +1,36 @@
 //! Writing what a map file states as one regular map.
 ghost use Rattle.std.specs.Prelude.{◌≡◌, ◌++◌, ◌∷◌, [], option_copied, IfOk};
-ghost use Rattle.smap_record.specs.Record.{record_of};
-ghost use Rattle.smap_answers.specs.Map.{IsMapTelling};
-ghost use Rattle.smap_answers.specs.Outcome.{telling_of};
+ghost use Rattle.smap_answers.specs.Map.{IsResult, TellsMap};
+ghost use Rattle.smap_answers.specs.Outcome.{OrMemory, telling_of};
 ghost use Rattle.smap_answers.specs.Show.{show_result};
 ghost use Rattle.smap_command.specs.Limits.{usual_interval};
 
 use crate::lines;
-use crate::outcome::Outcome;
-use crate::refusal::refuse;
+use crate::load::Loaded;
+use crate::map::read_map;
+use crate::outcome::{Failure, Reply};
+use crate::refusal::refused;
 use smap_command::USUAL_INTERVAL;
 use smap_record::{MapFile, Url, WriteRefusal};
 use std::alloc::{AllocError, Global};
 
-/// Reads the map that the bytes of the file at this path are, and writes what it states as one regular map.
-pub fn answer_show(
-    alloc: Global,
-    path: &str,
-    bytes: &[u8],
-    base: Option<&Url>,
-) -> Result<Outcome, AllocError>
-    ensures { IfOk result (λ outcome.
-        IsMapTelling show_result path.now (record_of bytes.now (option_copied base.entry) usual_interval) (telling_of outcome)) }
+/// Reads the map that the file is, and writes what it states as one regular map.
+pub fn answer_show(alloc: Global, file: &Loaded, base: Option<&Url>) -> Result<Reply, Failure>
+    ensures { OrMemory (TellsMap file.now (option_copied base.entry) usual_interval
+        (IsResult show_result)) (telling_of result) }
 {
-    match MapFile::read(alloc, bytes, base, USUAL_INTERVAL) {
-        Ok(map) => written_map(alloc, &map),
-        Err(refusal) => refuse(alloc, path, refusal),
-    }
+    let map = read_map(alloc, file, base, USUAL_INTERVAL)?;
+    written_map(alloc, &map)
 }
 
 // The written map as a line, or that its mappings text would be too long.
-fn written_map(alloc: Global, map: &MapFile) -> Result<Outcome, AllocError>
-    ensures { IfOk result (λ outcome. telling_of outcome ≡ show_result map.now.stated) }
+fn written_map(alloc: Global, map: &MapFile) -> Result<Reply, Failure>
+    ensures { OrMemory (IsResult show_result map.now.stated) (telling_of result) }
 {
     match map.write(alloc) {
-        Ok(bytes) => Ok(Outcome::Map(line_of(bytes)?)),
-        Err(WriteRefusal::TextTooLong) => {
-            Ok(Outcome::Refusal(String::from_str(alloc, lines::WRITTEN_TEXT_TOO_LONG)?))
-        }
-        Err(WriteRefusal::Memory) => Err(AllocError),
+        Ok(bytes) => Ok(Reply::Map(line_of(bytes)?)),
+        Err(WriteRefusal::TextTooLong) => Err(refused(alloc, lines::WRITTEN_TEXT_TOO_LONG)),
+        Err(WriteRefusal::Memory) => Err(Failure::Memory),
     }
 }
 

@@ -2,31 +2,38 @@
 ghost use Rattle.std.specs.Prelude.{◌≡◌, false, true, OnErr, OnOk};
 ghost use Rattle.smap_io.specs.Device.{Takes, TakesFront};
 ghost use Rattle.smap_answers.specs.Outcome.{telling_of};
-ghost use Rattle.smap_answers.specs.Streams.{Ends, IsToldTo, Sinks, sink_seen, sinks_seen};
+ghost use Rattle.smap_answers.specs.Streams.{Ends, IsToldTo, sink_seen, sinks_seen};
 
 use crate::lines;
-use crate::outcome::{DONE, FAILED, Outcome};
+use crate::outcome::{DONE, FAILED, Failure, Reply};
 use smap_io::{ByteSink, DeviceFault, write_all};
 
-/// Writes the text of an outcome to the stream that it is for and flushes that, and gives the exit status. Where
-/// standard output fails, standard error says so. A failure of standard error is passed over. The caller gives a
-/// standard output that has not failed where the outcome is for it. The call takes no memory.
-pub fn tell<W: ByteSink, E: ByteSink>(outcome: &Outcome, output: &mut W, errors: &mut E) -> u8
+/// Writes the text of what a command comes to to the stream that it is for and flushes that, and gives the exit status.
+/// Where standard output fails, standard error says so. A failure of standard error is passed over. The caller gives a
+/// standard output that has not failed where there is an answer for it. The call takes no memory.
+pub fn tell<W: ByteSink, E: ByteSink>(
+    outcome: &Result<Reply, Failure>,
+    output: &mut W,
+    errors: &mut E,
+) -> u8
     requires output_works { (telling_of outcome.now).status ≡ 0 → W.has_failed output.old ≡ false }
     ensures { Ends (telling_of outcome.now) result
-        (sinks_seen (sink_seen W.taken W.is_flushed W.has_failed output.old) (sink_seen E.taken E.is_flushed E.has_failed errors.old))
-        (sinks_seen (sink_seen W.taken W.is_flushed W.has_failed output.new) (sink_seen E.taken E.is_flushed E.has_failed errors.new)) }
+        (sinks_seen (sink_seen W.taken W.is_flushed W.has_failed output.old)
+        (sink_seen E.taken E.is_flushed E.has_failed errors.old))
+        (sinks_seen (sink_seen W.taken W.is_flushed W.has_failed output.new)
+        (sink_seen E.taken E.is_flushed E.has_failed errors.new)) }
 {
-    let status = outcome.status();
-    if status != DONE {
-        report(errors, outcome.bytes());
-        return status;
-    }
-    match print(output, outcome.bytes()) {
-        Ok(()) => DONE,
-        Err(_) => {
-            report(errors, lines::OUTPUT_FAILED.as_bytes());
-            FAILED
+    match outcome {
+        Ok(reply) => match print(output, reply.bytes()) {
+            Ok(()) => DONE,
+            Err(_) => {
+                report(errors, lines::OUTPUT_FAILED.as_bytes());
+                FAILED
+            }
+        },
+        Err(failure) => {
+            report(errors, failure.bytes());
+            failure.status()
         }
     }
 }
@@ -36,7 +43,6 @@ fn print<W: ByteSink>(output: &mut W, text: &[u8]) -> Result<(), DeviceFault>
     ensures whole { OnOk result (Takes (W.taken output.old) (W.taken output.new) text.now) }
     ensures flushed { OnOk result (W.is_flushed output.new ≡ true) }
     ensures no_failure { OnOk result (W.has_failed output.new ≡ W.has_failed output.old) }
-
     ensures front { OnErr result (TakesFront (W.taken output.old) (W.taken output.new) text.now) }
     ensures failure { OnErr result (W.has_failed output.new ≡ true) }
 {

@@ -11,7 +11,7 @@ ghost use Rattle.std.specs.Prelude.{◌≡◌, map, IfOk};
 ghost use Rattle.smap_answers.specs.Files.{path_of, paths_of};
 ghost use Rattle.smap_command.specs.Interval.{HasInterval};
 
-use smap_answers::{Loaded, Outcome, load_files, run, tell};
+use smap_answers::{Failure, Loaded, Reply, load_files, run, tell};
 pub use smap_command::Command;
 use smap_io::FromStd;
 pub use smap_words::{Usage, parse};
@@ -39,23 +39,27 @@ fn main(rt: HostRuntime) -> ExitCode {
 
 // What the command line asks for, and the files that it names; or what is told where there is no such command, or a
 // file can't be read.
-fn command_with_files(rt: &HostRuntime) -> Result<(Command, Vec<Loaded>), Outcome>
+fn command_with_files(rt: &HostRuntime) -> Result<(Command, Vec<Loaded>), Result<Reply, Failure>>
     ensures loaded { IfOk result (λ asked. map path_of asked.1.items ≡ paths_of asked.0) }
     ensures interval { IfOk result (λ asked. HasInterval asked.0) }
 {
     let command = command_of(rt)?;
-    let files = load_files(rt, &command)?;
-    Ok((command, files))
+    match load_files(rt, &command) {
+        Ok(files) => Ok((command, files)),
+        Err(failure) => Err(Err(failure)),
+    }
 }
 
 // The command that the command line asks for.
-fn command_of(rt: &HostRuntime) -> Result<Command, Outcome>
+fn command_of(rt: &HostRuntime) -> Result<Command, Result<Reply, Failure>>
     ensures { IfOk result HasInterval }
 {
     let words = match words_of(rt) {
         Ok(words) => words,
-        Err(error) if error.kind() == io::ErrorKind::OutOfMemory => return Err(Outcome::Memory),
-        Err(_) => return Err(Outcome::WordsNotUtf8),
+        Err(error) if error.kind() == io::ErrorKind::OutOfMemory => {
+            return Err(Err(Failure::Memory));
+        }
+        Err(_) => return Err(Err(Failure::WordsNotUtf8)),
     };
     match parse(rt.alloc(), words) {
         Ok(command) => Ok(command),

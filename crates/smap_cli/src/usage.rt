@@ -3,16 +3,16 @@ ghost use Rattle.std.specs.Prelude.{◌≡◌};
 ghost use Rattle.smap_answers.specs.Outcome.{telling_of};
 ghost use Rattle.smap_cli.specs.Usage.{telling_of_usage};
 
-use smap_answers::Outcome;
+use smap_answers::{Failure, Reply};
 use smap_words::Usage;
 
 /// What the program comes to.
-pub fn outcome_of(usage: Usage) -> Outcome
+pub fn outcome_of(usage: Usage) -> Result<Reply, Failure>
     ensures { telling_of result ≡ telling_of_usage usage }
 {
     match usage {
-        Usage::Help(text) => Outcome::Answer(text),
-        Usage::Words(text) => Outcome::Misuse(text),
-        Usage::Memory => Outcome::Memory,
+        Usage::Help(text) => Ok(Reply::Text(text)),
+        Usage::Words(text) => Err(Failure::Misuse(text)),
+        Usage::Memory => Err(Failure::Memory),
     }
 }

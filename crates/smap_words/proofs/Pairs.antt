@@ -1,5 +1,5 @@
 -- The words of `rewrite`.
-use Rattle.std.proofs.Common.{◌≡◌, ◌∙◌, ◌≢◌, ◌++◌, ◌<◌, ◌||◌, ◌==◌, ℕ, zero, suc, Bool, true, false, not, cond, List, [], ◌∷◌, length, map, take, drop, Option, Some, None, refl, sym, ap, subst, arith, codes, get_or, inr}
+use Rattle.std.proofs.Common.{◌≡◌, ◌∙◌, ◌≢◌, ◌++◌, ◌<◌, ◌||◌, ◌==◌, ℕ, zero, suc, Bool, true, false, not, cond, List, [], ◌∷◌, length, map, take, drop, Some, None, refl, sym, ap, subst, arith, codes, get_or}
 use Rattle.std.specs.Borrow.{Bor}
 use Rattle.std.specs.List.{AllZip}
 use Rattle.std.specs.Prelude.{String, string_bytes}
@@ -9,8 +9,7 @@ use Rattle.std.proofs.lemmas.Bool.Decides.{Decides-eqb}
 use Rattle.std.proofs.lemmas.Str.Pattern.{NoCharPasses-char, drop_at_char}
 use Rattle.std.proofs.lemmas.List.{take-append-drop}
 use Rattle.clap.specs.Words.{Row, Text, all_of}
-use Rattle.url.specs.Parts.{Parts}
-use Rattle.smap_words.specs.Words.{ArePairs, GivesBase, IsNamedRefusal, IsPair, TellsNoPair, TellsRefusal, first_without, has_equals_sign}
+use Rattle.smap_words.specs.Words.{ArePairs, IsNamedRefusal, IsPair, TellsBadPair, TellsNoPair, first_without, has_equals_sign}
 use Rattle.smap_words.specs.declared.usage.Usage.{Usage}
 use Rattle.smap_words.specs.declared.usage.Usage.TheVariants.{Help, Words, Memory}
 
@@ -83,8 +82,8 @@ module _ {A : Type 0} where
   refused_at words pairs i d (Words text) low zips refused = (refused.0, first_at words pairs i d refused.0 low zips refused.1, refused.2)
   refused_at words pairs i d Memory low zips refused = tt
 
-pub tells_no_pair : (rows : List Row) (words : List Text) (base : Option Parts) → all_of (codes "URL=FILE") rows ≡ Some words → GivesBase rows base → (usage : Usage)
-    → IsNamedRefusal (TellsNoPair words) usage → IsNamedRefusal (TellsRefusal (codes "rewrite") rows) usage
-tells_no_pair rows words base all given (Help text) told = told
-tells_no_pair rows words base all given (Words text) told = inr (words, base, refl, given, all, told)
-tells_no_pair rows words base all given Memory told = tt
+pub tells_bad_pair : (rows : List Row) (words : List Text) → all_of (codes "URL=FILE") rows ≡ Some words → (usage : Usage)
+    → IsNamedRefusal (TellsNoPair words) usage → IsNamedRefusal (TellsBadPair rows) usage
+tells_bad_pair rows words all (Help text) told = told
+tells_bad_pair rows words all (Words text) told = (words, all, told)
+tells_bad_pair rows words all Memory told = tt

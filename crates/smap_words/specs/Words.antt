@@ -196,12 +196,15 @@ TellsBadBase rows text = (text ≡ bad_base_line) × ((base : Text) × GivesText
 abbrev pub TellsNoPair : List Text → Text → Type 0
 TellsNoPair words text = (word : Text) × (first_without words ≡ Some word) × (text ≡ no_pair_line word)
 
+-- the same, of the words that clap reads
+abbrev pub TellsBadPair : List Row → Text → Type 0
+TellsBadPair rows text = (words : List Text) × (all_of (codes "URL=FILE") rows ≡ Some words) × TellsNoPair words text
+
 -- the words are told that clap takes, but the command of this name does not: its base, or a word of `rewrite`, whose base
 -- is not refused
 abbrev pub TellsRefusal : (name : Text) → List Row → Text → Type 0
 TellsRefusal name rows text = TellsBadBase rows text
-    ⊎ ((words : List Text) × (base : Option Parts) × (name ≡ codes "rewrite") × GivesBase rows base
-    × (all_of (codes "URL=FILE") rows ≡ Some words) × TellsNoPair words text)
+    ⊎ ((base : Option Parts) × (name ≡ codes "rewrite") × GivesBase rows base × TellsBadPair rows text)
 
 -- where clap finds no fault, this alone may be told, or memory ran out
 abbrev pub IsNamedRefusal : (Text → Type 0) → Usage → Type 0

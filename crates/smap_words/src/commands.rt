@@ -1,13 +1,13 @@
 //! The command that the words ask for, read from what clap found in them.
 ghost use Rattle.std.specs.Prelude.{◌≡◌, ◌≤◌, ◌+◌, ◌∷◌, [], IfErr, IfOk, codes, map, string_bytes, true};
-ghost use Rattle.clap.specs.Words.{all_of, found_of, rows_of, subcommand_rows_of};
+ghost use Rattle.clap.specs.Words.{found_of, rows_of, subcommand_rows_of};
 ghost use Rattle.smap_command.specs.Limits.{is_interval, limit};
 ghost use Rattle.smap_words.specs.CommandLine.{interval_number, named, number, source_number};
-ghost use Rattle.smap_words.specs.Words.{ArePairs, GivesBase, GivesFlag, GivesInterval, GivesNumber, GivesText};
-ghost use Rattle.smap_words.specs.Words.{HasArguments, HasCommand, HasValue, HasValueIfGiven};
+ghost use Rattle.smap_words.specs.Words.{ArePairs, GivesBase, GivesFlag, GivesInterval, GivesNumber, GivesPairs};
+ghost use Rattle.smap_words.specs.Words.{GivesText, HasArguments, HasCommand, HasValue, HasValueIfGiven};
 ghost use Rattle.smap_words.specs.Words.{IsInRange, IsNamedRefusal, IsPair};
 ghost use Rattle.smap_words.specs.Words.{NamedAsksFor, SubcommandAsksFor, SubcommandTells, TellsBadBase};
-ghost use Rattle.smap_words.specs.Words.{TellsNoPair, TellsRefusal};
+ghost use Rattle.smap_words.specs.Words.{TellsBadPair, TellsNoPair, TellsRefusal};
 ghost use Rattle.clap.specs.declared.builder.value_parser.ValueParser.TheVariants as parser;
 
 use crate::mistakes::{BAD_BASE, no_pair_line};
@@ -22,7 +22,8 @@ pub fn command_in(alloc: Global, matches: &ArgMatches<'_>) -> Result<Command, Us
     requires { HasCommand (subcommand_rows_of matches.now) }
     ensures asked { IfOk result (SubcommandAsksFor (subcommand_rows_of matches.now)) }
     ensures in_range { IfOk result IsInRange }
-    ensures refused { IfErr result (IsNamedRefusal (SubcommandTells (subcommand_rows_of matches.now))) }
+    ensures refused { IfErr result (IsNamedRefusal
+        (SubcommandTells (subcommand_rows_of matches.now))) }
 {
     let (name, matches) = matches.subcommand().unwrap();
     let base = base_in(alloc, matches)?;
@@ -40,139 +41,55 @@ fn named_command(
     requires given { GivesBase (rows_of (found_of matches.now)) base }
     ensures asked { IfOk result (NamedAsksFor name.now (rows_of (found_of matches.now))) }
     ensures in_range { IfOk result IsInRange }
-    ensures refused { IfErr result (IsNamedRefusal (TellsRefusal name.now (rows_of (found_of matches.now)))) }
+    ensures refused { IfErr result (IsNamedRefusal
+        (TellsRefusal name.now (rows_of (found_of matches.now)))) }
 {
     match name {
-        "lookup" => Ok(lookup_in(alloc, matches, base)?),
-        "rewrite" => rewrite_in(alloc, matches, base),
-        "check" => Ok(check_in(alloc, matches, base)?),
-        "show" => Ok(show_in(alloc, matches, base)?),
-        "compose" => Ok(compose_in(alloc, matches, base)?),
-        _ => Ok(raw_in(matches)),
-    }
-}
-
-// What `lookup` is asked.
-fn lookup_in(
-    alloc: Global,
-    matches: &ArgMatches<'_>,
-    base: Option<Url>,
-) -> Result<Command, AllocError>
-    requires path { HasValue parser.String (rows_of (found_of matches.now)) (codes "PATH") }
-    requires line { HasValue number (rows_of (found_of matches.now)) (codes "LINE") }
-    requires column { HasValue number (rows_of (found_of matches.now)) (codes "COLUMN") }
-    requires interval { HasValueIfGiven interval_number (rows_of (found_of matches.now)) (codes "K") }
-    requires after { HasValueIfGiven parser.Bool (rows_of (found_of matches.now)) (codes "after") }
-    requires given { GivesBase (rows_of (found_of matches.now)) base }
-    ensures asked { IfOk result (NamedAsksFor (codes "lookup") (rows_of (found_of matches.now))) }
-    ensures in_range { IfOk result IsInRange }
-{
-    Ok(Command::Lookup {
-        path: text_in(alloc, matches, "PATH")?,
-        line: place_in(matches, "LINE"),
-        column: place_in(matches, "COLUMN"),
-        base,
-        interval: interval_in(matches),
-        after: flag_in(matches, "after"),
-    })
-}
-
-// What `rewrite` is asked.
-fn rewrite_in(alloc: Global, matches: &ArgMatches<'_>, base: Option<Url>) -> Result<Command, Usage>
-    requires words { HasValue parser.String (rows_of (found_of matches.now)) (codes "URL=FILE") }
-    requires interval { HasValueIfGiven interval_number (rows_of (found_of matches.now)) (codes "K") }
-    requires hide { HasValueIfGiven parser.Bool (rows_of (found_of matches.now)) (codes "hide-ignored") }
-    requires given { GivesBase (rows_of (found_of matches.now)) base }
-    ensures asked { IfOk result (NamedAsksFor (codes "rewrite") (rows_of (found_of matches.now))) }
-    ensures in_range { IfOk result IsInRange }
-    ensures refused { IfErr result (IsNamedRefusal (TellsRefusal (codes "rewrite") (rows_of (found_of matches.now)))) }
-{
-    let words = matches.get_strs("URL=FILE").unwrap();
-    Ok(Command::Rewrite {
-        maps: pairs_of(alloc, words)?,
-        base,
-        interval: interval_in(matches),
-        hide_ignored: flag_in(matches, "hide-ignored"),
-    })
-}
-
-// What `check` is asked.
-fn check_in(
-    alloc: Global,
-    matches: &ArgMatches<'_>,
-    base: Option<Url>,
-) -> Result<Command, AllocError>
-    requires path { HasValue parser.String (rows_of (found_of matches.now)) (codes "PATH") }
-    requires interval { HasValueIfGiven interval_number (rows_of (found_of matches.now)) (codes "K") }
-    requires given { GivesBase (rows_of (found_of matches.now)) base }
-    ensures asked { IfOk result (NamedAsksFor (codes "check") (rows_of (found_of matches.now))) }
-    ensures in_range { IfOk result IsInRange }
-{
-    Ok(Command::Check {
-        path: text_in(alloc, matches, "PATH")?,
-        base,
-        interval: interval_in(matches),
-    })
-}
-
-// What `show` is asked.
-fn show_in(
-    alloc: Global,
-    matches: &ArgMatches<'_>,
-    base: Option<Url>,
-) -> Result<Command, AllocError>
-    requires path { HasValue parser.String (rows_of (found_of matches.now)) (codes "PATH") }
-    requires given { GivesBase (rows_of (found_of matches.now)) base }
-    ensures asked { IfOk result (NamedAsksFor (codes "show") (rows_of (found_of matches.now))) }
-    ensures in_range { IfOk result IsInRange }
-{
-    Ok(Command::Show {
-        path: text_in(alloc, matches, "PATH")?,
-        base,
-    })
-}
-
-// What `compose` is asked.
-fn compose_in(
-    alloc: Global,
-    matches: &ArgMatches<'_>,
-    base: Option<Url>,
-) -> Result<Command, AllocError>
-    requires outer { HasValue parser.String (rows_of (found_of matches.now)) (codes "OUTER") }
-    requires source { HasValue source_number (rows_of (found_of matches.now)) (codes "SOURCE") }
-    requires inner { HasValue parser.String (rows_of (found_of matches.now)) (codes "INNER") }
-    requires given { GivesBase (rows_of (found_of matches.now)) base }
-    ensures asked { IfOk result (NamedAsksFor (codes "compose") (rows_of (found_of matches.now))) }
-    ensures in_range { IfOk result IsInRange }
-{
-    Ok(Command::Compose {
-        outer: text_in(alloc, matches, "OUTER")?,
-        source: source_in(matches),
-        inner: text_in(alloc, matches, "INNER")?,
-        base,
-    })
-}
-
-// What `raw` is asked.
-fn raw_in(matches: &ArgMatches<'_>) -> Command
-    requires line { HasValue number (rows_of (found_of matches.now)) (codes "LINE") }
-    requires column { HasValue number (rows_of (found_of matches.now)) (codes "COLUMN") }
-    requires interval { HasValueIfGiven interval_number (rows_of (found_of matches.now)) (codes "K") }
-    ensures asked { NamedAsksFor (codes "raw") (rows_of (found_of matches.now)) result }
-    ensures in_range { IsInRange result }
-{
-    let (line, column) = (place_in(matches, "LINE"), place_in(matches, "COLUMN"));
-    Command::Raw {
-        line,
-        column,
-        interval: interval_in(matches),
+        "lookup" => Ok(Command::Lookup {
+            path: text_in(alloc, matches, "PATH")?,
+            line: place_in(matches, "LINE"),
+            column: place_in(matches, "COLUMN"),
+            base,
+            interval: interval_in(matches),
+            after: flag_in(matches, "after"),
+        }),
+        "rewrite" => Ok(Command::Rewrite {
+            maps: maps_in(alloc, matches)?,
+            base,
+            interval: interval_in(matches),
+            hide_ignored: flag_in(matches, "hide-ignored"),
+        }),
+        "check" => Ok(Command::Check {
+            path: text_in(alloc, matches, "PATH")?,
+            base,
+            interval: interval_in(matches),
+        }),
+        "show" => Ok(Command::Show {
+            path: text_in(alloc, matches, "PATH")?,
+            base,
+        }),
+        "compose" => Ok(Command::Compose {
+            outer: text_in(alloc, matches, "OUTER")?,
+            source: source_in(matches),
+            inner: text_in(alloc, matches, "INNER")?,
+            base,
+        }),
+        _ => {
+            let (line, column) = (place_in(matches, "LINE"), place_in(matches, "COLUMN"));
+            Ok(Command::Raw {
+                line,
+                column,
+                interval: interval_in(matches),
+            })
+        }
     }
 }
 
 // The text of an argument.
 fn text_in(alloc: Global, matches: &ArgMatches<'_>, name: &str) -> Result<String, AllocError>
     requires { HasValue parser.String (rows_of (found_of matches.now)) name.now }
-    ensures { IfOk result (λ text. GivesText (rows_of (found_of matches.now)) name.now (string_bytes text)) }
+    ensures { IfOk result (λ text. GivesText (rows_of (found_of matches.now)) name.now
+        (string_bytes text)) }
 {
     String::from_str(alloc, matches.get_str(name).unwrap())
 }
@@ -227,6 +144,15 @@ fn base_in(alloc: Global, matches: &ArgMatches<'_>) -> Result<Option<Url>, Usage
         Err(ParseError::OutOfMemory) => Err(Usage::Memory),
         Err(_) => Err(Usage::Words(String::from_str(alloc, BAD_BASE)?)),
     }
+}
+
+// The words of `rewrite`, each cut into a URL and a path.
+fn maps_in(alloc: Global, matches: &ArgMatches<'_>) -> Result<Vec<(String, String)>, Usage>
+    requires { HasValue parser.String (rows_of (found_of matches.now)) (codes "URL=FILE") }
+    ensures given { IfOk result (λ maps. GivesPairs (rows_of (found_of matches.now)) maps.items) }
+    ensures refused { IfErr result (IsNamedRefusal (TellsBadPair (rows_of (found_of matches.now)))) }
+{
+    pairs_of(alloc, matches.get_strs("URL=FILE").unwrap())
 }
 
 // The URL and the path of each word of `rewrite`.

@@ -218,7 +218,8 @@ fn described<'a>(
     arguments: Vec<Arg<'a>>,
 ) -> Result<Command<'a>, AllocError>
     requires { All (λ argument. argument.global ≡ false) arguments.items }
-    ensures { IfOk result (IsLocalCommand (with_rules name.entry.now (map rule_of arguments.entry.items))) }
+    ensures { IfOk result (IsLocalCommand
+        (with_rules name.entry.now (map rule_of arguments.entry.items))) }
 {
     Command::new(alloc, name)
         .about(about)

@@ -4,8 +4,8 @@ use Rattle.smap_answers.proofs.running.run.Goals as goal
 
 pub returns : goal.returns
 returns g c = record {
-  telling = telling_of c.outcome_of-outcome.result;
-  written = sink_seen g.W.ByteSink.taken g.W.ByteSink.is_flushed g.W.ByteSink.has_failed c.outcome_of-outcome.new.output;
-  tells = c.outcome_of-outcome.ensures.tells;
+  telling = telling_of c.answer-outcome.result;
+  written = sink_seen g.W.ByteSink.taken g.W.ByteSink.is_flushed g.W.ByteSink.has_failed c.answer-outcome.new.output;
+  tells = c.answer-outcome.ensures.tells;
   ends = c.tell.ensures;
 }

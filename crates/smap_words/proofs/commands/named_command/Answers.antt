@@ -1,20 +1,20 @@
-use Rattle.std.proofs.Common.{◌∙◌, sym}
+use Rattle.std.proofs.Common.{sym}
 use Rattle.clap.specs.Words.{found_of, rows_of}
 use Rattle.smap_words.proofs.Named.{only_raw}
 use Rattle.smap_words.proofs.commands.named_command.Goals as goal
 
-pub raw_in-requires-clause-line : goal.raw_in-requires-clause-line
-raw_in-requires-clause-line c =
+pub place_in-line-requires : goal.place_in-line-requires
+place_in-line-requires c =
     let no = c.in_default in
     (only_raw c.args.name.now (rows_of (found_of c.args.matches.now)) no.not-lookup no.not-rewrite no.not-check no.not-show no.not-compose c.requires.required).1
 
-pub raw_in-requires-clause-column : goal.raw_in-requires-clause-column
-raw_in-requires-clause-column c =
+pub place_in-column-requires : goal.place_in-column-requires
+place_in-column-requires c =
     let no = c.in_default in
     (only_raw c.args.name.now (rows_of (found_of c.args.matches.now)) no.not-lookup no.not-rewrite no.not-check no.not-show no.not-compose c.requires.required).2
 
-pub raw_in-requires-clause-interval : goal.raw_in-requires-clause-interval
-raw_in-requires-clause-interval c =
+pub interval_in-requires-in_default : goal.interval_in-requires-in_default
+interval_in-requires-in_default c =
     let no = c.in_default in
     (only_raw c.args.name.now (rows_of (found_of c.args.matches.now)) no.not-lookup no.not-rewrite no.not-check no.not-show no.not-compose c.requires.required).3
 
@@ -22,4 +22,4 @@ pub returns-in_default-clause-asked : goal.returns-in_default-clause-asked
 returns-in_default-clause-asked c =
     let no = c.in_default in
     let is = only_raw c.args.name.now (rows_of (found_of c.args.matches.now)) no.not-lookup no.not-rewrite no.not-check no.not-show no.not-compose c.requires.required in
-    (c.raw_in.ensures.asked.0 ∙ sym is.0, c.raw_in.ensures.asked.1)
+    (sym is.0, (c.place_in-line.ensures.given, c.place_in-column.ensures.given, c.interval_in-in_default.ensures.given))
