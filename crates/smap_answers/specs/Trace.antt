@@ -6,7 +6,7 @@ use Rattle.url.specs.Parts.{Parts}
 use Rattle.smap_record.specs.Record.{MapRecord}
 use Rattle.smap_record.specs.declared.refusal.MapRefusal.{MapRefusal}
 use Rattle.smap_record.specs.declared.refusal.MapRefusal.TheVariants.{Url}
-use Rattle.smap_lines.specs.Editing.{Streams}
+use Rattle.smap_lines.specs.Editing.{DevicesSeen}
 use Rattle.smap_trace.specs.Rewriting.{Rewrites, RewritesFront, is_read_fault, is_write_fault}
 use Rattle.smap_trace.specs.Table.{IsWith, url_refusal}
 use Rattle.smap_trace.specs.declared.outcome.RewriteFault.{RewriteFault}
@@ -108,11 +108,11 @@ gathered (Err failure) = Err (failure_telling failure)
 -- ---- the trace
 
 -- what standard input has left and standard output has taken
-abbrev pub trace_seen : Work → Streams
+abbrev pub trace_seen : Work → DevicesSeen
 trace_seen work = record { left = work.input.left; taken = work.output.taken }
 
 -- the trace is rewritten to its end, or up to a fault, with the frames of ignored sources hidden or not
-abbrev pub IsRewritten : Maps → (hide : Bool) → (before after : Streams) → Result Summary RewriteFault → Type 0
+abbrev pub IsRewritten : Maps → (hide : Bool) → (before after : DevicesSeen) → Result Summary RewriteFault → Type 0
 IsRewritten maps hide before after (Ok summary) = Rewrites before after maps hide summary
 IsRewritten maps hide before after (Err fault) = RewritesFront before after maps hide fault
 

@@ -20,7 +20,7 @@ two_moves a b inner outer None = refl
 two_moves a b inner outer (Some n) = ap Some (add_assoc a b n)
 
 module _ (first : CountedMappings) (s : ℕ) (second : CountedMappings) (t : ℕ) (third : CountedMappings) where
-  -- what the third list makes of an origin of the second that was moved behind the first's
+  -- what the third list makes of an origin of the second that was moved after the first's
   moved_further : (name : Option ℕ) (origin : Origin) (answer : Answer) → origin_of_answer (followed first s second) (moved_origin first name origin).name answer ≡ option_map (moved_origin first name) (origin_of_answer second origin.name answer)
   moved_further name origin Nothing = refl
   moved_further name origin (Unmapped column) = refl
@@ -40,7 +40,7 @@ module _ (first : CountedMappings) (s : ℕ) (second : CountedMappings) (t : ℕ
       (λ other. ne_eqb _ _ (λ (sums : first.sources + source ≡ first.sources + t). eqb-false _ _ other (omega (arith, sums))) ∙ sym other)
       (cases_Bool (eqb source t))
 
-  -- an origin of the second list, moved behind the first's and then followed, is the one that was followed and then moved
+  -- an origin of the second list, moved after the first's and then followed, is the one that was followed and then moved
   moved_then_followed : (name : Option ℕ) (origin : Origin) → followed_origin (followed first s second) (first.sources + t) third (moved_origin first name origin) ≡ option_map (moved_origin first name) (followed_origin second t third origin)
   moved_then_followed name origin =
       ap (λ is. if is then origin_of_answer (followed first s second) (moved_origin first name origin).name found else Some (moved_origin first name origin)) (same_source origin.source)

@@ -9,14 +9,14 @@ use Rattle.smap_mappings.specs.Encode.{is_text_too_long}
 use Rattle.smap_mappings.specs.Limits.{most_text_bytes}
 use Rattle.smap_mappings.specs.Within.{IsWithin}
 use Rattle.smap_mappings.specs.declared.mapping.Mapping.{Mapping}
-use Rattle.smap_record.specs.Limits.{most_entries}
+use Rattle.smap_record.specs.Limits.{most_listed}
 use Rattle.smap_record.specs.ReadBack.{IsRegularMap}
 
 -- as many entries as those of both maps
 pub entries_counted : {A B : Type 0} (f : A → B) (items : List A) (first second : List B) → map f items ≡ first ++ second → length items ≡ length first + length second
 entries_counted f items first second are = sym (length-map items f) ∙ ap length are ∙ length-append first second
 
-pub is_regular : (list : List Mapping) (sources names s n : ℕ) → s ≡ sources → n ≡ names → sources ≤ most_entries → names ≤ most_entries
+pub is_regular : (list : List Mapping) (sources names s n : ℕ) → s ≡ sources → n ≡ names → sources ≤ most_listed → names ≤ most_listed
     → is_text_too_long list ≡ false → All (IsWithin sources names) list
     → ((sources names : ℕ) → All (IsWithin sources names) list → IsAccepted (canonical_text list) sources names)
     → IsRegularMap s n (canonical_text list)

@@ -27,7 +27,7 @@ both_are_followed :
 unfolding answer_at_or_before of_one_source of_two_sources mapped_at
 both_are_followed = refl
 
--- the inner map begins behind where the first asks
+-- the inner map begins after where the first asks
 first_is_lost :
     followed (of_one_source 0 (mapped_at 0 0 0 0 0 None ∷ mapped_at 0 5 0 0 5 None ∷ [])) 0
     (of_one_source 0 (mapped_at 0 3 0 1 4 None ∷ []))
@@ -42,7 +42,7 @@ outer_name_stays :
 unfolding answer_at_or_before of_one_source of_two_sources mapped_at
 outer_name_stays = refl
 
--- it has one: that is taken, behind the outer's names
+-- it has one: that is taken, after the outer's names
 inner_name_is_taken :
     followed (of_one_source 1 (mapped_at 0 0 0 0 0 (Some 0) ∷ [])) 0 (of_one_source 1 (mapped_at 0 0 0 0 0 (Some 0) ∷ []))
     ≡ of_two_sources 2 (mapped_at 0 0 1 0 0 (Some 1) ∷ [])

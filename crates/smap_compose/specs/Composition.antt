@@ -5,7 +5,7 @@ use Rattle.std.specs.Option.{option_or}
 use Rattle.smap_mappings.specs.Encode.{is_text_too_long}
 use Rattle.smap_mappings.specs.declared.mapping.Mapping.{Mapping}
 use Rattle.smap_index.specs.Parts.{joined}
-use Rattle.smap_record.specs.Limits.{most_entries}
+use Rattle.smap_record.specs.Limits.{most_listed}
 use Rattle.smap_record.specs.Record.{MapRecord}
 use Rattle.smap_record.specs.Sources.{StatedSource}
 use Rattle.smap_compose.specs.Follow.{CountedMappings, followed}
@@ -47,19 +47,19 @@ abbrev pub names_together : MapRecord → MapRecord → ℕ
 names_together outer inner = length outer.names + length inner.names
 
 -- the two maps have more sources together than a map lists, or more names
-abbrev pub has_too_many_entries : MapRecord → MapRecord → Bool
-has_too_many_entries outer inner = nat_lt most_entries (sources_together outer inner) || nat_lt most_entries (names_together outer inner)
+abbrev pub lists_too_many : MapRecord → MapRecord → Bool
+lists_too_many outer inner = nat_lt most_listed (sources_together outer inner) || nat_lt most_listed (names_together outer inner)
 
 -- they have no more of either
 pub record AreFew (outer inner : MapRecord) : Type 0 where
-  pub sources : sources_together outer inner ≤ most_entries
-  pub names : names_together outer inner ≤ most_entries
+  pub sources : sources_together outer inner ≤ most_listed
+  pub names : names_together outer inner ≤ most_listed
 
 -- the refusal that the numbers of sources and names decide, if there is one
 abbrev pub count_refusal : MapRecord → ℕ → MapRecord → Option ComposeRefusal
 count_refusal outer source inner =
     if nat_le (length outer.sources) source then Some SourceIndex
-    else (if has_too_many_entries outer inner then Some TooLarge else None)
+    else (if lists_too_many outer inner then Some TooLarge else None)
 
 -- the first refusal, if there is one: the canonical text of the composed mappings may be too long
 abbrev pub compose_refusal : MapRecord → ℕ → MapRecord → Option ComposeRefusal

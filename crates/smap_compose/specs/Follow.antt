@@ -14,7 +14,7 @@ pub record CountedMappings : Type 0 where
   pub sources : ℕ
   pub names : ℕ
 
--- an origin of the inner list, its indices behind those of the outer list's sources and names; where it has no name, it
+-- an origin of the inner list, its indices after those of the outer list's sources and names; where it has no name, it
 -- gets that of the outer mapping
 abbrev pub moved_origin : CountedMappings → Option ℕ → Origin → Origin
 moved_origin outer outer_name origin = record origin {
@@ -39,7 +39,7 @@ followed_origin outer source inner origin =
 abbrev pub follow : CountedMappings → ℕ → CountedMappings → Mapping → Mapping
 follow outer source inner mapping = record mapping { origin = option_and_then (followed_origin outer source inner) mapping.origin }
 
--- the outer list, each mapping followed; the inner list's sources and names stand behind the outer list's
+-- the outer list, each mapping followed; the inner list's sources and names stand after the outer list's
 abbrev pub followed : CountedMappings → ℕ → CountedMappings → CountedMappings
 followed outer source inner = record {
   mappings = map (follow outer source inner) outer.mappings;

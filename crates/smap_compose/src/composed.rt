@@ -8,7 +8,7 @@ ghost use Rattle.smap_mappings.specs.Mappings.{mappings_of};
 ghost use Rattle.smap_mappings.specs.Within.{IsWithin};
 ghost use Rattle.smap_mappings.specs.Writing.{IsLengthOf};
 ghost use Rattle.smap_index.specs.Answer.{answer_at_or_before};
-ghost use Rattle.smap_record.specs.Limits.{most_entries, most_file_bytes};
+ghost use Rattle.smap_record.specs.Limits.{most_listed, most_file_bytes};
 ghost use Rattle.smap_record.specs.ReadBack.{ReadsBackAs};
 ghost use Rattle.smap_record.specs.Record.{answer_of_map};
 ghost use Rattle.smap_record.specs.Written.{written};
@@ -16,13 +16,13 @@ ghost use Rattle.smap_compose.specs.Composition.{composition, compose_refusal, c
 ghost use Rattle.smap_compose.specs.Follow.{followed_answer};
 ghost use Rattle.smap_compose.specs.declared.refusal.ComposeRefusal.TheVariants.{Memory, TooLarge};
 
-use crate::entries::{joined_names, joined_sources};
 use crate::follow::followed_mappings;
 use crate::laws::answers_are_followed;
+use crate::listed::{joined_names, joined_sources};
 use crate::refusal::ComposeRefusal;
 use smap_mappings::laws::lists_in_order_have_no_fault;
 use smap_mappings::{TextLength, TextWriter};
-use smap_record::{MOST_ENTRIES, MapFile, Mapping, SourceEntry, write_record};
+use smap_record::{MOST_LISTED, MapFile, Mapping, SourceEntry, write_record};
 use std::alloc::{AllocError, Global};
 use std::marker::Model;
 
@@ -95,9 +95,9 @@ pub fn compose(
 
 // Whether a map may not list as many sources or names as two maps have.
 fn are_too_many(outer: u64, inner: u64) -> bool
-    ensures { result ≡ nat_lt most_entries (outer + inner) }
+    ensures { result ≡ nat_lt most_listed (outer + inner) }
 {
-    let most = MOST_ENTRIES as u64;
+    let most = MOST_LISTED as u64;
     outer > most || inner > most - outer
 }
 

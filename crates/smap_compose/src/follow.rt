@@ -53,7 +53,7 @@ fn follow(alloc: Global, outer: &MapFile, source: u32, inner: &MapFile, mapping:
 {
     match mapping.origin {
         Some(origin) if origin.source == source => Mapping {
-            origin: origin_behind(alloc, outer, inner, origin),
+            origin: inner_origin(alloc, outer, inner, origin),
             ..mapping
         },
         _ => mapping,
@@ -61,7 +61,7 @@ fn follow(alloc: Global, outer: &MapFile, source: u32, inner: &MapFile, mapping:
 }
 
 // The origin to which the inner map leads from this one, if there is one.
-fn origin_behind(alloc: Global, outer: &MapFile, inner: &MapFile, origin: Origin) -> Option<Origin>
+fn inner_origin(alloc: Global, outer: &MapFile, inner: &MapFile, origin: Origin) -> Option<Origin>
     requires few { AreFew outer.now.stated inner.now.stated }
     requires within { IsOriginWithin
         (length outer.now.stated.sources) (length outer.now.stated.names) origin }
@@ -78,7 +78,7 @@ fn origin_behind(alloc: Global, outer: &MapFile, inner: &MapFile, origin: Origin
     }
 }
 
-// An origin of the inner map, behind the outer map's sources and names; with the name of the one that led to it where it
+// An origin of the inner map, after the outer map's sources and names; with the name of the one that led to it where it
 // has none itself.
 fn moved_origin(outer: &MapFile, inner: &MapFile, origin: Origin, found: Origin) -> Origin
     requires few { AreFew outer.now.stated inner.now.stated }

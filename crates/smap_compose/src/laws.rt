@@ -6,7 +6,7 @@ ghost use Rattle.smap_index.specs.Answer.{answer_at_or_before};
 ghost use Rattle.smap_mappings.specs.Within.{IsWithin};
 
 /// Of three maps, each made from what the one before it names, it doesn't matter which two are composed first: source
-/// `t` of the second is source `t` behind all sources of the first. The first list's indices name sources and names
+/// `t` of the second is source `t` after all sources of the first. The first list's indices name sources and names
 /// that it has, as those of every map do.
 pub fn composition_associates()
     ensures { (first second third : CountedMappings) (s t : ℕ) →

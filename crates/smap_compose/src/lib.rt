@@ -8,9 +8,9 @@
 #![tactic(auto)]
 
 mod composed;
-mod entries;
 mod follow;
 pub mod laws;
+mod listed;
 mod refusal;
 
 pub use composed::{Composed, compose};

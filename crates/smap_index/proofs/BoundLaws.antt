@@ -3,7 +3,7 @@ use Rattle.std.proofs.Common.{◌≡◌, ◌<◌, ◌≤◌, true, false, arith,
 use Rattle.std.proofs.lemmas.Bool.{cases_lt, both_ways, not-true, not_from_false}
 use Rattle.smap_mappings.specs.Order.{IsAtOrBefore}
 use Rattle.smap_mappings.specs.declared.mapping.Mapping.{Mapping}
-use Rattle.smap_index.specs.Position.{place_of}
+use Rattle.smap_index.specs.Position.{at_position}
 use Rattle.smap_index.specs.Search.{is_on_side, is_up_to}
 use Rattle.smap_index.specs.declared.bound.Bound.{Bound}
 use Rattle.smap_index.specs.declared.bound.Side.{Side}
@@ -25,17 +25,17 @@ side_above Through p m above = not_from_false _ (from_not_before m p (inl above)
 module _ (bound : Bound) where
   -- what stands before a mapping that stands up to the bound does too
   pub passes_back : (a b : Mapping) → IsAtOrBefore a b → is_up_to bound b ≡ true → is_up_to bound a ≡ true
-  passes_back a b order is = side_passes_back bound.side (place_of bound.position) a b order is
+  passes_back a b order is = side_passes_back bound.side (at_position bound.position) a b order is
 
   -- it is on the bound's line, or on one before it
   pub line_up_to : (m : Mapping) → is_up_to bound m ≡ true → m.line ≤ bound.position.line
-  line_up_to m is = side_line bound.side (place_of bound.position) m is
+  line_up_to m is = side_line bound.side (at_position bound.position) m is
 
   -- and what is on a line before the bound's does
   pub lines_above : (m : Mapping) → m.line < bound.position.line → is_up_to bound m ≡ true
-  lines_above m above = side_above bound.side (place_of bound.position) m above
+  lines_above m above = side_above bound.side (at_position bound.position) m above
 
-  -- so what does not is on the bound's line, or on one behind it
+  -- so what does not is on the bound's line, or on one after it
   pub line_past : (m : Mapping) → is_up_to bound m ≡ false → bound.position.line ≤ m.line
   line_past m past =
       ⊎_elim

@@ -14,7 +14,7 @@ use Rattle.smap_mappings.specs.declared.cursor.Cursor.{Cursor}
 use Rattle.smap_mappings.specs.declared.mapping.Mapping.{Mapping}
 use Rattle.smap_index.specs.Parts.{placed_mapping, placed}
 use Rattle.smap_index.specs.Marks.{number_on_line, marked_segments, IsCheckpointIn}
-use Rattle.smap_index.specs.Walk.{checkpoint_at, number_behind}
+use Rattle.smap_index.specs.Walk.{checkpoint_at, number_after}
 use Rattle.smap_index.specs.declared.part.Part.{Part}
 use Rattle.smap_index.specs.declared.checkpoint.Checkpoint.{Checkpoint}
 use Rattle.smap_index.proofs.CheckpointLaws.{shown_state, shown_mapping}
@@ -38,18 +38,18 @@ not_both false n = refl
 
 -- ---- the count of a walk
 
--- behind these mappings, the walk gives each mapping that can follow its number on its line, but for multiples of k
+-- after these mappings, the walk gives each mapping that can follow its number on its line, but for multiples of k
 abbrev pub IsCounting : ℕ → ℕ → ℕ → List Mapping → Type 0
-IsCounting k line number before = (m : Mapping) → IsInOrder (before ++ m ∷ []) → number_behind k line number m.line ≡ number_on_line before m % k
+IsCounting k line number before = (m : Mapping) → IsInOrder (before ++ m ∷ []) → number_after k line number m.line ≡ number_on_line before m % k
 
--- before the first mapping, the number is the one behind which a checkpoint stands
+-- before the first mapping, the number is the one after which a checkpoint stands
 pub counting_none : (k line number j : ℕ) (list : List Mapping) → 0 < k → number ≡ k - 1 → j ≡ 0 → IsCounting k line number (take j list)
 counting_none k line number j list some is none m order =
     let within = le-ltb (number + 1) k (omega arith) in
     ap (λ b. cond (eqb line m.line && b) (number + 1) 0) within ∙ not_both (eqb line m.line) (number + 1)
     ∙ sym (ap (λ j. number_on_line (take j list) m % k) none ∙ zero-mod k)
 
-counting_more : (k line number after : ℕ) (before : List Mapping) (m : Mapping) → 0 < k → IsInOrder (before ++ m ∷ []) → IsCounting k line number before → after ≡ number_behind k line number m.line → IsCounting k m.line after (before ++ m ∷ [])
+counting_more : (k line number after : ℕ) (before : List Mapping) (m : Mapping) → 0 < k → IsInOrder (before ++ m ∷ []) → IsCounting k line number before → after ≡ number_after k line number m.line → IsCounting k m.line after (before ++ m ∷ [])
 counting_more k line number after before m some order so_far is follows ordered =
     let here : after ≡ number_on_line before m % k = is ∙ so_far m order in
     let counted = next_number before m follows (subst IsInOrder (append_assoc before (m ∷ []) (follows ∷ [])) ordered) in
@@ -83,35 +83,35 @@ number_placed part (a ∷ before) m = as_many _ _ _ _ _ _ (same_line part.line a
 
 -- ---- marked segments
 
--- the segment number of a mapping behind these, if it is marked
+-- the segment number of a mapping after these, if it is marked
 abbrev pub marked_at : ℕ → List Mapping → Mapping → List ℕ
 marked_at k before m = cond (eqb (number_on_line before m % k) 0) (length before ∷ []) []
 
-behind_both : (b : Bool) (n : ℕ) (all front added : List ℕ) → all ≡ front ++ added → cond b (n ∷ all) all ≡ cond b (n ∷ front) front ++ added
-behind_both true n all front added is = ap (λ list. n ∷ list) is
-behind_both false n all front added is = is
+after_both : (b : Bool) (n : ℕ) (all front added : List ℕ) → all ≡ front ++ added → cond b (n ∷ all) all ≡ cond b (n ∷ front) front ++ added
+after_both true n all front added is = ap (λ list. n ∷ list) is
+after_both false n all front added is = is
 
 pub marked_segments-push : (k : ℕ) (before xs : List Mapping) (m : Mapping) → marked_segments k before (xs ++ m ∷ []) ≡ marked_segments k before xs ++ marked_at k (before ++ xs) m
 marked_segments-push k before [] m = ap (λ front. marked_at k front m) (sym (append-nil before))
 marked_segments-push k before (x ∷ xs) m =
-    behind_both (eqb (number_on_line before x % k) 0) (length before) _ _ _
+    after_both (eqb (number_on_line before x % k) 0) (length before) _ _ _
     (marked_segments-push k (before ++ x ∷ []) xs m ∙ ap (λ front. marked_segments k (before ++ x ∷ []) xs ++ marked_at k front m) (append_assoc before (x ∷ []) xs))
 
 -- the table is its start and one checkpoint for each marked segment of these that a part begins with
 abbrev pub IsMarked : Part → ℕ → ℕ → List Mapping → List Checkpoint → List Checkpoint → Type 0
-IsMarked part number k front start table = (added : List Checkpoint) × (table ≡ start ++ added) × AllZip (IsCheckpointIn part number) (marked_segments k [] front) added
+IsMarked part number k front start checkpoints = (added : List Checkpoint) × (checkpoints ≡ start ++ added) × AllZip (IsCheckpointIn part number) (marked_segments k [] front) added
 
 -- before the first mapping it is its start
-pub marked_none : (part : Part) (number k : ℕ) (list : List Mapping) (table : List Checkpoint) (j : ℕ) → j ≡ 0 → IsMarked part number k (take j list) table table
-marked_none part number k list table j none = subst (λ j. IsMarked part number k (take j list) table table) (sym none) ([], sym (append-nil table), tt)
+pub marked_none : (part : Part) (number k : ℕ) (list : List Mapping) (checkpoints : List Checkpoint) (j : ℕ) → j ≡ 0 → IsMarked part number k (take j list) checkpoints checkpoints
+marked_none part number k list checkpoints j none = subst (λ j. IsMarked part number k (take j list) checkpoints checkpoints) (sym none) ([], sym (append-nil checkpoints), tt)
 
-module _ (part : Part) (j n : ℕ) (m : Mapping) (behind : Cursor) (next : IsNext part.text j m behind) (counted : n ≡ j + 1) where
+module _ (part : Part) (j n : ℕ) (m : Mapping) (after : Cursor) (next : IsNext part.text j m after) (counted : n ≡ j + 1) where
   ordered_to : IsInOrder (mappings_of part.text) → IsInOrder (take j (mappings_of part.text) ++ m ∷ [])
   ordered_to ordered =
       let list = mappings_of part.text in
       subst IsInOrder (take_next list j m next.mapping_is) (front_in_order (take (j + 1) list) (drop (j + 1) list) (subst IsInOrder (sym (take-append-drop (j + 1) list)) ordered))
 
-  pub counting_next : (k line new_line number new_number : ℕ) → 0 < k → IsInOrder (mappings_of part.text) → IsCounting k line number (take j (mappings_of part.text)) → new_line ≡ m.line → new_number ≡ number_behind k line number m.line → IsCounting k new_line new_number (take n (mappings_of part.text))
+  pub counting_next : (k line new_line number new_number : ℕ) → 0 < k → IsInOrder (mappings_of part.text) → IsCounting k line number (take j (mappings_of part.text)) → new_line ≡ m.line → new_number ≡ number_after k line number m.line → IsCounting k new_line new_number (take n (mappings_of part.text))
   counting_next k line new_line number new_number some ordered so_far line_is number_is =
       let list = mappings_of part.text in
       let longer : take n list ≡ take j list ++ m ∷ [] = ap (λ n. take n list) counted ∙ take_next list j m next.mapping_is in
@@ -119,7 +119,7 @@ module _ (part : Part) (j n : ℕ) (m : Mapping) (behind : Cursor) (next : IsNex
       subst (λ front. IsCounting k new_line new_number front) (sym longer) (subst (λ line. IsCounting k line new_number (take j list ++ m ∷ [])) (sym line_is) there)
 
   -- the number of the walk is that of the mapping at its place
-  pub number_there : (k line number new_number : ℕ) → IsInOrder (mappings_of part.text) → IsCounting k line number (take j (mappings_of part.text)) → new_number ≡ number_behind k line number m.line → number_on_line (take j (placed part)) (placed_mapping part m) % k ≡ new_number
+  pub number_there : (k line number new_number : ℕ) → IsInOrder (mappings_of part.text) → IsCounting k line number (take j (mappings_of part.text)) → new_number ≡ number_after k line number m.line → number_on_line (take j (placed part)) (placed_mapping part m) % k ≡ new_number
   unfolding placed
   number_there k line number new_number ordered so_far number_is =
       let list = mappings_of part.text in
@@ -130,21 +130,21 @@ module _ (part : Part) (j n : ℕ) (m : Mapping) (behind : Cursor) (next : IsNex
   unfolding placed
   there = slice_get-map (placed_mapping part) (mappings_of part.text) j ∙ ap (option_map (placed_mapping part)) next.mapping_is
 
-  pub marked_next : (k number : ℕ) (start old new : List Checkpoint) (new_number : ℕ) (state : Cursor) → behind ≡ state → IsMappingAt behind m → number_on_line (take j (placed part)) (placed_mapping part m) % k ≡ new_number → new ≡ cond (eqb new_number 0) (old ++ checkpoint_at number part m state ∷ []) old → IsMarked part number k (take j (placed part)) start old → IsMarked part number k (take n (placed part)) start new
+  pub marked_next : (k number : ℕ) (start old new : List Checkpoint) (new_number : ℕ) (state : Cursor) → after ≡ state → IsMappingAt after m → number_on_line (take j (placed part)) (placed_mapping part m) % k ≡ new_number → new ≡ cond (eqb new_number 0) (old ++ checkpoint_at number part m state ∷ []) old → IsMarked part number k (take j (placed part)) start old → IsMarked part number k (take n (placed part)) start new
   marked_next k number start old new new_number state same at number_is pushed (added, is, zip) =
       let front = take j (placed part) in
       let here = placed_mapping part m in
       let point = checkpoint_at number part m state in
       let IsHere : List ℕ → List Checkpoint → Type 0 = AllZip (IsCheckpointIn part number) in
       let length_is : length front ≡ j = length-take-le j (placed part) (omega (arith, next.more, length-placed part)) in
-      let longer : marked_segments k [] (take n (placed part)) ≡ marked_segments k [] front ++ marked_at k front here = ap (marked_segments k []) (placed_next part j n m behind next counted) ∙ marked_segments-push k [] front here in
+      let longer : marked_segments k [] (take n (placed part)) ≡ marked_segments k [] front ++ marked_at k front here = ap (marked_segments k []) (placed_next part j n m after next counted) ∙ marked_segments-push k [] front here in
       ⊎_elim
       (λ zero_is.
       let e = ap (λ n. eqb n 0) number_is ∙ zero_is in
       let one : marked_at k front here ≡ j ∷ [] = cond-true _ (length front ∷ []) [] e ∙ ap (λ n. n ∷ []) length_is in
       let inside : IsCheckpointIn part number j point =
       subst (λ state. IsCheckpointIn part number j (checkpoint_at number part m state)) same
-      (record { number_is = refl; mapping_is = there ∙ ap Some (sym (shown_mapping number part m behind at)); state_is = subst (IsAfter part.text (j + 1)) (sym (shown_state number part m behind)) next.behind }) in (
+      (record { number_is = refl; mapping_is = there ∙ ap Some (sym (shown_mapping number part m after at)); state_is = subst (IsAfter part.text (j + 1)) (sym (shown_state number part m after)) next.after }) in (
         added ++ point ∷ [],
         pushed ∙ cond-true _ _ _ zero_is ∙ ap (λ list. list ++ point ∷ []) is ∙ append_assoc start added (point ∷ []),
         subst (λ segments. IsHere segments (added ++ point ∷ [])) (sym (longer ∙ ap (λ last. marked_segments k [] front ++ last) one))

@@ -13,7 +13,7 @@ use Rattle.smap_index.specs.Walk.{is_overlapping_next}
 
 -- ---- places
 
--- where no element passes, the first does not, nor one behind it
+-- where no element passes, the first does not, nor one after it
 pub none_from : {X : Type 0} (test : X → Bool) (i : ℕ) (x : X) (xs : List X) → position_from test i (x ∷ xs) ≡ None → (test x ≡ false) × (position_from test (i + 1) xs ≡ None)
 none_from test i x xs none =
     ⊎_elim
@@ -21,15 +21,15 @@ none_from test i x xs none =
     (λ no. (no, sym (cond-false (test x) (Some i) (position_from test (i + 1) xs) no) ∙ none))
     (cases_Bool (test x))
 
--- the element at a place, and what is behind it
+-- the element at a place, and what is after it
 pub drop_at : {X : Type 0} (xs : List X) (i : ℕ) (x : X) → i < length xs → x ≡ get_or xs i x → drop i xs ≡ x ∷ drop (i + 1) xs
 drop_at xs i x within is = drop_more xs i x within ∙ ap (λ y. y ∷ drop (i + 1) xs) (sym is)
 
 -- one place more, which is the first that passes where none before it did
-pub first_or : (before : Option ℕ) (passes : Bool) (i : ℕ) (behind : Option ℕ) → option_or (option_or before (then_some passes i)) behind ≡ option_or before (cond passes (Some i) behind)
-first_or (Some b) passes i behind = refl
-first_or None true i behind = refl
-first_or None false i behind = refl
+pub first_or : (before : Option ℕ) (passes : Bool) (i : ℕ) (after : Option ℕ) → option_or (option_or before (then_some passes i)) after ≡ option_or before (cond passes (Some i) after)
+first_or (Some b) passes i after = refl
+first_or None true i after = refl
+first_or None false i after = refl
 
 pub none_so_far : (before : Option ℕ) (passes : Bool) (i : ℕ) → option_or before (then_some passes i) ≡ None → (before ≡ None) × (passes ≡ false)
 none_so_far (Some b) passes i none = absurd (cc)
@@ -54,7 +54,7 @@ module _ (test : Part × Part → Bool) (parts : List Part) where
   pub no_pair : (i n : ℕ) → length parts ≤ i + 1 → position_from test n (neighbours (drop i parts)) ≡ None
   no_pair i n few = ap (position_from test n) (neighbours-short (drop i parts) (omega (arith, length-drop i parts)))
 
-  -- the first pair decides, or those behind it
+  -- the first pair decides, or those after it
   pub next_pair : (i n : ℕ) (a b : Part) → n ≡ i + 1 → n < length parts → a ≡ get_or parts i a → b ≡ get_or parts n b
       → position_from test n (neighbours (drop i parts)) ≡ cond (test (a, b)) (Some n) (position_from test (n + 1) (neighbours (drop n parts)))
   next_pair i n a b next within is_a is_b =
@@ -74,13 +74,13 @@ copied_get (Some x) parts n (within, is) = ap Some (is x.now) ∙ sym (slice_get
 pub overlap_step : (parts : List Part) (i n : ℕ) (part : Part) → n ≡ i + 1 → i < length parts → part ≡ get_or parts i part
     → position_from is_overlapping n (neighbours (drop i parts)) ≡ cond (is_overlapping_next part (slice_get parts n)) (Some n) (position_from is_overlapping (n + 1) (neighbours (drop n parts)))
 overlap_step parts i n part next within is =
-    let behind = position_from is_overlapping (n + 1) (neighbours (drop n parts)) in
+    let after = position_from is_overlapping (n + 1) (neighbours (drop n parts)) in
     ⊎_elim
     (λ (more : n < length parts).
     let b = get_or parts n part in
     next_pair is_overlapping parts i n part b next more is (get_or_same parts n part more)
-    ∙ ap (λ o. cond (is_overlapping_next part o) (Some n) behind) (sym (slice_get-get_or parts n part more)))
+    ∙ ap (λ o. cond (is_overlapping_next part o) (Some n) after) (sym (slice_get-get_or parts n part more)))
     (λ (last : length parts ≤ n).
     no_pair is_overlapping parts i n (omega arith) ∙ sym (no_pair is_overlapping parts n (n + 1) (omega arith))
-    ∙ ap (λ o. cond (is_overlapping_next part o) (Some n) behind) (sym (slice_get_past parts n last)))
+    ∙ ap (λ o. cond (is_overlapping_next part o) (Some n) after) (sym (slice_get_past parts n last)))
     (cases_lt n (length parts))

@@ -7,7 +7,7 @@ use Rattle.std.proofs.lemmas.List.{append_assoc, length-append, length-map}
 use Rattle.std.proofs.lemmas.List.Elements.{filter-append}
 use Rattle.std.proofs.lemmas.List.Folds.{list_any-append}
 use Rattle.smap_mappings.specs.Counts.{new_lines, used_lines_of}
-use Rattle.smap_mappings.specs.Mappings.{Move, moves_of, has_segment_on, mapping_after, mappings_after, mappings_of}
+use Rattle.smap_mappings.specs.Mappings.{Delta, deltas_of, has_segment_on, mapping_after, mappings_after, mappings_of}
 use Rattle.smap_mappings.specs.Order.{IsInOrder}
 use Rattle.smap_mappings.specs.declared.mapping.Mapping.{Mapping}
 use Rattle.smap_index.specs.declared.part.Part.{Part}
@@ -25,9 +25,9 @@ grows j k positive =
     (λ none. (omega (arith, none.0), λ _. omega (arith, none.1)))
     (next_remainder j k positive)
 
--- Segment x has the number next: it stands behind number j on one line, or it is the first of a new line. k times the
+-- Segment x has the number next: it stands after number j on one line, or it is the first of a new line. k times the
 -- marks is at most the segments, the remainder at the segment before them, and k times the new lines: where this holds
--- of the n segments behind x, it holds from x on.
+-- of the n segments after x, it holds from x on.
 one_more : (k j next n lines new x : ℕ) (marked : List ℕ) → 0 < k → (next ≡ j + 1) ⊎ ((next ≡ 0) × (new ≡ 1)) → k * length marked ≤ n + next % k + k * lines
     → k * length (cond (eqb (next % k) 0) (x ∷ marked) marked) ≤ suc n + j % k + k * (new + lines)
 one_more k j next n lines new x marked positive which few =
@@ -49,66 +49,66 @@ one_more k j next n lines new x marked positive which few =
 -- ---- the lines of a text and of its part
 
 -- where a line of the text holds one of these segments, the part's line holds one of these mappings
-abbrev HoldsToo : Part → List Move → List Mapping → Type 0
-HoldsToo part moves mappings = (line : ℕ) → has_segment_on line moves ≡ true → 0 < length (filter (λ (e : Mapping). eqb e.line (part.line + line)) mappings)
+abbrev HoldsToo : Part → List Delta → List Mapping → Type 0
+HoldsToo part deltas mappings = (line : ℕ) → has_segment_on line deltas ≡ true → 0 < length (filter (λ (e : Mapping). eqb e.line (part.line + line)) mappings)
 
-holds_next : (part : Part) (moves : List Move) (mappings : List Mapping) (move : Move) (mapping : Mapping) → mapping.line ≡ part.line + move.line → HoldsToo part moves mappings → HoldsToo part (moves ++ move ∷ []) (mappings ++ mapping ∷ [])
-holds_next part moves mappings move mapping line_is holds line has =
+holds_next : (part : Part) (deltas : List Delta) (mappings : List Mapping) (delta : Delta) (mapping : Mapping) → mapping.line ≡ part.line + delta.line → HoldsToo part deltas mappings → HoldsToo part (deltas ++ delta ∷ []) (mappings ++ mapping ∷ [])
+holds_next part deltas mappings delta mapping line_is holds line has =
     let on = λ (e : Mapping). eqb e.line (part.line + line) in
     let both : length (filter on (mappings ++ mapping ∷ [])) ≡ length (filter on mappings) + length (filter on (mapping ∷ [])) = ap length (filter-append on mappings (mapping ∷ [])) ∙ length-append _ _ in
     ⊎_elim
     (λ earlier. let some = holds line earlier in omega (arith, both, some))
     (λ last. ⊎_elim
     (λ is.
-    let same : move.line ≡ line = eqb-true _ _ is in
+    let same : delta.line ≡ line = eqb-true _ _ is in
     let one : length (filter on (mapping ∷ [])) ≡ 1 = ap length (cond-true (on mapping) (mapping ∷ []) [] (eq-eqb _ _ (line_is ∙ ap (λ line. part.line + line) same))) in
     omega (arith, both, one))
     (λ is_not. absurd (cc))
     (or_cases _ _ last))
-    (or_cases _ _ (sym (list_any-append (λ (e : Move). eqb e.line line) moves (move ∷ [])) ∙ has))
+    (or_cases _ _ (sym (list_any-append (λ (e : Delta). eqb e.line line) deltas (delta ∷ [])) ∙ has))
 
 -- ---- the marks of a part
 
 module _ (part : Part) (k : ℕ) (positive : 0 < k) where
   -- the placed mappings of these segments of the part's text, which stand after those before
-  abbrev behind : List Move → List Move → List Mapping
-  behind before moves = map (placed_mapping part) (mappings_after before moves)
+  abbrev after : List Delta → List Delta → List Mapping
+  after before deltas = map (placed_mapping part) (mappings_after before deltas)
 
-  few_behind : (before : List Mapping) (last : Mapping) (earlier moves : List Move) → HoldsToo part earlier (before ++ last ∷ []) → IsInOrder (before ++ last ∷ behind earlier moves)
-      → k * length (marked_segments k (before ++ last ∷ []) (behind earlier moves)) ≤ length (behind earlier moves) + number_on_line before last % k + k * new_lines earlier moves
+  few_after : (before : List Mapping) (last : Mapping) (earlier deltas : List Delta) → HoldsToo part earlier (before ++ last ∷ []) → IsInOrder (before ++ last ∷ after earlier deltas)
+      → k * length (marked_segments k (before ++ last ∷ []) (after earlier deltas)) ≤ length (after earlier deltas) + number_on_line before last % k + k * new_lines earlier deltas
   unfolding mapping_after
-  few_behind before last earlier [] holds order = omega arith
-  few_behind before last earlier (move ∷ moves) holds order =
+  few_after before last earlier [] holds order = omega arith
+  few_after before last earlier (delta ∷ deltas) holds order =
       let front = before ++ last ∷ [] in
-      let next = placed_mapping part (mapping_after earlier move) in
-      let rest = behind (earlier ++ move ∷ []) moves in
+      let next = placed_mapping part (mapping_after earlier delta) in
+      let rest = after (earlier ++ delta ∷ []) deltas in
       let ordered : IsInOrder (front ++ next ∷ rest) = subst IsInOrder (sym (append_assoc before (last ∷ []) (next ∷ rest))) order in
       let up_to_next : IsInOrder (before ++ last ∷ next ∷ []) = front_in_order (before ++ last ∷ next ∷ []) rest (subst IsInOrder (sym (append_assoc before (last ∷ next ∷ []) rest)) order) in
       let number = next_number before last next up_to_next in
-      one_more k (number_on_line before last) (number_on_line front next) (length rest) (new_lines (earlier ++ move ∷ []) moves) (cond (has_segment_on move.line earlier) 0 1) (length front) (marked_segments k (front ++ next ∷ []) rest) positive
+      one_more k (number_on_line before last) (number_on_line front next) (length rest) (new_lines (earlier ++ delta ∷ []) deltas) (cond (has_segment_on delta.line earlier) 0 1) (length front) (marked_segments k (front ++ next ∷ []) rest) positive
       (⊎_elim
       (λ same. inl (number ∙ cond-true _ _ _ same))
       (λ other.
       let first : number_on_line front next ≡ 0 = number ∙ cond-false _ _ _ other in
-      inr (first, cond-false _ _ _ (false_from_ne_true _ (λ held. let some = holds move.line held in omega (arith, first, some)))))
+      inr (first, cond-false _ _ _ (false_from_ne_true _ (λ held. let some = holds delta.line held in omega (arith, first, some)))))
       (cases_Bool (eqb last.line next.line)))
-      (few_behind front next (earlier ++ move ∷ []) moves (holds_next part earlier front move next refl holds) ordered)
+      (few_after front next (earlier ++ delta ∷ []) deltas (holds_next part earlier front delta next refl holds) ordered)
 
-  few_of : (moves : List Move) → IsInOrder (behind [] moves) → k * length (marked_segments k [] (behind [] moves)) ≤ length (behind [] moves) + k * new_lines [] moves
+  few_of : (deltas : List Delta) → IsInOrder (after [] deltas) → k * length (marked_segments k [] (after [] deltas)) ≤ length (after [] deltas) + k * new_lines [] deltas
   unfolding mapping_after
   few_of [] order = omega arith
-  few_of (move ∷ moves) order =
-      let first = placed_mapping part (mapping_after [] move) in
-      let rest = behind (move ∷ []) moves in
+  few_of (delta ∷ deltas) order =
+      let first = placed_mapping part (mapping_after [] delta) in
+      let rest = after (delta ∷ []) deltas in
       let none = mod-le 0 k in
       let more =
-      one_more k 0 0 (length rest) (new_lines (move ∷ []) moves) 1 0 (marked_segments k (first ∷ []) rest) positive (inr (refl, refl))
-      (few_behind [] first (move ∷ []) moves (holds_next part [] [] move first refl (λ line has. absurd (cc))) order) in
+      one_more k 0 0 (length rest) (new_lines (delta ∷ []) deltas) 1 0 (marked_segments k (first ∷ []) rest) positive (inr (refl, refl))
+      (few_after [] first (delta ∷ []) deltas (holds_next part [] [] delta first refl (λ line has. absurd (cc))) order) in
       omega (arith, more, none)
 
   few_in_part : IsInOrder (placed part) → k * length (marked_segments k [] (placed part)) ≤ length (placed part) + k * used_lines_of part.text
   unfolding placed mappings_of used_lines_of
-  few_in_part order = few_of (moves_of part.text) order
+  few_in_part order = few_of (deltas_of part.text) order
 
 -- ---- the marks of all parts
 

@@ -24,7 +24,7 @@ use Rattle.smap_index.specs.declared.checkpoint.Checkpoint.{Checkpoint}
 use Rattle.smap_index.proofs.AnswerLaws.{through}
 use Rattle.smap_index.proofs.RefusalLaws.{faultless, all_in_range}
 use Rattle.smap_index.proofs.Tiles.{IsTiled}
-use Rattle.smap_index.proofs.TileLaws.{tiled, table_in_order}
+use Rattle.smap_index.proofs.TileLaws.{tiled, checkpoints_in_order}
 use Rattle.smap_index.proofs.FewLaws.{few_marks}
 use Rattle.smap_index.proofs.ResumeLaws.{IsResumed, resumed, none_resumed, none_answers, none_on_line, last_answers_on_line}
 
@@ -36,11 +36,11 @@ module _ (index : IndexContents) (is : IsIndex index) where
       (leb-true 1 index.k parts.0, leb-true index.k most_interval parts.1)
 
   -- the checkpoints lie on the joined list as tiles
-  pub table_tiled : IsTiled index.parts index.k (joined index.parts) index.checkpoints
-  table_tiled = tiled index.parts index.k interval_within.0 is.holds.ordered index.checkpoints is.holds.marked
+  pub checkpoints_tiled : IsTiled index.parts index.k (joined index.parts) index.checkpoints
+  checkpoints_tiled = tiled index.parts index.k interval_within.0 is.holds.ordered index.checkpoints is.holds.marked
 
   pub index_in_order : IsInOrder (mappings_at index.checkpoints)
-  index_in_order = table_in_order index.parts index.k (joined index.parts) index.checkpoints is.holds.ordered table_tiled
+  index_in_order = checkpoints_in_order index.parts index.k (joined index.parts) index.checkpoints is.holds.ordered checkpoints_tiled
 
   -- there are as many checkpoints as marks
   pub as_many : (seen : IndexContents) → index ≡ seen → length index.checkpoints ≡ length (marks seen.parts seen.k)
@@ -64,15 +64,15 @@ module _ (index : IndexContents) (is : IsIndex index) where
 
   module _ (bound : Bound) where
     -- where no checkpoint stands up to it, the first past it is the next checkpoint's mapping
-    pub first_of_table : (seen : IndexContents) → index ≡ seen → last_checkpoint bound index.checkpoints ≡ None → option_map mapping_of (next_checkpoint bound index.checkpoints) ≡ first_past bound (joined seen.parts)
-    first_of_table seen same none =
+    pub first_of_checkpoints : (seen : IndexContents) → index ≡ seen → last_checkpoint bound index.checkpoints ≡ None → option_map mapping_of (next_checkpoint bound index.checkpoints) ≡ first_past bound (joined seen.parts)
+    first_of_checkpoints seen same none =
         sym (slice_get-map mapping_of index.checkpoints (front_up_to bound (mappings_at index.checkpoints)))
-        ∙ sym (none_resumed bound index.parts index.k (joined index.parts) index.checkpoints table_tiled none).1
+        ∙ sym (none_resumed bound index.parts index.k (joined index.parts) index.checkpoints checkpoints_tiled none).1
         ∙ ap (λ (i : IndexContents). first_past bound (joined i.parts)) same
 
     module _ (checkpoint : Checkpoint) (last : Some checkpoint ≡ last_checkpoint bound index.checkpoints) where
       pub found : IsResumed bound index.parts index.k (joined index.parts) index.checkpoints checkpoint
-      found = resumed bound index.parts index.k (joined index.parts) index.checkpoints checkpoint is.holds.ordered table_tiled (sym last)
+      found = resumed bound index.parts index.k (joined index.parts) index.checkpoints checkpoint is.holds.ordered checkpoints_tiled (sym last)
 
       pub part_within : checkpoint.part < length index.parts
       part_within = slice_get_within index.parts checkpoint.part found.part found.part_is
@@ -99,16 +99,16 @@ module _ (index : IndexContents) (is : IsIndex index) where
         pub part_in_range : list_any is_mapping_past_limit (placed part) ≡ false
         part_in_range = all_in_range index.parts checkpoint.part part (faultless index.parts index.k is.sound).range part_within read
 
-        -- the first past the bound is decoded behind it, or is the next checkpoint's mapping
-        pub first_behind : (seen : IndexContents) → index ≡ seen → (decoded : Option Mapping)
+        -- the first past the bound is decoded after it, or is the next checkpoint's mapping
+        pub first_after : (seen : IndexContents) → index ≡ seen → (decoded : Option Mapping)
             → ((j : ℕ) → IsAfter part.text j (state_of part checkpoint) → decoded ≡ first_past bound (take (index.k - 1) (drop j (placed part))))
             → option_or decoded (option_map mapping_of (next_checkpoint bound index.checkpoints)) ≡ first_past bound (joined seen.parts)
-        first_behind seen same decoded is_first =
-            let table = mappings_at index.checkpoints in
+        first_after seen same decoded is_first =
+            let checkpoints = mappings_at index.checkpoints in
             let is_here = is_first (found.segment + 1) state_after in
             let moved = ap (λ (part : Part). first_past bound (take (index.k - 1) (drop (found.segment + 1) (placed part)))) (sym same_part) in
-            ap (option_or decoded) (sym (slice_get-map mapping_of index.checkpoints (front_up_to bound table)))
-            ∙ ap (λ first. option_or first (first_past bound table)) (is_here ∙ moved)
+            ap (option_or decoded) (sym (slice_get-map mapping_of index.checkpoints (front_up_to bound checkpoints)))
+            ∙ ap (λ first. option_or first (first_past bound checkpoints)) (is_here ∙ moved)
             ∙ sym found.first_is ∙ ap (λ (i : IndexContents). first_past bound (joined i.parts)) same
 
   -- ---- the answers
@@ -118,7 +118,7 @@ module _ (index : IndexContents) (is : IsIndex index) where
     pub none_at_or_before : (seen : IndexContents) → index ≡ seen → last_checkpoint (through line column) index.checkpoints ≡ None → answer_at_or_before (joined seen.parts) line column ≡ Nothing
     none_at_or_before seen same none =
         ap (λ (i : IndexContents). answer_at_or_before (joined i.parts) line column) (sym same)
-        ∙ none_answers line column index.parts index.k (joined index.parts) index.checkpoints is.holds.ordered table_tiled none
+        ∙ none_answers line column index.parts index.k (joined index.parts) index.checkpoints is.holds.ordered checkpoints_tiled none
 
     module _ (checkpoint : Checkpoint) (last : Some checkpoint ≡ last_checkpoint (through line column) index.checkpoints) where
       -- nothing answers, where the last one stands on another line
@@ -127,11 +127,11 @@ module _ (index : IndexContents) (is : IsIndex index) where
           ap (λ (i : IndexContents). answer_at_or_before (joined i.parts) line column) (sym same)
           ∙ none_on_line line column index.parts index.k (joined index.parts) index.checkpoints checkpoint is.holds.ordered (found (through line column) checkpoint last) other
 
-      -- what is last behind it answers, where it stands on the line
-      pub last_answers_behind : (part : Part) (read : part ≡ get_or index.parts checkpoint.part part) (seen : IndexContents) → index ≡ seen → (mapping_of checkpoint).line ≡ line → (m : Mapping)
+      -- what is last after it answers, where it stands on the line
+      pub last_answers_after : (part : Part) (read : part ≡ get_or index.parts checkpoint.part part) (seen : IndexContents) → index ≡ seen → (mapping_of checkpoint).line ≡ line → (m : Mapping)
           → ((j : ℕ) → IsAfter part.text j (state_of part checkpoint) → Some m ≡ last_from (through line column) (Some (mapping_of checkpoint)) (take (index.k - 1) (drop j (placed part))))
           → answer_of m ≡ answer_at_or_before (joined seen.parts) line column
-      last_answers_behind part read seen same on_line m is_last =
+      last_answers_after part read seen same on_line m is_last =
           let here = found (through line column) checkpoint last in
           let is_here = is_last (here.segment + 1) (state_after (through line column) checkpoint last part read) in
           let moved = ap (λ (part : Part). last_from (through line column) (Some (mapping_of checkpoint)) (take (index.k - 1) (drop (here.segment + 1) (placed part)))) (sym (same_part (through line column) checkpoint last part read)) in

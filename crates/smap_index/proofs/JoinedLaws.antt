@@ -4,7 +4,7 @@ use Rattle.std.specs.List.{list_any}
 use Rattle.std.proofs.lemmas.Bool.{or_parts}
 use Rattle.std.proofs.lemmas.List.{append_assoc}
 use Rattle.std.proofs.lemmas.List.Folds.{list_any-append}
-use Rattle.smap_mappings.specs.Counts.{segments_of}
+use Rattle.smap_mappings.specs.Counts.{segment_count}
 use Rattle.smap_mappings.specs.Range.{is_mapping_past_limit}
 use Rattle.smap_mappings.specs.State.{IsAfter, IsNext}
 use Rattle.smap_mappings.specs.declared.cursor.Cursor.{Cursor}
@@ -21,7 +21,7 @@ left_at_start : (parts : List Part) → left_of parts 0 ≡ joined parts
 left_at_start [] = refl
 left_at_start (part ∷ parts) = refl
 
--- behind the last part nothing is left
+-- after the last part nothing is left
 pub left_none : (parts : List Part) (n : ℕ) → length parts ≡ 0 → left_of parts n ≡ []
 left_none [] n none = refl
 left_none (part ∷ parts) n none = absurd (omega arith)
@@ -36,24 +36,24 @@ module _ (parts : List Part) (part : Part) (rest : List Part) (is : parts ≡ pa
   pub first_in_range : list_any is_mapping_past_limit (placed part) ≡ false
   first_in_range = both_in_range.0
 
-  module _ (m : Mapping) (behind : Cursor) (next : IsNext part.text n m behind) (more : ℕ) (counted : more ≡ n + 1) where
-    -- behind a mapping of the first part
-    pub walk_on : (after : Cursor) → behind ≡ after → IsWalkThrough parts more after
-    walk_on after same = record {
-      there = subst (λ parts. IsAtFront parts more after) (sym is) (after_next part n more m behind next counted after same);
+  module _ (m : Mapping) (after : Cursor) (next : IsNext part.text n m after) (more : ℕ) (counted : more ≡ n + 1) where
+    -- after a mapping of the first part
+    pub walk_on : (now : Cursor) → after ≡ now → IsWalkThrough parts more now
+    walk_on now same = record {
+      there = subst (λ parts. IsAtFront parts more now) (sym is) (after_next part n more m after next counted now same);
       in_range = walk.in_range;
     }
 
     pub first_given : (there : Mapping) → cond (is_mapping_past_limit (placed_mapping part m)) None (Some (placed_mapping part m)) ≡ Some there → left_of parts n ≡ there ∷ left_of parts more
     first_given there placed_is =
         let same = same_place (placed_mapping part m) there placed_is in
-        ap (λ parts. left_of parts n) is ∙ ap (λ list. list ++ joined rest) (next_left part n m behind next)
+        ap (λ parts. left_of parts n) is ∙ ap (λ list. list ++ joined rest) (next_left part n m after next)
         ∙ (λ i. same i ∷ drop (sym counted i) (placed part) ++ joined rest)
         ∙ ap (λ parts. there ∷ left_of parts more) (sym is)
 
   -- at the end of the first part
   module _ (none : ℕ) (new : none ≡ 0) where
-    pub rest_left : n ≡ segments_of part.text → left_of rest none ≡ left_of parts n
+    pub rest_left : n ≡ segment_count part.text → left_of rest none ≡ left_of parts n
     rest_left all =
         ap (left_of rest) new ∙ left_at_start rest
         ∙ sym (ap (λ parts. left_of parts n) is ∙ ap (λ list. list ++ joined rest) (none_left part n all))

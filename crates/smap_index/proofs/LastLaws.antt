@@ -1,4 +1,4 @@
--- The last mapping at the front of a list and the first behind it, one mapping of the list after another.
+-- The last mapping at the front of a list and the first after it, one mapping of the list after another.
 use Rattle.std.proofs.Common.{◌≡◌, ℕ, ◌+◌, ◌-◌, ◌<◌, suc, zero, List, [], ◌∷◌, ◌++◌, length, take, drop, Option, Some, None, cond, false, true, refl, ap, sym, ◌∙◌, arith, one-add, ⊎_elim}
 use Rattle.std.specs.Prelude.{option_map}
 use Rattle.std.specs.List.{slice_get, last_or}
@@ -6,7 +6,7 @@ use Rattle.std.specs.Option.{option_or}
 use Rattle.std.proofs.lemmas.Bool.{cond-true, cond-false, cases_Bool}
 use Rattle.std.proofs.lemmas.Option.{slice_get-map}
 use Rattle.smap_mappings.specs.State.{IsNext}
-use Rattle.smap_mappings.specs.Counts.{segments_of}
+use Rattle.smap_mappings.specs.Counts.{segment_count}
 use Rattle.smap_mappings.specs.Mappings.{mappings_of}
 use Rattle.smap_mappings.specs.Range.{is_mapping_past_limit}
 use Rattle.smap_mappings.specs.declared.cursor.Cursor.{Cursor}
@@ -36,7 +36,7 @@ module _ (bound : Bound) where
   pub first_stops : (m : Mapping) (xs : List Mapping) → is_up_to bound m ≡ false → first_past bound (m ∷ xs) ≡ Some m
   first_stops m xs past = ap (slice_get (m ∷ xs)) (stops m xs past)
 
-  -- the first behind the front of two lists is that of the former, if it has one
+  -- the first after the front of two lists is that of the former, if it has one
   pub first_of_both : (xs ys : List Mapping) → first_past bound (xs ++ ys) ≡ option_or (first_past bound xs) (first_past bound ys)
   first_of_both [] ys = refl
   first_of_both (x ∷ xs) ys =
@@ -55,13 +55,13 @@ drop_all [] = refl
 drop_all (x ∷ xs) = drop_all xs
 
 -- the mapping of the next segment is the first that is left
-pub next_left : (part : Part) (n : ℕ) (m : Mapping) (behind : Cursor) → IsNext part.text n m behind → drop n (placed part) ≡ placed_mapping part m ∷ drop (n + 1) (placed part)
+pub next_left : (part : Part) (n : ℕ) (m : Mapping) (after : Cursor) → IsNext part.text n m after → drop n (placed part) ≡ placed_mapping part m ∷ drop (n + 1) (placed part)
 unfolding placed
-next_left part n m behind next =
+next_left part n m after next =
     drop_next (placed part) n (placed_mapping part m) (slice_get-map (placed_mapping part) (mappings_of part.text) n ∙ ap (option_map (placed_mapping part)) next.mapping_is)
 
--- behind the last segment none is left
-pub none_left : (part : Part) (n : ℕ) → n ≡ segments_of part.text → drop n (placed part) ≡ []
+-- after the last segment none is left
+pub none_left : (part : Part) (n : ℕ) → n ≡ segment_count part.text → drop n (placed part) ≡ []
 none_left part n all = ap (λ n. drop n (placed part)) (all ∙ sym (length-placed part)) ∙ drop_all (placed part)
 
 take_one : {A : Type 0} (left : ℕ) (x : A) (xs : List A) → 0 < left → take left (x ∷ xs) ≡ x ∷ take (left - 1) xs
@@ -73,10 +73,10 @@ take_none zero = refl
 take_none (suc left) = refl
 
 module _ (bound : Bound) (part : Part) (n left : ℕ) (e : Option Mapping) where
-  module _ (m : Mapping) (behind : Cursor) (next : IsNext part.text n m behind) (some : 0 < left) (there : Mapping) (is : cond (is_mapping_past_limit (placed_mapping part m)) None (Some (placed_mapping part m)) ≡ Some there) where
+  module _ (m : Mapping) (after : Cursor) (next : IsNext part.text n m after) (some : 0 < left) (there : Mapping) (is : cond (is_mapping_past_limit (placed_mapping part m)) None (Some (placed_mapping part m)) ≡ Some there) where
     one_left : take left (drop n (placed part)) ≡ there ∷ take (left - 1) (drop (n + 1) (placed part))
     one_left =
-        ap (take left) (next_left part n m behind next) ∙ take_one left (placed_mapping part m) (drop (n + 1) (placed part)) some
+        ap (take left) (next_left part n m after next) ∙ take_one left (placed_mapping part m) (drop (n + 1) (placed part)) some
         ∙ ap (λ m. m ∷ take (left - 1) (drop (n + 1) (placed part))) (same_place (placed_mapping part m) there is)
 
     pub goes_on : is_up_to bound there ≡ true
@@ -90,7 +90,7 @@ module _ (bound : Bound) (part : Part) (n left : ℕ) (e : Option Mapping) where
   nothing_left : (xs : List Mapping) → xs ≡ [] → (last_from bound e xs ≡ e) × (first_past bound xs ≡ None)
   nothing_left xs none = (ap (last_from bound e) none, ap (first_past bound) none)
 
-  pub ends_with_part : n ≡ segments_of part.text → (last_from bound e (take left (drop n (placed part))) ≡ e) × (first_past bound (take left (drop n (placed part))) ≡ None)
+  pub ends_with_part : n ≡ segment_count part.text → (last_from bound e (take left (drop n (placed part))) ≡ e) × (first_past bound (take left (drop n (placed part))) ≡ None)
   ends_with_part all = nothing_left _ (ap (take left) (none_left part n all) ∙ take_none left)
 
   pub ends_with_count : left ≡ 0 → (last_from bound e (take left (drop n (placed part))) ≡ e) × (first_past bound (take left (drop n (placed part))) ≡ None)

@@ -1,4 +1,4 @@
--- Lists of mappings: in order behind the first too, and up to the next place longer by one.
+-- Lists of mappings: in order after the first too, and up to the next place longer by one.
 use Rattle.std.proofs.Common.{◌≡◌, ℕ, ◌+◌, suc, zero, List, [], ◌∷◌, ◌++◌, take, Option, Some, ap, ◌∙◌, arith}
 use Rattle.std.specs.List.{slice_get, last_or}
 use Rattle.smap_mappings.specs.Order.{IsInOrder}

@@ -4,7 +4,7 @@ use Rattle.std.specs.List.{AllZip, list_any, slice_get}
 use Rattle.smap_mappings.specs.Order.{IsInOrder}
 use Rattle.smap_index.specs.Parts.{joined, bytes_in}
 use Rattle.smap_mappings.specs.Range.{is_mapping_past_limit}
-use Rattle.smap_index.specs.Marks.{IsTableOf, used_lines_in}
+use Rattle.smap_index.specs.Marks.{AreCheckpointsOf, used_lines_in}
 use Rattle.smap_index.specs.Index.{IsIndexOf}
 use Rattle.smap_index.specs.declared.part.Part.{Part}
 use Rattle.smap_index.specs.declared.checkpoint.Checkpoint.{Checkpoint}
@@ -17,21 +17,21 @@ AllZip-append R [] xs' (y ∷ ys) ys' front rest = absurd front
 AllZip-append R (x ∷ xs) xs' [] ys' front rest = absurd front
 AllZip-append R (x ∷ xs) xs' (y ∷ ys) ys' front rest = (front.0, AllZip-append R xs xs' ys ys' front.1 rest)
 
--- the element behind a front
-pub slice_get-behind : {A : Type 0} (front : List A) (x : A) (behind : List A) → slice_get (front ++ x ∷ behind) (length front) ≡ Some x
-slice_get-behind [] x behind = refl
-slice_get-behind (a ∷ front) x behind = slice_get-behind front x behind
+-- the element after a front
+pub slice_get-after : {A : Type 0} (front : List A) (x : A) (after : List A) → slice_get (front ++ x ∷ after) (length front) ≡ Some x
+slice_get-after [] x after = refl
+slice_get-after (a ∷ front) x after = slice_get-after front x after
 
 -- ---- an index that is built
 
-pub index_made : (counted walked parts : List Part) (k : ℕ) (start table : List Checkpoint) (segments used_lines : ℕ) → counted ≡ parts → walked ≡ parts → start ≡ [] → (added : List Checkpoint) × (table ≡ start ++ added) × IsTableOf walked k added → segments ≡ length (joined counted) → used_lines ≡ used_lines_in counted → 2 * segments ≤ bytes_in counted + length counted → IsInOrder (joined parts) → list_any is_mapping_past_limit (joined parts) ≡ false
-    → IsIndexOf (record { parts = parts; k = k; checkpoints = table; segments = segments; used_lines = used_lines }) parts k
-index_made counted walked parts k start table segments used_lines same_counted same_walked none (added, all, marked) number lines few order in_range =
-    let whole : table ≡ added = all ∙ ap (λ front. front ++ added) none in
+pub index_made : (counted walked parts : List Part) (k : ℕ) (start checkpoints : List Checkpoint) (segments used_lines : ℕ) → counted ≡ parts → walked ≡ parts → start ≡ [] → (added : List Checkpoint) × (checkpoints ≡ start ++ added) × AreCheckpointsOf walked k added → segments ≡ length (joined counted) → used_lines ≡ used_lines_in counted → 2 * segments ≤ bytes_in counted + length counted → IsInOrder (joined parts) → list_any is_mapping_past_limit (joined parts) ≡ false
+    → IsIndexOf (record { parts = parts; k = k; checkpoints = checkpoints; segments = segments; used_lines = used_lines }) parts k
+index_made counted walked parts k start checkpoints segments used_lines same_counted same_walked none (added, all, marked) number lines few order in_range =
+    let whole : checkpoints ≡ added = all ∙ ap (λ front. front ++ added) none in
     record {
       parts_are = refl;
       k_is = refl;
-      marked = subst (λ table. IsTableOf parts k table) (sym whole) (subst (λ parts. IsTableOf parts k added) same_walked marked);
+      marked = subst (λ checkpoints. AreCheckpointsOf parts k checkpoints) (sym whole) (subst (λ parts. AreCheckpointsOf parts k added) same_walked marked);
       segments_are = number ∙ ap (λ parts. length (joined parts)) same_counted;
       used_lines_are = lines ∙ ap used_lines_in same_counted;
       few = subst (λ n. 2 * n ≤ bytes_in parts + length parts) (number ∙ ap (λ parts. length (joined parts)) same_counted) (subst (λ parts. 2 * segments ≤ bytes_in parts + length parts) same_counted few);

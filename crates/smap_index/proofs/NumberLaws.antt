@@ -12,7 +12,7 @@ use Rattle.smap_index.proofs.ListLaws.{tail_in_order}
 
 -- ---- remainders
 
--- the next number's remainder is one more, or it is 0 behind the greatest
+-- the next number's remainder is one more, or it is 0 after the greatest
 pub next_remainder : (n k : ℕ) → 0 < k → (((n + 1) % k ≡ n % k + 1) × (n % k + 1 < k)) ⊎ (((n + 1) % k ≡ 0) × (n % k + 1 ≡ k))
 next_remainder n k positive =
     let same : (n % k + 1) % k ≡ (n + 1) % k = mod-add-mod n k 1 in

@@ -5,7 +5,7 @@ use Rattle.std.specs.List.{AllByRecursion, last_or, list_any, position_from}
 use Rattle.std.proofs.lemmas.Bool.{cond_both, cases_eq, eqb-false, or_parts, or_left}
 use Rattle.std.proofs.lemmas.List.{append-nil}
 use Rattle.smap_mappings.specs.Mappings.{mappings_of}
-use Rattle.smap_mappings.specs.Counts.{segments_of}
+use Rattle.smap_mappings.specs.Counts.{segment_count}
 use Rattle.smap_mappings.specs.Order.{IsAtOrBefore, IsInOrder}
 use Rattle.smap_mappings.specs.State.{IsMappingAt}
 use Rattle.smap_mappings.specs.declared.cursor.Cursor.{Cursor}
@@ -33,7 +33,7 @@ all_up_to : (part : Part) (xs : List Mapping) → list_any (is_after_offset part
 all_up_to part [] none = tt
 all_up_to part (m ∷ xs) none = let tests = or_parts _ _ none in (not_before m (offset_of part) tests.0, all_up_to part xs tests.1)
 
--- a part whose offset is not before another's has its mappings behind that one's offset too
+-- a part whose offset is not before another's has its mappings after that one's offset too
 also_from : (part next : Part) (m : Mapping) → is_out_of_order (part, next) ≡ false → IsFrom next m → IsFrom part m
 also_from part next m in_order from = at_or_before (offset_of part) (offset_of next) m (not_before (offset_of part) (offset_of next) in_order) from
 
@@ -155,17 +155,17 @@ module _ (part next : Part) where
   at_position : (m : Mapping) (state : Cursor) → IsMappingAt state m → is_after_offset next (placed_mapping part m) ≡ is_after_offset next (placed_mapping part (position_of state))
   at_position m state at = λ i. is_after_offset next (placed_mapping part (record { line = at.line i; column = at.column i; origin = None }))
 
-  overlapping_at : (last : Option Mapping) (state : Cursor) → IsTextInOrder part → last ≡ last_or None (mappings_of part.text) → IfSome last (IsMappingAt state) → (segments_of part.text ≡ 0 → ⊥) → is_overlapping (part, next) ≡ is_after_offset next (placed_mapping part (position_of state))
+  overlapping_at : (last : Option Mapping) (state : Cursor) → IsTextInOrder part → last ≡ last_or None (mappings_of part.text) → IfSome last (IsMappingAt state) → (segment_count part.text ≡ 0 → ⊥) → is_overlapping (part, next) ≡ is_after_offset next (placed_mapping part (position_of state))
   overlapping_at None state order is at some = absurd (some (sym (length-mappings_of part.text) ∙ ap length (none_of (mappings_of part.text) (sym is))))
   overlapping_at (Some last) state order is at some = overlapping_at_last last order is ∙ at_position last state at
 
   -- where the part has a mapping, these are the last one's values
-  pub overlapping_at_state : (state : Cursor) → IsTextInOrder part → IfSome (last_or None (mappings_of part.text)) (IsMappingAt state) → (segments_of part.text ≡ 0 → ⊥) → is_overlapping (part, next) ≡ is_after_offset next (placed_mapping part (position_of state))
+  pub overlapping_at_state : (state : Cursor) → IsTextInOrder part → IfSome (last_or None (mappings_of part.text)) (IsMappingAt state) → (segment_count part.text ≡ 0 → ⊥) → is_overlapping (part, next) ≡ is_after_offset next (placed_mapping part (position_of state))
   overlapping_at_state state order at some = overlapping_at (last_or None (mappings_of part.text)) state order refl at some
 
   no_last : (list : List Mapping) → length list ≡ 0 → None ≡ last_or None list
   no_last [] none = refl
   no_last (m ∷ list) none = absurd (omega arith)
 
-  pub overlapping_none : segments_of part.text ≡ 0 → is_overlapping (part, next) ≡ false
+  pub overlapping_none : segment_count part.text ≡ 0 → is_overlapping (part, next) ≡ false
   overlapping_none none = overlapping_nothing (no_last (mappings_of part.text) (length-mappings_of part.text ∙ none))

@@ -3,9 +3,9 @@ use Rattle.std.proofs.Common.{◌≡◌, ℕ, ◌+◌, ◌<◌, ◌≤◌, List,
 use Rattle.std.specs.List.{AllByRecursion, AllZip, list_any, slice_get}
 use Rattle.std.proofs.lemmas.List.{append-nil, append_assoc, take_more, length-map, length-take-le}
 use Rattle.std.proofs.lemmas.Option.{slice_get-get_or}
-use Rattle.smap_mappings.specs.Counts.{segments_of, used_lines_of, new_lines}
-use Rattle.smap_mappings.specs.Mappings.{Move, move_of, moves_of}
-use Rattle.smap_mappings.specs.Pieces.{pieces_of}
+use Rattle.smap_mappings.specs.Counts.{segment_count, used_lines_of, new_lines}
+use Rattle.smap_mappings.specs.Mappings.{Delta, delta_of, deltas_of}
+use Rattle.smap_mappings.specs.Segments.{segments_of}
 use Rattle.std.proofs.lemmas.Bool.{cond_both}
 use Rattle.smap_index.specs.Parts.{placed, joined, bytes_in}
 use Rattle.smap_index.specs.Marks.{Mark, mark_in, marked_segments, marks_from, marks, IsCheckpointIn, IsCheckpointOf, used_lines_in}
@@ -35,7 +35,7 @@ marks_from-push i n (p ∷ parts) part k is =
 
 -- the table is its start and one checkpoint for each of these marks
 abbrev pub IsFilled : List Part → List Mark → List Checkpoint → List Checkpoint → Type 0
-IsFilled parts marks start table = (added : List Checkpoint) × (table ≡ start ++ added) × AllZip (IsCheckpointOf parts) marks added
+IsFilled parts marks start checkpoints = (added : List Checkpoint) × (checkpoints ≡ start ++ added) × AllZip (IsCheckpointOf parts) marks added
 
 All-push : (P : Part → Type 0) (parts : List Part) (part : Part) → AllByRecursion P parts → P part → AllByRecursion P (parts ++ part ∷ [])
 All-push P [] part all here = (here, tt)
@@ -80,14 +80,14 @@ module _ (parts : List Part) (i : ℕ) (part : Part) (within : i < length parts)
 
 -- ---- used lines
 
-few_new_lines : (earlier moves : List Move) → new_lines earlier moves ≤ length moves
+few_new_lines : (earlier deltas : List Delta) → new_lines earlier deltas ≤ length deltas
 few_new_lines earlier [] = omega arith
-few_new_lines earlier (move ∷ moves) =
-    let rest = few_new_lines (earlier ++ move ∷ []) moves in
-    let one : cond (list_any (λ e. eqb e.line move.line) earlier) 0 1 ≤ 1 = cond_both (list_any (λ e. eqb e.line move.line) earlier) 0 1 (λ n. n ≤ 1) (λ _. omega arith) (λ _. omega arith) in
+few_new_lines earlier (delta ∷ deltas) =
+    let rest = few_new_lines (earlier ++ delta ∷ []) deltas in
+    let one : cond (list_any (λ e. eqb e.line delta.line) earlier) 0 1 ≤ 1 = cond_both (list_any (λ e. eqb e.line delta.line) earlier) 0 1 (λ n. n ≤ 1) (λ _. omega arith) (λ _. omega arith) in
     omega arith
 
 -- a text has no more used lines than segments
-pub few_used_lines : (text : List ℕ) → used_lines_of text ≤ segments_of text
-unfolding used_lines_of moves_of
-few_used_lines text = omega (arith, few_new_lines [] (moves_of text), length-map (pieces_of text) move_of)
+pub few_used_lines : (text : List ℕ) → used_lines_of text ≤ segment_count text
+unfolding used_lines_of deltas_of
+few_used_lines text = omega (arith, few_new_lines [] (deltas_of text), length-map (segments_of text) delta_of)

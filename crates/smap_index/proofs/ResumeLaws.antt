@@ -20,7 +20,7 @@ use Rattle.smap_index.proofs.AnswerLaws.{through, on_line, on_line_same, on_line
 use Rattle.smap_index.proofs.BoundLaws.{line_up_to, lines_above}
 use Rattle.smap_index.proofs.ListLaws.{tail_in_order}
 use Rattle.smap_index.proofs.LastLaws.{passes, stops, last_passes, last_stops, first_passes, first_stops, first_of_both}
-use Rattle.smap_index.proofs.MarkLaws.{slice_get-behind}
+use Rattle.smap_index.proofs.MarkLaws.{slice_get-after}
 use Rattle.smap_index.proofs.NumberLaws.{back_in_order}
 use Rattle.smap_index.proofs.SearchLaws.{head_passes}
 use Rattle.smap_index.proofs.Tiles.{IsTile, IsTiled}
@@ -34,9 +34,9 @@ last_on_line l a [] (suc n) m here all last = let e : m ≡ a = cc in ap (λ (m 
 last_on_line l a (x ∷ xs) zero m here all last = let e : m ≡ a = cc in ap (λ (m : Mapping). m.line) e ∙ here
 last_on_line l a (x ∷ xs) (suc n) m here all last = last_on_line l x xs n m all.0 all.1 last
 
-or_behind : {A : Type 0} (a b c : Option A) → option_or (option_or a b) c ≡ option_or a (option_or b c)
-or_behind None b c = refl
-or_behind (Some x) b c = refl
+or_after : {A : Type 0} (a b c : Option A) → option_or (option_or a b) c ≡ option_or a (option_or b c)
+or_after None b c = refl
+or_after (Some x) b c = refl
 
 below : (m n : ℕ) → m ≤ n → (m ≡ n → ⊥) → m < n
 below m n most other = ⊎_elim (λ less. less) (λ (least : n ≤ m). let same : m ≡ n = omega arith in absurd (other same)) (cases_lt m n)
@@ -48,36 +48,36 @@ some_last a (x ∷ xs) = some_last x xs
 module _ (bound : Bound) where
   -- ---- the front
 
-  -- the last up to a mapping that stands up to the bound, and behind it
+  -- the last up to a mapping that stands up to the bound, and after it
   last_through : (e : Option Mapping) (xs : List Mapping) (m : Mapping) (ys : List Mapping) → IsInOrder (xs ++ m ∷ ys) → is_up_to bound m ≡ true → last_from bound e (xs ++ m ∷ ys) ≡ last_from bound (Some m) ys
   last_through e [] m ys order reached = last_passes bound e m ys reached
   last_through e (x ∷ xs) m ys order reached =
-      last_passes bound e x (xs ++ m ∷ ys) (head_passes bound x (xs ++ m ∷ ys) (length xs) m order (slice_get-behind xs m ys) reached)
+      last_passes bound e x (xs ++ m ∷ ys) (head_passes bound x (xs ++ m ∷ ys) (length xs) m order (slice_get-after xs m ys) reached)
       ∙ last_through (Some x) xs m ys (tail_in_order x (xs ++ m ∷ ys) order) reached
 
   first_through : (xs : List Mapping) (m : Mapping) (ys : List Mapping) → IsInOrder (xs ++ m ∷ ys) → is_up_to bound m ≡ true → first_past bound (xs ++ m ∷ ys) ≡ first_past bound ys
   first_through [] m ys order reached = first_passes bound m ys reached
   first_through (x ∷ xs) m ys order reached =
-      first_passes bound x (xs ++ m ∷ ys) (head_passes bound x (xs ++ m ∷ ys) (length xs) m order (slice_get-behind xs m ys) reached)
+      first_passes bound x (xs ++ m ∷ ys) (head_passes bound x (xs ++ m ∷ ys) (length xs) m order (slice_get-after xs m ys) reached)
       ∙ first_through xs m ys (tail_in_order x (xs ++ m ∷ ys) order) reached
 
   -- the list is empty, or its first does not stand up to the bound
-  abbrev IsBehind : List Mapping → Type 0
-  IsBehind [] = Unit {0}
-  IsBehind (m ∷ list) = is_up_to bound m ≡ false
+  abbrev IsPast : List Mapping → Type 0
+  IsPast [] = Unit {0}
+  IsPast (m ∷ list) = is_up_to bound m ≡ false
 
-  behind_front : (xs ys : List Mapping) → IsBehind (xs ++ ys) → IsBehind xs
-  behind_front [] ys after = tt
-  behind_front (x ∷ xs) ys after = after
+  after_front : (xs ys : List Mapping) → IsPast (xs ++ ys) → IsPast xs
+  after_front [] ys after = tt
+  after_front (x ∷ xs) ys after = after
 
-  behind_taken : (n : ℕ) (xs : List Mapping) → IsBehind xs → IsBehind (take n xs)
-  behind_taken zero [] after = tt
-  behind_taken zero (x ∷ xs) after = tt
-  behind_taken (suc n) [] after = tt
-  behind_taken (suc n) (x ∷ xs) after = after
+  after_taken : (n : ℕ) (xs : List Mapping) → IsPast xs → IsPast (take n xs)
+  after_taken zero [] after = tt
+  after_taken zero (x ∷ xs) after = tt
+  after_taken (suc n) [] after = tt
+  after_taken (suc n) (x ∷ xs) after = after
 
   -- such a list adds nothing
-  last_before : (e : Option Mapping) (xs ys : List Mapping) → IsBehind ys → last_from bound e (xs ++ ys) ≡ last_from bound e xs
+  last_before : (e : Option Mapping) (xs ys : List Mapping) → IsPast ys → last_from bound e (xs ++ ys) ≡ last_from bound e xs
   last_before e [] [] after = refl
   last_before e [] (y ∷ ys) after = last_stops bound e y ys after
   last_before e (x ∷ xs) ys after =
@@ -87,7 +87,7 @@ module _ (bound : Bound) where
       (cases_Bool (is_up_to bound x))
 
   -- where a list follows some of whose front is taken before it, that adds nothing
-  first_taken : (n : ℕ) (xs ys : List Mapping) → IsBehind (xs ++ ys) → option_or (first_past bound (take n xs)) (first_past bound (xs ++ ys)) ≡ first_past bound (xs ++ ys)
+  first_taken : (n : ℕ) (xs ys : List Mapping) → IsPast (xs ++ ys) → option_or (first_past bound (take n xs)) (first_past bound (xs ++ ys)) ≡ first_past bound (xs ++ ys)
   first_taken zero xs ys after = refl
   first_taken (suc n) [] ys after = refl
   first_taken (suc n) (x ∷ xs) ys after = ap (λ o. option_or o (first_past bound (x ∷ xs ++ ys))) (first_stops bound x (take n xs) after) ∙ sym (first_stops bound x (xs ++ ys) after)
@@ -100,138 +100,138 @@ module _ (bound : Bound) where
   -- ---- the last checkpoint
 
   abbrev checkpoint_from : Option Checkpoint → List Checkpoint → Option Checkpoint
-  checkpoint_from e table = last_or e (take (front_up_to bound (mappings_at table)) table)
+  checkpoint_from e checkpoints = last_or e (take (front_up_to bound (mappings_at checkpoints)) checkpoints)
 
-  checkpoint_passes : (e : Option Checkpoint) (c : Checkpoint) (table : List Checkpoint) → is_up_to bound (mapping_of c) ≡ true → checkpoint_from e (c ∷ table) ≡ checkpoint_from (Some c) table
-  checkpoint_passes e c table reached = ap (λ n. last_or e (take n (c ∷ table))) (passes bound (mapping_of c) (mappings_at table) reached)
+  checkpoint_passes : (e : Option Checkpoint) (c : Checkpoint) (checkpoints : List Checkpoint) → is_up_to bound (mapping_of c) ≡ true → checkpoint_from e (c ∷ checkpoints) ≡ checkpoint_from (Some c) checkpoints
+  checkpoint_passes e c checkpoints reached = ap (λ n. last_or e (take n (c ∷ checkpoints))) (passes bound (mapping_of c) (mappings_at checkpoints) reached)
 
-  checkpoint_stops : (e : Option Checkpoint) (c : Checkpoint) (table : List Checkpoint) → is_up_to bound (mapping_of c) ≡ false → checkpoint_from e (c ∷ table) ≡ e
-  checkpoint_stops e c table past = ap (λ n. last_or e (take n (c ∷ table))) (stops bound (mapping_of c) (mappings_at table) past)
+  checkpoint_stops : (e : Option Checkpoint) (c : Checkpoint) (checkpoints : List Checkpoint) → is_up_to bound (mapping_of c) ≡ false → checkpoint_from e (c ∷ checkpoints) ≡ e
+  checkpoint_stops e c checkpoints past = ap (λ n. last_or e (take n (c ∷ checkpoints))) (stops bound (mapping_of c) (mappings_at checkpoints) past)
 
   module _ (parts : List Part) (k : ℕ) where
-    -- what a look-up decodes behind a segment
+    -- what a look-up decodes after a segment
     abbrev pub walked : Part → ℕ → List Mapping
     walked part segment = take (k - 1) (drop (segment + 1) (placed part))
 
     -- what is next to the bound is found from this checkpoint: the last up to it on the checkpoint's line, and the first
-    -- behind that one there too, or it is the next checkpoint's mapping; which it is where the line is another
-    pub record IsResumed (list : List Mapping) (table : List Checkpoint) (c : Checkpoint) : Type 0 where
+    -- after that one there too, or it is the next checkpoint's mapping; which it is where the line is another
+    pub record IsResumed (list : List Mapping) (checkpoints : List Checkpoint) (c : Checkpoint) : Type 0 where
       pub part : Part
       pub segment : ℕ
       pub part_is : slice_get parts c.part ≡ Some part
       pub state_is : IsAfter part.text (segment + 1) (state_of part c)
       pub last_is : (e : Option Mapping) → last_from bound e list ≡ last_from bound (Some (mapping_of c)) (walked part segment)
       pub on_line : (m : Mapping) → last_from bound (Some (mapping_of c)) (walked part segment) ≡ Some m → m.line ≡ (mapping_of c).line
-      pub first_is : first_past bound list ≡ option_or (first_past bound (walked part segment)) (first_past bound (mappings_at table))
-      pub first_elsewhere : ((mapping_of c).line ≡ bound.position.line → ⊥) → first_past bound list ≡ first_past bound (mappings_at table)
+      pub first_is : first_past bound list ≡ option_or (first_past bound (walked part segment)) (first_past bound (mappings_at checkpoints))
+      pub first_elsewhere : ((mapping_of c).line ≡ bound.position.line → ⊥) → first_past bound list ≡ first_past bound (mappings_at checkpoints)
 
     -- a checkpoint that stands up to the bound, where the rest does not
-    in_tile : (list : List Mapping) (c : Checkpoint) (rest : List Mapping) (table : List Checkpoint) → IsTile parts k list c rest → is_up_to bound (mapping_of c) ≡ true → IsBehind rest → first_past bound rest ≡ first_past bound (mappings_at table) → IsResumed list (c ∷ table) c
-    in_tile list c rest table tile reached after next =
-        let n = k - 1 - length tile.behind in
-        let all : k - 1 ≡ length tile.behind + n = omega (arith, tile.few) in
-        let there : walked tile.part tile.segment ≡ tile.behind ++ take n tile.part_rest =
-        ap (take (k - 1)) tile.part_behind ∙ ap (λ n. take n (tile.behind ++ tile.part_rest)) all ∙ take-append-add tile.behind tile.part_rest n in
-        let behind : IsBehind (tile.part_rest ++ tile.later) = subst IsBehind tile.rest_is after in
-        let stopped : IsBehind (take n tile.part_rest) = behind_taken n tile.part_rest (behind_front tile.part_rest tile.later behind) in
-        let short : last_from bound (Some (mapping_of c)) (walked tile.part tile.segment) ≡ last_from bound (Some (mapping_of c)) tile.behind =
-        ap (last_from bound (Some (mapping_of c))) there ∙ last_before (Some (mapping_of c)) tile.behind (take n tile.part_rest) stopped in
-        let first : first_past bound list ≡ option_or (first_past bound tile.behind) (first_past bound rest) =
-        ap (first_past bound) tile.list_is ∙ first_passes bound (mapping_of c) (tile.behind ++ rest) reached ∙ first_of_both bound tile.behind rest in
-        let others : first_past bound (mappings_at (c ∷ table)) ≡ first_past bound rest = first_passes bound (mapping_of c) (mappings_at table) reached ∙ sym next in
+    in_tile : (list : List Mapping) (c : Checkpoint) (rest : List Mapping) (checkpoints : List Checkpoint) → IsTile parts k list c rest → is_up_to bound (mapping_of c) ≡ true → IsPast rest → first_past bound rest ≡ first_past bound (mappings_at checkpoints) → IsResumed list (c ∷ checkpoints) c
+    in_tile list c rest checkpoints tile reached after next =
+        let n = k - 1 - length tile.after in
+        let all : k - 1 ≡ length tile.after + n = omega (arith, tile.few) in
+        let there : walked tile.part tile.segment ≡ tile.after ++ take n tile.part_rest =
+        ap (take (k - 1)) tile.part_after ∙ ap (λ n. take n (tile.after ++ tile.part_rest)) all ∙ take-append-add tile.after tile.part_rest n in
+        let past : IsPast (tile.part_rest ++ tile.later) = subst IsPast tile.rest_is after in
+        let stopped : IsPast (take n tile.part_rest) = after_taken n tile.part_rest (after_front tile.part_rest tile.later past) in
+        let short : last_from bound (Some (mapping_of c)) (walked tile.part tile.segment) ≡ last_from bound (Some (mapping_of c)) tile.after =
+        ap (last_from bound (Some (mapping_of c))) there ∙ last_before (Some (mapping_of c)) tile.after (take n tile.part_rest) stopped in
+        let first : first_past bound list ≡ option_or (first_past bound tile.after) (first_past bound rest) =
+        ap (first_past bound) tile.list_is ∙ first_passes bound (mapping_of c) (tile.after ++ rest) reached ∙ first_of_both bound tile.after rest in
+        let others : first_past bound (mappings_at (c ∷ checkpoints)) ≡ first_past bound rest = first_passes bound (mapping_of c) (mappings_at checkpoints) reached ∙ sym next in
         let taken : option_or (first_past bound (take n tile.part_rest)) (first_past bound rest) ≡ first_past bound rest =
-        subst (λ rest. option_or (first_past bound (take n tile.part_rest)) (first_past bound rest) ≡ first_past bound rest) (sym tile.rest_is) (first_taken n tile.part_rest tile.later behind) in
+        subst (λ rest. option_or (first_past bound (take n tile.part_rest)) (first_past bound rest) ≡ first_past bound rest) (sym tile.rest_is) (first_taken n tile.part_rest tile.later past) in
         record {
           part = tile.part;
           segment = tile.segment;
           part_is = tile.part_is;
           state_is = tile.state_is;
           last_is = λ e.
-              ap (last_from bound e) tile.list_is ∙ last_passes bound e (mapping_of c) (tile.behind ++ rest) reached
-              ∙ last_before (Some (mapping_of c)) tile.behind rest after ∙ sym short;
-          on_line = λ m last. last_on_line (mapping_of c).line (mapping_of c) tile.behind (front_up_to bound tile.behind) m refl tile.on_line (sym short ∙ last);
+              ap (last_from bound e) tile.list_is ∙ last_passes bound e (mapping_of c) (tile.after ++ rest) reached
+              ∙ last_before (Some (mapping_of c)) tile.after rest after ∙ sym short;
+          on_line = λ m last. last_on_line (mapping_of c).line (mapping_of c) tile.after (front_up_to bound tile.after) m refl tile.on_line (sym short ∙ last);
           first_is =
-              first ∙ ap (option_or (first_past bound tile.behind)) (sym taken) ∙ sym (or_behind (first_past bound tile.behind) (first_past bound (take n tile.part_rest)) (first_past bound rest))
-              ∙ ap (λ o. option_or o (first_past bound rest)) (sym (ap (first_past bound) there ∙ first_of_both bound tile.behind (take n tile.part_rest)))
+              first ∙ ap (option_or (first_past bound tile.after)) (sym taken) ∙ sym (or_after (first_past bound tile.after) (first_past bound (take n tile.part_rest)) (first_past bound rest))
+              ∙ ap (λ o. option_or o (first_past bound rest)) (sym (ap (first_past bound) there ∙ first_of_both bound tile.after (take n tile.part_rest)))
               ∙ ap (option_or (first_past bound (walked tile.part tile.segment))) (sym others);
           first_elsewhere = λ other.
               let above : (mapping_of c).line < bound.position.line = let line = line_up_to bound (mapping_of c) reached in below _ _ line other in
-              first ∙ ap (λ o. option_or o (first_past bound rest)) (first_above (mapping_of c).line tile.behind above tile.on_line) ∙ sym others;
+              first ∙ ap (λ o. option_or o (first_past bound rest)) (first_above (mapping_of c).line tile.after above tile.on_line) ∙ sym others;
         }
 
     -- where the next checkpoint stands up to the bound, what is found in the rest
-    to_next : (list : List Mapping) (c : Checkpoint) (rest : List Mapping) (next : Checkpoint) (behind : List Mapping) (table : List Checkpoint) (found : Checkpoint) → IsInOrder list → IsTile parts k list c rest → rest ≡ mapping_of next ∷ behind → is_up_to bound (mapping_of c) ≡ true → is_up_to bound (mapping_of next) ≡ true → IsResumed rest table found → IsResumed list (c ∷ table) found
-    to_next list c rest next behind table found order tile begins here reached resumed =
-        let whole : list ≡ (mapping_of c ∷ tile.behind) ++ mapping_of next ∷ behind = tile.list_is ∙ ap (λ rest. mapping_of c ∷ tile.behind ++ rest) begins in
+    to_next : (list : List Mapping) (c : Checkpoint) (rest : List Mapping) (next : Checkpoint) (after : List Mapping) (checkpoints : List Checkpoint) (found : Checkpoint) → IsInOrder list → IsTile parts k list c rest → rest ≡ mapping_of next ∷ after → is_up_to bound (mapping_of c) ≡ true → is_up_to bound (mapping_of next) ≡ true → IsResumed rest checkpoints found → IsResumed list (c ∷ checkpoints) found
+    to_next list c rest next after checkpoints found order tile begins here reached resumed =
+        let whole : list ≡ (mapping_of c ∷ tile.after) ++ mapping_of next ∷ after = tile.list_is ∙ ap (λ rest. mapping_of c ∷ tile.after ++ rest) begins in
         let first : first_past bound list ≡ first_past bound rest =
-        ap (first_past bound) whole ∙ first_through (mapping_of c ∷ tile.behind) (mapping_of next) behind (subst IsInOrder whole order) reached
-        ∙ sym (first_passes bound (mapping_of next) behind reached) ∙ ap (first_past bound) (sym begins) in
-        let others : first_past bound (mappings_at (c ∷ table)) ≡ first_past bound (mappings_at table) = first_passes bound (mapping_of c) (mappings_at table) here in
+        ap (first_past bound) whole ∙ first_through (mapping_of c ∷ tile.after) (mapping_of next) after (subst IsInOrder whole order) reached
+        ∙ sym (first_passes bound (mapping_of next) after reached) ∙ ap (first_past bound) (sym begins) in
+        let others : first_past bound (mappings_at (c ∷ checkpoints)) ≡ first_past bound (mappings_at checkpoints) = first_passes bound (mapping_of c) (mappings_at checkpoints) here in
         record {
           part = resumed.part;
           segment = resumed.segment;
           part_is = resumed.part_is;
           state_is = resumed.state_is;
           last_is = λ e.
-              ap (last_from bound e) whole ∙ last_through e (mapping_of c ∷ tile.behind) (mapping_of next) behind (subst IsInOrder whole order) reached
-              ∙ sym (last_passes bound None (mapping_of next) behind reached) ∙ ap (last_from bound None) (sym begins) ∙ resumed.last_is None;
+              ap (last_from bound e) whole ∙ last_through e (mapping_of c ∷ tile.after) (mapping_of next) after (subst IsInOrder whole order) reached
+              ∙ sym (last_passes bound None (mapping_of next) after reached) ∙ ap (last_from bound None) (sym begins) ∙ resumed.last_is None;
           on_line = resumed.on_line;
           first_is = first ∙ resumed.first_is ∙ ap (option_or (first_past bound (walked resumed.part resumed.segment))) (sym others);
           first_elsewhere = λ other. first ∙ resumed.first_elsewhere other ∙ sym others;
         }
 
     rest_in_order : (list : List Mapping) (c : Checkpoint) (rest : List Mapping) → IsTile parts k list c rest → IsInOrder list → IsInOrder rest
-    rest_in_order list c rest tile order = back_in_order (mapping_of c ∷ tile.behind) rest (subst IsInOrder tile.list_is order)
+    rest_in_order list c rest tile order = back_in_order (mapping_of c ∷ tile.after) rest (subst IsInOrder tile.list_is order)
 
     -- the list begins as its table does
-    begins_past : (list : List Mapping) (next : Checkpoint) (table : List Checkpoint) → IsTiled parts k list (next ∷ table) → is_up_to bound (mapping_of next) ≡ false → first_past bound list ≡ first_past bound (mappings_at (next ∷ table))
-    begins_past list next table (rest, tile, tiled) past =
-        ap (first_past bound) tile.list_is ∙ first_stops bound (mapping_of next) (tile.behind ++ rest) past ∙ sym (first_stops bound (mapping_of next) (mappings_at table) past)
+    begins_past : (list : List Mapping) (next : Checkpoint) (checkpoints : List Checkpoint) → IsTiled parts k list (next ∷ checkpoints) → is_up_to bound (mapping_of next) ≡ false → first_past bound list ≡ first_past bound (mappings_at (next ∷ checkpoints))
+    begins_past list next checkpoints (rest, tile, tiled) past =
+        ap (first_past bound) tile.list_is ∙ first_stops bound (mapping_of next) (tile.after ++ rest) past ∙ sym (first_stops bound (mapping_of next) (mappings_at checkpoints) past)
 
     -- both are found from the last checkpoint that stands up to the bound
-    pub resumed : (list : List Mapping) (table : List Checkpoint) (found : Checkpoint) → IsInOrder list → IsTiled parts k list table → last_checkpoint bound table ≡ Some found → IsResumed list table found
+    pub resumed : (list : List Mapping) (checkpoints : List Checkpoint) (found : Checkpoint) → IsInOrder list → IsTiled parts k list checkpoints → last_checkpoint bound checkpoints ≡ Some found → IsResumed list checkpoints found
     resumed list [] found order tiled last = absurd (cc)
     resumed list (c ∷ []) found order (rest, tile, tiled) last =
         ⊎_elim
         (λ reached.
         let same : c ≡ found = let e = checkpoint_passes None c [] reached in cc (e, last) in
-        subst (IsResumed list (c ∷ [])) same (in_tile list c rest [] tile reached (subst IsBehind (sym tiled) tt) (ap (first_past bound) tiled)))
+        subst (IsResumed list (c ∷ [])) same (in_tile list c rest [] tile reached (subst IsPast (sym tiled) tt) (ap (first_past bound) tiled)))
         (λ past. absurd (let e = checkpoint_stops None c [] past in cc (e, last)))
         (cases_Bool (is_up_to bound (mapping_of c)))
-    resumed list (c ∷ next ∷ table) found order (rest, tile, tiled) last =
-        let tail = resumed rest (next ∷ table) found (rest_in_order list c rest tile order) tiled in
+    resumed list (c ∷ next ∷ checkpoints) found order (rest, tile, tiled) last =
+        let tail = resumed rest (next ∷ checkpoints) found (rest_in_order list c rest tile order) tiled in
         let begins = tiled.1.list_is in
         ⊎_elim
         (λ reached.
         ⊎_elim
         (λ more.
-        to_next list c rest next (tiled.1.behind ++ tiled.0) (next ∷ table) found order tile begins reached more
-        (tail (checkpoint_passes None next table more ∙ sym (checkpoint_passes (Some c) next table more) ∙ sym (checkpoint_passes None c (next ∷ table) reached) ∙ last)))
+        to_next list c rest next (tiled.1.after ++ tiled.0) (next ∷ checkpoints) found order tile begins reached more
+        (tail (checkpoint_passes None next checkpoints more ∙ sym (checkpoint_passes (Some c) next checkpoints more) ∙ sym (checkpoint_passes None c (next ∷ checkpoints) reached) ∙ last)))
         (λ after.
-        let same : c ≡ found = let e = checkpoint_passes None c (next ∷ table) reached in let f = checkpoint_stops (Some c) next table after in cc (e, f, last) in
-        subst (IsResumed list (c ∷ next ∷ table)) same (in_tile list c rest (next ∷ table) tile reached (subst IsBehind (sym begins) after) (begins_past rest next table tiled after)))
+        let same : c ≡ found = let e = checkpoint_passes None c (next ∷ checkpoints) reached in let f = checkpoint_stops (Some c) next checkpoints after in cc (e, f, last) in
+        subst (IsResumed list (c ∷ next ∷ checkpoints)) same (in_tile list c rest (next ∷ checkpoints) tile reached (subst IsPast (sym begins) after) (begins_past rest next checkpoints tiled after)))
         (cases_Bool (is_up_to bound (mapping_of next))))
-        (λ past. absurd (let e = checkpoint_stops None c (next ∷ table) past in cc (e, last)))
+        (λ past. absurd (let e = checkpoint_stops None c (next ∷ checkpoints) past in cc (e, last)))
         (cases_Bool (is_up_to bound (mapping_of c)))
 
     -- where no checkpoint stands up to the bound, no mapping does, and the first of the list is the first of the table
-    pub none_resumed : (list : List Mapping) (table : List Checkpoint) → IsTiled parts k list table → last_checkpoint bound table ≡ None → (last_from bound None list ≡ None) × (first_past bound list ≡ first_past bound (mappings_at table))
+    pub none_resumed : (list : List Mapping) (checkpoints : List Checkpoint) → IsTiled parts k list checkpoints → last_checkpoint bound checkpoints ≡ None → (last_from bound None list ≡ None) × (first_past bound list ≡ first_past bound (mappings_at checkpoints))
     none_resumed list [] tiled none = (ap (last_from bound None) tiled, ap (first_past bound) tiled)
-    none_resumed list (c ∷ table) (rest, tile, tiled) none =
+    none_resumed list (c ∷ checkpoints) (rest, tile, tiled) none =
         ⊎_elim
-        (λ reached. absurd (let e = checkpoint_passes None c table reached in let m = some_last c (take (front_up_to bound (mappings_at table)) table) in cc (e, m.1, none)))
-        (λ past. (ap (last_from bound None) tile.list_is ∙ last_stops bound None (mapping_of c) (tile.behind ++ rest) past, begins_past list c table (rest, tile, tiled) past))
+        (λ reached. absurd (let e = checkpoint_passes None c checkpoints reached in let m = some_last c (take (front_up_to bound (mappings_at checkpoints)) checkpoints) in cc (e, m.1, none)))
+        (λ past. (ap (last_from bound None) tile.list_is ∙ last_stops bound None (mapping_of c) (tile.after ++ rest) past, begins_past list c checkpoints (rest, tile, tiled) past))
         (cases_Bool (is_up_to bound (mapping_of c)))
 
 module _ (line column : ℕ) (parts : List Part) (k : ℕ) where
   -- ---- the answer
 
   -- where no checkpoint is at the position or before it, nothing answers
-  pub none_answers : (list : List Mapping) (table : List Checkpoint) → IsInOrder list → IsTiled parts k list table → last_checkpoint (through line column) table ≡ None → answer_at_or_before list line column ≡ Nothing
-  none_answers list table order tiled none =
-      last_answers line column list order ∙ ap (λ o. answer_of_last (on_line line column o)) (none_resumed (through line column) parts k list table tiled none).0
+  pub none_answers : (list : List Mapping) (checkpoints : List Checkpoint) → IsInOrder list → IsTiled parts k list checkpoints → last_checkpoint (through line column) checkpoints ≡ None → answer_at_or_before list line column ≡ Nothing
+  none_answers list checkpoints order tiled none =
+      last_answers line column list order ∙ ap (λ o. answer_of_last (on_line line column o)) (none_resumed (through line column) parts k list checkpoints tiled none).0
 
-  module _ (list : List Mapping) (table : List Checkpoint) (c : Checkpoint) (order : IsInOrder list) (resumed : IsResumed (through line column) parts k list table c) where
+  module _ (list : List Mapping) (checkpoints : List Checkpoint) (c : Checkpoint) (order : IsInOrder list) (resumed : IsResumed (through line column) parts k list checkpoints c) where
     -- where the checkpoint stands on the line, the last up to the position answers
     pub last_answers_on_line : (mapping_of c).line ≡ line → (m : Mapping) → Some m ≡ last_from (through line column) (Some (mapping_of c)) (walked (through line column) parts k resumed.part resumed.segment) → answer_at_or_before list line column ≡ answer_of m
     last_answers_on_line same m is =
@@ -241,7 +241,7 @@ module _ (line column : ℕ) (parts : List Part) (k : ℕ) where
     -- where it stands on another line, nothing does
     pub none_on_line : ((mapping_of c).line ≡ line → ⊥) → answer_at_or_before list line column ≡ Nothing
     none_on_line other =
-        let behind = walked (through line column) parts k resumed.part resumed.segment in
-        let m = some_last (mapping_of c) (take (front_up_to (through line column) behind) behind) in
+        let after = walked (through line column) parts k resumed.part resumed.segment in
+        let m = some_last (mapping_of c) (take (front_up_to (through line column) after) after) in
         last_answers line column list order ∙ ap (λ o. answer_of_last (on_line line column o)) (resumed.last_is None ∙ m.1)
         ∙ ap answer_of_last (on_line_other line column m.0 (λ same. other (sym (resumed.on_line m.0 m.1) ∙ same)))

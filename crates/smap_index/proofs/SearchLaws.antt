@@ -49,14 +49,14 @@ module _ (bound : Bound) where
 
 -- ---- a table's mappings
 
-pub front_within : (bound : Bound) (table : List Checkpoint) → front_up_to bound (mappings_at table) ≤ length table
+pub front_within : (bound : Bound) (checkpoints : List Checkpoint) → front_up_to bound (mappings_at checkpoints) ≤ length checkpoints
 front_within bound [] = omega arith
-front_within bound (a ∷ table) =
-    let rest = front_within bound table in
+front_within bound (a ∷ checkpoints) =
+    let rest = front_within bound checkpoints in
     ⊎_elim
-    (λ passes. let counted = cond-true (is_up_to bound (mapping_of a)) (1 + front_up_to bound (mappings_at table)) 0 passes in omega arith)
-    (λ stops. let counted = cond-false (is_up_to bound (mapping_of a)) (1 + front_up_to bound (mappings_at table)) 0 stops in omega arith)
+    (λ passes. let counted = cond-true (is_up_to bound (mapping_of a)) (1 + front_up_to bound (mappings_at checkpoints)) 0 passes in omega arith)
+    (λ stops. let counted = cond-false (is_up_to bound (mapping_of a)) (1 + front_up_to bound (mappings_at checkpoints)) 0 stops in omega arith)
     (cases_Bool (is_up_to bound (mapping_of a)))
 
-pub read_mapping : (table : List Checkpoint) (i : ℕ) (checkpoint : Checkpoint) → slice_get table i ≡ Some checkpoint → slice_get (mappings_at table) i ≡ Some (mapping_of checkpoint)
-read_mapping table i checkpoint there = slice_get-map mapping_of table i ∙ ap (option_map mapping_of) there
+pub read_mapping : (checkpoints : List Checkpoint) (i : ℕ) (checkpoint : Checkpoint) → slice_get checkpoints i ≡ Some checkpoint → slice_get (mappings_at checkpoints) i ≡ Some (mapping_of checkpoint)
+read_mapping checkpoints i checkpoint there = slice_get-map mapping_of checkpoints i ∙ ap (option_map mapping_of) there

@@ -1,4 +1,4 @@
--- How the checkpoints of a table lie on a list of mappings: each has the mappings up to the next one behind it, which
+-- How the checkpoints of a table lie on a list of mappings: each has the mappings up to the next one after it, which
 -- stand on its line in its part, and are fewer than the interval.
 use Rattle.std.proofs.Common.{◌≡◌, ℕ, ◌+◌, ◌<◌, List, [], ◌∷◌, ◌++◌, Some, length, drop}
 use Rattle.std.specs.List.{AllByRecursion, slice_get}
@@ -9,24 +9,24 @@ use Rattle.smap_index.specs.Parts.{placed}
 use Rattle.smap_index.specs.declared.part.Part.{Part}
 use Rattle.smap_index.specs.declared.checkpoint.Checkpoint.{Checkpoint}
 
--- the list begins with this checkpoint's mapping, behind which stand those up to the next checkpoint, and then the rest
+-- the list begins with this checkpoint's mapping, after which stand those up to the next checkpoint, and then the rest
 pub record IsTile (parts : List Part) (k : ℕ) (list : List Mapping) (checkpoint : Checkpoint) (rest : List Mapping) : Type 0 where
   pub part : Part
   pub segment : ℕ
   pub part_is : slice_get parts checkpoint.part ≡ Some part
   pub mapping_is : slice_get (placed part) segment ≡ Some (mapping_of checkpoint)
   pub state_is : IsAfter part.text (segment + 1) (state_of part checkpoint)
-  pub behind : List Mapping
-  pub few : length behind < k
-  pub on_line : AllByRecursion (λ (m : Mapping). m.line ≡ (mapping_of checkpoint).line) behind
-  pub list_is : list ≡ mapping_of checkpoint ∷ behind ++ rest
-  -- what the part holds behind them begins the rest
+  pub after : List Mapping
+  pub few : length after < k
+  pub on_line : AllByRecursion (λ (m : Mapping). m.line ≡ (mapping_of checkpoint).line) after
+  pub list_is : list ≡ mapping_of checkpoint ∷ after ++ rest
+  -- what the part holds after them begins the rest
   pub part_rest : List Mapping
   pub later : List Mapping
-  pub part_behind : drop (segment + 1) (placed part) ≡ behind ++ part_rest
+  pub part_after : drop (segment + 1) (placed part) ≡ after ++ part_rest
   pub rest_is : rest ≡ part_rest ++ later
 
--- the tiles of a table's checkpoints are, one behind the other, the list
+-- the tiles of a table's checkpoints are, one after the other, the list
 abbrev pub IsTiled : List Part → ℕ → List Mapping → List Checkpoint → Type 0
 IsTiled parts k list [] = list ≡ []
-IsTiled parts k list (checkpoint ∷ table) = (rest : List Mapping) × IsTile parts k list checkpoint rest × IsTiled parts k rest table
+IsTiled parts k list (checkpoint ∷ checkpoints) = (rest : List Mapping) × IsTile parts k list checkpoint rest × IsTiled parts k rest checkpoints

@@ -6,9 +6,9 @@ use Rattle.std.proofs.lemmas.Bool.{or_parts, or_from, cases_Bool, cond-true, con
 use Rattle.std.proofs.lemmas.List.{length-map, take_all}
 use Rattle.std.proofs.lemmas.List.Folds.{list_any-append}
 use Rattle.std.proofs.lemmas.Option.{slice_get-map}
-use Rattle.smap_mappings.specs.Counts.{segments_of}
-use Rattle.smap_mappings.specs.Pieces.{pieces_of}
-use Rattle.smap_mappings.specs.Mappings.{Move, move_of, moves_of, mappings_after, mappings_of}
+use Rattle.smap_mappings.specs.Counts.{segment_count}
+use Rattle.smap_mappings.specs.Segments.{segments_of}
+use Rattle.smap_mappings.specs.Mappings.{Delta, delta_of, deltas_of, mappings_after, mappings_of}
 use Rattle.smap_mappings.specs.State.{IsAfter, IsMappingAt, IsNext}
 use Rattle.smap_mappings.specs.declared.cursor.Cursor.{Cursor}
 use Rattle.smap_mappings.specs.declared.mapping.Mapping.{Mapping}
@@ -17,23 +17,23 @@ use Rattle.smap_mappings.specs.Range.{is_mapping_past_limit}
 use Rattle.smap_index.specs.declared.part.Part.{Part}
 use Rattle.smap_index.proofs.ListLaws.{take_next}
 
-length-mappings_after : (before moves : List Move) → length (mappings_after before moves) ≡ length moves
+length-mappings_after : (before deltas : List Delta) → length (mappings_after before deltas) ≡ length deltas
 length-mappings_after before [] = refl
-length-mappings_after before (move ∷ moves) = ap suc (length-mappings_after (before ++ move ∷ []) moves)
+length-mappings_after before (delta ∷ deltas) = ap suc (length-mappings_after (before ++ delta ∷ []) deltas)
 
-pub length-mappings_of : (text : List ℕ) → length (mappings_of text) ≡ segments_of text
-unfolding mappings_of moves_of
-length-mappings_of text = length-mappings_after [] (moves_of text) ∙ length-map (pieces_of text) move_of
+pub length-mappings_of : (text : List ℕ) → length (mappings_of text) ≡ segment_count text
+unfolding mappings_of deltas_of
+length-mappings_of text = length-mappings_after [] (deltas_of text) ∙ length-map (segments_of text) delta_of
 
-pub length-placed : (part : Part) → length (placed part) ≡ segments_of part.text
+pub length-placed : (part : Part) → length (placed part) ≡ segment_count part.text
 unfolding placed
 length-placed part = length-map (mappings_of part.text) (placed_mapping part) ∙ length-mappings_of part.text
 
--- behind the last segment the whole lists are there
-pub all_taken : (text : List ℕ) (j : ℕ) → j ≡ segments_of text → take j (mappings_of text) ≡ mappings_of text
+-- after the last segment the whole lists are there
+pub all_taken : (text : List ℕ) (j : ℕ) → j ≡ segment_count text → take j (mappings_of text) ≡ mappings_of text
 all_taken text j all = take_all j (mappings_of text) (omega (arith, length-mappings_of text))
 
-pub all_placed : (part : Part) (j : ℕ) → j ≡ segments_of part.text → take j (placed part) ≡ placed part
+pub all_placed : (part : Part) (j : ℕ) → j ≡ segment_count part.text → take j (placed part) ≡ placed part
 all_placed part j all = take_all j (placed part) (omega (arith, length-placed part))
 
 last_or-push : (o : Option Mapping) (xs : List Mapping) (m : Mapping) → last_or o (xs ++ m ∷ []) ≡ Some m
@@ -44,7 +44,7 @@ last_or-push o (x ∷ xs) m = last_or-push (Some x) xs m
 pub last_none : (j : ℕ) (list : List Mapping) (state : Cursor) → j ≡ 0 → IfSome (last_or None (take j list)) (IsMappingAt state)
 last_none j list state none = subst (λ j. IfSome (last_or None (take j list)) (IsMappingAt state)) (sym none) tt
 
--- one test more, behind others
+-- one test more, after others
 or_more : (a b c : Bool) → (a || (b || (c || false))) ≡ ((a || b) || c)
 or_more true b c = refl
 or_more false true c = refl
@@ -67,9 +67,9 @@ or_none false = refl
 pub any_none : (test : Mapping → Bool) (offset : Bool) (j : ℕ) (list : List Mapping) → j ≡ 0 → offset ≡ (offset || list_any test (take j list))
 any_none test offset j list none = sym (ap (λ j. offset || list_any test (take j list)) none ∙ or_none offset)
 
-module _ (part : Part) (j n : ℕ) (m : Mapping) (behind : Cursor) (next : IsNext part.text j m behind) (counted : n ≡ j + 1) where
-  pub after_next : (state : Cursor) → behind ≡ state → IsAfter part.text n state
-  after_next state is = subst (IsAfter part.text n) is (subst (λ n. IsAfter part.text n behind) (sym counted) next.behind)
+module _ (part : Part) (j n : ℕ) (m : Mapping) (after : Cursor) (next : IsNext part.text j m after) (counted : n ≡ j + 1) where
+  pub after_next : (state : Cursor) → after ≡ state → IsAfter part.text n state
+  after_next state is = subst (IsAfter part.text n) is (subst (λ n. IsAfter part.text n after) (sym counted) next.after)
 
   pub placed_next : take n (placed part) ≡ take j (placed part) ++ placed_mapping part m ∷ []
   unfolding placed
@@ -77,11 +77,11 @@ module _ (part : Part) (j n : ℕ) (m : Mapping) (behind : Cursor) (next : IsNex
       ap (λ n. take n (placed part)) counted
       ∙ take_next (placed part) j (placed_mapping part m) (slice_get-map (placed_mapping part) (mappings_of part.text) j ∙ ap (option_map (placed_mapping part)) next.mapping_is)
 
-  pub last_next : (state : Cursor) → behind ≡ state → IsMappingAt behind m → IfSome (last_or None (take n (mappings_of part.text))) (IsMappingAt state)
+  pub last_next : (state : Cursor) → after ≡ state → IsMappingAt after m → IfSome (last_or None (take n (mappings_of part.text))) (IsMappingAt state)
   last_next state same at =
       let list = mappings_of part.text in
       let last : last_or None (take n list) ≡ Some m = ap (λ n. last_or None (take n list)) counted ∙ ap (last_or None) (take_next list j m next.mapping_is) ∙ last_or-push None (take j list) m in
-      subst (λ state. IfSome (last_or None (take n list)) (IsMappingAt state)) same (subst (λ last. IfSome last (IsMappingAt behind)) (sym last) at)
+      subst (λ state. IfSome (last_or None (take n list)) (IsMappingAt state)) same (subst (λ last. IfSome last (IsMappingAt after)) (sym last) at)
 
   -- the placed mappings so far and one more, under any test
   pub any_next : (test : Mapping → Bool) (offset old new : Bool) → old ≡ (offset || list_any test (take j (placed part))) → new ≡ (old || test (placed_mapping part m)) → new ≡ (offset || list_any test (take n (placed part)))
@@ -102,14 +102,14 @@ none_at test (x ∷ list) zero m none there = let e : x ≡ m = cc in sym (ap te
 none_at test (x ∷ list) (suc j) m none there = none_at test list j m (or_parts _ _ none).1 there
 
 -- where no mapping is past the limit, this one is not
-pub within_at : (part : Part) (j : ℕ) (m : Mapping) (behind : Cursor) → IsNext part.text j m behind → list_any is_mapping_past_limit (placed part) ≡ false → is_mapping_past_limit (placed_mapping part m) ≡ false
+pub within_at : (part : Part) (j : ℕ) (m : Mapping) (after : Cursor) → IsNext part.text j m after → list_any is_mapping_past_limit (placed part) ≡ false → is_mapping_past_limit (placed_mapping part m) ≡ false
 unfolding placed
-within_at part j m behind next none =
+within_at part j m after next none =
     let there = slice_get-map (placed_mapping part) (mappings_of part.text) j ∙ ap (option_map (placed_mapping part)) next.mapping_is in
     none_at is_mapping_past_limit (placed part) j (placed_mapping part m) none there
 
 -- so it has its place
-pub placed_in_range : (part : Part) (j : ℕ) (m : Mapping) (behind : Cursor) → IsNext part.text j m behind → list_any is_mapping_past_limit (placed part) ≡ false → cond (is_mapping_past_limit (placed_mapping part m)) None (Some (placed_mapping part m)) ≡ None → ⊥
-placed_in_range part j m behind next none kept =
-    let e = cond-false (is_mapping_past_limit (placed_mapping part m)) None (Some (placed_mapping part m)) (within_at part j m behind next none) in
+pub placed_in_range : (part : Part) (j : ℕ) (m : Mapping) (after : Cursor) → IsNext part.text j m after → list_any is_mapping_past_limit (placed part) ≡ false → cond (is_mapping_past_limit (placed_mapping part m)) None (Some (placed_mapping part m)) ≡ None → ⊥
+placed_in_range part j m after next none kept =
+    let e = cond-false (is_mapping_past_limit (placed_mapping part m)) None (Some (placed_mapping part m)) (within_at part j m after next none) in
     cc (e, kept)

@@ -1,4 +1,4 @@
--- What a checkpoint shows: its mapping at its place in the joined list, and the state behind its segment in the text of
+-- What a checkpoint shows: its mapping at its place in the joined list, and the state after its segment in the text of
 -- its part. A checkpoint has the running values there (ECMA-426, Mappings structure) at their place in the joined list.
 use Rattle.std.specs.Prelude.{ℕ, ◌-◌, Option, Some, None, ◌==◌, if◌then◌else◌}
 use Rattle.smap_mappings.specs.declared.cursor.Cursor.{Cursor}
@@ -33,7 +33,7 @@ origin_of Named checkpoint = Some (origin_with checkpoint (Some checkpoint.name)
 abbrev pub mapping_of : Checkpoint → Mapping
 mapping_of checkpoint = record { line = checkpoint.line; column = checkpoint.column; origin = origin_of checkpoint.kind checkpoint }
 
--- the state behind the segment: the running values without what its part adds, which moves the column on the text's
+-- the state after the segment: the running values without what its part adds, which moves the column on the text's
 -- first line alone
 abbrev pub state_of : Part → Checkpoint → Cursor
 state_of part checkpoint =

@@ -5,7 +5,7 @@ use Rattle.smap_mappings.specs.Order.{IsInOrder}
 use Rattle.smap_index.specs.Parts.{joined, bytes_in}
 use Rattle.smap_index.specs.Faults.{build_fault}
 use Rattle.smap_mappings.specs.Range.{is_mapping_past_limit}
-use Rattle.smap_index.specs.Marks.{IsTableOf, used_lines_in}
+use Rattle.smap_index.specs.Marks.{AreCheckpointsOf, used_lines_in}
 use Rattle.smap_index.specs.declared.part.Part.{Part}
 use Rattle.smap_index.specs.declared.checkpoint.Checkpoint.{Checkpoint}
 
@@ -23,7 +23,7 @@ pub record IndexContents : Type 0 where
 pub record IsIndexOf (index : IndexContents) (parts : List Part) (k : ℕ) : Type 0 where
   pub parts_are : index.parts ≡ parts
   pub k_is : index.k ≡ k
-  pub marked : IsTableOf parts k index.checkpoints
+  pub marked : AreCheckpointsOf parts k index.checkpoints
   pub segments_are : index.segments ≡ length (joined parts)
   pub used_lines_are : index.used_lines ≡ used_lines_in parts
   pub few : 2 * length (joined parts) ≤ bytes_in parts + length parts

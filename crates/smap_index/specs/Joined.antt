@@ -8,12 +8,12 @@ use Rattle.smap_mappings.specs.declared.mapping.Mapping.{Mapping}
 use Rattle.smap_index.specs.declared.part.Part.{Part}
 use Rattle.smap_index.specs.Parts.{placed, joined}
 
--- the mappings of these parts that are left behind this many of the first part
+-- the mappings of these parts that are left after this many of the first part
 abbrev pub left_of : List Part → ℕ → List Mapping
 left_of [] n = []
 left_of (part ∷ parts) n = drop n (placed part) ++ joined parts
 
--- this is the state behind so many segments of the first part, where there is one
+-- this is the state after so many segments of the first part, where there is one
 abbrev pub IsAtFront : List Part → ℕ → Cursor → Type 0
 IsAtFront [] n state = Unit {0}
 IsAtFront (part ∷ parts) n state = IsAfter part.text n state

@@ -26,8 +26,8 @@ number_on_line before mapping = length (filter (λ earlier. earlier.line == mapp
 abbrev pub marked_segments : ℕ → List Mapping → List Mapping → List ℕ
 marked_segments k before [] = []
 marked_segments k before (mapping ∷ mappings) =
-    let behind = marked_segments k (before ++ mapping ∷ []) mappings in
-    if number_on_line before mapping % k == 0 then length before ∷ behind else behind
+    let after = marked_segments k (before ++ mapping ∷ []) mappings in
+    if number_on_line before mapping % k == 0 then length before ∷ after else after
 
 -- the marks of these parts, the first of which has this number
 abbrev pub marks_from : ℕ → List Part → ℕ → List Mark
@@ -39,7 +39,7 @@ abbrev pub marks : List Part → ℕ → List Mark
 marks parts k = marks_from 0 parts k
 
 -- the checkpoint is of this segment of the part that has this number: its mapping is the segment's, at its place, and
--- its state is the one behind the segment
+-- its state is the one after the segment
 pub record IsCheckpointIn (part : Part) (number segment : ℕ) (checkpoint : Checkpoint) : Type 0 where
   pub number_is : checkpoint.part ≡ number
   pub mapping_is : slice_get (placed part) segment ≡ Some (mapping_of checkpoint)
@@ -52,8 +52,8 @@ pub record IsCheckpointOf (parts : List Part) (mark : Mark) (checkpoint : Checkp
   pub inside : IsCheckpointIn part mark.part mark.segment checkpoint
 
 -- the table has, in order, one checkpoint for each mark and no other
-abbrev pub IsTableOf : List Part → ℕ → List Checkpoint → Type 0
-IsTableOf parts k table = AllZip (IsCheckpointOf parts) (marks parts k) table
+abbrev pub AreCheckpointsOf : List Part → ℕ → List Checkpoint → Type 0
+AreCheckpointsOf parts k checkpoints = AllZip (IsCheckpointOf parts) (marks parts k) checkpoints
 
 -- how many lines hold a mapping, each part's lines counted by themselves
 abbrev pub used_lines_in : List Part → ℕ

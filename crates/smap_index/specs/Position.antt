@@ -9,8 +9,8 @@ use Rattle.smap_index.specs.declared.position.Position.{Position}
 abbrev pub position_at : (line column : ℕ) → Mapping
 position_at line column = record { line = line; column = column; origin = None }
 
-abbrev pub place_of : Position → Mapping
-place_of position = position_at position.line position.column
+abbrev pub at_position : Position → Mapping
+at_position position = position_at position.line position.column
 
 -- the offset of a part
 abbrev pub offset_of : Part → Mapping

@@ -1,4 +1,4 @@
--- What the search over a table in order finds on either side of a bound, and so the walk behind a checkpoint. Only
+-- What the search over a table in order finds on either side of a bound, and so the walk after a checkpoint. Only
 -- contracts of private functions cite it.
 use Rattle.std.specs.Prelude.{ℕ, List, Option, None, Bool, not, map, take, slice_get}
 use Rattle.std.specs.List.{last_or, prefix_len}
@@ -9,20 +9,20 @@ use Rattle.smap_index.specs.declared.bound.Side.{Side}
 use Rattle.smap_index.specs.declared.bound.Side.TheVariants.{Before, Through}
 use Rattle.smap_index.specs.declared.checkpoint.Checkpoint.{Checkpoint}
 use Rattle.smap_index.specs.Checkpoint.{mapping_of}
-use Rattle.smap_index.specs.Position.{place_of}
+use Rattle.smap_index.specs.Position.{at_position}
 
 -- the mappings of these checkpoints
 abbrev pub mappings_at : List Checkpoint → List Mapping
 mappings_at checkpoints = map mapping_of checkpoints
 
--- a mapping stands before a place or, on the other side, at it or before it
-abbrev pub is_on_side : Side → (place mapping : Mapping) → Bool
-is_on_side Before place mapping = stands_before mapping place
-is_on_side Through place mapping = not (stands_before place mapping)
+-- a mapping stands before a position or, on the other side, at it or before it
+abbrev pub is_on_side : Side → (position mapping : Mapping) → Bool
+is_on_side Before position mapping = stands_before mapping position
+is_on_side Through position mapping = not (stands_before position mapping)
 
 -- the mapping stands up to the bound
 abbrev pub is_up_to : Bound → Mapping → Bool
-is_up_to bound mapping = is_on_side bound.side (place_of bound.position) mapping
+is_up_to bound mapping = is_on_side bound.side (at_position bound.position) mapping
 
 -- how many mappings at the front stand up to the bound
 abbrev pub front_up_to : Bound → List Mapping → ℕ
@@ -36,14 +36,14 @@ last_from bound mapping list = last_or mapping (take (front_up_to bound list) li
 abbrev pub last_up_to : Bound → List Mapping → Option Mapping
 last_up_to bound list = last_from bound None list
 
--- the first behind them
+-- the first after them
 abbrev pub first_past : Bound → List Mapping → Option Mapping
 first_past bound list = slice_get list (front_up_to bound list)
 
 -- of a table, the last checkpoint whose mapping stands up to the bound
 abbrev pub last_checkpoint : Bound → List Checkpoint → Option Checkpoint
-last_checkpoint bound table = last_or None (take (front_up_to bound (mappings_at table)) table)
+last_checkpoint bound checkpoints = last_or None (take (front_up_to bound (mappings_at checkpoints)) checkpoints)
 
--- and the first behind it
+-- and the first after it
 abbrev pub next_checkpoint : Bound → List Checkpoint → Option Checkpoint
-next_checkpoint bound table = slice_get table (front_up_to bound (mappings_at table))
+next_checkpoint bound checkpoints = slice_get checkpoints (front_up_to bound (mappings_at checkpoints))

@@ -12,19 +12,19 @@ use Rattle.smap_index.specs.Checkpoint.{kind_of}
 use Rattle.smap_index.specs.Faults.{is_overlapping}
 use Rattle.smap_index.specs.Position.{position_at}
 
--- the checkpoint of a mapping of this part, which has this number, with the state behind its segment: the running
+-- the checkpoint of a mapping of this part, which has this number, with the state after its segment: the running
 -- values and what the part adds to them
 abbrev pub checkpoint_at : ℕ → Part → Mapping → Cursor → Checkpoint
-checkpoint_at number part mapping behind = record {
+checkpoint_at number part mapping after = record {
   part = number;
   kind = kind_of mapping.origin;
-  place = behind.place;
-  line = part.line + behind.line;
-  column = if behind.line == 0 then part.column + behind.column else behind.column;
-  source = part.source_base + behind.source;
-  original_line = behind.original_line;
-  original_column = behind.original_column;
-  name = part.name_base + behind.name;
+  place = after.place;
+  line = part.line + after.line;
+  column = if after.line == 0 then part.column + after.column else after.column;
+  source = part.source_base + after.source;
+  original_line = after.original_line;
+  original_column = after.original_column;
+  name = part.name_base + after.name;
 }
 
 -- a state of the part's text fits a checkpoint, its source and its name at their place
@@ -35,8 +35,8 @@ pub record IsFitting (part : Part) (state : Cursor) : Type 0 where
 
 -- the number on its line of a mapping on the next line, counted from 0 anew at each checkpoint of the line, where one
 -- with this number on this line stands before it
-abbrev pub number_behind : ℕ → ℕ → ℕ → ℕ → ℕ
-number_behind k line number next = if line == next && nat_lt (number + 1) k then number + 1 else 0
+abbrev pub number_after : ℕ → ℕ → ℕ → ℕ → ℕ
+number_after k line number next = if line == next && nat_lt (number + 1) k then number + 1 else 0
 
 -- a mapping of these values that has no origin
 abbrev pub position_of : Cursor → Mapping

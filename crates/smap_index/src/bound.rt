@@ -1,4 +1,4 @@
-//! The bound of a search: a position, and whether the mappings at it are before the bound or behind it.
+//! The bound of a search: a position, and whether the mappings at it are before the bound or after it.
 
 ghost use Rattle.std.specs.Prelude.{◌≡◌};
 ghost use Rattle.smap_index.specs.Search.{is_up_to};
@@ -26,13 +26,13 @@ impl Bound {
     pub fn reaches(&self, mapping: &Mapping) -> bool
         ensures { result ≡ is_up_to self.now mapping.now }
     {
-        let place = Position {
+        let position = Position {
             line: mapping.line as u64,
             column: mapping.column as u64,
         };
         match self.side {
-            Side::Before => place.is_before(&self.position),
-            Side::Through => !self.position.is_before(&place),
+            Side::Before => position.is_before(&self.position),
+            Side::Through => !self.position.is_before(&position),
         }
     }
 }

@@ -1,4 +1,4 @@
-//! A checkpoint: a mapping and the state behind its segment, in which no number stands twice.
+//! A checkpoint: a mapping and the state after its segment, in which no number stands twice.
 
 ghost use Rattle.std.specs.Prelude.{◌≡◌, false};
 ghost use Rattle.smap_mappings.specs.Range.{is_mapping_past_limit};
@@ -19,7 +19,7 @@ pub enum Kind {
 }
 
 // A segment from which a look-up can begin: the number of its part, from 0, and what it has, which share a word; the byte
-// place behind it in the part's text; and the running values there, at their place in the joined list. Of these the
+// place after it in the part's text; and the running values there, at their place in the joined list. Of these the
 // mapping has some, and the state has all.
 #[derive(Drop)]
 pub struct Checkpoint {
@@ -38,28 +38,28 @@ pub struct Checkpoint {
 const _: () = prove!(size_of::<Checkpoint>() == 32);
 
 impl Checkpoint {
-    // The checkpoint of a mapping of the part that has this number, with the state behind its segment.
-    pub fn new(number: u16, part: &Part, mapping: &Mapping, behind: &State) -> Self
-        requires values { IsMappingAt behind.now mapping.now }
+    // The checkpoint of a mapping of the part that has this number, with the state after its segment.
+    pub fn new(number: u16, part: &Part, mapping: &Mapping, after: &State) -> Self
+        requires values { IsMappingAt after.now mapping.now }
         requires in_range { is_mapping_past_limit (placed_mapping part.now mapping.now) ≡ false }
-        requires fitting { IsFitting part.now behind.now }
-        ensures { result ≡ checkpoint_at number part.now mapping.now behind.now }
+        requires fitting { IsFitting part.now after.now }
+        ensures { result ≡ checkpoint_at number part.now mapping.now after.now }
     {
-        let behind = behind.cursor();
+        let after = after.cursor();
         Checkpoint {
             part: number,
             kind: kind_of(mapping),
-            place: behind.place as u32,
-            line: part.line + behind.line,
-            column: if behind.line == 0 {
-                part.column + behind.column
+            place: after.place as u32,
+            line: part.line + after.line,
+            column: if after.line == 0 {
+                part.column + after.column
             } else {
-                behind.column
+                after.column
             },
-            source: part.source_base + behind.source,
-            original_line: behind.original_line,
-            original_column: behind.original_column,
-            name: part.name_base + behind.name,
+            source: part.source_base + after.source,
+            original_line: after.original_line,
+            original_column: after.original_column,
+            name: part.name_base + after.name,
         }
     }
 
@@ -92,7 +92,7 @@ impl Checkpoint {
         }
     }
 
-    // The state behind the segment in the text of its part.
+    // The state after the segment in the text of its part.
     pub fn state(&self, part: &Part) -> State
         ensures { result ≡ state_of part.now self.now }
     {

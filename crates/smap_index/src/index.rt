@@ -21,6 +21,7 @@ ghost use Rattle.smap_index.specs.Search.{first_past};
 use crate::answer::{Answer, answer_of};
 use crate::bound::{Bound, Side};
 use crate::checkpoint::Checkpoint;
+use crate::checkpoints::Checkpoints;
 use crate::encode::{length_of_parts, write_parts};
 use crate::interval::is_interval;
 use crate::joined::{JoinedMappings, joined};
@@ -29,9 +30,8 @@ use crate::order::first_out_of_order;
 use crate::part::Part;
 use crate::position::Position;
 use crate::refusal::{BuildRefusal, EncodeAllRefusal};
-use crate::resume::decode_behind;
+use crate::resume::decode_after;
 use crate::search::nearest_checkpoints;
-use crate::table::Table;
 use crate::totals::{most_checkpoints, totals_of};
 use smap_mappings::laws::lists_in_order_have_no_fault;
 use smap_mappings::{Mapping, Meter};
@@ -42,7 +42,7 @@ use std::marker::Model;
 #[derive(Drop)]
 pub struct Index {
     parts: Vec<Part>,
-    table: Table,
+    checkpoints: Checkpoints,
     k: u32,
     segments: u64,
     used_lines: u64,
@@ -81,9 +81,9 @@ impl Index {
             return Err(BuildRefusal::SectionOrder(i));
         }
         let totals = totals_of(&parts);
-        let mut table = Table::new(alloc);
-        let has_room = table.reserve(most_checkpoints(&totals, k)).is_ok();
-        let walk = mark_parts(alloc, &parts, k, has_room, &mut table);
+        let mut checkpoints = Checkpoints::new(alloc);
+        let has_room = checkpoints.reserve(most_checkpoints(&totals, k)).is_ok();
+        let walk = mark_parts(alloc, &parts, k, has_room, &mut checkpoints);
         if let Some(i) = walk.overlap {
             return Err(BuildRefusal::SectionOverlap(i));
         }
@@ -95,7 +95,7 @@ impl Index {
         }
         Ok(Index {
             parts,
-            table,
+            checkpoints,
             k,
             segments: totals.segments,
             used_lines: totals.used_lines,
@@ -122,11 +122,11 @@ impl Index {
             },
             side: Side::Through,
         };
-        let nearest = nearest_checkpoints(&self.table, &through, meter);
+        let nearest = nearest_checkpoints(&self.checkpoints, &through, meter);
         match nearest.last {
             Some(checkpoint) if checkpoint.line == line => {
                 let part = &self.parts[checkpoint.part as usize];
-                answer_of(&decode_behind(part, checkpoint, self.k - 1, &through, meter).last)
+                answer_of(&decode_after(part, checkpoint, self.k - 1, &through, meter).last)
             }
             Some(_) => Answer::Nothing,
             None => Answer::Nothing,
@@ -161,7 +161,7 @@ impl Index {
     }
 
     // The first mapping that does not stand up to the bound, if there is one. Where the last checkpoint that does stands
-    // on the bound's line, it may be one of those behind that checkpoint; otherwise it is the next checkpoint's.
+    // on the bound's line, it may be one of those after that checkpoint; otherwise it is the next checkpoint's.
     fn first_past(&self, bound: &Bound, meter: &mut Meter) -> Option<Mapping>
         requires room { HasRoom meter.old }
         ensures first { result ≡ first_past bound.now (joined self.now.parts) }
@@ -172,12 +172,12 @@ impl Index {
         ensures onward { (meter.old.comparisons ≤ meter.new.comparisons)
             × (meter.old.segments ≤ meter.new.segments) }
     {
-        let nearest = nearest_checkpoints(&self.table, bound, meter);
+        let nearest = nearest_checkpoints(&self.checkpoints, bound, meter);
         let next = mapping_at(nearest.next);
         match nearest.last {
             Some(checkpoint) if checkpoint.line as u64 == bound.position.line => {
                 let part = &self.parts[checkpoint.part as usize];
-                let decoded = decode_behind(part, checkpoint, self.k - 1, bound, meter);
+                let decoded = decode_after(part, checkpoint, self.k - 1, bound, meter);
                 decoded.next.or(next)
             }
             Some(_) => next,
@@ -191,7 +191,7 @@ impl Index {
         ensures bound { let segments = length (joined self.now.parts) in
             result ≤ segments / self.now.k + used_lines_in self.now.parts }
     {
-        self.table.len() as u64
+        self.checkpoints.len() as u64
     }
 
     /// How many segments the texts hold.
@@ -278,12 +278,12 @@ fn an_index_has_these_fields_alone(rt: HostRuntime) -> Result<(), std::test::Fai
     let index = Index::build(rt.alloc(), Vec::new(rt.alloc()), 2)?;
     let Index {
         parts,
-        table,
+        checkpoints,
         k,
         segments,
         used_lines,
     } = &index;
-    assert!(&rt; parts.is_empty() && table.len() == 0);
+    assert!(&rt; parts.is_empty() && checkpoints.len() == 0);
     assert!(&rt; *k == 2 && *segments == 0 && *used_lines == 0);
     Ok(())
 }

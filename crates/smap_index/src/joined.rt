@@ -7,7 +7,7 @@ ghost use Rattle.smap_index.specs.Parts.{joined};
 ghost use Rattle.smap_index.specs.Joined.{IsAtFront};
 
 use crate::part::Part;
-use crate::place::place;
+use crate::placed::placed_mapping;
 use smap_mappings::{Cursor, Mapping, Meter, State};
 use std::alloc::Global;
 use std::marker::Model;
@@ -17,7 +17,7 @@ use std::marker::Model;
 #[derive(Drop)]
 pub struct JoinedMappings<'a> {
     alloc: Global,
-    // The part whose mappings come next, and those behind it.
+    // The part whose mappings come next, and those after it.
     parts: &'a [Part],
     // The state in that part's text, and how many segments of it were decoded.
     state: State,
@@ -75,9 +75,9 @@ impl<'a> Iterator for JoinedMappings<'a> {
             // The contracts of `segments` and `start` say that they are few, so that the meter has room.
             let _segments = part.text.segments();
             let _start = part.text.start();
-            if let Some((mapping, behind)) = part.text.next(&self.state, &mut self.meter) {
-                self.state = behind;
-                let Some(placed) = place(part, &mapping) else {
+            if let Some((mapping, after)) = part.text.next(&self.state, &mut self.meter) {
+                self.state = after;
+                let Some(placed) = placed_mapping(part, &mapping) else {
                     unreachable!("no mapping of an index is past the limit");
                 };
                 return Some(placed);

@@ -15,6 +15,7 @@
 mod answer;
 mod bound;
 mod checkpoint;
+mod checkpoints;
 mod encode;
 mod index;
 mod interval;
@@ -23,12 +24,11 @@ pub mod laws;
 mod mark;
 mod order;
 mod part;
-mod place;
+mod placed;
 mod position;
 mod refusal;
 mod resume;
 mod search;
-mod table;
 mod totals;
 
 pub use answer::Answer;

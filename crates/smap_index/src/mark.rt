@@ -7,15 +7,15 @@ ghost use Rattle.smap_mappings.specs.Mappings.{mappings_of};
 ghost use Rattle.smap_index.specs.Parts.{most_parts, placed_mapping, placed, whole_text};
 ghost use Rattle.smap_index.specs.Faults.{is_interval, overlap_fault, range_fault, is_part_past_limit};
 ghost use Rattle.smap_mappings.specs.Range.{is_mapping_past_limit};
-ghost use Rattle.smap_index.specs.Marks.{marked_segments, IsCheckpointIn, IsTableOf};
+ghost use Rattle.smap_index.specs.Marks.{marked_segments, IsCheckpointIn, AreCheckpointsOf};
 ghost use Rattle.smap_mappings.specs.State.{IsMappingAt};
-ghost use Rattle.smap_index.specs.Walk.{checkpoint_at, IsFitting, number_behind, IsTextInOrder, is_overlapping_next};
+ghost use Rattle.smap_index.specs.Walk.{checkpoint_at, IsFitting, number_after, IsTextInOrder, is_overlapping_next};
 ghost use Rattle.smap_index.specs.declared.checkpoint.Checkpoint.{Checkpoint};
 
 use crate::checkpoint::Checkpoint;
+use crate::checkpoints::Checkpoints;
 use crate::part::Part;
-use crate::place::{is_after_offset, is_offset_past_limit, is_past_limit};
-use crate::table::Table;
+use crate::placed::{is_after_offset, is_offset_past_limit, is_past_limit};
 use smap_mappings::laws::accepted_texts_have_no_fault;
 use smap_mappings::{Cursor, Mapping, Meter, State};
 use std::alloc::Global;
@@ -30,9 +30,9 @@ pub struct Walk {
     pub has_room: bool,
 }
 
-// What a walk through one part found so far: the state behind the last mapping, that mapping's number on its line,
+// What a walk through one part found so far: the state after the last mapping, that mapping's number on its line,
 // whether a number of the part is past the limit, and whether there was room for all checkpoints. The number counts
-// from 0 anew at each checkpoint of the line; before the first mapping it is the one behind which a checkpoint stands.
+// from 0 anew at each checkpoint of the line; before the first mapping it is the one after which a checkpoint stands.
 #[derive(Clone, Copy)]
 struct PartWalk {
     state: State,
@@ -42,19 +42,25 @@ struct PartWalk {
 }
 
 // Walks through the texts of all parts, each once, and adds a checkpoint for each mark while there is room.
-pub fn mark_parts(alloc: Global, parts: &[Part], k: u32, has_room: bool, table: &mut Table) -> Walk
+pub fn mark_parts(
+    alloc: Global,
+    parts: &[Part],
+    k: u32,
+    has_room: bool,
+    checkpoints: &mut Checkpoints,
+) -> Walk
     requires few { length parts.now ≤ most_parts }
     requires interval { is_interval k ≡ true }
     ensures overlap { result.overlap ≡ overlap_fault parts.now }
     ensures past_limit { result.overlap ≡ None → result.past_limit ≡ range_fault parts.now }
     ensures marked { result.overlap ≡ None → result.past_limit ≡ None → IsTrue result.has_room →
-        (added : List Checkpoint) × (table.new ≡ table.old ++ added) × IsTableOf parts.now k added }
+        (added : List Checkpoint) × (checkpoints.new ≡ checkpoints.old ++ added) × AreCheckpointsOf parts.now k added }
     ensures ordered { result.overlap ≡ None → AllByRecursion IsTextInOrder parts.now }
 {
     let mut past_limit = None;
     let mut has_room = has_room;
     for (i, part) in parts.iter().enumerate() {
-        let walk = mark_part(alloc, i as u16, part, k, has_room, table);
+        let walk = mark_part(alloc, i as u16, part, k, has_room, checkpoints);
         if is_last_overlapping(part, &walk.state.cursor(), parts.get(i + 1)) {
             return Walk {
                 overlap: Some(i as u64 + 1),
@@ -97,14 +103,14 @@ fn mark_part(
     part: &Part,
     k: u32,
     has_room: bool,
-    table: &mut Table,
+    checkpoints: &mut Checkpoints,
 ) -> PartWalk
     requires interval { is_interval k ≡ true }
     ensures last { IfSome (last_or None (mappings_of part.now.text)) (IsMappingAt result.state) }
     ensures past_limit { result.is_past_limit ≡ is_part_past_limit part.now }
     ensures room { IsTrue result.has_room → IsTrue has_room }
     ensures marked { result.is_past_limit ≡ false → IsTrue result.has_room →
-        (added : List Checkpoint) × (table.new ≡ table.old ++ added)
+        (added : List Checkpoint) × (checkpoints.new ≡ checkpoints.old ++ added)
         × AllZip (IsCheckpointIn part.now number) (marked_segments k [] (placed part.now)) added }
     ensures ordered { IsTextInOrder part.now }
 {
@@ -125,9 +131,9 @@ fn mark_part(
         is_past_limit: is_offset_past_limit(part),
         has_room,
     };
-    while let Some((mapping, behind)) = part.text.next(&walk.state, &mut meter) {
-        walk = walk_behind(part, k, moves, &mapping, behind, &walk);
-        walk.has_room = mark(number, part, &mapping, &walk, table);
+    while let Some((mapping, after)) = part.text.next(&walk.state, &mut meter) {
+        walk = walk_after(part, k, moves, &mapping, after, &walk);
+        walk.has_room = mark(number, part, &mapping, &walk, checkpoints);
     }
     walk
 }
@@ -139,28 +145,28 @@ fn is_moving(part: &Part) -> bool
     part.line != 0 || part.column != 0 || part.source_base != 0 || part.name_base != 0
 }
 
-// The walk behind one mapping more, with room as before.
-fn walk_behind(
+// The walk after one mapping more, with room as before.
+fn walk_after(
     part: &Part,
     k: u32,
     moves: bool,
     mapping: &Mapping,
-    behind: State,
+    after: State,
     walk: &PartWalk,
 ) -> PartWalk
     requires interval { is_interval k ≡ true }
     requires unmoved { moves ≡ false →
         is_mapping_past_limit (placed_mapping part.now mapping.now) ≡ false }
-    ensures state { result.state ≡ behind }
+    ensures state { result.state ≡ after }
     ensures number { result.number
-        ≡ number_behind k walk.now.state.line walk.now.number mapping.now.line }
+        ≡ number_after k walk.now.state.line walk.now.number mapping.now.line }
     ensures past_limit { result.is_past_limit ≡ (walk.now.is_past_limit
         || is_mapping_past_limit (placed_mapping part.now mapping.now)) }
     ensures room { result.has_room ≡ walk.now.has_room }
 {
     PartWalk {
-        state: behind,
-        number: number_behind(k, walk.state.cursor().line, walk.number, mapping.line),
+        state: after,
+        number: number_after(k, walk.state.cursor().line, walk.number, mapping.line),
         is_past_limit: walk.is_past_limit || (moves && is_past_limit(part, mapping)),
         has_room: walk.has_room,
     }
@@ -168,9 +174,9 @@ fn walk_behind(
 
 // The number on its line of a mapping on the next line, counted from 0 anew at each checkpoint of the line, where one
 // with this number on this line stands before it.
-fn number_behind(k: u32, line: u32, number: u32, next: u32) -> u32
+fn number_after(k: u32, line: u32, number: u32, next: u32) -> u32
     requires interval { is_interval k ≡ true }
-    ensures { result ≡ number_behind k line number next }
+    ensures { result ≡ number_after k line number next }
 {
     if line == next && number < k - 1 {
         number + 1
@@ -179,22 +185,28 @@ fn number_behind(k: u32, line: u32, number: u32, next: u32) -> u32
     }
 }
 
-// Adds a checkpoint for the mapping behind which the walk stands, if it has the number 0, while nothing is past the
+// Adds a checkpoint for the mapping after which the walk stands, if it has the number 0, while nothing is past the
 // limit and there is room. Gives whether there was.
-fn mark(number: u16, part: &Part, mapping: &Mapping, walk: &PartWalk, table: &mut Table) -> bool
+fn mark(
+    number: u16,
+    part: &Part,
+    mapping: &Mapping,
+    walk: &PartWalk,
+    checkpoints: &mut Checkpoints,
+) -> bool
     requires values { IsMappingAt walk.now.state mapping.now }
     requires in_range { walk.now.is_past_limit ≡ false →
         is_mapping_past_limit (placed_mapping part.now mapping.now) ≡ false }
     requires fitting { walk.now.is_past_limit ≡ false → IsFitting part.now walk.now.state }
     ensures room { IsTrue result → IsTrue walk.now.has_room }
     ensures marked { walk.now.is_past_limit ≡ false → IsTrue result →
-        table.new ≡ (if walk.now.number == 0
-        then table.old ++ checkpoint_at number part.now mapping.now walk.now.state ∷ []
-        else table.old) }
+        checkpoints.new ≡ (if walk.now.number == 0
+        then checkpoints.old ++ checkpoint_at number part.now mapping.now walk.now.state ∷ []
+        else checkpoints.old) }
 {
     if walk.number != 0 || walk.is_past_limit {
         return walk.has_room;
     }
     let checkpoint = Checkpoint::new(number, part, mapping, &walk.state);
-    walk.has_room && table.push(checkpoint).is_ok()
+    walk.has_room && checkpoints.push(checkpoint).is_ok()
 }

@@ -5,7 +5,7 @@ ghost use Rattle.smap_index.specs.Parts.{most_parts};
 ghost use Rattle.smap_index.specs.Faults.{is_out_of_order, order_fault};
 
 use crate::part::Part;
-use crate::place::offset_of;
+use crate::placed::offset_of;
 
 // The first part whose offset stands before that of the part before it.
 pub fn first_out_of_order(parts: &[Part]) -> Option<u64>

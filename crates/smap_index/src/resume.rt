@@ -1,4 +1,4 @@
-//! The walk behind a checkpoint, which decodes the segments up to a bound.
+//! The walk after a checkpoint, which decodes the segments up to a bound.
 
 ghost use Rattle.std.specs.Prelude.{◌≡◌, ℕ, ◌+◌, ◌<◌, ◌≤◌, Some, false, take, drop};
 ghost use Rattle.std.specs.List.{list_any};
@@ -11,19 +11,19 @@ ghost use Rattle.smap_index.specs.Search.{last_from, first_past};
 use crate::bound::Bound;
 use crate::checkpoint::Checkpoint;
 use crate::part::Part;
-use crate::place::place;
+use crate::placed::placed_mapping;
 use smap_mappings::{Mapping, Meter};
 
-// The mappings next to a bound: the last that stands up to it, and the first behind that one, where it was decoded.
+// The mappings next to a bound: the last that stands up to it, and the first after that one, where it was decoded.
 #[derive(Clone, Copy)]
 pub struct Decoded {
     pub last: Mapping,
     pub next: Option<Mapping>,
 }
 
-// Of a checkpoint's mapping and at most this many behind it in its part: the last of those at the front that stand up
+// Of a checkpoint's mapping and at most this many after it in its part: the last of those at the front that stand up
 // to the bound, and the checkpoint's where none does, and the first that does not.
-pub fn decode_behind(
+pub fn decode_after(
     part: &Part,
     checkpoint: &Checkpoint,
     most: u32,
@@ -46,10 +46,10 @@ pub fn decode_behind(
     let mut state = checkpoint.state(part);
     let mut left = most;
     while left > 0 {
-        let Some((mapping, behind)) = part.text.next(&state, meter) else {
+        let Some((mapping, after)) = part.text.next(&state, meter) else {
             return Decoded { last, next: None };
         };
-        let Some(placed) = place(part, &mapping) else {
+        let Some(placed) = placed_mapping(part, &mapping) else {
             unreachable!("no mapping of an index is past the limit");
         };
         if !bound.reaches(&placed) {
@@ -59,7 +59,7 @@ pub fn decode_behind(
             };
         }
         last = placed;
-        state = behind;
+        state = after;
         left -= 1;
     }
     Decoded { last, next: None }

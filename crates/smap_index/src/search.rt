@@ -8,10 +8,10 @@ ghost use Rattle.smap_index.specs.Search.{mappings_at, last_checkpoint, next_che
 
 use crate::bound::Bound;
 use crate::checkpoint::Checkpoint;
-use crate::table::Table;
+use crate::checkpoints::Checkpoints;
 use smap_mappings::Meter;
 
-// The checkpoints next to a bound: the last whose mapping stands up to it, and the first behind that one.
+// The checkpoints next to a bound: the last whose mapping stands up to it, and the first after that one.
 #[derive(Clone, Copy)]
 pub struct Nearest<'a> {
     pub last: Option<&'a Checkpoint>,
@@ -20,22 +20,26 @@ pub struct Nearest<'a> {
 
 // Lends the checkpoints of the table next to the bound. The search halves, so that it reads at most b of fewer than
 // 2 ^ b checkpoints, and both are among those that it read.
-pub fn nearest_checkpoints<'a>(table: &'a Table, bound: &Bound, meter: &mut Meter) -> Nearest<'a>
-    requires ordered { IsInOrder (mappings_at table.now) }
+pub fn nearest_checkpoints<'a>(
+    checkpoints: &'a Checkpoints,
+    bound: &Bound,
+    meter: &mut Meter,
+) -> Nearest<'a>
+    requires ordered { IsInOrder (mappings_at checkpoints.now) }
     requires room { HasRoom meter.old }
-    ensures last { option_copied result.last ≡ last_checkpoint bound.now table.now }
-    ensures next { option_copied result.next ≡ next_checkpoint bound.now table.now }
+    ensures last { option_copied result.last ≡ last_checkpoint bound.now checkpoints.now }
+    ensures next { option_copied result.next ≡ next_checkpoint bound.now checkpoints.now }
     ensures onward { meter.old.comparisons ≤ meter.new.comparisons }
-    ensures few { (b : ℕ) → length table.now < 2 ^ b → meter.new.comparisons ≤ meter.old.comparisons + b }
+    ensures few { (b : ℕ) → length checkpoints.now < 2 ^ b → meter.new.comparisons ≤ meter.old.comparisons + b }
     ensures none_decoded { meter.new.segments ≡ meter.old.segments }
 {
     let mut low = 0;
-    let mut high = table.len();
+    let mut high = checkpoints.len();
     let mut last = None;
     let mut next = None;
     while low < high {
         let middle = low + (high - low) / 2;
-        let checkpoint = table.at(middle, meter);
+        let checkpoint = checkpoints.at(middle, meter);
         if bound.reaches(&checkpoint.mapping()) {
             last = Some(checkpoint);
             low = middle + 1;

@@ -6,7 +6,7 @@ use Rattle.std.specs.Io.KnownBytes.{prepend_known, append_known}
 abbrev pub Gives : (old new : Option (List ℕ)) → List ℕ → Type 0
 Gives old new bytes = old ≡ prepend_known bytes new
 
--- a write took these bytes: they stand behind those that were taken before
+-- a write took these bytes: they stand after those that were taken before
 abbrev pub Takes : (old new : Option (List ℕ)) → List ℕ → Type 0
 Takes old new bytes = new ≡ append_known old bytes
 

@@ -16,7 +16,7 @@ pub trait ByteSource {
     ghost has_failed: { Self → Bool };
 
     /// Fills the front of `room` and counts the bytes. A count of 0 for a room that is not empty is the
-    /// end. A fault leaves the bytes of the device as they were. Those of `room` behind the count, and
+    /// end. A fault leaves the bytes of the device as they were. Those of `room` after the count, and
     /// all of them after a fault, are whatever the device left there.
     fn read(&mut self, room: &mut [u8]) -> Result<usize, DeviceFault>
         ensures fits { IfOk result (λ n. n ≤ length room.new) }

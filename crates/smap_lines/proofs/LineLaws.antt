@@ -1,4 +1,4 @@
--- The lines of a text, one after another; and a text cut behind a line, whose lines are those of its parts.
+-- The lines of a text, one after another; and a text cut after a line, whose lines are those of its parts.
 use Rattle.std.proofs.Common.{◌≡◌, ◌==◌, ◌+◌, ◌<◌, ◌≤◌, ◌||◌, ℕ, suc, Bool, true, false, cond, List, [], ◌∷◌, ◌++◌, length, length-append, length-take, get_or, get_or-take, take, drop, refl, sym, ap, ◌∙◌, arith, ⊎_elim, inl, inr, append-nil, fold}
 use Rattle.std.proofs.Math.Bool.{or-true}
 use Rattle.std.specs.List.{flat_map, list_any}
@@ -7,8 +7,8 @@ use Rattle.std.proofs.lemmas.Grind.{flat_map-append}
 use Rattle.std.proofs.lemmas.List.{drop_more, take-append-drop}
 use Rattle.std.proofs.lemmas.List.Folds.{list_any-append}
 use Rattle.std.proofs.lemmas.List.Sums.{fold-append}
-use Rattle.smap_lines.specs.Edited.{behind_line, behind_text, edited, edited_line}
-use Rattle.smap_lines.specs.Lines.{IsWholeLines, Line, has_line_end, lines_of, onto_first}
+use Rattle.smap_lines.specs.Edited.{after_line, after_text, edited, edited_line}
+use Rattle.smap_lines.specs.Lines.{IsWholeLines, Line, has_line_end, lines_with_ends, onto_first}
 
 -- the line that an LF ends, and one that the text ends
 abbrev pub ended : List ℕ → Line
@@ -19,29 +19,29 @@ last bytes = record { bytes = bytes; is_ended = false }
 
 -- ---- the first line
 
-pub first_line : (line rest : List ℕ) → has_line_end line ≡ false → lines_of (line ++ 10 ∷ rest) ≡ ended line ∷ lines_of rest
+pub first_line : (line rest : List ℕ) → has_line_end line ≡ false → lines_with_ends (line ++ 10 ∷ rest) ≡ ended line ∷ lines_with_ends rest
 first_line [] rest none = refl
 first_line (x ∷ line) rest none =
     let parts = or_parts (x == 10) (has_line_end line) none in
-    cond-false (x == 10) _ (onto_first x (lines_of (line ++ 10 ∷ rest))) parts.0 ∙ ap (onto_first x) (first_line line rest parts.1)
+    cond-false (x == 10) _ (onto_first x (lines_with_ends (line ++ 10 ∷ rest))) parts.0 ∙ ap (onto_first x) (first_line line rest parts.1)
 
-pub only_line : (line : List ℕ) → has_line_end line ≡ false → 0 < length line → lines_of line ≡ last line ∷ []
+pub only_line : (line : List ℕ) → has_line_end line ≡ false → 0 < length line → lines_with_ends line ≡ last line ∷ []
 only_line [] none some = absurd (omega arith)
 only_line (x ∷ []) none some = cond-false (x == 10) _ (onto_first x []) (or_parts (x == 10) false none).0
 only_line (x ∷ y ∷ line) none some =
     let parts = or_parts (x == 10) (has_line_end (y ∷ line)) none in
-    cond-false (x == 10) _ (onto_first x (lines_of (y ∷ line))) parts.0 ∙ ap (onto_first x) (only_line (y ∷ line) parts.1 (omega arith))
+    cond-false (x == 10) _ (onto_first x (lines_with_ends (y ∷ line))) parts.0 ∙ ap (onto_first x) (only_line (y ∷ line) parts.1 (omega arith))
 
 -- there are no more lines than bytes
 onto_few : (x : ℕ) (lines : List Line) (n : ℕ) → length lines ≤ n → length (onto_first x lines) ≤ n + 1
 onto_few x [] n few = omega arith
 onto_few x (line ∷ lines) n few = omega arith
 
-pub few_lines : (text : List ℕ) → length (lines_of text) ≤ length text
+pub few_lines : (text : List ℕ) → length (lines_with_ends text) ≤ length text
 few_lines [] = omega arith
 few_lines (x ∷ text) =
     let few = few_lines text in
-    cond_both (x == 10) _ _ (λ l. length l ≤ length (x ∷ text)) (λ _. omega (arith, few)) (λ _. let more = onto_few x (lines_of text) (length text) few in omega (arith, more))
+    cond_both (x == 10) _ _ (λ l. length l ≤ length (x ∷ text)) (λ _. omega (arith, few)) (λ _. let more = onto_few x (lines_with_ends text) (length text) few in omega (arith, more))
 
 -- ---- a join of whole lines
 
@@ -53,26 +53,26 @@ onto_some : (x : ℕ) (lines : List Line) → 0 < length (onto_first x lines)
 onto_some x [] = omega arith
 onto_some x (line ∷ lines) = omega arith
 
-lines_some : (text : List ℕ) → 0 < length text → 0 < length (lines_of text)
+lines_some : (text : List ℕ) → 0 < length text → 0 < length (lines_with_ends text)
 lines_some [] some = some
-lines_some (x ∷ text) some = cond_both (x == 10) _ _ (λ l. 0 < length l) (λ _. omega arith) (λ _. onto_some x (lines_of text))
+lines_some (x ∷ text) some = cond_both (x == 10) _ _ (λ l. 0 < length l) (λ _. omega arith) (λ _. onto_some x (lines_with_ends text))
 
 join_at : (x : ℕ) (t : Bool) (whole first rest : List Line) → 0 < length first → whole ≡ first ++ rest →
     cond t (ended [] ∷ whole) (onto_first x whole) ≡ cond t (ended [] ∷ first) (onto_first x first) ++ rest
 join_at x true whole first rest some is = ap (λ l. ended [] ∷ l) is
 join_at x false whole first rest some is = ap (onto_first x) is ∙ onto_join x first rest some
 
-lines_join : (front rest : List ℕ) → lines_of ((front ++ 10 ∷ []) ++ rest) ≡ lines_of (front ++ 10 ∷ []) ++ lines_of rest
+lines_join : (front rest : List ℕ) → lines_with_ends ((front ++ 10 ∷ []) ++ rest) ≡ lines_with_ends (front ++ 10 ∷ []) ++ lines_with_ends rest
 lines_join [] rest = refl
 lines_join (x ∷ front) rest =
-    join_at x (x == 10) (lines_of ((front ++ 10 ∷ []) ++ rest)) (lines_of (front ++ 10 ∷ [])) (lines_of rest)
+    join_at x (x == 10) (lines_with_ends ((front ++ 10 ∷ []) ++ rest)) (lines_with_ends (front ++ 10 ∷ [])) (lines_with_ends rest)
     (lines_some (front ++ 10 ∷ []) (omega (arith, length-append front (10 ∷ [])))) (lines_join front rest)
 
-pub lines_of_both : (first rest : List ℕ) → IsWholeLines first → lines_of (first ++ rest) ≡ lines_of first ++ lines_of rest
+pub lines_of_both : (first rest : List ℕ) → IsWholeLines first → lines_with_ends (first ++ rest) ≡ lines_with_ends first ++ lines_with_ends rest
 lines_of_both first rest whole = ⊎_elim
-    (λ (none : first ≡ []). ap (λ l. lines_of (l ++ rest)) none ∙ ap (λ l. lines_of l ++ lines_of rest) (sym none))
+    (λ (none : first ≡ []). ap (λ l. lines_with_ends (l ++ rest)) none ∙ ap (λ l. lines_with_ends l ++ lines_with_ends rest) (sym none))
     (λ (is : (front : List ℕ) × (first ≡ front ++ 10 ∷ [])).
-    ap (λ l. lines_of (l ++ rest)) is.1 ∙ lines_join is.0 rest ∙ ap (λ l. lines_of l ++ lines_of rest) (sym is.1))
+    ap (λ l. lines_with_ends (l ++ rest)) is.1 ∙ lines_join is.0 rest ∙ ap (λ l. lines_with_ends l ++ lines_with_ends rest) (sym is.1))
     whole
 
 -- ---- what becomes of them
@@ -80,7 +80,7 @@ lines_of_both first rest whole = ⊎_elim
 pub edited_both : (becomes : Line → List ℕ) (first rest : List ℕ) → IsWholeLines first → edited becomes (first ++ rest) ≡ edited becomes first ++ edited becomes rest
 unfolding edited
 edited_both becomes first rest whole =
-    ap (flat_map (edited_line becomes)) (lines_of_both first rest whole) ∙ flat_map-append (edited_line becomes) (lines_of first) (lines_of rest)
+    ap (flat_map (edited_line becomes)) (lines_of_both first rest whole) ∙ flat_map-append (edited_line becomes) (lines_with_ends first) (lines_with_ends rest)
 
 pub edited_none : (becomes : Line → List ℕ) → edited becomes [] ≡ []
 unfolding edited
@@ -94,25 +94,25 @@ pub edited_last : (becomes : Line → List ℕ) (line : List ℕ) → has_line_e
 unfolding edited
 edited_last becomes line none some = ap (flat_map (edited_line becomes)) (only_line line none some) ∙ append-nil (edited_line becomes (last line))
 
--- ---- an editor behind them
+-- ---- an editor after them
 
-module _ {E : Type 0} (behind : E → Line → E) (editor : E) where
-  pub behind_both : (first rest : List ℕ) → IsWholeLines first → behind_text behind editor (first ++ rest) ≡ behind_text behind (behind_text behind editor first) rest
-  unfolding behind_text
-  behind_both first rest whole =
-      ap (fold (behind_line behind) editor) (lines_of_both first rest whole) ∙ fold-append (behind_line behind) editor (lines_of first) (lines_of rest)
+module _ {E : Type 0} (step : E → Line → E) (editor : E) where
+  pub after_both : (first rest : List ℕ) → IsWholeLines first → after_text step editor (first ++ rest) ≡ after_text step (after_text step editor first) rest
+  unfolding after_text
+  after_both first rest whole =
+      ap (fold (after_line step) editor) (lines_of_both first rest whole) ∙ fold-append (after_line step) editor (lines_with_ends first) (lines_with_ends rest)
 
-  pub behind_none : behind_text behind editor [] ≡ editor
-  unfolding behind_text
-  behind_none = refl
+  pub after_none : after_text step editor [] ≡ editor
+  unfolding after_text
+  after_none = refl
 
-  pub behind_ended_line : (line : List ℕ) → has_line_end line ≡ false → behind_text behind editor (line ++ 10 ∷ []) ≡ behind_line behind editor (ended line)
-  unfolding behind_text
-  behind_ended_line line none = ap (fold (behind_line behind) editor) (first_line line [] none)
+  pub after_ended_line : (line : List ℕ) → has_line_end line ≡ false → after_text step editor (line ++ 10 ∷ []) ≡ after_line step editor (ended line)
+  unfolding after_text
+  after_ended_line line none = ap (fold (after_line step) editor) (first_line line [] none)
 
-  pub behind_last_line : (line : List ℕ) → has_line_end line ≡ false → 0 < length line → behind_text behind editor line ≡ behind_line behind editor (last line)
-  unfolding behind_text
-  behind_last_line line none some = ap (fold (behind_line behind) editor) (only_line line none some)
+  pub after_last_line : (line : List ℕ) → has_line_end line ≡ false → 0 < length line → after_text step editor line ≡ after_line step editor (last line)
+  unfolding after_text
+  after_last_line line none some = ap (fold (after_line step) editor) (only_line line none some)
 
 -- ---- where an LF is
 
@@ -125,7 +125,7 @@ no_end_anywhere [] none = refl
 no_end_anywhere (x ∷ text) none =
     or_from (x == 10) (has_line_end text) (false_from_ne_true (x == 10) (none 0 (omega arith))) (no_end_anywhere text (λ k within. none (suc k) (omega (arith, within))))
 
--- the first LF, and what stands before and behind it
+-- the first LF, and what stands before and after it
 pub cut_there : (text : List ℕ) (k : ℕ) → k < length text → (get_or text k 0 == 10) ≡ true → text ≡ take k text ++ 10 ∷ drop (k + 1) text
 cut_there text k within here =
     sym (take-append-drop k text) ∙ ap (λ l. take k text ++ l) (drop_more text k 0 within ∙ ap (λ b. b ∷ drop (k + 1) text) (eqb-true _ 10 here))

@@ -1,4 +1,4 @@
--- Pieces that are put one behind another.
+-- Pieces that are put one after another.
 use Rattle.std.proofs.Common.{◌≡◌, ◌+◌, ◌<◌, ℕ, List, [], ◌∷◌, ◌++◌, Option, length, map, get_or, take, drop, sym, ap, ◌∙◌, subst, append_assoc, append-nil}
 use Rattle.std.specs.Borrow.{Bor}
 use Rattle.std.specs.List.{concat}

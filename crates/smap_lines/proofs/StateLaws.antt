@@ -4,12 +4,12 @@ use Rattle.std.specs.Prelude.{nat_le, not, ◌==◌, ◌||◌}
 use Rattle.std.proofs.lemmas.Bool.{cond-false, cond-true, eqb-true, or_from}
 use Rattle.std.proofs.lemmas.Bool.Decides.{nat_tests}
 use Rattle.std.proofs.lemmas.List.{nil_from_length}
-use Rattle.smap_lines.specs.Edited.{behind_line, behind_text, edited, edited_line, is_short}
+use Rattle.smap_lines.specs.Edited.{after_line, after_text, edited, edited_line, is_short}
 use Rattle.smap_lines.specs.Limits.{most_line_bytes}
-use Rattle.smap_lines.specs.Lines.{IsWholeLines, Line, has_line_end, line_text, lines_of}
-use Rattle.smap_lines.specs.OpenLine.{OpenState, behind_ended, behind_last, continued, continued_text, ended_text, has_last, is_kept, last_text, line_with, nothing_open}
+use Rattle.smap_lines.specs.Lines.{IsWholeLines, Line, has_line_end, line_text, lines_with_ends}
+use Rattle.smap_lines.specs.OpenLine.{OpenState, after_ended, after_last, continued, continued_text, ended_text, has_last, is_kept, last_text, line_with, nothing_open}
 use Rattle.smap_lines.specs.Passage.{IsOpen, IsThrough, Now, passed}
-use Rattle.smap_lines.proofs.LineLaws.{behind_both, behind_ended_line, behind_last_line, behind_none, edited_both, edited_ended, edited_last, edited_none, ended, first_line, last, lines_of_both, no_end_in_both, only_line}
+use Rattle.smap_lines.proofs.LineLaws.{after_both, after_ended_line, after_last_line, after_none, edited_both, edited_ended, edited_last, edited_none, ended, first_line, last, lines_of_both, no_end_in_both, only_line}
 
 -- ---- an open line, by its state
 
@@ -40,20 +40,20 @@ module _ (becomes : Line → List ℕ) (bytes : List ℕ) where
   ended_at false kept begun is = ap (λ l. edited_line becomes (ended (l ++ bytes))) (is.kept refl)
 
 -- the same of the editor
-module _ {E : Type 0} (behind : E → Line → E) (editor : E) (bytes : List ℕ) where
-  pub behind_at : (passing : Bool) (kept begun : List ℕ) → IsOpen (record { kept = kept; is_passing = passing }) begun →
-      behind_ended behind editor (record { kept = kept; is_passing = passing }) bytes ≡ behind_line behind editor (ended (begun ++ bytes))
-  behind_at true kept begun is =
+module _ {E : Type 0} (step : E → Line → E) (editor : E) (bytes : List ℕ) where
+  pub after_at : (passing : Bool) (kept begun : List ℕ) → IsOpen (record { kept = kept; is_passing = passing }) begun →
+      after_ended step editor (record { kept = kept; is_passing = passing }) bytes ≡ after_line step editor (ended (begun ++ bytes))
+  after_at true kept begun is =
       let long : is_short (ended (begun ++ bytes)) ≡ false = long_is_not (length (begun ++ bytes)) (omega (arith, is.long refl, length-append begun bytes)) in
       sym (cond-false (is_short (ended (begun ++ bytes))) _ _ long)
-  behind_at false kept begun is = ap (λ l. behind_line behind editor (ended (l ++ bytes))) (is.kept refl)
+  after_at false kept begun is = ap (λ l. after_line step editor (ended (l ++ bytes))) (is.kept refl)
 
 -- what is passed of a line, and what bytes that don't end it bring
 abbrev pub GoesOn : OpenState → (begun bytes : List ℕ) → Type 0
 GoesOn state begun bytes =
     (passed state begun ++ continued_text state bytes ≡ passed (continued state bytes) (begun ++ bytes)) × IsOpen (continued state bytes) (begun ++ bytes)
 
--- bytes that fit, or don't, behind those that are kept
+-- bytes that fit, or don't, after those that are kept
 goes_on_kept : (fits : Bool) (begun bytes : List ℕ) → nat_le (length (begun ++ bytes)) most_line_bytes ≡ fits → has_line_end (begun ++ bytes) ≡ false →
     (cond fits [] (begun ++ bytes) ≡ passed (cond fits (record { kept = begun ++ bytes; is_passing = false }) (record { kept = []; is_passing = true })) (begun ++ bytes))
     × IsOpen (cond fits (record { kept = begun ++ bytes; is_passing = false }) (record { kept = []; is_passing = true })) (begun ++ bytes)
@@ -113,32 +113,32 @@ module _ (becomes : Line → List ℕ) where
       let short = is.short in let same = is.kept refl in
       ap (λ l. last_text becomes (record { kept = l; is_passing = false })) same ∙ none_or_last begun is.one (omega (arith, short, ap length same))
 
-module _ {E : Type 0} (behind : E → Line → E) (editor : E) where
-  behind_none_or_last : (begun : List ℕ) → has_line_end begun ≡ false → length begun ≤ most_line_bytes →
-      cond (length begun == 0) editor (behind editor (last begun)) ≡ behind_text behind editor begun
-  behind_none_or_last [] none short = sym (behind_none behind editor)
-  behind_none_or_last (x ∷ begun) none short =
+module _ {E : Type 0} (step : E → Line → E) (editor : E) where
+  after_none_or_last : (begun : List ℕ) → has_line_end begun ≡ false → length begun ≤ most_line_bytes →
+      cond (length begun == 0) editor (step editor (last begun)) ≡ after_text step editor begun
+  after_none_or_last [] none short = sym (after_none step editor)
+  after_none_or_last (x ∷ begun) none short =
       cond-false (length (x ∷ begun) == 0) _ _ (some_is_not (length (x ∷ begun)) (omega arith))
-      ∙ sym (behind_last_line behind editor (x ∷ begun) none (omega arith) ∙ cond-true (is_short (last (x ∷ begun))) _ _ (short_is (length (x ∷ begun)) short))
+      ∙ sym (after_last_line step editor (x ∷ begun) none (omega arith) ∙ cond-true (is_short (last (x ∷ begun))) _ _ (short_is (length (x ∷ begun)) short))
 
-  pub behind_last_at : (passing : Bool) (kept begun : List ℕ) → IsOpen (record { kept = kept; is_passing = passing }) begun →
-      behind_last behind editor (record { kept = kept; is_passing = passing }) ≡ behind_text behind editor begun
-  behind_last_at true kept begun is =
+  pub after_last_at : (passing : Bool) (kept begun : List ℕ) → IsOpen (record { kept = kept; is_passing = passing }) begun →
+      after_last step editor (record { kept = kept; is_passing = passing }) ≡ after_text step editor begun
+  after_last_at true kept begun is =
       let long : is_short (last begun) ≡ false = long_is_not (length begun) (is.long refl) in
-      ap (λ l. behind_last behind editor (record { kept = l; is_passing = true })) (is.none_kept refl)
-      ∙ sym (behind_last_line behind editor begun is.one (omega (arith, is.long refl)) ∙ cond-false (is_short (last begun)) _ _ long)
-  behind_last_at false kept begun is =
+      ap (λ l. after_last step editor (record { kept = l; is_passing = true })) (is.none_kept refl)
+      ∙ sym (after_last_line step editor begun is.one (omega (arith, is.long refl)) ∙ cond-false (is_short (last begun)) _ _ long)
+  after_last_at false kept begun is =
       let short = is.short in let same = is.kept refl in
-      ap (λ l. behind_last behind editor (record { kept = l; is_passing = false })) same ∙ behind_none_or_last begun is.one (omega (arith, short, ap length same))
+      ap (λ l. after_last step editor (record { kept = l; is_passing = false })) same ∙ after_none_or_last begun is.one (omega (arith, short, ap length same))
 
 -- it is a line unless nothing was begun
-last_counted : (begun : List ℕ) → has_line_end begun ≡ false → cond (not (length begun == 0)) 1 0 ≡ length (lines_of begun)
+last_counted : (begun : List ℕ) → has_line_end begun ≡ false → cond (not (length begun == 0)) 1 0 ≡ length (lines_with_ends begun)
 last_counted [] none = refl
 last_counted (x ∷ begun) none =
     cond-true (not (length (x ∷ begun) == 0)) _ _ (ap not (some_is_not (length (x ∷ begun)) (omega arith))) ∙ sym (ap length (only_line (x ∷ begun) none (omega arith)))
 
 pub counted_at : (passing : Bool) (kept begun : List ℕ) → IsOpen (record { kept = kept; is_passing = passing }) begun →
-    cond (has_last (record { kept = kept; is_passing = passing })) 1 0 ≡ length (lines_of begun)
+    cond (has_last (record { kept = kept; is_passing = passing })) 1 0 ≡ length (lines_with_ends begun)
 counted_at true kept begun is = sym (ap length (only_line begun is.one (omega (arith, is.long refl))))
 counted_at false kept begun is = ap (λ l. cond (not (length l == 0)) 1 0) (is.kept refl) ∙ last_counted begun is.one
 

@@ -1,4 +1,4 @@
--- What a sink took, one piece behind another.
+-- What a sink took, one piece after another.
 use Rattle.std.proofs.Common.{◌≡◌, ℕ, List, [], ◌++◌, Option, Some, None, Result, Ok, Err, refl, sym, ap, ◌∙◌, append_assoc, append-nil}
 use Rattle.std.specs.Result.{OnOk}
 use Rattle.std.specs.Io.KnownBytes.{append_known}
@@ -23,8 +23,8 @@ pub front_of_more : (old new : Option (List ℕ)) (bytes more : List ℕ) → Ta
 front_of_more old new bytes more took = (took.0, took.1 ++ more, ap (λ l. l ++ more) took.2 ∙ append_assoc took.0 took.1 more, took.3)
 
 -- all of some bytes, and then a front of more
-pub front_behind : (old mid new : Option (List ℕ)) (bytes more : List ℕ) → Takes old mid bytes → TakesFront mid new more → TakesFront old new (bytes ++ more)
-front_behind old mid new bytes more first took = (
+pub front_after : (old mid new : Option (List ℕ)) (bytes more : List ℕ) → Takes old mid bytes → TakesFront mid new more → TakesFront old new (bytes ++ more)
+front_after old mid new bytes more first took = (
   bytes ++ took.0,
   took.1,
   ap (λ l. bytes ++ l) took.2 ∙ sym (append_assoc bytes took.0 took.1),
@@ -32,10 +32,10 @@ front_behind old mid new bytes more first took = (
 )
 
 -- all of both
-pub all_behind : (old mid new : Option (List ℕ)) (bytes more : List ℕ) → Takes old mid bytes → Takes mid new more → HandsOn old new (bytes ++ more) []
-all_behind old mid new bytes more first second = (bytes ++ more, takes_both old mid new bytes more first second, sym (append-nil (bytes ++ more)))
+pub all_after : (old mid new : Option (List ℕ)) (bytes more : List ℕ) → Takes old mid bytes → Takes mid new more → HandsOn old new (bytes ++ more) []
+all_after old mid new bytes more first second = (bytes ++ more, takes_both old mid new bytes more first second, sym (append-nil (bytes ++ more)))
 
--- ---- bytes that wait, and pieces that are put behind them
+-- ---- bytes that wait, and pieces that are put after them
 
 module _ (old mid : Option (List ℕ)) (before between first second : List ℕ) where
   -- a piece, and then a second one

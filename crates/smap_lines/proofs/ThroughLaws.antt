@@ -1,16 +1,16 @@
 -- How far the editing of a text has come: each step of it keeps `IsThrough`, and at the end it says what was written.
 use Rattle.std.proofs.Common.{◌≡◌, ◌+◌, ◌≤◌, ℕ, Bool, true, false, cond, List, [], ◌∷◌, ◌++◌, Option, length, length-append, refl, sym, ap, ◌∙◌, arith, subst, inl, inr, append_assoc, append-nil}
 use Rattle.smap_io.specs.Device.{Takes, TakesFront}
-use Rattle.smap_lines.specs.Edited.{behind_text, edited, is_short}
+use Rattle.smap_lines.specs.Edited.{after_text, edited, is_short}
 use Rattle.smap_lines.specs.Gathered.{HandsOn}
-use Rattle.smap_lines.specs.Lines.{IsWholeLines, Line, has_line_end, line_text, lines_of}
-use Rattle.smap_lines.specs.OpenLine.{OpenState, behind_ended, behind_last, continued, continued_text, ended_text, has_last, is_kept, last_text, line_with, nothing_open}
+use Rattle.smap_lines.specs.Lines.{IsWholeLines, Line, has_line_end, line_text, lines_with_ends}
+use Rattle.smap_lines.specs.OpenLine.{OpenState, after_ended, after_last, continued, continued_text, ended_text, has_last, is_kept, last_text, line_with, nothing_open}
 use Rattle.smap_lines.specs.Passage.{IsOpen, IsThrough, Now, passed}
-use Rattle.smap_lines.proofs.LineLaws.{behind_both, behind_ended_line, behind_none, edited_both, edited_ended, edited_none, ended, few_lines, first_line, lines_of_both, no_end_in_both, whole_begins}
-use Rattle.smap_lines.proofs.StateLaws.{begins_at, behind_at, behind_last_at, counted_at, ended_at, goes_on, last_at}
+use Rattle.smap_lines.proofs.LineLaws.{after_both, after_ended_line, after_none, edited_both, edited_ended, edited_none, ended, few_lines, first_line, lines_of_both, no_end_in_both, whole_begins}
+use Rattle.smap_lines.proofs.StateLaws.{begins_at, after_at, after_last_at, counted_at, ended_at, goes_on, last_at}
 use Rattle.smap_lines.proofs.TakingLaws.{takes_both, takes_none}
 
--- more was put behind what was handed on of a text
+-- more was put after what was handed on of a text
 handed : (written waiting front rest whole part more all : List ℕ) → written ++ waiting ≡ whole ++ part → waiting ++ more ≡ front ++ rest → part ++ more ≡ all →
     (written ++ front) ++ rest ≡ whole ++ all
 handed written waiting front rest whole part more all is put comes =
@@ -20,12 +20,12 @@ handed written waiting front rest whole part more all is put comes =
 open_nothing : IsOpen nothing_open []
 open_nothing = record { one = refl; short = omega arith; kept = λ _. refl; none_kept = λ _. refl; long = λ e. cc }
 
-module _ (E : Type 0) (becomes : E → Line → List ℕ) (behind : E → Line → E) (room : E → ℕ)
-    (same : (editor : E) (line other : Line) → becomes (behind editor line) other ≡ becomes editor other)
-    (room_for_one : (editor : E) (line : Line) → room editor ≤ room (behind editor line) + 1)
+module _ (E : Type 0) (becomes : E → Line → List ℕ) (step : E → Line → E) (room : E → ℕ)
+    (same : (editor : E) (line other : Line) → becomes (step editor line) other ≡ becomes editor other)
+    (room_for_one : (editor : E) (line : Line) → room editor ≤ room (step editor line) + 1)
     (first : E) (before : Option (List ℕ)) where
   abbrev Through : List ℕ → Now E → List ℕ → Type 0
-  Through bytes now later = IsThrough becomes behind room first before bytes now later
+  Through bytes now later = IsThrough becomes step room first before bytes now later
 
   pub through_start : Through [] (record { editor = first; taken = before; waiting = []; state = nothing_open; lines = 0 }) []
   through_start = record {
@@ -37,7 +37,7 @@ module _ (E : Type 0) (becomes : E → Line → List ℕ) (behind : E → Line �
     open_is = open_nothing;
     taken = takes_none before;
     handed_on = sym (ap (λ l. l ++ []) (edited_none (becomes first)));
-    editor_is = sym (behind_none behind first);
+    editor_is = sym (after_none step first);
     same = λ line. refl;
     counted = refl;
     room_left = omega arith;
@@ -60,11 +60,11 @@ module _ (E : Type 0) (becomes : E → Line → List ℕ) (behind : E → Line �
     room_left = is.room_left;
   }
 
-  same_at : (t : Bool) (editor : E) (line other : Line) → becomes (cond t (behind editor line) editor) other ≡ becomes editor other
+  same_at : (t : Bool) (editor : E) (line other : Line) → becomes (cond t (step editor line) editor) other ≡ becomes editor other
   same_at true editor line other = same editor line other
   same_at false editor line other = refl
 
-  pub room_at : (t : Bool) (editor : E) (line : Line) → room editor ≤ room (cond t (behind editor line) editor) + 1
+  pub room_at : (t : Bool) (editor : E) (line : Line) → room editor ≤ room (cond t (step editor line) editor) + 1
   room_at true editor line = room_for_one editor line
   room_at false editor line = omega arith
 
@@ -72,7 +72,7 @@ module _ (E : Type 0) (becomes : E → Line → List ℕ) (behind : E → Line �
   pub through_line : (bytes line rest later : List ℕ) (now : Now E) (editor : E) (taken : Option (List ℕ)) (waiting : List ℕ) (state : OpenState) (lines : ℕ) →
       Through bytes now later → later ≡ line ++ 10 ∷ rest → has_line_end line ≡ false →
       HandsOn now.taken taken (now.waiting ++ ended_text (becomes now.editor) now.state line) waiting →
-      editor ≡ behind_ended behind now.editor now.state line → state ≡ nothing_open → lines ≡ now.lines + 1 →
+      editor ≡ after_ended step now.editor now.state line → state ≡ nothing_open → lines ≡ now.lines + 1 →
       Through bytes (record { editor = editor; taken = taken; waiting = waiting; state = state; lines = lines }) rest
   through_line bytes line rest later now editor taken waiting state lines is later_is none hands editor_is state_is lines_is =
       let whole : List ℕ = (is.begun ++ line) ++ 10 ∷ [] in
@@ -81,9 +81,9 @@ module _ (E : Type 0) (becomes : E → Line → List ℕ) (behind : E → Line �
       ∙ ap (λ t. cond (is_short (ended (is.begun ++ line))) t (line_text (ended (is.begun ++ line)))) (is.same (ended (is.begun ++ line)))
       ∙ sym (edited_ended (becomes first) (is.begun ++ line) one) in
       let cut : (is.done ++ is.begun) ++ (line ++ 10 ∷ rest) ≡ ((is.done ++ ((is.begun ++ line) ++ 10 ∷ [])) ++ []) ++ rest = simp (append_assoc, append-nil) in
-      let more : length (lines_of (is.done ++ whole)) ≡ length (lines_of is.done) + 1 =
-      ap length (lines_of_both is.done whole is.whole ∙ ap (λ l. lines_of is.done ++ l) (first_line (is.begun ++ line) [] one))
-      ∙ length-append (lines_of is.done) (ended (is.begun ++ line) ∷ []) in
+      let more : length (lines_with_ends (is.done ++ whole)) ≡ length (lines_with_ends is.done) + 1 =
+      ap length (lines_of_both is.done whole is.whole ∙ ap (λ l. lines_with_ends is.done ++ l) (first_line (is.begun ++ line) [] one))
+      ∙ length-append (lines_with_ends is.done) (ended (is.begun ++ line) ∷ []) in
       let falls = room_at (is_kept now.state line) now.editor (line_with now.state line true) in
       subst (λ s. Through bytes (record { editor = editor; taken = taken; waiting = waiting; state = s; lines = lines }) rest) (sym state_is) (record {
         done = is.done ++ whole;
@@ -95,9 +95,9 @@ module _ (E : Type 0) (becomes : E → Line → List ℕ) (behind : E → Line �
         taken = takes_both before now.taken taken is.written hands.0 is.taken hands.1;
         handed_on = handed is.written now.waiting hands.0 waiting _ _ _ _ is.handed_on hands.2 comes
             ∙ sym (edited_both (becomes first) is.done whole is.whole) ∙ sym (append-nil (edited (becomes first) (is.done ++ whole)));
-        editor_is = editor_is ∙ behind_at behind now.editor line now.state.is_passing now.state.kept is.begun is.open_is
-            ∙ sym (behind_ended_line behind now.editor (is.begun ++ line) one) ∙ ap (λ e. behind_text behind e whole) is.editor_is
-            ∙ sym (behind_both behind first is.done whole is.whole);
+        editor_is = editor_is ∙ after_at step now.editor line now.state.is_passing now.state.kept is.begun is.open_is
+            ∙ sym (after_ended_line step now.editor (is.begun ++ line) one) ∙ ap (λ e. after_text step e whole) is.editor_is
+            ∙ sym (after_both step first is.done whole is.whole);
         same = λ other. ap (λ e. becomes e other) editor_is ∙ same_at (is_kept now.state line) now.editor (line_with now.state line true) other ∙ is.same other;
         counted = lines_is ∙ ap (λ n. n + 1) is.counted ∙ sym more;
         room_left = omega (arith, falls, is.room_left, ap room editor_is, lines_is);
@@ -197,7 +197,7 @@ module _ (E : Type 0) (becomes : E → Line → List ℕ) (behind : E → Line �
       edited (becomes now.editor) text ≡ edited (becomes first) text
   same_text now is text = λ i. edited (λ line. is line i) text
 
-  -- what the bytes become, where the last line comes behind what waits
+  -- what the bytes become, where the last line comes after what waits
   ends_at : (bytes : List ℕ) (now : Now E) → (is : Through bytes now []) →
       edited (becomes first) bytes ≡ is.written ++ (now.waiting ++ last_text (becomes now.editor) now.state)
   ends_at bytes now is =
@@ -233,18 +233,18 @@ module _ (E : Type 0) (becomes : E → Line → List ℕ) (behind : E → Line �
         takes_both now.taken mid new hands.0 took.0 hands.1 took.3,
       )
 
-  pub through_behind : (bytes : List ℕ) (now : Now E) (editor : E) → (is : Through bytes now []) → editor ≡ behind_last behind now.editor now.state →
-      editor ≡ behind_text behind first bytes
-  through_behind bytes now editor is editor_is =
-      editor_is ∙ behind_last_at behind now.editor now.state.is_passing now.state.kept is.begun is.open_is
-      ∙ ap (λ e. behind_text behind e is.begun) is.editor_is ∙ sym (behind_both behind first is.done is.begun is.whole)
-      ∙ ap (behind_text behind first) (sym (is.bytes_is ∙ append-nil (is.done ++ is.begun)))
+  pub through_after : (bytes : List ℕ) (now : Now E) (editor : E) → (is : Through bytes now []) → editor ≡ after_last step now.editor now.state →
+      editor ≡ after_text step first bytes
+  through_after bytes now editor is editor_is =
+      editor_is ∙ after_last_at step now.editor now.state.is_passing now.state.kept is.begun is.open_is
+      ∙ ap (λ e. after_text step e is.begun) is.editor_is ∙ sym (after_both step first is.done is.begun is.whole)
+      ∙ ap (after_text step first) (sym (is.bytes_is ∙ append-nil (is.done ++ is.begun)))
 
-  pub through_counted : (bytes : List ℕ) (now : Now E) → (is : Through bytes now []) → now.lines + cond (has_last now.state) 1 0 ≡ length (lines_of bytes)
+  pub through_counted : (bytes : List ℕ) (now : Now E) → (is : Through bytes now []) → now.lines + cond (has_last now.state) 1 0 ≡ length (lines_with_ends bytes)
   through_counted bytes now is =
       let more = counted_at now.state.is_passing now.state.kept is.begun is.open_is in
-      let both = ap length (ap lines_of (is.bytes_is ∙ append-nil (is.done ++ is.begun)) ∙ lines_of_both is.done is.begun is.whole) in
-      omega (arith, more, both, is.counted, length-append (lines_of is.done) (lines_of is.begun))
+      let both = ap length (ap lines_with_ends (is.bytes_is ∙ append-nil (is.done ++ is.begun)) ∙ lines_of_both is.done is.begun is.whole) in
+      omega (arith, more, both, is.counted, length-append (lines_with_ends is.done) (lines_with_ends is.begun))
 
   -- there are no more lines than bytes
   pub through_few : (bytes later : List ℕ) (now : Now E) → (is : Through bytes now later) → now.lines ≤ length bytes

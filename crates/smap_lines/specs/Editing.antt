@@ -2,33 +2,33 @@
 use Rattle.std.specs.Prelude.{◌≡◌, ◌<◌, ◌≤◌, ℕ, Bool, true, false, List, ◌++◌, Option, length, Result, Ok, Err}
 use Rattle.std.specs.Io.KnownBytes.{IsAtEnd}
 use Rattle.smap_io.specs.Device.{Gives, Takes}
-use Rattle.smap_lines.specs.Edited.{behind_text, edited}
+use Rattle.smap_lines.specs.Edited.{after_text, edited}
 use Rattle.smap_lines.specs.Limits.{most_text_bytes}
-use Rattle.smap_lines.specs.Lines.{IsWholeLines, Line, lines_of}
+use Rattle.smap_lines.specs.Lines.{IsWholeLines, Line, lines_with_ends}
 use Rattle.smap_lines.specs.declared.fault.LineFault.{LineFault}
 use Rattle.smap_lines.specs.declared.fault.LineFault.TheVariants.{Read, Write, TooMuch, Memory}
 
 -- the bytes that a source has left and a sink has taken, where they tell them
-pub record Streams : Type 0 where
+pub record DevicesSeen : Type 0 where
   pub left : Option (List ℕ)
   pub taken : Option (List ℕ)
 
 -- all that the input had, which is not too much, was read, and what it becomes was written, and nothing else
-pub record Edits (becomes : Line → List ℕ) (before after : Streams) (bytes : List ℕ) (lines : ℕ) : Type 0 where
+pub record Edits (becomes : Line → List ℕ) (before after : DevicesSeen) (bytes : List ℕ) (lines : ℕ) : Type 0 where
   pub read : Gives before.left after.left bytes
   pub ended : IsAtEnd after.left
   pub fits : length bytes ≤ most_text_bytes
   pub written : Takes before.taken after.taken (edited becomes bytes)
-  pub counted : lines ≡ length (lines_of bytes)
+  pub counted : lines ≡ length (lines_with_ends bytes)
 
--- the same, and the editor is behind all its lines
-abbrev pub EditsText : {E : Type 0} → (Line → List ℕ) → (E → Line → E) → (before after : Streams) → (old new : E) → ℕ → Type 0
-EditsText becomes behind before after old new lines =
-    (bytes : List ℕ) × Edits becomes before after bytes lines × (new ≡ behind_text behind old bytes)
+-- the same, and the editor is after all its lines
+abbrev pub EditsText : {E : Type 0} → (Line → List ℕ) → (E → Line → E) → (before after : DevicesSeen) → (old new : E) → ℕ → Type 0
+EditsText becomes step before after old new lines =
+    (bytes : List ℕ) × Edits becomes before after bytes lines × (new ≡ after_text step old bytes)
 
 -- these bytes were read, and a front of what they become was written; where a read failed, all of what their whole
 -- lines become
-pub record EditsFront (becomes : Line → List ℕ) (before after : Streams) (fault : LineFault) : Type 0 where
+pub record EditsFront (becomes : Line → List ℕ) (before after : DevicesSeen) (fault : LineFault) : Type 0 where
   pub bytes : List ℕ
   pub written : List ℕ
   pub later : List ℕ

@@ -1,4 +1,4 @@
--- A text of bytes, cut into lines behind each LF.
+-- A text of bytes, cut into lines after each LF.
 use Rattle.std.specs.Prelude.{◌≡◌, ◌⊎◌, ℕ, ◌==◌, Bool, true, false, List, [], ◌∷◌, ◌++◌, codes, if◌then◌else◌}
 use Rattle.std.specs.List.{list_any}
 
@@ -21,10 +21,10 @@ abbrev pub onto_first : ℕ → List Line → List Line
 onto_first byte [] = record { bytes = byte ∷ []; is_ended = false } ∷ []
 onto_first byte (line ∷ lines) = record { bytes = byte ∷ line.bytes; is_ended = line.is_ended } ∷ lines
 
--- the lines of a text; what stands behind the last LF is one, unless it is empty
-abbrev pub lines_of : List ℕ → List Line
-lines_of [] = []
-lines_of (byte ∷ text) = if byte == 10 then record { bytes = []; is_ended = true } ∷ lines_of text else onto_first byte (lines_of text)
+-- the lines of a text; what stands after the last LF is one, unless it is empty
+abbrev pub lines_with_ends : List ℕ → List Line
+lines_with_ends [] = []
+lines_with_ends (byte ∷ text) = if byte == 10 then record { bytes = []; is_ended = true } ∷ lines_with_ends text else onto_first byte (lines_with_ends text)
 
 -- an LF stands in the text
 abbrev pub has_line_end : List ℕ → Bool

@@ -22,13 +22,13 @@ line_with state bytes is_ended = record { bytes = state.kept ++ bytes; is_ended 
 
 -- ---- these bytes come, and the end of the line
 
--- what is handed on, and the editor behind it
+-- what is handed on, and the editor after it
 abbrev pub ended_text : (Line → List ℕ) → OpenState → (bytes : List ℕ) → List ℕ
 ended_text becomes state bytes =
     if is_kept state bytes then becomes (line_with state bytes true) else line_text (line_with state bytes true)
 
-abbrev pub behind_ended : {E : Type 0} → (E → Line → E) → E → OpenState → (bytes : List ℕ) → E
-behind_ended behind editor state bytes = if is_kept state bytes then behind editor (line_with state bytes true) else editor
+abbrev pub after_ended : {E : Type 0} → (E → Line → E) → E → OpenState → (bytes : List ℕ) → E
+after_ended step editor state bytes = if is_kept state bytes then step editor (line_with state bytes true) else editor
 
 -- ---- these bytes come, and no end of the line
 
@@ -46,9 +46,9 @@ continued state bytes =
 abbrev pub has_last : OpenState → Bool
 has_last state = state.is_passing || not (length state.kept == 0)
 
--- what is handed on, and the editor behind it
+-- what is handed on, and the editor after it
 abbrev pub last_text : (Line → List ℕ) → OpenState → List ℕ
 last_text becomes state = if length state.kept == 0 then [] else becomes (record { bytes = state.kept; is_ended = false })
 
-abbrev pub behind_last : {E : Type 0} → (E → Line → E) → E → OpenState → E
-behind_last behind editor state = if length state.kept == 0 then editor else behind editor (record { bytes = state.kept; is_ended = false })
+abbrev pub after_last : {E : Type 0} → (E → Line → E) → E → OpenState → E
+after_last step editor state = if length state.kept == 0 then editor else step editor (record { bytes = state.kept; is_ended = false })

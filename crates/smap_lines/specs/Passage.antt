@@ -1,9 +1,9 @@
 -- Of private contracts only: how far the editing of a text has come.
 use Rattle.std.specs.Prelude.{◌≡◌, ◌<◌, ◌≤◌, ◌+◌, ℕ, true, false, List, [], ◌++◌, Option, length, if◌then◌else◌}
 use Rattle.smap_io.specs.Device.{Takes}
-use Rattle.smap_lines.specs.Edited.{behind_text, edited}
+use Rattle.smap_lines.specs.Edited.{after_text, edited}
 use Rattle.smap_lines.specs.Limits.{most_line_bytes}
-use Rattle.smap_lines.specs.Lines.{IsWholeLines, Line, has_line_end, lines_of}
+use Rattle.smap_lines.specs.Lines.{IsWholeLines, Line, has_line_end, lines_with_ends}
 use Rattle.smap_lines.specs.OpenLine.{OpenState}
 
 -- what of an open line was handed on already
@@ -29,7 +29,7 @@ pub record Now (E : Type 0) : Type 0 where
 
 -- of these bytes, which were read, all but the later ones went through an editor that began as `first`, over an output
 -- that had taken `before`
-pub record IsThrough {E : Type 0} (becomes : E → Line → List ℕ) (behind : E → Line → E) (room : E → ℕ) (first : E) (before : Option (List ℕ)) (bytes : List ℕ) (now : Now E) (later : List ℕ) : Type 0 where
+pub record IsThrough {E : Type 0} (becomes : E → Line → List ℕ) (step : E → Line → E) (room : E → ℕ) (first : E) (before : Option (List ℕ)) (bytes : List ℕ) (now : Now E) (later : List ℕ) : Type 0 where
   pub done : List ℕ
   pub begun : List ℕ
   pub written : List ℕ
@@ -38,7 +38,7 @@ pub record IsThrough {E : Type 0} (becomes : E → Line → List ℕ) (behind : 
   pub open_is : IsOpen now.state begun
   pub taken : Takes before now.taken written
   pub handed_on : written ++ now.waiting ≡ edited (becomes first) done ++ passed now.state begun
-  pub editor_is : now.editor ≡ behind_text behind first done
+  pub editor_is : now.editor ≡ after_text step first done
   pub same : (line : Line) → becomes now.editor line ≡ becomes first line
-  pub counted : now.lines ≡ length (lines_of done)
+  pub counted : now.lines ≡ length (lines_with_ends done)
   pub room_left : room first ≤ room now.editor + now.lines

@@ -33,7 +33,7 @@ pub fn edit_lines<R: ByteSource, W: ByteSink, E: LineEditor>(
     requires input_works { R.has_failed input.old ≡ false }
     requires output_works { W.has_failed output.old ≡ false }
     requires room { most_text_bytes < E.room editor.old }
-    ensures edits { IfOk result (λ lines. EditsText (E.becomes editor.old) E.behind
+    ensures edits { IfOk result (λ lines. EditsText (E.becomes editor.old) E.step
         (record { left = R.left input.old; taken = W.taken output.old })
         (record { left = R.left input.new; taken = W.taken output.new }) editor.old editor.new lines) }
     ensures few { IfOk result (λ lines. lines ≤ most_text_bytes) }

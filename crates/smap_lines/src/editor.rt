@@ -13,13 +13,13 @@ pub trait LineEditor {
     // What becomes of a line.
     ghost becomes: { Self → Line → List ℕ };
 
-    // The editor behind a line, which it may have counted, say.
-    ghost behind: { Self → Line → Self };
+    // The editor after a line, which it may have counted, say.
+    ghost step: { Self → Line → Self };
 
     // How many lines it can take at least.
     ghost room: { Self → ℕ };
 
-    /// Puts what becomes of a line, which comes without its LF, behind the bytes that wait; and is told whether an LF
+    /// Puts what becomes of a line, which comes without its LF, after the bytes that wait; and is told whether an LF
     /// ends it. The call takes no memory.
     fn edit<W: ByteSink>(
         &mut self,
@@ -34,8 +34,8 @@ pub trait LineEditor {
 
         ensures put { OnOk result (HandsOn (W.taken output.old) (W.taken output.new)
             (gathered.old ++ becomes self.old (record { bytes = line.now; is_ended = is_ended })) gathered.new) }
-        ensures behind { OnOk result
-            (self.new ≡ behind self.old (record { bytes = line.now; is_ended = is_ended })) }
+        ensures after { OnOk result
+            (self.new ≡ step self.old (record { bytes = line.now; is_ended = is_ended })) }
         ensures no_failure { OnOk result (W.has_failed output.new ≡ W.has_failed output.old) }
 
         ensures front { OnErr result (TakesFront (W.taken output.old) (W.taken output.new)
@@ -43,8 +43,8 @@ pub trait LineEditor {
         ensures failure { OnErr result (W.has_failed output.new ≡ true) };
 
     // A line changes nothing of what becomes of others.
-    ghost same: { (editor : Self) (line other : Line) → becomes (behind editor line) other ≡ becomes editor other };
+    ghost same: { (editor : Self) (line other : Line) → becomes (step editor line) other ≡ becomes editor other };
 
     // It takes room for one.
-    ghost room_for_one: { (editor : Self) (line : Line) → room editor ≤ room (behind editor line) + 1 };
+    ghost room_for_one: { (editor : Self) (line : Line) → room editor ≤ room (step editor line) + 1 };
 }

@@ -40,7 +40,7 @@ impl Gathered {
         })
     }
 
-    /// Puts bytes behind those that wait. Where they don't fit, the output takes those first; and where they are more
+    /// Puts bytes after those that wait. Where they don't fit, the output takes those first; and where they are more
     /// than ever wait, them too. Where a write fails, it took a front of all of them.
     pub fn put<W: ByteSink>(&mut self, bytes: &[u8], output: &mut W) -> Result<(), DeviceFault>
         ensures put { OnOk result
@@ -63,7 +63,7 @@ impl Gathered {
         Ok(())
     }
 
-    /// Puts a line behind the bytes that wait, with an LF where it has one.
+    /// Puts a line after the bytes that wait, with an LF where it has one.
     pub fn put_line<W: ByteSink>(
         &mut self,
         line: &[u8],
@@ -82,7 +82,7 @@ impl Gathered {
         self.put(end_of_line(is_ended), output)
     }
 
-    /// Puts pieces behind the bytes that wait, one behind another.
+    /// Puts pieces after the bytes that wait, one after another.
     pub fn put_all<W: ByteSink>(
         &mut self,
         pieces: &[&[u8]],

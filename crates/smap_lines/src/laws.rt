@@ -3,7 +3,7 @@ ghost use Rattle.std.specs.Prelude.{◌≡◌, ◌++◌, ℕ, List};
 ghost use Rattle.smap_lines.specs.Edited.{edited};
 ghost use Rattle.smap_lines.specs.Lines.{IsWholeLines, Line};
 
-/// A text that is cut behind line ends may be edited in parts, whose texts are joined: each part alone is what it is in
+/// A text that is cut after line ends may be edited in parts, whose texts are joined: each part alone is what it is in
 /// the whole. So a text may be edited on any number of machines.
 pub fn parts_are_edited_apart()
     ensures { (becomes : Line → List ℕ) (first rest : List ℕ) → IsWholeLines first →

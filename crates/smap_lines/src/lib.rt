@@ -1,5 +1,5 @@
 //! A text turned into another one line by line, while it is read: what becomes of a line is a [`LineEditor`]'s affair,
-//! and everything else stands here. Lines are cut behind each LF. A line of more than 65,536 bytes, its LF aside, stays
+//! and everything else stands here. Lines are cut after each LF. A line of more than 65,536 bytes, its LF aside, stays
 //! as it is. What became of each line that was read has been written before more is read, so a text may be piped through.
 //!
 //! ```text

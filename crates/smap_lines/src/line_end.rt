@@ -4,7 +4,7 @@ ghost use Rattle.smap_lines.specs.Lines.{end_in, has_line_end};
 
 use memchr::memchr;
 
-/// The bytes before the first LF, and those behind it, where there is one.
+/// The bytes before the first LF, and those after it, where there is one.
 pub fn cut_at_line_end(text: &[u8]) -> Option<(&[u8], &[u8])>
     ensures cut { IfSome result (λ cut. text.now ≡ cut.0.now ++ 10 ∷ cut.1.now) }
     ensures first { IfSome result (λ cut. has_line_end cut.0.now ≡ false) }

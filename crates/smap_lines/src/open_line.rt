@@ -4,7 +4,7 @@ ghost use Rattle.smap_io.specs.Device.{TakesFront};
 ghost use Rattle.smap_lines.specs.Gathered.{HandsOn};
 ghost use Rattle.smap_lines.specs.Lines.{has_line_end};
 ghost use Rattle.smap_lines.specs.Limits.{most_line_bytes};
-ghost use Rattle.smap_lines.specs.OpenLine.{behind_ended, behind_last, continued, continued_text, ended_text};
+ghost use Rattle.smap_lines.specs.OpenLine.{after_ended, after_last, continued, continued_text, ended_text};
 ghost use Rattle.smap_lines.specs.OpenLine.{has_last, is_kept, last_text, nothing_open};
 
 use crate::editor::LineEditor;
@@ -62,7 +62,7 @@ impl OpenLine {
         requires room { 0 < E.room editor.old }
         ensures put { OnOk result (HandsOn (W.taken output.old) (W.taken output.new)
             (gathered.old ++ ended_text (E.becomes editor.old) self.old bytes.now) gathered.new) }
-        ensures behind { OnOk result (editor.new ≡ behind_ended E.behind editor.old self.old bytes.now) }
+        ensures after { OnOk result (editor.new ≡ after_ended E.step editor.old self.old bytes.now) }
         ensures none { OnOk result (self.new ≡ nothing_open) }
         ensures no_failure { OnOk result (W.has_failed output.new ≡ W.has_failed output.old) }
 
@@ -119,7 +119,7 @@ impl OpenLine {
         ensures is_line { IfOk result (λ is_line. is_line ≡ has_last self.old) }
         ensures put { OnOk result (HandsOn (W.taken output.old) (W.taken output.new)
             (gathered.old ++ last_text (E.becomes editor.old) self.old) gathered.new) }
-        ensures behind { OnOk result (editor.new ≡ behind_last E.behind editor.old self.old) }
+        ensures after { OnOk result (editor.new ≡ after_last E.step editor.old self.old) }
         ensures no_failure { OnOk result (W.has_failed output.new ≡ W.has_failed output.old) }
 
         ensures front { OnErr result (TakesFront (W.taken output.old) (W.taken output.new)

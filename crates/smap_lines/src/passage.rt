@@ -22,14 +22,14 @@ pub fn edit_bytes<E: LineEditor, W: ByteSink>(
     requires countable { lines.old + length bytes.now < 2 ^ 64 }
     requires room { length bytes.now ≤ E.room editor.old }
     ensures through { OnOk result ((first : _) (before : Option (List ℕ)) (text : List ℕ) →
-        IsThrough E.becomes E.behind E.room first before text (record {
+        IsThrough E.becomes E.step E.room first before text (record {
           editor = editor.old;
           taken = W.taken output.old;
           waiting = gathered.old;
           state = line.old;
           lines = lines.old;
         }) bytes.now →
-        IsThrough E.becomes E.behind E.room first before text (record {
+        IsThrough E.becomes E.step E.room first before text (record {
           editor = editor.new;
           taken = W.taken output.new;
           waiting = gathered.new;
@@ -40,7 +40,7 @@ pub fn edit_bytes<E: LineEditor, W: ByteSink>(
     ensures no_failure { OnOk result (W.has_failed output.new ≡ W.has_failed output.old) }
 
     ensures front { OnErr result ((first : _) (before : Option (List ℕ)) (text : List ℕ) →
-        IsThrough E.becomes E.behind E.room first before text (record {
+        IsThrough E.becomes E.step E.room first before text (record {
           editor = editor.old;
           taken = W.taken output.old;
           waiting = gathered.old;

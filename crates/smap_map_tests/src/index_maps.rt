@@ -11,7 +11,7 @@ use std::process::Abort;
 use std::test::Fail;
 
 // No map of the table has so many sources, or so many names.
-const MOST_ENTRIES: u32 = 100;
+const MOST_LISTED: u32 = 100;
 
 // Puts a text behind a list of others, with a comma between two.
 fn push_entry(list: &mut String, place: u32, entry: &str) -> Result<(), AllocError> {
@@ -24,7 +24,7 @@ fn push_entry(list: &mut String, place: u32, entry: &str) -> Result<(), AllocErr
 // The names of the sources, with `*` behind each one that is ignored.
 fn sources_text(alloc: Global, map: &MapFile) -> Result<String, AllocError> {
     let mut text = String::new(alloc);
-    for i in 0..MOST_ENTRIES {
+    for i in 0..MOST_LISTED {
         let Some(source) = map.source(i) else {
             break;
         };
@@ -40,7 +40,7 @@ fn sources_text(alloc: Global, map: &MapFile) -> Result<String, AllocError> {
 
 fn names_text(alloc: Global, map: &MapFile) -> Result<String, AllocError> {
     let mut text = String::new(alloc);
-    for i in 0..MOST_ENTRIES {
+    for i in 0..MOST_LISTED {
         let Some(name) = map.name(i) else {
             break;
         };

@@ -10,7 +10,7 @@ use Rattle.std.proofs.lemmas.List.{append-nil}
 use Rattle.std.proofs.lemmas.List.Elements.{filter_map-append}
 use Rattle.smap_mappings.specs.Limits.{limit}
 use Rattle.smap_mappings.specs.Range.{is_name_past_limit, is_mapping_past_limit, stands_before}
-use Rattle.smap_mappings.specs.Canonical.{column_before, no_origin, origin_before, name_of_mapping, name_before, fields_behind}
+use Rattle.smap_mappings.specs.Canonical.{column_before, no_origin, origin_before, name_of_mapping, name_before, fields_after}
 use Rattle.smap_mappings.specs.Encode.{is_not_sorted, list_fault_from, list_fault}
 use Rattle.smap_mappings.specs.declared.canonical.EncodeRefusal.{EncodeRefusal}
 use Rattle.smap_mappings.specs.declared.mapping.Mapping.{Mapping}
@@ -78,7 +78,7 @@ column_later before mapping line later =
 
 -- ---- lists that are encoded
 
--- none of these mappings, which stand behind this one, has a fault
+-- none of these mappings, which stand after this one, has a fault
 abbrev pub AreFaultless : Option Mapping → List Mapping → Type 0
 AreFaultless earlier [] = Unit {0}
 AreFaultless earlier (mapping ∷ mappings) =
@@ -205,9 +205,9 @@ module _ (before : List Mapping) (are : AreSmall before) where
   difference_small : (a b : ℕ) → a ≤ limit → b ≤ limit → unsigned_abs (pos a -ℤ pos b) ≤ limit
   difference_small a b a_small b_small = abs_small (pos a -ℤ pos b) a b a_small b_small refl
 
-  pub fields_small : (mapping : Mapping) → is_mapping_past_limit mapping ≡ false → AllByRecursion (λ n. unsigned_abs n ≤ limit) (fields_behind before mapping)
-  unfolding fields_behind
-  fields_small = by_fields (λ mapping. is_mapping_past_limit mapping ≡ false → AllByRecursion (λ n. unsigned_abs n ≤ limit) (fields_behind before mapping))
+  pub fields_small : (mapping : Mapping) → is_mapping_past_limit mapping ≡ false → AllByRecursion (λ n. unsigned_abs n ≤ limit) (fields_after before mapping)
+  unfolding fields_after
+  fields_small = by_fields (λ mapping. is_mapping_past_limit mapping ≡ false → AllByRecursion (λ n. unsigned_abs n ≤ limit) (fields_after before mapping))
       (λ line column small. (difference_small column _ (small_column (unmapped line column) small) (are.column line), tt))
       (λ line column source original_line original_column small.
       let numbers = small_origin line column (record { source = source; line = original_line; column = original_column; name = None }) small in (

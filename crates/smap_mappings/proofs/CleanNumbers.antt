@@ -30,7 +30,7 @@ abbrev pub reading_of : List ℕ → ℕ → Result (ℤ × ℕ) VlqFault
 reading_of digits end =
     cond (is_too_long digits) (Err TooLong) (cond (is_too_large digits) (Err TooLarge) (cond (is_negative_zero digits) (Err NegativeZero) (Ok (signed_number (unsigned_of digits), end))))
 
--- the place behind the number that begins at a place, and its digits
+-- the place after the number that begins at a place, and its digits
 abbrev pub end_of : List ℕ → ℕ → ℕ
 end_of segment place = place + front_at segment place + 1
 
@@ -58,13 +58,13 @@ number_at_place segment place within clean =
     let front : CleanFront (drop place segment) = subst CleanFront (sym is) (clean_front (get_or segment place 0) (drop (place + 1) segment) (subst IsClean is clean)) in
     let n = front_at segment place in
     let next : place + suc n ≡ place + n + 1 = omega arith in
-    let behind : drop (suc n) (drop place segment) ≡ drop (place + n + 1) segment = drop-drop (suc n) place segment ∙ ap (λ i. drop i segment) next in
+    let after : drop (suc n) (drop place segment) ≡ drop (place + n + 1) segment = drop-drop (suc n) place segment ∙ ap (λ i. drop i segment) next in
     let long : place + n + 1 - place ≡ suc n = omega arith in
     let cut : take (suc n) (drop place segment) ≡ digits_at segment place = ap (λ k. take k (drop place segment)) (sym long) in
     record {
       inside = omega (arith, front.inside, length-drop place segment);
-      cuts = clean_cuts (drop place segment) front ∙ (λ i. cut i ∷ cuts_of (behind i));
-      rest = subst IsClean behind front.rest;
+      cuts = clean_cuts (drop place segment) front ∙ (λ i. cut i ∷ cuts_of (after i));
+      rest = subst IsClean after front.rest;
       reading =
           cond-false _ _ _ (ne_eqb n (length (drop place segment)) (λ e. absurd (omega (arith, front.inside))))
           ∙ cond-false _ _ _ (ap not (front_ends (drop place segment) front))

@@ -3,9 +3,9 @@ use Rattle.std.proofs.Common.{◌≡◌, ℕ, ◌+◌, ◌*◌, ◌≤◌, suc, 
 use Rattle.std.specs.List.{slice_split, onto_first, slice_get}
 use Rattle.std.proofs.lemmas.Bool.{cases_Bool, cond-true, cond-false}
 use Rattle.std.proofs.lemmas.List.{length-map, take_all}
-use Rattle.smap_mappings.specs.Pieces.{is_nonempty, is_comma, is_line_end, parts_from, piece_on, pieces_on, pieces_of_lines, pieces_from, pieces_of}
-use Rattle.smap_mappings.specs.Mappings.{Move, move_of, moves_of, mappings_after, mappings_of}
-use Rattle.smap_mappings.specs.Counts.{segments_of}
+use Rattle.smap_mappings.specs.Segments.{is_nonempty, is_comma, is_semicolon, parts_from, segment_on, segments_on, segments_of_lines, segments_from, segments_of}
+use Rattle.smap_mappings.specs.Mappings.{Delta, delta_of, deltas_of, mappings_after, mappings_of}
+use Rattle.smap_mappings.specs.Counts.{segment_count}
 use Rattle.smap_mappings.specs.State.{IsNext}
 use Rattle.smap_mappings.proofs.Checking.{DecodesUpTo}
 use Rattle.smap_mappings.specs.declared.cursor.Cursor.{Cursor}
@@ -40,31 +40,31 @@ few_nonempty place [] = omega arith
 few_nonempty place ([] ∷ parts) = let more = few_nonempty (place + 0 + 1) parts in omega (arith, more)
 few_nonempty place ((b ∷ bytes) ∷ parts) = let more = few_nonempty (place + suc (length bytes) + 1) parts in omega (arith, more)
 
-few_on_line : (line place : ℕ) (bytes : List ℕ) → 2 * length (pieces_on line place bytes) ≤ suc (length bytes)
-unfolding pieces_on
+few_on_line : (line place : ℕ) (bytes : List ℕ) → 2 * length (segments_on line place bytes) ≤ suc (length bytes)
+unfolding segments_on
 few_on_line line place bytes =
-    omega (arith, few_nonempty place (slice_split is_comma bytes), spread-split is_comma bytes, length-map (filter is_nonempty (parts_from place (slice_split is_comma bytes))) (piece_on line))
+    omega (arith, few_nonempty place (slice_split is_comma bytes), spread-split is_comma bytes, length-map (filter is_nonempty (parts_from place (slice_split is_comma bytes))) (segment_on line))
 
-few_on_lines : (line place : ℕ) (lines : List (List ℕ)) → 2 * length (pieces_of_lines line place lines) ≤ spread lines
+few_on_lines : (line place : ℕ) (lines : List (List ℕ)) → 2 * length (segments_of_lines line place lines) ≤ spread lines
 unfolding spread
 few_on_lines line place [] = omega arith
 few_on_lines line place (bytes ∷ lines) =
-    let rest = pieces_of_lines (line + 1) (place + length bytes + 1) lines in
-    omega (arith, few_on_line line place bytes, few_on_lines (line + 1) (place + length bytes + 1) lines, length-append (pieces_on line place bytes) rest)
+    let rest = segments_of_lines (line + 1) (place + length bytes + 1) lines in
+    omega (arith, few_on_line line place bytes, few_on_lines (line + 1) (place + length bytes + 1) lines, length-append (segments_on line place bytes) rest)
 
-pub few_segments : (text : List ℕ) → 2 * segments_of text ≤ length text + 1
-unfolding pieces_of pieces_from
-few_segments text = omega (arith, few_on_lines 0 0 (slice_split is_line_end text), spread-split is_line_end text)
+pub few_segments : (text : List ℕ) → 2 * segment_count text ≤ length text + 1
+unfolding segments_of segments_from
+few_segments text = omega (arith, few_on_lines 0 0 (slice_split is_semicolon text), spread-split is_semicolon text)
 
 -- ---- as many mappings as segments
 
-length-mappings_after : (before moves : List Move) → length (mappings_after before moves) ≡ length moves
+length-mappings_after : (before deltas : List Delta) → length (mappings_after before deltas) ≡ length deltas
 length-mappings_after before [] = refl
-length-mappings_after before (move ∷ moves) = ap suc (length-mappings_after (before ++ move ∷ []) moves)
+length-mappings_after before (delta ∷ deltas) = ap suc (length-mappings_after (before ++ delta ∷ []) deltas)
 
-pub length-mappings_of : (text : List ℕ) → length (mappings_of text) ≡ segments_of text
-unfolding mappings_of moves_of
-length-mappings_of text = length-mappings_after [] (moves_of text) ∙ length-map (pieces_of text) move_of
+pub length-mappings_of : (text : List ℕ) → length (mappings_of text) ≡ segment_count text
+unfolding mappings_of deltas_of
+length-mappings_of text = length-mappings_after [] (deltas_of text) ∙ length-map (segments_of text) delta_of
 
 pub decodes_start : (text : List ℕ) → DecodesUpTo text START []
 decodes_start text = record { j = 0; after = after_none text; list_is = refl }
@@ -78,9 +78,9 @@ take_next (suc j) (y ∷ xs) x is = ap (λ zs. y ∷ zs) (take_next j xs x is)
 pub decodes_more : (text : List ℕ) (cursor after : Cursor) (list list' : List Mapping) (mapping : Mapping) (decodes : DecodesUpTo text cursor list) → IsNext text decodes.j mapping after → list' ≡ list ++ mapping ∷ [] → DecodesUpTo text after list'
 decodes_more text cursor after list list' mapping decodes next pushed = record {
   j = decodes.j + 1;
-  after = next.behind;
+  after = next.after;
   list_is = pushed ∙ ap (λ l. l ++ mapping ∷ []) decodes.list_is ∙ sym (rw add-one (take_next decodes.j (mappings_of text) mapping next.mapping_is));
 }
 
-pub decodes_all : (text : List ℕ) (cursor : Cursor) (list : List Mapping) (decodes : DecodesUpTo text cursor list) → decodes.j ≡ segments_of text → list ≡ mappings_of text
+pub decodes_all : (text : List ℕ) (cursor : Cursor) (list : List Mapping) (decodes : DecodesUpTo text cursor list) → decodes.j ≡ segment_count text → list ≡ mappings_of text
 decodes_all text cursor list decodes at_end = decodes.list_is ∙ take_all decodes.j (mappings_of text) (omega (arith, length-mappings_of text))

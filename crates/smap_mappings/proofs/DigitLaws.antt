@@ -11,7 +11,7 @@ pub last_digit : (k u : ℕ) → 0 < k → u < 32 → digits_of k u ≡ letter_o
 last_digit zero u some below = absurd (omega arith)
 last_digit (suc k) u some below = small_digits k u below
 
--- what is left of a value behind its first digit
+-- what is left of a value after its first digit
 pub record HasMoreDigits (k u : ℕ) : Type 0 where
   pub left : ℕ
   pub some : 0 < left

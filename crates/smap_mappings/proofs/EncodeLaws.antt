@@ -41,21 +41,21 @@ module _ (list : List Mapping) (i : ℕ) (d : Mapping) (within : i < length list
   pub one_more_taken : take i list ++ m ∷ [] ≡ take (i + 1) list
   one_more_taken = sym (take_more list i d within)
 
-  behind : list_fault_from i earlier (drop i list) ≡ option_or (mapping_fault i earlier m) (list_fault_from (i + 1) (Some m) (drop (i + 1) list))
-  behind = ap (list_fault_from i earlier) (drop_more list i d within)
+  after : list_fault_from i earlier (drop i list) ≡ option_or (mapping_fault i earlier m) (list_fault_from (i + 1) (Some m) (drop (i + 1) list))
+  after = ap (list_fault_from i earlier) (drop_more list i d within)
 
   pub refused_here : (refusal : EncodeRefusal) → list_fault list ≡ list_fault_from i earlier (drop i list) → mapping_fault i earlier m ≡ Some refusal → encode_fault list ≡ Some refusal
   unfolding encode_fault
   refused_here refusal so_far is =
-      ap (λ first. option_or first (cond (is_text_too_long list) (Some TooLong) None)) (so_far ∙ behind ∙ ap (λ first. option_or first (list_fault_from (i + 1) (Some m) (drop (i + 1) list))) is)
+      ap (λ first. option_or first (cond (is_text_too_long list) (Some TooLong) None)) (so_far ∙ after ∙ ap (λ first. option_or first (list_fault_from (i + 1) (Some m) (drop (i + 1) list))) is)
 
   pub passed_here : mapping_fault i earlier m ≡ None → list_fault_from i earlier (drop i list) ≡ list_fault_from (i + 1) (last_or None (take (i + 1) list)) (drop (i + 1) list)
   passed_here none =
-      behind ∙ ap (λ first. option_or first (list_fault_from (i + 1) (Some m) (drop (i + 1) list))) none
+      after ∙ ap (λ first. option_or first (list_fault_from (i + 1) (Some m) (drop (i + 1) list))) none
       ∙ ap (λ last. list_fault_from (i + 1) last (drop (i + 1) list)) (sym (last-push None (take i list) m) ∙ ap (last_or None) one_more_taken)
 
   pub none_here : list_fault_from i earlier (drop i list) ≡ None → mapping_fault i earlier m ≡ None
-  none_here none = first_none (mapping_fault i earlier m) (list_fault_from (i + 1) (Some m) (drop (i + 1) list)) (sym behind ∙ none)
+  none_here none = first_none (mapping_fault i earlier m) (list_fault_from (i + 1) (Some m) (drop (i + 1) list)) (sym after ∙ none)
 
 pub none_at_all : (list : List Mapping) (n : ℕ) → length list ≤ n → list_fault list ≡ list_fault_from n (last_or None (take n list)) (drop n list) → list_fault list ≡ None
 none_at_all list n all so_far = so_far ∙ none_left (drop n list) (omega (arith, length-drop n list))

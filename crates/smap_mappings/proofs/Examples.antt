@@ -4,10 +4,10 @@ use Rattle.std.specs.Prelude.{ℤ, pos, negsuc}
 use Rattle.smap_mappings.specs.Base64.{digit_of}
 use Rattle.smap_mappings.specs.Vlq.{number_of, number_at, unsigned_of}
 use Rattle.smap_mappings.specs.Segment.{fields_of}
-use Rattle.smap_mappings.specs.Pieces.{pieces_of, pieces_from, pieces_on}
-use Rattle.smap_mappings.specs.Mappings.{mappings_of, mapping_after, moves_of, values_on}
-use Rattle.smap_mappings.specs.Accepted.{is_accepted, is_accepted_behind}
-use Rattle.smap_mappings.specs.Faults.{first_fault, spelling_fault, move_fault}
+use Rattle.smap_mappings.specs.Segments.{segments_of, segments_from, segments_on}
+use Rattle.smap_mappings.specs.Mappings.{mappings_of, mapping_after, deltas_of, values_on}
+use Rattle.smap_mappings.specs.Accepted.{is_accepted, is_accepted_after}
+use Rattle.smap_mappings.specs.Faults.{first_fault, spelling_fault, delta_fault}
 use Rattle.smap_mappings.specs.Reading.{checked_number}
 use Rattle.smap_mappings.specs.declared.fault.Fault.{Fault}
 use Rattle.smap_mappings.specs.declared.fault.FaultKind.{FaultKind}
@@ -16,7 +16,7 @@ use Rattle.smap_mappings.specs.declared.vlq.VlqFault.{VlqFault}
 use Rattle.smap_mappings.specs.declared.vlq.VlqFault.TheVariants.{BadDigit, Unended, TooLong, TooLarge, NegativeZero}
 use Rattle.smap_mappings.specs.declared.mapping.Origin.{Origin}
 use Rattle.smap_mappings.specs.declared.mapping.Mapping.{Mapping}
-use Rattle.smap_mappings.specs.Canonical.{canonical_text, segment_bytes, fields_behind, shortest_spelling}
+use Rattle.smap_mappings.specs.Canonical.{canonical_text, segment_bytes, fields_after, shortest_spelling}
 use Rattle.smap_mappings.specs.Encode.{list_fault}
 use Rattle.smap_mappings.specs.declared.canonical.EncodeRefusal.TheVariants.{NotSorted, OutOfRange}
 
@@ -76,23 +76,23 @@ reads_at_a_place = refl
 
 -- ---- texts
 
-pieces_skip_the_empty : pieces_of (codes ";,,;AAAA,B") ≡ record { line = 2; place = 4; bytes = codes "AAAA" } ∷ record { line = 2; place = 9; bytes = codes "B" } ∷ []
-unfolding pieces_of pieces_from pieces_on
-pieces_skip_the_empty = refl
+segments_skip_the_empty : segments_of (codes ";,,;AAAA,B") ≡ record { line = 2; place = 4; bytes = codes "AAAA" } ∷ record { line = 2; place = 9; bytes = codes "B" } ∷ []
+unfolding segments_of segments_from segments_on
+segments_skip_the_empty = refl
 
 abbrev from_source : ℕ → ℕ → ℕ → Option ℕ → Option Origin
 from_source source line column name = Some (record { source = source; line = line; column = column; name = name })
 
 two_lines : mappings_of (codes "AAAA,CAAC;AACA") ≡ record { line = 0; column = 0; origin = from_source 0 0 0 None } ∷ record { line = 0; column = 1; origin = from_source 0 0 1 None } ∷ record { line = 1; column = 0; origin = from_source 0 1 1 None } ∷ []
-unfolding mappings_of mapping_after values_on moves_of pieces_of pieces_from pieces_on fields_of number_of unsigned_of digit_of
+unfolding mappings_of mapping_after values_on deltas_of segments_of segments_from segments_on fields_of number_of unsigned_of digit_of
 two_lines = refl
 
 source_and_name_run_on : mappings_of (codes "ACAAC;AAAAA") ≡ record { line = 0; column = 0; origin = from_source 1 0 0 (Some 1) } ∷ record { line = 1; column = 0; origin = from_source 1 0 0 (Some 1) } ∷ []
-unfolding mappings_of mapping_after values_on moves_of pieces_of pieces_from pieces_on fields_of number_of unsigned_of digit_of
+unfolding mappings_of mapping_after values_on deltas_of segments_of segments_from segments_on fields_of number_of unsigned_of digit_of
 source_and_name_run_on = refl
 
 one_field_keeps_the_origin : mappings_of (codes "AAAA,CAAC,C,CAAC") ≡ record { line = 0; column = 0; origin = from_source 0 0 0 None } ∷ record { line = 0; column = 1; origin = from_source 0 0 1 None } ∷ record { line = 0; column = 2; origin = None } ∷ record { line = 0; column = 3; origin = from_source 0 0 2 None } ∷ []
-unfolding mappings_of mapping_after values_on moves_of pieces_of pieces_from pieces_on fields_of number_of unsigned_of digit_of
+unfolding mappings_of mapping_after values_on deltas_of segments_of segments_from segments_on fields_of number_of unsigned_of digit_of
 one_field_keeps_the_origin = refl
 
 abbrev verdicts : List (List ℕ) → List Bool
@@ -100,15 +100,15 @@ verdicts [] = []
 verdicts (text ∷ texts) = is_accepted text 2147483648 2147483648 ∷ verdicts texts
 
 accepted : verdicts (codes "AAAA,CAAC;AACA" ∷ [] ∷ codes "+/////D" ∷ codes "A,A,A" ∷ codes "ACAAC;AAAAA" ∷ codes ";,,;AAAA" ∷ []) ≡ true ∷ true ∷ true ∷ true ∷ true ∷ true ∷ []
-unfolding is_accepted is_accepted_behind values_on moves_of pieces_of pieces_from pieces_on fields_of number_of unsigned_of digit_of
+unfolding is_accepted is_accepted_after values_on deltas_of segments_of segments_from segments_on fields_of number_of unsigned_of digit_of
 accepted = refl
 
 refused : verdicts (codes "+/////D,C" ∷ codes "ggggggE" ∷ codes "B" ∷ codes "Ag" ∷ codes "AA" ∷ codes "A!A" ∷ codes "CAAA,DAAA" ∷ codes "DAAA" ∷ []) ≡ false ∷ false ∷ false ∷ false ∷ false ∷ false ∷ false ∷ false ∷ []
-unfolding is_accepted is_accepted_behind values_on moves_of pieces_of pieces_from pieces_on fields_of number_of unsigned_of digit_of
+unfolding is_accepted is_accepted_after values_on deltas_of segments_of segments_from segments_on fields_of number_of unsigned_of digit_of
 refused = refl
 
 one_source_one_name : is_accepted (codes "ACAAC") 1 2 ≡ false
-unfolding is_accepted is_accepted_behind values_on moves_of pieces_of pieces_from pieces_on fields_of number_of unsigned_of digit_of
+unfolding is_accepted is_accepted_after values_on deltas_of segments_of segments_from segments_on fields_of number_of unsigned_of digit_of
 one_source_one_name = refl
 
 -- ---- first faults
@@ -122,11 +122,11 @@ faults (text ∷ texts) = first_fault text 1 1 ∷ faults texts
 
 first_faults : faults (codes "B!AA" ∷ codes "gggggggAg" ∷ codes "ggggggEB" ∷ codes "BA" ∷ codes "AAAA,DAAA" ∷ codes "ACAAC" ∷ codes "AAAAC" ∷ codes "A,DAAA,B" ∷ codes ";,,;AAAA,B" ∷ [])
     ≡ at_byte 0 0 kinds.BadDigit ∷ at_byte 0 0 kinds.Unended ∷ at_byte 0 0 kinds.TooLarge ∷ at_byte 0 0 kinds.NegativeZero ∷ at_byte 5 0 kinds.Negative ∷ at_byte 0 0 kinds.SourceIndex ∷ at_byte 0 0 kinds.NameIndex ∷ at_byte 2 0 kinds.Negative ∷ at_byte 9 2 kinds.NegativeZero ∷ []
-unfolding first_fault spelling_fault move_fault values_on pieces_of pieces_from pieces_on fields_of number_of unsigned_of digit_of
+unfolding first_fault spelling_fault delta_fault values_on segments_of segments_from segments_on fields_of number_of unsigned_of digit_of
 first_faults = refl
 
 more_faults : faults (codes "AA" ∷ codes "CAAA,DAAA" ∷ codes "+/////D,C" ∷ codes "gggggggA" ∷ codes "A,A,A" ∷ []) ≡ at_byte 0 0 kinds.FieldCount ∷ at_byte 5 0 kinds.ColumnFalls ∷ at_byte 8 0 kinds.PastLimit ∷ at_byte 0 0 kinds.TooLong ∷ None ∷ []
-unfolding first_fault spelling_fault move_fault values_on pieces_of pieces_from pieces_on fields_of number_of unsigned_of digit_of
+unfolding first_fault spelling_fault delta_fault values_on segments_of segments_from segments_on fields_of number_of unsigned_of digit_of
 more_faults = refl
 
 -- ---- canonical texts
@@ -143,19 +143,19 @@ unfolding canonical_text
 none_is_empty = refl
 
 equal_mappings_stay : canonical_text (unmapped_at 0 0 ∷ unmapped_at 0 0 ∷ []) ≡ codes "A,A"
-unfolding canonical_text segment_bytes fields_behind shortest_spelling
+unfolding canonical_text segment_bytes fields_after shortest_spelling
 equal_mappings_stay = refl
 
 lines_are_passed : canonical_text (unmapped_at 2 5 ∷ []) ≡ codes ";;K"
-unfolding canonical_text segment_bytes fields_behind shortest_spelling
+unfolding canonical_text segment_bytes fields_after shortest_spelling
 lines_are_passed = refl
 
 origins_differ_from_the_last_one : canonical_text (mapped_at 0 0 0 0 0 ∷ unmapped_at 0 1 ∷ mapped_at 0 2 0 0 2 ∷ []) ≡ codes "AAAA,C,CAAE"
-unfolding canonical_text segment_bytes fields_behind shortest_spelling
+unfolding canonical_text segment_bytes fields_after shortest_spelling
 origins_differ_from_the_last_one = refl
 
 sources_are_differences : canonical_text (mapped_at 0 0 0 0 0 ∷ mapped_at 0 10 1 0 0 ∷ []) ≡ codes "AAAA,UCAA"
-unfolding canonical_text segment_bytes fields_behind shortest_spelling
+unfolding canonical_text segment_bytes fields_after shortest_spelling
 sources_are_differences = refl
 
 greatest_is_spelled : shortest_spelling (pos 2147483647) ≡ codes "+/////D"

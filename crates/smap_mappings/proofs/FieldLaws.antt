@@ -1,4 +1,4 @@
--- A number at the front of a segment is its first field, and the other fields are those of the bytes behind it.
+-- A number at the front of a segment is its first field, and the other fields are those of the bytes after it.
 use Rattle.std.proofs.Common.{◌≡◌, ℕ, ◌+◌, ◌-◌, ◌<◌, ◌≤◌, suc, true, false, ◌||◌, eqb, List, [], ◌∷◌, ◌++◌, length, get_or, take, drop, Option, Some, None, refl, sym, ap, subst, ◌∙◌, arith, length-append, length-drop, length-take-le, take-append-drop, append_assoc, ⊎_elim, ◌⊎◌, inl, inr, is_some, unwrap_or}
 use Rattle.std.specs.Prelude.{ℤ, slice_range, IfSome, IfNone, ◌↔◌, Result, Ok, Err}
 use Rattle.std.specs.Result.{result_ok}
@@ -12,7 +12,7 @@ use Rattle.std.proofs.lemmas.List.Sums.{take_while-cons}
 use Rattle.smap_mappings.specs.Base64.{digit_of}
 use Rattle.smap_mappings.specs.Vlq.{is_digit, is_continuing, is_ending, is_one_number, number_of, Spells}
 use Rattle.smap_mappings.specs.Segment.{has_known_length, cuts_of, list_with_front, numbers_of, fields_of}
-use Rattle.smap_mappings.specs.Reading.{is_inside, piece_at, fields_at, known_fields, HasNoField, IsFieldAt, IsSegmentAt}
+use Rattle.smap_mappings.specs.Reading.{is_inside, segment_at, fields_at, known_fields, HasNoField, IsFieldAt, IsSegmentAt}
 use Rattle.smap_mappings.proofs.SpelledNumbers.{ends_stops, digit_from_is_digit, one_number_nonempty}
 
 -- ---- a digit is no separator
@@ -55,7 +55,7 @@ fields-spelled number more n spells = ap numbers_of (cuts-one_number number more
 
 -- ---- the first number of some fields
 
--- the first cut, and what is behind it
+-- the first cut, and what is after it
 pub record FirstCut (bytes : List ℕ) : Type 0 where
   pub cut : List ℕ
   pub cuts : List (List ℕ)
@@ -100,13 +100,13 @@ reads_field text place next n inside spells =
     let some : 0 < length number = one_number_nonempty number one in
     let within : next - place ≤ length rest = omega (arith, length-drop place text) in
     let counted : length number ≡ next - place = length-take-le (next - place) rest within in
-    let behind : drop (next - place) rest ≡ drop next text = drop-drop (next - place) place text ∙ ap (λ i. drop i text) (omega arith) in
-    let whole : rest ≡ number ++ drop next text = sym (take-append-drop (next - place) rest) ∙ ap (λ more. number ++ more) behind in
-    let run : piece_at text place ≡ number ++ piece_at text next = ap (take_while is_inside) whole ∙ run-one_number number (drop next text) one in
+    let after : drop (next - place) rest ≡ drop next text = drop-drop (next - place) place text ∙ ap (λ i. drop i text) (omega arith) in
+    let whole : rest ≡ number ++ drop next text = sym (take-append-drop (next - place) rest) ∙ ap (λ more. number ++ more) after in
+    let run : segment_at text place ≡ number ++ segment_at text next = ap (take_while is_inside) whole ∙ run-one_number number (drop next text) one in
     record {
       inside = inside;
-      fields = ap fields_of run ∙ fields-spelled number (piece_at text next) n spells;
-      ends = omega (arith, ap length run, length-append number (piece_at text next));
+      fields = ap fields_of run ∙ fields-spelled number (segment_at text next) n spells;
+      ends = omega (arith, ap length run, length-append number (segment_at text next));
     }
 
 -- and so is one that its byte spells by itself
@@ -122,9 +122,9 @@ if_some_from (Some x) P h = h x refl
 
 -- where no number is spelled at a place, no field stands there
 pub no_field : (text : List ℕ) (place : ℕ) → place ≤ length text → ((n : ℤ) (next : ℕ) → next ≤ length text → Spells (slice_range text place next) n → ⊥) → HasNoField text place
-no_field text place inside none = if_some_from (fields_at text place) (λ fields. fields ≡ []) (no_fields (piece_at text place) refl)
+no_field text place inside none = if_some_from (fields_at text place) (λ fields. fields ≡ []) (no_fields (segment_at text place) refl)
   where
-    no_fields : (bytes : List ℕ) → piece_at text place ≡ bytes → (fields : List ℤ) → fields_of (piece_at text place) ≡ Some fields → fields ≡ []
+    no_fields : (bytes : List ℕ) → segment_at text place ≡ bytes → (fields : List ℤ) → fields_of (segment_at text place) ≡ Some fields → fields ≡ []
     no_fields [] is fields spelled =
         let both : Some fields ≡ Some [] = sym spelled ∙ ap fields_of is ∙ no_bytes_no_fields in cc
     no_fields (b ∷ bytes) is fields spelled =
@@ -141,8 +141,8 @@ no_field text place inside none = if_some_from (fields_at text place) (λ fields
 
 -- ---- a whole segment
 
-at_segment_end : (text : List ℕ) (place : ℕ) → length (piece_at text place) ≡ 0 → fields_at text place ≡ Some []
-at_segment_end text place is = ap fields_of (nil_from_length (piece_at text place) is) ∙ no_bytes_no_fields
+at_segment_end : (text : List ℕ) (place : ℕ) → length (segment_at text place) ≡ 0 → fields_at text place ≡ Some []
+at_segment_end text place is = ap fields_of (nil_from_length (segment_at text place) is) ∙ no_bytes_no_fields
 
 -- bytes that aren't none spell at least one field, if they spell fields
 some_field : (bytes : List ℕ) → (length bytes ≡ 0 → ⊥) → (fields_of bytes ≡ None) ⊎ ((n : ℤ) × (ns : List ℤ) × (fields_of bytes ≡ Some (n ∷ ns)))
@@ -155,17 +155,17 @@ some_field (b ∷ bytes) some = let first = first_cut b bytes in front_cases (nu
     front_cases (Some n) None is = inl is
     front_cases (Some n) (Some ns) is = inr (n, ns, is)
 
-no_fields_at : (text : List ℕ) (place : ℕ) → (length (piece_at text place) ≡ 0 → ⊥) → HasNoField text place → fields_at text place ≡ None
-no_fields_at text place some none = ⊎_elim (λ is. is) (λ found. let bad : found.0 ∷ found.1 ≡ [] = subst (λ o. IfSome o (λ fields. fields ≡ [])) found.2 none in absurd (cc)) (some_field (piece_at text place) some)
+no_fields_at : (text : List ℕ) (place : ℕ) → (length (segment_at text place) ≡ 0 → ⊥) → HasNoField text place → fields_at text place ≡ None
+no_fields_at text place some none = ⊎_elim (λ is. is) (λ found. let bad : found.0 ∷ found.1 ≡ [] = subst (λ o. IfSome o (λ fields. fields ≡ [])) found.2 none in absurd (cc)) (some_field (segment_at text place) some)
 
 six_is_unknown : (n : ℕ) → (eqb (suc (suc (suc (suc (suc (suc n)))))) 1 || eqb (suc (suc (suc (suc (suc (suc n)))))) 4 || eqb (suc (suc (suc (suc (suc (suc n)))))) 5) ≡ false
 six_is_unknown n = grind (arith, nat_tests)
 
 module _ (text : List ℕ) where
-  pub one_field : (place p1 : ℕ) (a : ℤ) → IsFieldAt text place a p1 → length (piece_at text p1) ≡ 0 → IsSegmentAt text place (record { column = a; origin = None }) p1
+  pub one_field : (place p1 : ℕ) (a : ℤ) → IsFieldAt text place a p1 → length (segment_at text p1) ≡ 0 → IsSegmentAt text place (record { column = a; origin = None }) p1
   one_field place p1 a r1 end = record { fields = r1.fields ∙ ap (list_with_front (Some a)) (at_segment_end text p1 end); ends = omega (arith, r1.ends); inside = r1.inside }
 
-  pub four_fields : (place p1 p2 p3 p4 : ℕ) (a b c d : ℤ) → IsFieldAt text place a p1 → IsFieldAt text p1 b p2 → IsFieldAt text p2 c p3 → IsFieldAt text p3 d p4 → length (piece_at text p4) ≡ 0
+  pub four_fields : (place p1 p2 p3 p4 : ℕ) (a b c d : ℤ) → IsFieldAt text place a p1 → IsFieldAt text p1 b p2 → IsFieldAt text p2 c p3 → IsFieldAt text p3 d p4 → length (segment_at text p4) ≡ 0
       → IsSegmentAt text place (record { column = a; origin = Some (record { source = b; line = c; column = d; name = None }) }) p4
   four_fields place p1 p2 p3 p4 a b c d r1 r2 r3 r4 end = record {
     fields = r1.fields ∙ ap (list_with_front (Some a)) (r2.fields ∙ ap (list_with_front (Some b)) (r3.fields ∙ ap (list_with_front (Some c)) (r4.fields ∙ ap (list_with_front (Some d)) (at_segment_end text p4 end))));
@@ -173,7 +173,7 @@ module _ (text : List ℕ) where
     inside = r4.inside;
   }
 
-  pub five_fields : (place p1 p2 p3 p4 p5 : ℕ) (a b c d e : ℤ) → IsFieldAt text place a p1 → IsFieldAt text p1 b p2 → IsFieldAt text p2 c p3 → IsFieldAt text p3 d p4 → IsFieldAt text p4 e p5 → length (piece_at text p5) ≡ 0
+  pub five_fields : (place p1 p2 p3 p4 p5 : ℕ) (a b c d e : ℤ) → IsFieldAt text place a p1 → IsFieldAt text p1 b p2 → IsFieldAt text p2 c p3 → IsFieldAt text p3 d p4 → IsFieldAt text p4 e p5 → length (segment_at text p5) ≡ 0
       → IsSegmentAt text place (record { column = a; origin = Some (record { source = b; line = c; column = d; name = Some e }) }) p5
   five_fields place p1 p2 p3 p4 p5 a b c d e r1 r2 r3 r4 r5 end = record {
     fields = r1.fields ∙ ap (list_with_front (Some a)) (r2.fields ∙ ap (list_with_front (Some b)) (r3.fields ∙ ap (list_with_front (Some c)) (r4.fields ∙ ap (list_with_front (Some d)) (r5.fields ∙ ap (list_with_front (Some e)) (at_segment_end text p5 end)))));
@@ -182,15 +182,15 @@ module _ (text : List ℕ) where
   }
 
   -- and where it isn't one, four or five
-  pub not_two : (place p1 : ℕ) (a : ℤ) → IsFieldAt text place a p1 → (length (piece_at text p1) ≡ 0 → ⊥) → HasNoField text p1 → has_known_length (known_fields text place) ≡ false
+  pub not_two : (place p1 : ℕ) (a : ℤ) → IsFieldAt text place a p1 → (length (segment_at text p1) ≡ 0 → ⊥) → HasNoField text p1 → has_known_length (known_fields text place) ≡ false
   not_two place p1 a r1 some none = ap (λ o. has_known_length (unwrap_or o [])) (r1.fields ∙ ap (list_with_front (Some a)) (no_fields_at text p1 some none))
 
-  pub not_five : (place p1 p2 p3 p4 : ℕ) (a b c d : ℤ) → IsFieldAt text place a p1 → IsFieldAt text p1 b p2 → IsFieldAt text p2 c p3 → IsFieldAt text p3 d p4 → (length (piece_at text p4) ≡ 0 → ⊥) → HasNoField text p4 → has_known_length (known_fields text place) ≡ false
+  pub not_five : (place p1 p2 p3 p4 : ℕ) (a b c d : ℤ) → IsFieldAt text place a p1 → IsFieldAt text p1 b p2 → IsFieldAt text p2 c p3 → IsFieldAt text p3 d p4 → (length (segment_at text p4) ≡ 0 → ⊥) → HasNoField text p4 → has_known_length (known_fields text place) ≡ false
   not_five place p1 p2 p3 p4 a b c d r1 r2 r3 r4 some none =
       ap (λ o. has_known_length (unwrap_or o []))
       (r1.fields ∙ ap (list_with_front (Some a)) (r2.fields ∙ ap (list_with_front (Some b)) (r3.fields ∙ ap (list_with_front (Some c)) (r4.fields ∙ ap (list_with_front (Some d)) (no_fields_at text p4 some none)))))
 
-  pub not_six : (place p1 p2 p3 p4 p5 : ℕ) (a b c d e : ℤ) → IsFieldAt text place a p1 → IsFieldAt text p1 b p2 → IsFieldAt text p2 c p3 → IsFieldAt text p3 d p4 → IsFieldAt text p4 e p5 → (length (piece_at text p5) ≡ 0 → ⊥) → has_known_length (known_fields text place) ≡ false
+  pub not_six : (place p1 p2 p3 p4 p5 : ℕ) (a b c d e : ℤ) → IsFieldAt text place a p1 → IsFieldAt text p1 b p2 → IsFieldAt text p2 c p3 → IsFieldAt text p3 d p4 → IsFieldAt text p4 e p5 → (length (segment_at text p5) ≡ 0 → ⊥) → has_known_length (known_fields text place) ≡ false
   not_six place p1 p2 p3 p4 p5 a b c d e r1 r2 r3 r4 r5 some =
       let all : fields_at text place ≡ list_with_front (Some a) (list_with_front (Some b) (list_with_front (Some c) (list_with_front (Some d) (list_with_front (Some e) (fields_at text p5))))) =
       r1.fields ∙ ap (list_with_front (Some a)) (r2.fields ∙ ap (list_with_front (Some b)) (r3.fields ∙ ap (list_with_front (Some c)) (r4.fields ∙ ap (list_with_front (Some d)) r5.fields))) in
@@ -198,7 +198,7 @@ module _ (text : List ℕ) where
       (λ is. ap (λ o. has_known_length (unwrap_or o [])) (all ∙ ap (λ o. list_with_front (Some a) (list_with_front (Some b) (list_with_front (Some c) (list_with_front (Some d) (list_with_front (Some e) o))))) is))
       (λ found. ap (λ o. has_known_length (unwrap_or o [])) (all ∙ ap (λ o. list_with_front (Some a) (list_with_front (Some b) (list_with_front (Some c) (list_with_front (Some d) (list_with_front (Some e) o))))) found.2)
       ∙ six_is_unknown (length found.1))
-      (some_field (piece_at text p5) some)
+      (some_field (segment_at text p5) some)
 
 -- ---- what the answer of reading a number says of the fields
 
@@ -234,7 +234,7 @@ field_is_inside text place n ns within is =
     ⊎_elim
     (λ inside. inside)
     (λ separator.
-    let none : piece_at text place ≡ [] = ap (take_while is_inside) (drop_more text place 0 within) ∙ take_while-cons is_inside (get_or text place 0) (drop (place + 1) text) ∙ cond-false _ _ _ separator in
+    let none : segment_at text place ≡ [] = ap (take_while is_inside) (drop_more text place 0 within) ∙ take_while-cons is_inside (get_or text place 0) (drop (place + 1) text) ∙ cond-false _ _ _ separator in
     let both : Some (n ∷ ns) ≡ Some [] = sym is ∙ ap fields_of none ∙ no_bytes_no_fields in absurd (cc))
     (cases_Bool (is_inside (get_or text place 0)))
 

@@ -38,13 +38,13 @@ at_or_before a b not_sorted =
 
 -- ---- lists without a fault
 
-in_order_behind : (mapping : Mapping) (mappings : List Mapping) → AreFaultless (Some mapping) mappings → IsInOrder (mapping ∷ mappings)
-in_order_behind mapping [] good = tt
-in_order_behind mapping (next ∷ mappings) good = (at_or_before mapping next good.0, in_order_behind next mappings good.2)
+in_order_after : (mapping : Mapping) (mappings : List Mapping) → AreFaultless (Some mapping) mappings → IsInOrder (mapping ∷ mappings)
+in_order_after mapping [] good = tt
+in_order_after mapping (next ∷ mappings) good = (at_or_before mapping next good.0, in_order_after next mappings good.2)
 
 in_order : (list : List Mapping) → AreFaultless None list → IsInOrder list
 in_order [] good = tt
-in_order (mapping ∷ mappings) good = in_order_behind mapping mappings good.2
+in_order (mapping ∷ mappings) good = in_order_after mapping mappings good.2
 
 none_past_limit : (earlier : Option Mapping) (mappings : List Mapping) → AreFaultless earlier mappings → list_any is_mapping_past_limit mappings ≡ false
 none_past_limit earlier [] good = refl
@@ -58,15 +58,15 @@ faultless_is_in_range list none = none_past_limit None list (faultless list none
 
 -- ---- and the other way round
 
-good_behind : (mapping : Mapping) (mappings : List Mapping) → IsInOrder (mapping ∷ mappings) → list_any is_mapping_past_limit mappings ≡ false → AreFaultless (Some mapping) mappings
-good_behind mapping [] order in_range = tt
-good_behind mapping (next ∷ mappings) order in_range =
+good_after : (mapping : Mapping) (mappings : List Mapping) → IsInOrder (mapping ∷ mappings) → list_any is_mapping_past_limit mappings ≡ false → AreFaultless (Some mapping) mappings
+good_after mapping [] order in_range = tt
+good_after mapping (next ∷ mappings) order in_range =
     let parts = or_parts _ _ in_range in
-    (not_before mapping next order.0, parts.0, good_behind next mappings order.1 parts.1)
+    (not_before mapping next order.0, parts.0, good_after next mappings order.1 parts.1)
 
 good : (list : List Mapping) → IsInOrder list → list_any is_mapping_past_limit list ≡ false → AreFaultless None list
 good [] order in_range = tt
-good (mapping ∷ mappings) order in_range = let parts = or_parts _ _ in_range in (refl, parts.0, good_behind mapping mappings order parts.1)
+good (mapping ∷ mappings) order in_range = let parts = or_parts _ _ in_range in (refl, parts.0, good_after mapping mappings order parts.1)
 
 no_refusal : (a b : Bool) (x y : EncodeRefusal) (others : Option EncodeRefusal) → a ≡ false → b ≡ false → others ≡ None → ◌≡◌ {A = Option EncodeRefusal} (option_or (cond a (Some x) (cond b (Some y) None)) others) None
 no_refusal true b x y others sorted in_range none = absurd (cc)

@@ -4,49 +4,49 @@ use Rattle.std.specs.Prelude.{ℤ, pos, negsuc, ◌+ℤ◌, int_lt}
 use Rattle.std.specs.List.{list_any, slice_split}
 use Rattle.std.proofs.lemmas.Bool.{and_parts, or_cases, or_left, or_right, not-true, both_ways, cases_order}
 use Rattle.std.proofs.lemmas.Int.{ints}
-use Rattle.smap_mappings.specs.Pieces.{Piece, is_nonempty, is_comma, is_line_end, parts_from, piece_on, pieces_on, pieces_of_lines, pieces_from, pieces_of}
-use Rattle.smap_mappings.specs.Mappings.{Move, RunningValues, move_of, moves_of, difference, natural, values_on, mapping_after, mappings_after, mappings_of}
-use Rattle.smap_mappings.specs.Accepted.{is_accepted_behind, are_accepted_behind, is_accepted, IsAccepted}
+use Rattle.smap_mappings.specs.Segments.{TextSegment, is_nonempty, is_comma, is_semicolon, parts_from, segment_on, segments_on, segments_of_lines, segments_from, segments_of}
+use Rattle.smap_mappings.specs.Mappings.{Delta, RunningValues, delta_of, deltas_of, difference, natural, values_on, mapping_after, mappings_after, mappings_of}
+use Rattle.smap_mappings.specs.Accepted.{is_accepted_after, are_accepted_after, is_accepted, IsAccepted}
 use Rattle.smap_mappings.specs.Order.{IsAtOrBefore, IsInOrder}
-use Rattle.smap_mappings.proofs.MoveLaws.{values-push}
+use Rattle.smap_mappings.proofs.DeltaLaws.{values-push}
 use Rattle.smap_mappings.proofs.Ranges.{in_range_natural, each_in_range}
 
 -- the lines of the segments don't fall, and none is before this one
-abbrev pub LinesRise : ℕ → List Move → Type 0
+abbrev pub LinesRise : ℕ → List Delta → Type 0
 LinesRise line [] = Unit {0}
-LinesRise line (move ∷ moves) = (line ≤ move.line) × LinesRise move.line moves
+LinesRise line (delta ∷ deltas) = (line ≤ delta.line) × LinesRise delta.line deltas
 
-rises_from_before : (line later : ℕ) (moves : List Move) → line ≤ later → LinesRise later moves → LinesRise line moves
+rises_from_before : (line later : ℕ) (deltas : List Delta) → line ≤ later → LinesRise later deltas → LinesRise line deltas
 rises_from_before line later [] before rise = tt
-rises_from_before line later (move ∷ moves) before rise = (omega (arith, rise.0), rise.1)
+rises_from_before line later (delta ∷ deltas) before rise = (omega (arith, rise.0), rise.1)
 
-on_one_line : (line : ℕ) (parts : List (ℕ × List ℕ)) (rest : List Piece) → LinesRise line (map move_of rest) → LinesRise line (map move_of (map (piece_on line) parts ++ rest))
+on_one_line : (line : ℕ) (parts : List (ℕ × List ℕ)) (rest : List TextSegment) → LinesRise line (map delta_of rest) → LinesRise line (map delta_of (map (segment_on line) parts ++ rest))
 on_one_line line [] rest rise = rise
 on_one_line line (part ∷ parts) rest rise = (omega arith, on_one_line line parts rest rise)
 
-lines_rise : (line place : ℕ) (lines : List (List ℕ)) → LinesRise line (map move_of (pieces_of_lines line place lines))
-unfolding pieces_on
+lines_rise : (line place : ℕ) (lines : List (List ℕ)) → LinesRise line (map delta_of (segments_of_lines line place lines))
+unfolding segments_on
 lines_rise line place [] = tt
 lines_rise line place (bytes ∷ lines) =
-    on_one_line line (filter is_nonempty (parts_from place (slice_split is_comma bytes))) (pieces_of_lines (line + 1) (place + length bytes + 1) lines)
+    on_one_line line (filter is_nonempty (parts_from place (slice_split is_comma bytes))) (segments_of_lines (line + 1) (place + length bytes + 1) lines)
     (rises_from_before line (line + 1) _ (omega arith) (lines_rise (line + 1) (place + length bytes + 1) lines))
 
-pub moves_rise : (text : List ℕ) → LinesRise 0 (moves_of text)
-unfolding moves_of pieces_of pieces_from
-moves_rise text = lines_rise 0 0 (slice_split is_line_end text)
+pub deltas_rise : (text : List ℕ) → LinesRise 0 (deltas_of text)
+unfolding deltas_of segments_of segments_from
+deltas_rise text = lines_rise 0 0 (slice_split is_semicolon text)
 
 -- the last segment so far stands on its own line
-pub any_last : (before : List Move) (move : Move) (line : ℕ) → move.line ≡ line → list_any (λ (earlier : Move). eqb earlier.line line) (before ++ move ∷ []) ≡ true
-any_last [] move line is = or_left _ _ (eq-eqb _ _ is)
-any_last (m ∷ before) move line is = or_right _ _ (any_last before move line is)
+pub any_last : (before : List Delta) (delta : Delta) (line : ℕ) → delta.line ≡ line → list_any (λ (earlier : Delta). eqb earlier.line line) (before ++ delta ∷ []) ≡ true
+any_last [] delta line is = or_left _ _ (eq-eqb _ _ is)
+any_last (m ∷ before) delta line is = or_right _ _ (any_last before delta line is)
 
 columns_rise : (x y d : ℤ) (m n : ℕ) → x ≡ pos m → y ≡ pos n → y ≡ x +ℤ d → int_lt d (pos 0) ≡ false → m ≤ n
 columns_rise x y (pos k) m n x_is y_is sum onward = omega (arith, ints)
 columns_rise x y (negsuc k) m n x_is y_is sum onward = absurd (cc)
 
 module _ (sources names : ℕ) where
-  next_in_order : (before : List Move) (a b : Move) → a.line ≤ b.line → is_accepted_behind sources names before a ≡ true → is_accepted_behind sources names (before ++ a ∷ []) b ≡ true → IsAtOrBefore (mapping_after before a) (mapping_after (before ++ a ∷ []) b)
-  unfolding is_accepted_behind mapping_after
+  next_in_order : (before : List Delta) (a b : Delta) → a.line ≤ b.line → is_accepted_after sources names before a ≡ true → is_accepted_after sources names (before ++ a ∷ []) b ≡ true → IsAtOrBefore (mapping_after before a) (mapping_after (before ++ a ∷ []) b)
+  unfolding is_accepted_after mapping_after
   next_in_order before a b rises accepts_a accepts_b =
       ⊎_elim
       (λ (same : a.line ≡ b.line).
@@ -69,13 +69,13 @@ module _ (sources names : ℕ) where
       (λ other. ⊎_elim (λ before. inl before) (λ after. absurd (omega arith)) other)
       (cases_order a.line b.line)
 
-  in_order : (before moves : List Move) (line : ℕ) → LinesRise line moves → are_accepted_behind sources names before moves ≡ true → IsInOrder (mappings_after before moves)
+  in_order : (before deltas : List Delta) (line : ℕ) → LinesRise line deltas → are_accepted_after sources names before deltas ≡ true → IsInOrder (mappings_after before deltas)
   in_order before [] line rise all = tt
   in_order before (a ∷ []) line rise all = tt
-  in_order before (a ∷ b ∷ moves) line rise all =
+  in_order before (a ∷ b ∷ deltas) line rise all =
       let parts = and_parts _ _ all in
-      (next_in_order before a b rise.1.0 parts.0 (and_parts _ _ parts.1).0, in_order (before ++ a ∷ []) (b ∷ moves) a.line rise.1 parts.1)
+      (next_in_order before a b rise.1.0 parts.0 (and_parts _ _ parts.1).0, in_order (before ++ a ∷ []) (b ∷ deltas) a.line rise.1 parts.1)
 
 pub mappings_in_order : (text : List ℕ) (sources names : ℕ) → IsAccepted text sources names → IsInOrder (mappings_of text)
 unfolding is_accepted mappings_of
-mappings_in_order text sources names accepted = in_order sources names [] (moves_of text) 0 (moves_rise text) accepted
+mappings_in_order text sources names accepted = in_order sources names [] (deltas_of text) 0 (deltas_rise text) accepted

@@ -50,7 +50,7 @@ clean_front b (c ∷ bytes) clean =
     record { inside = here.0; one = here.1; rest = here.2 })
     (cases_Bool (is_continuing b))
 
--- the numbers of clean bytes: the first, and those of the bytes behind it
+-- the numbers of clean bytes: the first, and those of the bytes after it
 pub clean_cuts : (bytes : List ℕ) → CleanFront bytes → cuts_of bytes ≡ take (suc (prefix_len is_continuing bytes)) bytes ∷ cuts_of (drop (suc (prefix_len is_continuing bytes)) bytes)
 clean_cuts bytes front =
     let n = suc (prefix_len is_continuing bytes) in

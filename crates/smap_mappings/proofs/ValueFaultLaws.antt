@@ -6,15 +6,15 @@ use Rattle.std.proofs.lemmas.Bool.{cond-true, cond-false, and_from, and_parts, o
 use Rattle.std.proofs.lemmas.Int.{ints}
 use Rattle.smap_mappings.specs.Limits.{most_indices}
 use Rattle.smap_mappings.specs.Segment.{has_known_length, has_origin, has_name}
-use Rattle.smap_mappings.specs.Mappings.{Move, RunningValues, difference, natural, values_on}
-use Rattle.smap_mappings.specs.Accepted.{is_in_range, are_in_range, is_accepted_behind, is_below_zero, is_past_limit}
-use Rattle.smap_mappings.specs.Faults.{has_value_below_zero, has_value_past_limit, values_fault, move_fault}
-use Rattle.smap_mappings.specs.Reading.{fields_in, move_in}
+use Rattle.smap_mappings.specs.Mappings.{Delta, RunningValues, difference, natural, values_on}
+use Rattle.smap_mappings.specs.Accepted.{is_in_range, are_in_range, is_accepted_after, is_below_zero, is_past_limit}
+use Rattle.smap_mappings.specs.Faults.{has_value_below_zero, has_value_past_limit, values_fault, delta_fault}
+use Rattle.smap_mappings.specs.Reading.{fields_in, delta_in}
 use Rattle.smap_mappings.specs.Advance.{sums_fault}
 use Rattle.smap_mappings.specs.declared.fault.FaultKind.{FaultKind}
 use Rattle.smap_mappings.specs.declared.fault.FaultKind.TheVariants.{Negative, PastLimit, ColumnFalls, SourceIndex, NameIndex}
 use Rattle.smap_mappings.specs.declared.segment.Segment.{Segment}
-use Rattle.smap_mappings.proofs.MoveLaws.{values-push, column_of_none}
+use Rattle.smap_mappings.proofs.DeltaLaws.{values-push, column_of_none}
 use Rattle.smap_mappings.proofs.Ranges.{InRange, in_range_natural, each_in_range}
 
 none_from_test : (b : Bool) (kind : FaultKind) (o : Option FaultKind) → ◌≡◌ {A = Option FaultKind} (cond b (Some kind) o) None → (b ≡ false) × (o ≡ None)
@@ -116,68 +116,68 @@ both_not true true is = absurd (cc)
 both_not true false is = refl
 both_not false q is = refl
 
-module _ (sources names : ℕ) (before : List Move) (move : Move) where
-  pub accepts_from : has_known_length move.fields ≡ true → move_fault sources names before move ≡ None → is_accepted_behind sources names before move ≡ true
-  unfolding is_accepted_behind move_fault
+module _ (sources names : ℕ) (before : List Delta) (delta : Delta) where
+  pub accepts_from : has_known_length delta.fields ≡ true → delta_fault sources names before delta ≡ None → is_accepted_after sources names before delta ≡ true
+  unfolding is_accepted_after delta_fault
   accepts_from known none =
-      let values = values_on move.line (before ++ move ∷ []) in
-      let earlier = list_any (λ (e : Move). eqb e.line move.line) before in
-      let parts = no_fault_parts sources names (earlier && is_below_zero (difference 0 move)) move.fields values none in
-      and_from _ _ (and_from _ _ (and_from _ _ (and_from _ _ known (all_from_each values (in_range_from values parts.below parts.past))) (either (has_origin move.fields) _ parts.source)) (either (has_name move.fields) _ parts.name))
-      (not_both earlier (is_below_zero (difference 0 move)) parts.rises)
+      let values = values_on delta.line (before ++ delta ∷ []) in
+      let earlier = list_any (λ (e : Delta). eqb e.line delta.line) before in
+      let parts = no_fault_parts sources names (earlier && is_below_zero (difference 0 delta)) delta.fields values none in
+      and_from _ _ (and_from _ _ (and_from _ _ (and_from _ _ known (all_from_each values (in_range_from values parts.below parts.past))) (either (has_origin delta.fields) _ parts.source)) (either (has_name delta.fields) _ parts.name))
+      (not_both earlier (is_below_zero (difference 0 delta)) parts.rises)
 
-  pub accepts_known : is_accepted_behind sources names before move ≡ true → has_known_length move.fields ≡ true
-  unfolding is_accepted_behind
+  pub accepts_known : is_accepted_after sources names before delta ≡ true → has_known_length delta.fields ≡ true
+  unfolding is_accepted_after
   accepts_known is = (and_parts _ _ (and_parts _ _ (and_parts _ _ (and_parts _ _ is).0).0).0).0
 
-  pub accepts_none : is_accepted_behind sources names before move ≡ true → move_fault sources names before move ≡ None
-  unfolding is_accepted_behind move_fault
+  pub accepts_none : is_accepted_after sources names before delta ≡ true → delta_fault sources names before delta ≡ None
+  unfolding is_accepted_after delta_fault
   accepts_none is =
-      let values = values_on move.line (before ++ move ∷ []) in
-      let earlier = list_any (λ (e : Move). eqb e.line move.line) before in
+      let values = values_on delta.line (before ++ delta ∷ []) in
+      let earlier = list_any (λ (e : Delta). eqb e.line delta.line) before in
       let a = and_parts _ _ is in
       let b = and_parts _ _ a.0 in
       let c = and_parts _ _ b.0 in
       let each = each_in_range values (and_parts _ _ c.0).1 in
-      no_fault_from sources names (earlier && is_below_zero (difference 0 move)) move.fields values (record {
+      no_fault_from sources names (earlier && is_below_zero (difference 0 delta)) delta.fields values (record {
         below = none_below values each;
         past = none_past values each;
-        rises = both_not earlier (is_below_zero (difference 0 move)) a.1;
-        source = neither (has_origin move.fields) _ c.1;
-        name = neither (has_name move.fields) _ b.1;
+        rises = both_not earlier (is_below_zero (difference 0 delta)) a.1;
+        source = neither (has_origin delta.fields) _ c.1;
+        name = neither (has_name delta.fields) _ b.1;
       })
 
 below_most : (z : ℤ) → is_in_range z ≡ true → int_lt z (pos most_indices) ≡ true
 below_most z ranged = let n = in_range_natural z ranged in ap (λ x. int_lt x (pos most_indices)) n.0 ∙ lt-ltb _ _ (omega (arith, n.1))
 
 -- a value in range is below the greatest number of sources and names, so what is accepted for some is for those
-pub accepted_widest : (sources names : ℕ) (before : List Move) (move : Move) → is_accepted_behind sources names before move ≡ true → is_accepted_behind most_indices most_indices before move ≡ true
-unfolding is_accepted_behind
-accepted_widest sources names before move is =
-    let values = values_on move.line (before ++ move ∷ []) in
+pub accepted_widest : (sources names : ℕ) (before : List Delta) (delta : Delta) → is_accepted_after sources names before delta ≡ true → is_accepted_after most_indices most_indices before delta ≡ true
+unfolding is_accepted_after
+accepted_widest sources names before delta is =
+    let values = values_on delta.line (before ++ delta ∷ []) in
     let a = and_parts _ _ is in
     let b = and_parts _ _ a.0 in
     let c = and_parts _ _ b.0 in
     let d = and_parts _ _ c.0 in
     let ranges = each_in_range values d.1 in
-    and_from _ _ (and_from _ _ (and_from _ _ c.0 (or_right (not (has_origin move.fields)) _ (below_most values.source ranges.source))) (or_right (not (has_name move.fields)) _ (below_most values.name ranges.name))) a.1
+    and_from _ _ (and_from _ _ (and_from _ _ c.0 (or_right (not (has_origin delta.fields)) _ (below_most values.source ranges.source))) (or_right (not (has_name delta.fields)) _ (below_most values.name ranges.name))) a.1
 
 -- ---- the fault that the code looks for
 
 -- the first segment of a line starts from column 0, so its column is below 0 where its first field is
-first_rises : (line : ℕ) (before : List Move) (segment : Segment) → list_any (λ (earlier : Move). eqb earlier.line line) before ≡ false → is_in_range (values_on line (before ++ move_in line segment ∷ [])).column ≡ true → is_below_zero segment.column ≡ false
+first_rises : (line : ℕ) (before : List Delta) (segment : Segment) → list_any (λ (earlier : Delta). eqb earlier.line line) before ≡ false → is_in_range (values_on line (before ++ delta_in line segment ∷ [])).column ≡ true → is_below_zero segment.column ≡ false
 first_rises line before segment none ranged =
-    let pushed = ap (λ (v : RunningValues). v.column) (values-push before (move_in line segment)) in
+    let pushed = ap (λ (v : RunningValues). v.column) (values-push before (delta_in line segment)) in
     let from_zero = column_of_none line before none in
-    let n = in_range_natural (values_on line (before ++ move_in line segment ∷ [])).column ranged in
-    let is : segment.column ≡ pos (natural (values_on line (before ++ move_in line segment ∷ [])).column) = omega (arith, ints, pushed, from_zero, n.0) in
+    let n = in_range_natural (values_on line (before ++ delta_in line segment ∷ [])).column ranged in
+    let is : segment.column ≡ pos (natural (values_on line (before ++ delta_in line segment ∷ [])).column) = omega (arith, ints, pushed, from_zero, n.0) in
     ap (λ z. int_lt z (pos 0)) is ∙ le-ltb _ 0 (omega arith)
 
 -- so it isn't asked whether an earlier segment stands on the line
-pub move_fault_is : (sources names line : ℕ) (before : List Move) (segment : Segment) → move_fault sources names before (move_in line segment) ≡ sums_fault sources names segment (values_on line (before ++ move_in line segment ∷ []))
-unfolding move_fault
-move_fault_is sources names line before segment =
-    let values = values_on line (before ++ move_in line segment ∷ []) in
+pub delta_fault_is : (sources names line : ℕ) (before : List Delta) (segment : Segment) → delta_fault sources names before (delta_in line segment) ≡ sums_fault sources names segment (values_on line (before ++ delta_in line segment ∷ []))
+unfolding delta_fault
+delta_fault_is sources names line before segment =
+    let values = values_on line (before ++ delta_in line segment ∷ []) in
     ⊎_elim
     (λ below. cond-true _ _ _ below ∙ sym (cond-true _ _ _ below))
     (λ not_below. ⊎_elim
@@ -186,8 +186,8 @@ move_fault_is sources names line before segment =
     (cases_Bool (has_value_past_limit values)))
     (cases_Bool (has_value_below_zero values))
   where
-    falls_same : is_in_range (values_on line (before ++ move_in line segment ∷ [])).column ≡ true → (list_any (λ (earlier : Move). eqb earlier.line line) before && is_below_zero segment.column) ≡ is_below_zero segment.column
+    falls_same : is_in_range (values_on line (before ++ delta_in line segment ∷ [])).column ≡ true → (list_any (λ (earlier : Delta). eqb earlier.line line) before && is_below_zero segment.column) ≡ is_below_zero segment.column
     falls_same ranged = ⊎_elim
         (λ some. ap (λ b. b && is_below_zero segment.column) some)
         (λ none. and_left _ _ none ∙ sym (first_rises line before segment none ranged))
-        (cases_Bool (list_any (λ (earlier : Move). eqb earlier.line line) before))
+        (cases_Bool (list_any (λ (earlier : Delta). eqb earlier.line line) before))

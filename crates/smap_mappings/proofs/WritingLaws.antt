@@ -1,4 +1,4 @@
--- One mapping more in a canonical text: what it adds, and what is kept behind it.
+-- One mapping more in a canonical text: what it adds, and what is kept after it.
 use Rattle.std.proofs.Common.{◌≡◌, ℕ, zero, suc, ◌+◌, ◌-◌, eqb, ◌<◌, min, List, [], ◌∷◌, ◌++◌, length, replicate, Option, Some, None, refl, sym, ap, ◌∙◌, arith, length-append}
 use Rattle.std.specs.Prelude.{ℤ, pos, ◌-ℤ◌}
 use Rattle.std.specs.List.{AllByRecursion, last_or}
@@ -11,9 +11,9 @@ use Rattle.std.proofs.lemmas.List.Elements.{All-from_recursion}
 use Rattle.smap_mappings.proofs.ShortestLaws.{shortest_is_ascii}
 use Rattle.smap_mappings.proofs.BeforeLaws.{unmapped, mapped, by_fields, last-push, origin_given, origin_kept, name_given, name_kept}
 use Rattle.smap_mappings.specs.Limits.{most_text_bytes}
-use Rattle.smap_mappings.specs.Canonical.{column_before, origin_before, name_before, name_fields, origin_fields, fields_behind, separators, shortest_spelling, segment_bytes, canonical_after, canonical_text}
+use Rattle.smap_mappings.specs.Canonical.{column_before, origin_before, name_before, name_fields, origin_fields, fields_after, separators, shortest_spelling, segment_bytes, canonical_after, canonical_text}
 use Rattle.smap_mappings.specs.Writing.{last_values_of, AreInRange, AreLastOf, IsLengthOf, IsWritten}
-use Rattle.smap_mappings.specs.OneMore.{name_fields_from, origin_fields_from, fields_from, spelled, bytes_from, origin_behind, name_behind, last_values_behind}
+use Rattle.smap_mappings.specs.OneMore.{name_fields_from, origin_fields_from, fields_from, spelled, bytes_from, last_origin_after, last_name_after, last_values_after}
 use Rattle.smap_mappings.specs.Reading
 use Rattle.smap_mappings.specs.Reading.{fields_in}
 use Rattle.smap_mappings.specs.declared.segment.Segment.{Segment}
@@ -25,19 +25,19 @@ use Rattle.smap_mappings.specs.declared.text_writer.TextWriter.{TextWriter}
 
 -- ---- what is kept
 
-origin_push : (before : List Mapping) (m : Mapping) → origin_before (before ++ m ∷ []) ≡ origin_behind (origin_before before) m.origin
-origin_push before = by_fields (λ m. origin_before (before ++ m ∷ []) ≡ origin_behind (origin_before before) m.origin)
+origin_push : (before : List Mapping) (m : Mapping) → origin_before (before ++ m ∷ []) ≡ last_origin_after (origin_before before) m.origin
+origin_push before = by_fields (λ m. origin_before (before ++ m ∷ []) ≡ last_origin_after (origin_before before) m.origin)
     (λ line column. origin_kept before (unmapped line column) refl)
     (λ line column source original_line original_column. origin_given before (mapped line column source original_line original_column None) _ refl)
     (λ line column source original_line original_column name. origin_given before (mapped line column source original_line original_column (Some name)) _ refl)
 
-name_push : (before : List Mapping) (m : Mapping) → name_before (before ++ m ∷ []) ≡ name_behind (name_before before) m.origin
-name_push before = by_fields (λ m. name_before (before ++ m ∷ []) ≡ name_behind (name_before before) m.origin)
+name_push : (before : List Mapping) (m : Mapping) → name_before (before ++ m ∷ []) ≡ last_name_after (name_before before) m.origin
+name_push before = by_fields (λ m. name_before (before ++ m ∷ []) ≡ last_name_after (name_before before) m.origin)
     (λ line column. name_kept before (unmapped line column) refl)
     (λ line column source original_line original_column. name_kept before (mapped line column source original_line original_column None) refl)
     (λ line column source original_line original_column name. name_given before (mapped line column source original_line original_column (Some name)) name refl)
 
-pub last_values-push : (before : List Mapping) (m : Mapping) → last_values_of (before ++ m ∷ []) ≡ last_values_behind (last_values_of before) m
+pub last_values-push : (before : List Mapping) (m : Mapping) → last_values_of (before ++ m ∷ []) ≡ last_values_after (last_values_of before) m
 last_values-push before m = λ i. record {
   mapping = last-push None before m i;
   origin = origin_push before m i;
@@ -57,7 +57,7 @@ origin_fields_same before (Some origin) =
     ap (λ fields. (pos origin.source -ℤ pos last.source) ∷ (pos origin.line -ℤ pos last.line) ∷ (pos origin.column -ℤ pos last.column) ∷ fields) (name_fields_same before origin.name)
 
 segment_same : (before : List Mapping) (m : Mapping) → segment_bytes before m ≡ spelled (fields_from (last_values_of before) m)
-unfolding segment_bytes fields_behind
+unfolding segment_bytes fields_after
 segment_same before m = ap (λ fields. spelled ((pos m.column -ℤ pos (column_before (last_or None before) m.line)) ∷ fields)) (origin_fields_same before m.origin)
 
 canonical-push : (before list : List Mapping) (m : Mapping) → canonical_after before (list ++ m ∷ []) ≡ canonical_after before list ++ bytes_from (last_values_of (before ++ list)) m
@@ -79,19 +79,19 @@ canonical_more list m = canonical-push [] list m
 -- ---- from nothing, and mapping after mapping
 
 pub length_more : (list : List Mapping) (found after : TextLength) (m : Mapping) (gap cell : ℕ) → IsLengthOf list found → gap ≡ length (separators found.last.mapping m) → cell ≡ length (spelled (fields_from found.last m))
-    → after.bytes ≡ min (found.bytes + (gap + cell)) (most_text_bytes + 1) → after.last ≡ last_values_behind found.last m → AreInRange after.last → IsLengthOf (list ++ m ∷ []) after
+    → after.bytes ≡ min (found.bytes + (gap + cell)) (most_text_bytes + 1) → after.last ≡ last_values_after found.last m → AreInRange after.last → IsLengthOf (list ++ m ∷ []) after
 length_more list found after m gap cell is gap_is cell_is bytes_is last_is in_range =
     let added = ap length (canonical_more list m) ∙ length-append (canonical_text list) (bytes_from (last_values_of list) m) in
     let more = ap (λ last. length (bytes_from last m)) (sym is.last.are) ∙ length-append (separators found.last.mapping m) (spelled (fields_from found.last m)) in
     record {
-      last = record { are = last_is ∙ ap (λ last. last_values_behind last m) is.last.are ∙ sym (last_values-push list m); in_range = in_range };
+      last = record { are = last_is ∙ ap (λ last. last_values_after last m) is.last.are ∙ sym (last_values-push list m); in_range = in_range };
       bytes = omega (arith, added, more, is.bytes);
     }
 
 pub text_more : (list : List Mapping) (writer after : TextWriter) (m : Mapping) (gap : List ℕ) → IsWritten list writer → gap ≡ writer.bytes.items ++ separators writer.last.mapping m → after.bytes.items ≡ gap ++ spelled (fields_from writer.last m)
-    → after.last ≡ last_values_behind writer.last m → AreInRange after.last → IsWritten (list ++ m ∷ []) after
+    → after.last ≡ last_values_after writer.last m → AreInRange after.last → IsWritten (list ++ m ∷ []) after
 text_more list writer after m gap is gap_is bytes_is last_is in_range = record {
-  last = record { are = last_is ∙ ap (λ last. last_values_behind last m) is.last.are ∙ sym (last_values-push list m); in_range = in_range };
+  last = record { are = last_is ∙ ap (λ last. last_values_after last m) is.last.are ∙ sym (last_values-push list m); in_range = in_range };
   bytes =
       bytes_is ∙ ap (λ front. front ++ spelled (fields_from writer.last m)) gap_is
       ∙ append_assoc writer.bytes.items (separators writer.last.mapping m) (spelled (fields_from writer.last m))
@@ -154,7 +154,7 @@ unfolding segment_bytes
 after_is_ascii before [] = IsAscii-nil
 after_is_ascii before (m ∷ list) =
     IsAscii-append (separators (last_or None before) m ++ segment_bytes before m) (canonical_after (before ++ m ∷ []) list)
-    (IsAscii-append (separators (last_or None before) m) (segment_bytes before m) (separators_are_ascii (last_or None before) m) (spelled_is_ascii (fields_behind before m)))
+    (IsAscii-append (separators (last_or None before) m) (segment_bytes before m) (separators_are_ascii (last_or None before) m) (spelled_is_ascii (fields_after before m)))
     (after_is_ascii (before ++ m ∷ []) list)
 
 pub canonical_is_ascii : (list : List Mapping) → IsAscii (canonical_text list)

@@ -4,7 +4,7 @@
 use Rattle.std.specs.Prelude.{ℕ, List, [], ◌∷◌, ◌++◌, Bool, true, IsTrue, ◌&&◌, ◌||◌, not, ℤ, pos, int_lt}
 use Rattle.smap_mappings.specs.Limits.{limit}
 use Rattle.smap_mappings.specs.Segment.{has_known_length, has_origin, has_name}
-use Rattle.smap_mappings.specs.Mappings.{Move, RunningValues, moves_of, has_segment_on, difference, values_on}
+use Rattle.smap_mappings.specs.Mappings.{Delta, RunningValues, deltas_of, has_segment_on, difference, values_on}
 
 -- ---- the range of a running value, from 0 to the limit
 
@@ -29,28 +29,28 @@ are_in_range values =
 
 -- whether a segment of this line and these fields may leave these values: its source and its name are among those
 -- that there are, and its column doesn't fall where an earlier segment stands on its line
-abbrev pub is_allowed : ℕ → ℕ → Bool → Move → RunningValues → Bool
-is_allowed sources names has_earlier move values =
-    has_known_length move.fields
+abbrev pub is_allowed : ℕ → ℕ → Bool → Delta → RunningValues → Bool
+is_allowed sources names has_earlier delta values =
+    has_known_length delta.fields
     && are_in_range values
-    && (not (has_origin move.fields) || int_lt values.source (pos sources))
-    && (not (has_name move.fields) || int_lt values.name (pos names))
-    && (not has_earlier || not (is_below_zero (difference 0 move)))
+    && (not (has_origin delta.fields) || int_lt values.source (pos sources))
+    && (not (has_name delta.fields) || int_lt values.name (pos names))
+    && (not has_earlier || not (is_below_zero (difference 0 delta)))
 
 -- whether a segment may stand after these: it has one, four or five fields, and each running value after it is in range
-unfoldable pub is_accepted_behind : ℕ → ℕ → List Move → Move → Bool
-is_accepted_behind sources names before move =
-    is_allowed sources names (has_segment_on move.line before) move (values_on move.line (before ++ move ∷ []))
+unfoldable pub is_accepted_after : ℕ → ℕ → List Delta → Delta → Bool
+is_accepted_after sources names before delta =
+    is_allowed sources names (has_segment_on delta.line before) delta (values_on delta.line (before ++ delta ∷ []))
 
 -- each of these segments may stand where it does, after those before
-abbrev pub are_accepted_behind : ℕ → ℕ → List Move → List Move → Bool
-are_accepted_behind sources names before [] = true
-are_accepted_behind sources names before (move ∷ moves) =
-    is_accepted_behind sources names before move && are_accepted_behind sources names (before ++ move ∷ []) moves
+abbrev pub are_accepted_after : ℕ → ℕ → List Delta → List Delta → Bool
+are_accepted_after sources names before [] = true
+are_accepted_after sources names before (delta ∷ deltas) =
+    is_accepted_after sources names before delta && are_accepted_after sources names (before ++ delta ∷ []) deltas
 
 -- each segment of the text may stand where it does
 unfoldable pub is_accepted : List ℕ → ℕ → ℕ → Bool
-is_accepted text sources names = are_accepted_behind sources names [] (moves_of text)
+is_accepted text sources names = are_accepted_after sources names [] (deltas_of text)
 
 -- the text is accepted for this number of sources and of names
 abbrev pub IsAccepted : List ℕ → ℕ → ℕ → Type 0

@@ -1,23 +1,23 @@
--- Of private contracts only: a state moved behind a segment.
+-- Of private contracts only: a state that goes on after a segment.
 use Rattle.std.specs.Prelude.{◌≡◌, ℕ, Option, None, ◌+ℤ◌}
-use Rattle.smap_mappings.specs.Mappings.{Move, RunningValues, difference}
+use Rattle.smap_mappings.specs.Mappings.{Delta, RunningValues, difference}
 use Rattle.smap_mappings.specs.Accepted.{is_below_zero}
 use Rattle.smap_mappings.specs.Faults.{values_fault}
 use Rattle.smap_mappings.specs.State.{values_at}
-use Rattle.smap_mappings.specs.Reading.{fields_in, move_in}
+use Rattle.smap_mappings.specs.Reading.{fields_in, delta_in}
 use Rattle.smap_mappings.specs.declared.advance.Sums.{Sums}
 use Rattle.smap_mappings.specs.declared.cursor.Cursor.{Cursor}
 use Rattle.smap_mappings.specs.declared.fault.FaultKind.{FaultKind}
 use Rattle.smap_mappings.specs.declared.segment.Segment.{Segment}
 
--- the values after a segment with this move, on its line
-abbrev pub values_behind : RunningValues → Move → RunningValues
-values_behind values move = record {
-  column = values.column +ℤ difference 0 move;
-  source = values.source +ℤ difference 1 move;
-  original_line = values.original_line +ℤ difference 2 move;
-  original_column = values.original_column +ℤ difference 3 move;
-  name = values.name +ℤ difference 4 move;
+-- the values after a segment with this delta, on its line
+abbrev pub values_after : RunningValues → Delta → RunningValues
+values_after values delta = record {
+  column = values.column +ℤ difference 0 delta;
+  source = values.source +ℤ difference 1 delta;
+  original_line = values.original_line +ℤ difference 2 delta;
+  original_column = values.original_column +ℤ difference 3 delta;
+  name = values.name +ℤ difference 4 delta;
 }
 
 -- the sums as running values
@@ -34,9 +34,9 @@ values_in sums = record {
 abbrev pub sums_fault : ℕ → ℕ → Segment → RunningValues → Option FaultKind
 sums_fault sources names segment values = values_fault sources names (is_below_zero segment.column) (fields_in segment) values
 
--- the state after is behind the segment, and its values have no fault
-pub record IsBehind (cursor : Cursor) (segment : Segment) (end sources names : ℕ) (after : Cursor) : Type 0 where
+-- the later state is the one after the segment, and its values have no fault
+pub record IsAdvanced (cursor : Cursor) (segment : Segment) (end sources names : ℕ) (after : Cursor) : Type 0 where
   pub place : after.place ≡ end
   pub line : after.line ≡ cursor.line
-  pub values : values_at after ≡ values_behind (values_at cursor) (move_in cursor.line segment)
+  pub values : values_at after ≡ values_after (values_at cursor) (delta_in cursor.line segment)
   pub allowed : sums_fault sources names segment (values_at after) ≡ None

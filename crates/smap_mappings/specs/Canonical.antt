@@ -73,20 +73,20 @@ origin_fields before (Some origin) =
     ∷ name_fields before origin.name
 
 -- one field, or four, or five with a name, each less its value before
-unfoldable pub fields_behind : List Mapping → Mapping → List ℤ
-fields_behind before mapping =
+unfoldable pub fields_after : List Mapping → Mapping → List ℤ
+fields_after before mapping =
     (pos mapping.column -ℤ pos (column_before (last_or None before) mapping.line)) ∷ origin_fields before mapping.origin
 
 -- ---- the text
 
--- a `;` for each line that is passed, and where none is, a `,` behind an earlier mapping
+-- a `;` for each line that is passed, and where none is, a `,` after an earlier mapping
 abbrev pub separators : Option Mapping → Mapping → List ℕ
 separators None mapping = replicate mapping.line 59
 separators (Some earlier) mapping = if mapping.line == earlier.line then 44 ∷ [] else replicate (mapping.line - earlier.line) 59
 
 -- the segment of a mapping that stands after these
 unfoldable pub segment_bytes : List Mapping → Mapping → List ℕ
-segment_bytes before mapping = concat (map shortest_spelling (fields_behind before mapping))
+segment_bytes before mapping = concat (map shortest_spelling (fields_after before mapping))
 
 -- the text of these mappings, which stand after those before
 abbrev pub canonical_after : List Mapping → List Mapping → List ℕ

@@ -14,13 +14,13 @@ abbrev pub is_not_sorted : Option Mapping → Mapping → Bool
 is_not_sorted None mapping = false
 is_not_sorted (Some earlier) mapping = stands_before mapping earlier
 
--- why mapping i is refused behind this one, if it is
+-- why mapping i is refused after this one, if it is
 abbrev pub mapping_fault : ℕ → Option Mapping → Mapping → Option EncodeRefusal
 mapping_fault i earlier mapping =
     if is_not_sorted earlier mapping then Some (NotSorted i)
     else (if is_mapping_past_limit mapping then Some (OutOfRange i) else None)
 
--- why the first refused of these mappings is, which stand behind this one and have the numbers from i on
+-- why the first refused of these mappings is, which stand after this one and have the numbers from i on
 abbrev pub list_fault_from : ℕ → Option Mapping → List Mapping → Option EncodeRefusal
 list_fault_from i earlier [] = None
 list_fault_from i earlier (mapping ∷ mappings) =

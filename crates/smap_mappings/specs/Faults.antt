@@ -5,8 +5,8 @@ use Rattle.std.specs.Prelude.{ℕ, List, [], ◌∷◌, ◌++◌, Option, Some, 
 use Rattle.std.specs.List.{list_any}
 use Rattle.smap_mappings.specs.Vlq.{is_digit, is_continuing, is_too_long, is_too_large, is_negative_zero}
 use Rattle.smap_mappings.specs.Segment.{cuts_of, has_known_length, has_origin, has_name}
-use Rattle.smap_mappings.specs.Pieces.{Piece, pieces_of}
-use Rattle.smap_mappings.specs.Mappings.{Move, RunningValues, move_of, has_segment_on, difference, values_on}
+use Rattle.smap_mappings.specs.Segments.{TextSegment, segments_of}
+use Rattle.smap_mappings.specs.Mappings.{Delta, RunningValues, delta_of, has_segment_on, difference, values_on}
 use Rattle.smap_mappings.specs.Accepted.{is_below_zero, is_past_limit}
 use Rattle.smap_mappings.specs.declared.fault.Fault.{Fault}
 use Rattle.smap_mappings.specs.declared.fault.FaultKind.{FaultKind}
@@ -64,9 +64,9 @@ values_fault sources names falls fields values =
     else None))))
 
 -- the least kind that holds of the values after a segment that stands after these
-unfoldable pub move_fault : ℕ → ℕ → List Move → Move → Option FaultKind
-move_fault sources names before move =
-    values_fault sources names (has_segment_on move.line before && is_below_zero (difference 0 move)) move.fields (values_on move.line (before ++ move ∷ []))
+unfoldable pub delta_fault : ℕ → ℕ → List Delta → Delta → Option FaultKind
+delta_fault sources names before delta =
+    values_fault sources names (has_segment_on delta.line before && is_below_zero (difference 0 delta)) delta.fields (values_on delta.line (before ++ delta ∷ []))
 
 -- ---- the first fault
 
@@ -76,20 +76,20 @@ first_kind None other = other
 first_kind (Some kind) other = Some kind
 
 -- the least kind that holds of a segment that stands after these
-abbrev pub segment_fault : ℕ → ℕ → List Move → Piece → Option FaultKind
-segment_fault sources names before piece = first_kind (spelling_fault piece.bytes) (move_fault sources names before (move_of piece))
+abbrev pub segment_fault : ℕ → ℕ → List Delta → TextSegment → Option FaultKind
+segment_fault sources names before segment = first_kind (spelling_fault segment.bytes) (delta_fault sources names before (delta_of segment))
 
--- the piece with this kind of fault, and where it has none, the others' fault
-abbrev pub fault_or : Option FaultKind → Piece → Option Fault → Option Fault
-fault_or None piece others = others
-fault_or (Some kind) piece others = Some (record { byte = piece.place; line = piece.line; kind = kind })
+-- the segment with this kind of fault, and where it has none, the others' fault
+abbrev pub fault_or : Option FaultKind → TextSegment → Option Fault → Option Fault
+fault_or None segment others = others
+fault_or (Some kind) segment others = Some (record { byte = segment.place; line = segment.line; kind = kind })
 
--- the first faulty segment of these pieces, which stand after those before
-abbrev pub first_fault_after : ℕ → ℕ → List Move → List Piece → Option Fault
+-- the first faulty one of these segments, which stand after those before
+abbrev pub first_fault_after : ℕ → ℕ → List Delta → List TextSegment → Option Fault
 first_fault_after sources names before [] = None
-first_fault_after sources names before (piece ∷ pieces) =
-    fault_or (segment_fault sources names before piece) piece (first_fault_after sources names (before ++ move_of piece ∷ []) pieces)
+first_fault_after sources names before (segment ∷ segments) =
+    fault_or (segment_fault sources names before segment) segment (first_fault_after sources names (before ++ delta_of segment ∷ []) segments)
 
 -- the first segment, in the order of the text, of which some kind holds, with the least that does
 unfoldable pub first_fault : List ℕ → ℕ → ℕ → Option Fault
-first_fault text sources names = first_fault_after sources names [] (pieces_of text)
+first_fault text sources names = first_fault_after sources names [] (segments_of text)

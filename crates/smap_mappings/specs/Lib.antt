@@ -2,7 +2,7 @@ pub mod Limits
 pub mod Base64
 pub mod Vlq
 pub mod Segment
-pub mod Pieces
+pub mod Segments
 pub mod Mappings
 pub mod Accepted
 pub mod Faults

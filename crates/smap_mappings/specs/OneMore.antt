@@ -1,4 +1,4 @@
--- Of private contracts only: what one mapping more adds to a canonical text, and what is kept behind it.
+-- Of private contracts only: what one mapping more adds to a canonical text, and what is kept after it.
 use Rattle.std.specs.Prelude.{ℕ, ◌≤◌, List, [], ◌∷◌, ◌++◌, map, Option, Some, None, ℤ, pos, ◌-ℤ◌, unsigned_abs}
 use Rattle.std.specs.List.{AllByRecursion, concat}
 use Rattle.smap_mappings.specs.Limits.{limit}
@@ -12,7 +12,7 @@ abbrev pub name_fields_from : LastValues → Option ℕ → List ℤ
 name_fields_from last None = []
 name_fields_from last (Some name) = (pos name -ℤ pos last.name) ∷ []
 
--- the fields behind the first, each less its value before
+-- the fields after the first, each less its value before
 abbrev pub origin_fields_from : LastValues → Option Origin → List ℤ
 origin_fields_from last None = []
 origin_fields_from last (Some origin) =
@@ -34,9 +34,9 @@ abbrev pub bytes_from : LastValues → Mapping → List ℕ
 bytes_from last mapping = separators last.mapping mapping ++ spelled (fields_from last mapping)
 
 -- the last origin, one mapping on
-abbrev pub origin_behind : Origin → Option Origin → Origin
-origin_behind last None = last
-origin_behind last (Some origin) = origin
+abbrev pub last_origin_after : Origin → Option Origin → Origin
+last_origin_after last None = last
+last_origin_after last (Some origin) = origin
 
 -- the name, and where there is none, the last one
 abbrev pub named : ℕ → Option ℕ → ℕ
@@ -44,16 +44,16 @@ named last None = last
 named last (Some name) = name
 
 -- the last name, one mapping on
-abbrev pub name_behind : ℕ → Option Origin → ℕ
-name_behind last None = last
-name_behind last (Some origin) = named last origin.name
+abbrev pub last_name_after : ℕ → Option Origin → ℕ
+last_name_after last None = last
+last_name_after last (Some origin) = named last origin.name
 
--- what is kept behind the mapping
-abbrev pub last_values_behind : LastValues → Mapping → LastValues
-last_values_behind last mapping = record {
+-- what is kept after the mapping
+abbrev pub last_values_after : LastValues → Mapping → LastValues
+last_values_after last mapping = record {
   mapping = Some mapping;
-  origin = origin_behind last.origin mapping.origin;
-  name = name_behind last.name mapping.origin;
+  origin = last_origin_after last.origin mapping.origin;
+  name = last_name_after last.name mapping.origin;
 }
 
 -- each field can be spelled

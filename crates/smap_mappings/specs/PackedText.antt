@@ -2,7 +2,7 @@
 use Rattle.std.specs.Prelude.{◌≡◌, ℕ, ◌≤◌, List, length}
 use Rattle.smap_mappings.specs.Limits.{most_indices, most_text_bytes}
 use Rattle.smap_mappings.specs.Accepted.{IsAccepted}
-use Rattle.smap_mappings.specs.Counts.{segments_of, used_lines_of}
+use Rattle.smap_mappings.specs.Counts.{segment_count, used_lines_of}
 
 -- it is no longer than a text may be, and accepted for as many sources and names as indices can name
 pub record IsPacked (text : List ℕ) : Type 0 where
@@ -12,5 +12,5 @@ pub record IsPacked (text : List ℕ) : Type 0 where
 -- and these are its counts
 pub record IsPackedWith (text : List ℕ) (segments used_lines : ℕ) : Type 0 where
   pub packed : IsPacked text
-  pub segments_are : segments ≡ segments_of text
+  pub segments_are : segments ≡ segment_count text
   pub used_lines_are : used_lines ≡ used_lines_of text

@@ -1,8 +1,8 @@
 -- A state between two segments of a text: a place, and all running values there (ECMA-426, Mappings structure).
 use Rattle.std.specs.Prelude.{◌≡◌, ℕ, ◌+◌, ◌<◌, ◌≤◌, List, Some, length, take, drop, slice_get, pos, IfSome}
 use Rattle.std.specs.List.{AllByRecursion}
-use Rattle.smap_mappings.specs.Pieces.{pieces_of, pieces_from}
-use Rattle.smap_mappings.specs.Mappings.{Move, RunningValues, moves_of, values_on, mappings_of}
+use Rattle.smap_mappings.specs.Segments.{segments_of, segments_from}
+use Rattle.smap_mappings.specs.Mappings.{Delta, RunningValues, deltas_of, values_on, mappings_of}
 use Rattle.smap_mappings.specs.declared.cursor.Cursor.{Cursor}
 use Rattle.smap_mappings.specs.declared.mapping.Mapping.{Mapping}
 use Rattle.smap_mappings.specs.declared.mapping.Origin.{Origin}
@@ -20,12 +20,12 @@ values_at cursor = record {
 -- This state is the one after j segments of this text: what is left of the text from its place on, on its line, are
 -- the segments from number j on, and its running values are those after j segments, on its line.
 pub record IsAfter (text : List ℕ) (j : ℕ) (cursor : Cursor) : Type 0 where
-  pub count : j ≤ length (pieces_of text)
+  pub count : j ≤ length (segments_of text)
   pub inside : cursor.place ≤ length text
   pub line_within : cursor.line ≤ cursor.place
-  pub rest : pieces_from cursor.line cursor.place (drop cursor.place text) ≡ drop j (pieces_of text)
-  pub lines : AllByRecursion (λ (move : Move). move.line ≤ cursor.line) (take j (moves_of text))
-  pub values : values_at cursor ≡ values_on cursor.line (take j (moves_of text))
+  pub rest : segments_from cursor.line cursor.place (drop cursor.place text) ≡ drop j (segments_of text)
+  pub lines : AllByRecursion (λ (delta : Delta). delta.line ≤ cursor.line) (take j (deltas_of text))
+  pub values : values_at cursor ≡ values_on cursor.line (take j (deltas_of text))
 
 -- the state after some number of segments
 abbrev pub IsBetween : List ℕ → Cursor → Type 0
@@ -44,8 +44,8 @@ pub record IsMappingAt (cursor : Cursor) (mapping : Mapping) : Type 0 where
   pub column : mapping.column ≡ cursor.column
   pub origin : IfSome mapping.origin (IsOriginAt cursor)
 
--- segment j is there, its mapping is this one, and this is the state behind it
-pub record IsNext (text : List ℕ) (j : ℕ) (mapping : Mapping) (after : Cursor) : Type 0 where
-  pub more : j < length (pieces_of text)
+-- segment j is there, its mapping is this one, and this is the state after it
+pub record IsNext (text : List ℕ) (j : ℕ) (mapping : Mapping) (next : Cursor) : Type 0 where
+  pub more : j < length (segments_of text)
   pub mapping_is : slice_get (mappings_of text) j ≡ Some mapping
-  pub behind : IsAfter text (j + 1) after
+  pub after : IsAfter text (j + 1) next

@@ -1,7 +1,7 @@
 -- Of private contracts only: what a step from a state gives, one segment more.
 use Rattle.std.specs.Prelude.{◌≡◌, ℕ, ℤ, ◌+◌, List, [], ◌∷◌, ◌++◌, Option, Some, None, take, drop}
-use Rattle.smap_mappings.specs.Pieces.{pieces_of}
-use Rattle.smap_mappings.specs.Mappings.{moves_of}
+use Rattle.smap_mappings.specs.Segments.{segments_of}
+use Rattle.smap_mappings.specs.Mappings.{deltas_of}
 use Rattle.smap_mappings.specs.Faults.{first_fault_after}
 use Rattle.smap_mappings.specs.State.{IsNext}
 use Rattle.smap_mappings.specs.declared.cursor.Cursor.{Cursor}
@@ -14,29 +14,29 @@ use Rattle.smap_mappings.specs.declared.segment.OriginFields.{OriginFields}
 
 -- the first faulty segment from number j on
 abbrev pub fault_from : List ℕ → ℕ → ℕ → ℕ → Option Fault
-fault_from text sources names j = first_fault_after sources names (take j (moves_of text)) (drop j (pieces_of text))
+fault_from text sources names j = first_fault_after sources names (take j (deltas_of text)) (drop j (segments_of text))
 
 -- the segment at the state's place, with this kind of fault
 abbrev pub fault_at : Cursor → FaultKind → Fault
 fault_at cursor kind = record { byte = cursor.place; line = cursor.line; kind = kind }
 
--- segment j has no fault, and stands on the line of the state behind it
+-- segment j has no fault, and stands on the line of the state after it
 pub record IsStep (text : List ℕ) (j sources names : ℕ) (mapping : Mapping) (after : Cursor) : Type 0 where
   pub passes : fault_from text sources names j ≡ fault_from text sources names (j + 1)
   pub next : IsNext text j mapping after
   pub fields : List ℤ
-  pub taken : take (j + 1) (moves_of text) ≡ take j (moves_of text) ++ record { line = after.line; fields = fields } ∷ []
+  pub taken : take (j + 1) (deltas_of text) ≡ take j (deltas_of text) ++ record { line = after.line; fields = fields } ∷ []
 
 -- the state's name index, for a segment that has a name
-abbrev pub name_behind : Option ℤ → Cursor → Option ℕ
-name_behind None cursor = None
-name_behind (Some name) cursor = Some cursor.name
+abbrev pub cursor_name : Option ℤ → Cursor → Option ℕ
+cursor_name None cursor = None
+cursor_name (Some name) cursor = Some cursor.name
 
 -- the state's origin, for a segment that has one
-abbrev pub origin_behind : Option OriginFields → Cursor → Option Origin
-origin_behind None cursor = None
-origin_behind (Some origin) cursor = Some (record { source = cursor.source; line = cursor.original_line; column = cursor.original_column; name = name_behind origin.name cursor })
+abbrev pub cursor_origin : Option OriginFields → Cursor → Option Origin
+cursor_origin None cursor = None
+cursor_origin (Some origin) cursor = Some (record { source = cursor.source; line = cursor.original_line; column = cursor.original_column; name = cursor_name origin.name cursor })
 
--- the mapping of a segment, from the state behind it
+-- the mapping of a segment, from the state after it
 abbrev pub mapping_in : Segment → Cursor → Mapping
-mapping_in segment cursor = record { line = cursor.line; column = cursor.column; origin = origin_behind segment.origin cursor }
+mapping_in segment cursor = record { line = cursor.line; column = cursor.column; origin = cursor_origin segment.origin cursor }

@@ -1,7 +1,7 @@
 -- Of private contracts only: how far a check has come.
 use Rattle.std.specs.Prelude.{◌≡◌, ℕ, ◌<◌, ◌≤◌, ◌==◌, List, [], true, length, take}
 use Rattle.std.specs.List.{list_any}
-use Rattle.smap_mappings.specs.Mappings.{moves_of}
+use Rattle.smap_mappings.specs.Mappings.{deltas_of}
 use Rattle.smap_mappings.specs.Accepted.{are_in_range}
 use Rattle.smap_mappings.specs.Faults.{first_fault}
 use Rattle.smap_mappings.specs.Counts.{new_lines}
@@ -11,21 +11,21 @@ use Rattle.smap_mappings.specs.declared.cursor.Cursor.{Cursor}
 use Rattle.smap_mappings.specs.declared.mapping.Mapping.{Mapping}
 use Rattle.smap_mappings.specs.declared.walk.Walk.{Walk}
 
--- the segment at the state's place has no fault, and this is the state behind it
-pub record IsStraightStep (text : List ℕ) (sources names : ℕ) (cursor behind : Cursor) : Type 0 where
-  pub ahead : cursor.place < behind.place
-  pub inside : behind.place ≤ length text
-  pub line : behind.line ≡ cursor.line
-  pub in_range : are_in_range (values_at behind) ≡ true
+-- the segment at the state's place has no fault, and this is the state after it
+pub record IsStraightStep (text : List ℕ) (sources names : ℕ) (cursor after : Cursor) : Type 0 where
+  pub ahead : cursor.place < after.place
+  pub inside : after.place ≤ length text
+  pub line : after.line ≡ cursor.line
+  pub in_range : are_in_range (values_at after) ≡ true
   pub mapping : Mapping
-  pub steps : (j : ℕ) → IsAfter text j cursor → IsStep text j sources names mapping behind
+  pub steps : (j : ℕ) → IsAfter text j cursor → IsStep text j sources names mapping after
 
 -- the state is after this many segments, none of which is faulty, on as many lines
 pub record ChecksUpTo (text : List ℕ) (sources names : ℕ) (cursor : Cursor) (segments used_lines : ℕ) : Type 0 where
   pub after : IsAfter text segments cursor
   pub passed : first_fault text sources names ≡ fault_from text sources names segments
-  pub on_line : 0 < segments → list_any (λ move. move.line == cursor.line) (take segments (moves_of text)) ≡ true
-  pub lines : used_lines ≡ new_lines [] (take segments (moves_of text))
+  pub on_line : 0 < segments → list_any (λ delta. delta.line == cursor.line) (take segments (deltas_of text)) ≡ true
+  pub lines : used_lines ≡ new_lines [] (take segments (deltas_of text))
   pub few : segments ≤ cursor.place
   pub fewer : used_lines ≤ segments
 

@@ -1,11 +1,11 @@
-//! A state that goes on behind a segment.
+//! A state that goes on after a segment.
 ghost use Rattle.std.specs.Prelude.{◌≡◌, IfOk, IfErr, None, Some, pos, ◌+ℤ◌, true};
 ghost use Rattle.smap_mappings.specs.Limits.{most_indices};
 ghost use Rattle.smap_mappings.specs.Accepted.{are_in_range};
 ghost use Rattle.smap_mappings.specs.Faults.{has_value_below_zero, has_value_past_limit};
 ghost use Rattle.smap_mappings.specs.State.{values_at};
-ghost use Rattle.smap_mappings.specs.Reading.{move_in};
-ghost use Rattle.smap_mappings.specs.Advance.{values_behind, values_in, sums_fault, IsBehind};
+ghost use Rattle.smap_mappings.specs.Reading.{delta_in};
+ghost use Rattle.smap_mappings.specs.Advance.{values_after, values_in, sums_fault, IsAdvanced};
 
 use crate::cursor::Cursor;
 use crate::fault::FaultKind;
@@ -22,7 +22,7 @@ struct Sums {
     name: i64,
 }
 
-// The state behind a segment that ends before the place `end`, or the first kind of fault of the running values.
+// The state after a segment that ends before the place `end`, or the first kind of fault of the running values.
 #[inline(always)]
 pub fn advance(
     cursor: &Cursor,
@@ -31,10 +31,10 @@ pub fn advance(
     sources: u32,
     names: u32,
 ) -> Result<Cursor, FaultKind>
-    ensures ok { IfOk result (λ after. IsBehind cursor.now segment.now end sources names after) }
+    ensures ok { IfOk result (λ after. IsAdvanced cursor.now segment.now end sources names after) }
     ensures err { IfErr result (λ kind.
         sums_fault sources names segment.now
-        (values_behind (values_at cursor.now) (move_in cursor.now.line segment.now)) ≡ Some kind) }
+        (values_after (values_at cursor.now) (delta_in cursor.now.line segment.now)) ≡ Some kind) }
 {
     let sums = sums_after(cursor, segment);
     match sums.fault(segment, sources, names) {
@@ -43,12 +43,12 @@ pub fn advance(
     }
 }
 
-// The state behind a segment that ends before the place `end`, where no kind of fault of the running values holds.
+// The state after a segment that ends before the place `end`, where no kind of fault of the running values holds.
 #[inline(always)]
 pub fn advance_checked(cursor: &Cursor, segment: &Segment, end: usize) -> Cursor
     requires { sums_fault most_indices most_indices segment.now
-        (values_behind (values_at cursor.now) (move_in cursor.now.line segment.now)) ≡ None }
-    ensures { IsBehind cursor.now segment.now end most_indices most_indices result }
+        (values_after (values_at cursor.now) (delta_in cursor.now.line segment.now)) ≡ None }
+    ensures { IsAdvanced cursor.now segment.now end most_indices most_indices result }
 {
     sums_after(cursor, segment).cursor(cursor.line, end)
 }
@@ -56,7 +56,7 @@ pub fn advance_checked(cursor: &Cursor, segment: &Segment, end: usize) -> Cursor
 #[inline(always)]
 fn sums_after(cursor: &Cursor, segment: &Segment) -> Sums
     ensures { values_in result
-        ≡ values_behind (values_at cursor.now) (move_in cursor.now.line segment.now) }
+        ≡ values_after (values_at cursor.now) (delta_in cursor.now.line segment.now) }
 {
     let column = added(cursor.column, segment.column);
     match segment.origin {

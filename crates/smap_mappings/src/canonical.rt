@@ -64,7 +64,7 @@ fn text_length(list: &[Mapping]) -> Result<usize, EncodeRefusal>
     length.bytes().ok_or(EncodeRefusal::TooLong)
 }
 
-// Why mapping `i` is refused behind this one.
+// Why mapping `i` is refused after this one.
 #[inline(always)]
 fn mapping_fault(i: u64, earlier: &Option<Mapping>, mapping: &Mapping) -> Option<EncodeRefusal>
     ensures { result ≡ mapping_fault i earlier.now mapping.now }

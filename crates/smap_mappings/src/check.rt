@@ -2,7 +2,7 @@
 ghost use Rattle.std.specs.Prelude.{◌≡◌, ◌≤◌, ◌==◌, ◌||◌, not, None, Some, length, IfOk, MatchResult};
 ghost use Rattle.smap_mappings.specs.Limits.{most_text_bytes};
 ghost use Rattle.smap_mappings.specs.Faults.{first_fault};
-ghost use Rattle.smap_mappings.specs.Counts.{segments_of, used_lines_of};
+ghost use Rattle.smap_mappings.specs.Counts.{segment_count, used_lines_of};
 
 use crate::fault::Fault;
 use crate::step::{skip_separators, step};
@@ -21,7 +21,7 @@ pub fn check_segments(bytes: &[u8], sources: u32, names: u32) -> Result<TextCoun
     ensures fault { MatchResult result
         (λ _. first_fault bytes.now sources names ≡ None)
         (λ fault. first_fault bytes.now sources names ≡ Some fault) }
-    ensures segments { IfOk result (λ counts. counts.segments ≡ segments_of bytes.now) }
+    ensures segments { IfOk result (λ counts. counts.segments ≡ segment_count bytes.now) }
     ensures used_lines { IfOk result (λ counts. counts.used_lines ≡ used_lines_of bytes.now) }
 {
     // Most texts have no fault. Where this one has, or may have, it is gone through from its start.

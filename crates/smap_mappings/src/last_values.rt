@@ -5,7 +5,7 @@ ghost use Rattle.smap_mappings.specs.Range.{is_mapping_past_limit, is_origin_pas
 ghost use Rattle.smap_mappings.specs.Canonical.{column_before};
 ghost use Rattle.smap_mappings.specs.Reading.{fields_in, origin_fields};
 ghost use Rattle.smap_mappings.specs.Writing.{AreInRange, AreLastOf};
-ghost use Rattle.smap_mappings.specs.OneMore.{CanBeSpelled, fields_from, origin_fields_from, last_values_behind};
+ghost use Rattle.smap_mappings.specs.OneMore.{CanBeSpelled, fields_from, origin_fields_from, last_values_after};
 
 use crate::mapping::{Mapping, Origin};
 use crate::segment::{OriginFields, Segment};
@@ -77,12 +77,12 @@ impl LastValues {
         }
     }
 
-    // What is kept behind the next mapping.
+    // What is kept after the next mapping.
     #[inline(always)]
-    pub fn behind(&self, mapping: &Mapping) -> LastValues
+    pub fn after(&self, mapping: &Mapping) -> LastValues
         requires last { AreInRange self.now }
         requires mapping { is_mapping_past_limit mapping.now ≡ false }
-        ensures values { result ≡ last_values_behind self.now mapping.now }
+        ensures values { result ≡ last_values_after self.now mapping.now }
         ensures in_range { AreInRange result }
     {
         let (origin, name) = match mapping.origin {

@@ -4,9 +4,9 @@
 //! let packed = PackedText::check(text, sources, names)?;
 //! let mut meter = Meter::new(alloc);
 //! let mut state = packed.start();
-//! while let Some((mapping, behind)) = packed.next(&state, &mut meter) {
+//! while let Some((mapping, after)) = packed.next(&state, &mut meter) {
 //!     // a mapping of line, column and origin
-//!     state = behind;
+//!     state = after;
 //! }
 //! ```
 #![tactic(auto)]

@@ -5,7 +5,7 @@ ghost use Rattle.smap_mappings.specs.Limits.{most_text_bytes};
 ghost use Rattle.smap_mappings.specs.Mappings.{mappings_of};
 ghost use Rattle.smap_mappings.specs.Accepted.{IsAccepted};
 ghost use Rattle.smap_mappings.specs.Faults.{first_fault};
-ghost use Rattle.smap_mappings.specs.Counts.{segments_of, used_lines_of};
+ghost use Rattle.smap_mappings.specs.Counts.{segment_count, used_lines_of};
 ghost use Rattle.smap_mappings.specs.Order.{IsInOrder};
 ghost use Rattle.smap_mappings.specs.Within.{IsWithin};
 ghost use Rattle.smap_mappings.specs.State.{IsAfter, IsBetween, IsMappingAt, IsNext};
@@ -89,7 +89,7 @@ impl PackedText {
 
     /// How many segments the text has.
     pub fn segments(&self) -> u64
-        ensures count { result ≡ segments_of self.now }
+        ensures count { result ≡ segment_count self.now }
         ensures bound { 2 * result ≤ length self.now + 1 }
     {
         self.segments
@@ -112,7 +112,7 @@ impl PackedText {
         State::new(Cursor::START)
     }
 
-    /// The mapping of the next segment and the state behind it, whose running values are the mapping's numbers, or
+    /// The mapping of the next segment and the state after it, whose running values are the mapping's numbers, or
     /// `None` at the end of the text. The caller gives a state of this text, and a meter whose count of segments leaves
     /// room for one more. A segment that is given adds one to that count, and the end adds nothing. The call takes no
     /// memory.
@@ -124,15 +124,15 @@ impl PackedText {
             IsAfter self.now j state.now → IsNext self.now j r.0 r.1) }
         ensures values { IfSome result (λ r. IsMappingAt r.1 r.0) }
         ensures none { IfNone result ((j : ℕ) →
-            IsAfter self.now j state.now → j ≡ segments_of self.now) }
+            IsAfter self.now j state.now → j ≡ segment_count self.now) }
         ensures counted { meter.new ≡ (if is_some result
             then record meter.old { segments = meter.old.segments + 1 }
             else meter.old) }
     {
         match next_segment(self.text.as_bytes(), &state.cursor()) {
-            Some((mapping, behind)) => {
+            Some((mapping, after)) => {
                 meter.count_segment();
-                Some((mapping, State::new(behind)))
+                Some((mapping, State::new(after)))
             }
             None => None,
         }
@@ -153,14 +153,14 @@ fn decode_segments(alloc: Global, bytes: &[u8], expected: usize) -> Result<Vec<M
 {
     let mut list = Vec::with_capacity(alloc, expected)?;
     let mut at = Cursor::START;
-    while let Some((mapping, behind)) = next_segment(bytes, &at) {
+    while let Some((mapping, after)) = next_segment(bytes, &at) {
         list.push(mapping)?;
-        at = behind;
+        at = after;
     }
     Ok(list)
 }
 
-// The mapping of the next segment of a checked text and the state behind it, or `None` at the end.
+// The mapping of the next segment of a checked text and the state after it, or `None` at the end.
 #[inline(always)]
 fn next_segment(bytes: &[u8], cursor: &Cursor) -> Option<(Mapping, Cursor)>
     requires packed { IsPacked bytes.now }
@@ -171,7 +171,7 @@ fn next_segment(bytes: &[u8], cursor: &Cursor) -> Option<(Mapping, Cursor)>
         IsAfter bytes.now j cursor.now → IsNext bytes.now j r.0 r.1) }
     ensures values { IfSome result (λ r. IsMappingAt r.1 r.0) }
     ensures none { IfNone result ((j : ℕ) →
-        IsAfter bytes.now j cursor.now → j ≡ segments_of bytes.now) }
+        IsAfter bytes.now j cursor.now → j ≡ segment_count bytes.now) }
 {
     if is_joined_by_one(bytes, cursor.place) {
         let at = Cursor {

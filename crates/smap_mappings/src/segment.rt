@@ -2,7 +2,7 @@
 ghost use Rattle.std.specs.Prelude.{◌≡◌, ◌+◌, ◌<◌, ◌≤◌, ◌↔◌, length, slice_index, IfSome, IfNone, IsTrue, false};
 ghost use Rattle.smap_mappings.specs.Limits.{most_digits};
 ghost use Rattle.smap_mappings.specs.Segment.{has_known_length};
-ghost use Rattle.smap_mappings.specs.Reading.{is_inside, piece_at, IsFieldAt, HasNoField, IsSegmentAt, fields_at, known_fields};
+ghost use Rattle.smap_mappings.specs.Reading.{is_inside, segment_at, IsFieldAt, HasNoField, IsSegmentAt, fields_at, known_fields};
 
 use crate::base64::number_of_one;
 use crate::vlq::{read_two_digits, read_vlq};
@@ -14,7 +14,7 @@ pub struct Segment {
     pub origin: Option<OriginFields>,
 }
 
-// The fields of a segment behind its first.
+// The fields of a segment after its first.
 #[derive(Clone, Copy)]
 pub struct OriginFields {
     pub source: i32,
@@ -34,7 +34,7 @@ pub fn is_inside(byte: u8) -> bool
 #[inline(always)]
 fn is_at_end(bytes: &[u8], place: usize) -> bool
     requires { place ≤ length bytes.now }
-    ensures { IsTrue result ↔ (length (piece_at bytes.now place) ≡ 0) }
+    ensures { IsTrue result ↔ (length (segment_at bytes.now place) ≡ 0) }
 {
     place >= bytes.len() || !is_inside(bytes[place])
 }
@@ -43,7 +43,7 @@ fn is_at_end(bytes: &[u8], place: usize) -> bool
 #[inline(always)]
 pub fn is_at_inner_end(bytes: &[u8], place: usize) -> bool
     requires { place < length bytes.now }
-    ensures { IsTrue result ↔ (length (piece_at bytes.now place) ≡ 0) }
+    ensures { IsTrue result ↔ (length (segment_at bytes.now place) ≡ 0) }
 {
     !is_inside(bytes[place])
 }
@@ -90,7 +90,7 @@ fn read_long_field(bytes: &[u8], place: usize) -> Option<(i32, usize)>
     read_vlq(bytes, place).ok()
 }
 
-// The segment that begins at a place, and the place behind it; `None` where its bytes spell no fields, or not one,
+// The segment that begins at a place, and the place after it; `None` where its bytes spell no fields, or not one,
 // four or five.
 #[inline(always)]
 pub fn read_segment(bytes: &[u8], place: usize) -> Option<(Segment, usize)>

@@ -48,7 +48,7 @@ fn is_continuing(byte: u8) -> bool
     }
 }
 
-// The place behind the number that begins at a place.
+// The place after the number that begins at a place.
 fn number_end(segment: &[u8], place: usize) -> usize
     requires { place + front_at segment.now place < length segment.now }
     ensures { result ≡ place + front_at segment.now place + 1 }

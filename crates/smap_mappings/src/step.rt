@@ -6,7 +6,7 @@ ghost use Rattle.smap_mappings.specs.Accepted.{are_in_range};
 ghost use Rattle.smap_mappings.specs.Faults.{spelling_fault};
 ghost use Rattle.smap_mappings.specs.State.{values_at, IsAfter, IsBetween, IsMappingAt, IsNext};
 ghost use Rattle.smap_mappings.specs.PackedText.{IsPacked};
-ghost use Rattle.smap_mappings.specs.Reading.{is_inside, piece_at, known_fields};
+ghost use Rattle.smap_mappings.specs.Reading.{is_inside, segment_at, known_fields};
 ghost use Rattle.smap_mappings.specs.Step.{IsStep, fault_at, fault_from, mapping_in};
 
 use crate::advance::{advance, advance_checked};
@@ -51,7 +51,7 @@ pub fn skip_separators(bytes: &[u8], cursor: &Cursor) -> Cursor
     at
 }
 
-// Reads the segment at the state's place: its mapping and the state behind it, or the least kind of fault that holds
+// Reads the segment at the state's place: its mapping and the state after it, or the least kind of fault that holds
 // of it.
 #[inline(always)]
 pub fn step(
@@ -79,7 +79,7 @@ pub fn step(
 }
 
 // Reads the segment at the state's place in a checked text, where nothing needs to be asked: its mapping and the state
-// behind it. It stands out of line, so that the straight way over most segments is inlined where a text is gone through.
+// after it. It stands out of line, so that the straight way over most segments is inlined where a text is gone through.
 #[inline(never)]
 pub fn checked_step(bytes: &[u8], cursor: &Cursor) -> (Mapping, Cursor)
     requires packed { IsPacked bytes.now }
@@ -114,7 +114,7 @@ pub fn checked_straight_step(bytes: &[u8], cursor: &Cursor) -> (Mapping, Cursor)
     let Some(straight) = read_straight(bytes, cursor) else {
         unreachable!("each segment of a checked text can be read");
     };
-    (straight.mapping(), straight.behind)
+    (straight.mapping(), straight.after)
 }
 
 // Why no segment could be read at a place.
@@ -122,7 +122,7 @@ pub fn checked_straight_step(bytes: &[u8], cursor: &Cursor) -> (Mapping, Cursor)
 fn unread_fault(bytes: &[u8], place: usize) -> FaultKind
     requires inside { place ≤ length bytes.now }
     requires unread { has_known_length (known_fields bytes.now place) ≡ false }
-    ensures { spelling_fault (piece_at bytes.now place) ≡ Some result }
+    ensures { spelling_fault (segment_at bytes.now place) ≡ Some result }
 {
     let end = segment_end(bytes, place);
     match spelling_fault(&bytes[place..end]) {
@@ -134,7 +134,7 @@ fn unread_fault(bytes: &[u8], place: usize) -> FaultKind
 fn segment_end(bytes: &[u8], place: usize) -> usize
     requires { place ≤ length bytes.now }
     ensures within { result ≤ length bytes.now }
-    ensures end { result ≡ place + length (piece_at bytes.now place) }
+    ensures end { result ≡ place + length (segment_at bytes.now place) }
 {
     let mut end = place;
     while end < bytes.len() && is_inside(bytes[end]) {

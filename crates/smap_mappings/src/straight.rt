@@ -3,9 +3,9 @@
 ghost use Rattle.std.specs.Prelude.{◌≡◌, ◌+◌, ◌<◌, ◌≤◌, length, slice_index, IfSome, IfNone, IsTrue, true, false};
 ghost use Rattle.smap_mappings.specs.Limits.{most_digits, most_segment_digits, most_text_bytes};
 ghost use Rattle.smap_mappings.specs.Segment.{has_known_length};
-ghost use Rattle.smap_mappings.specs.Pieces.{is_comma};
+ghost use Rattle.smap_mappings.specs.Segments.{is_comma};
 ghost use Rattle.smap_mappings.specs.Reading.{HasNoField, is_inside, known_fields};
-ghost use Rattle.smap_mappings.specs.Straight.{IsMoved, IsMovedBy, IsReadBehind, is_fitting, are_listed, is_name_listed, name_of, mapping_of};
+ghost use Rattle.smap_mappings.specs.Straight.{IsMoved, IsMovedBy, IsReadAfter, is_fitting, are_listed, is_name_listed, name_of, mapping_of};
 
 use crate::base64::number_of_one;
 use crate::cursor::Cursor;
@@ -21,13 +21,13 @@ pub enum Fields {
     Five,
 }
 
-// A segment that was read: how many fields it has, the first of them, and the state behind it, of whose values it is not
+// A segment that was read: how many fields it has, the first of them, and the state after it, of whose values it is not
 // known yet whether they are in range.
 #[derive(Clone, Copy)]
 pub struct StraightSegment {
     pub fields: Fields,
     pub first: i32,
-    pub behind: Cursor,
+    pub after: Cursor,
 }
 
 // Whether the longest segment would end before the text does, if one began at this place.
@@ -40,7 +40,7 @@ pub fn has_room(bytes: &[u8], place: usize) -> bool
     place + MOST_SEGMENT_DIGITS < bytes.len()
 }
 
-// Whether a `,` stands at this place, with room behind it.
+// Whether a `,` stands at this place, with room after it.
 #[inline(always)]
 pub fn is_joined(bytes: &[u8], place: usize) -> bool
     requires short { length bytes.now ≤ most_text_bytes }
@@ -51,7 +51,7 @@ pub fn is_joined(bytes: &[u8], place: usize) -> bool
     place + 1 + MOST_SEGMENT_DIGITS < bytes.len() && bytes[place] == b','
 }
 
-// The same, with a number of one digit behind the `,`, as most segments begin.
+// The same, with a number of one digit after the `,`, as most segments begin.
 #[inline(always)]
 pub fn is_joined_by_one(bytes: &[u8], place: usize) -> bool
     requires short { length bytes.now ≤ most_text_bytes }
@@ -67,7 +67,7 @@ pub fn is_joined_by_one(bytes: &[u8], place: usize) -> bool
 #[inline(always)]
 pub fn read_straight(bytes: &[u8], cursor: &Cursor) -> Option<StraightSegment>
     requires room { cursor.now.place + most_segment_digits < length bytes.now }
-    ensures some { IfSome result (IsReadBehind bytes.now cursor.now) }
+    ensures some { IfSome result (IsReadAfter bytes.now cursor.now) }
     ensures none { IfNone result
         (has_known_length (known_fields bytes.now cursor.now.place) ≡ false) }
 {
@@ -77,7 +77,7 @@ pub fn read_straight(bytes: &[u8], cursor: &Cursor) -> Option<StraightSegment>
         if !is_at_inner_end(bytes, place) {
             return None;
         }
-        let behind = Cursor {
+        let after = Cursor {
             place,
             column,
             ..*cursor
@@ -85,12 +85,12 @@ pub fn read_straight(bytes: &[u8], cursor: &Cursor) -> Option<StraightSegment>
         return Some(StraightSegment {
             fields: Fields::One,
             first,
-            behind,
+            after,
         });
     };
     let (original_line, place) = read_moved(bytes, source_end, cursor.original_line)?;
     let (original_column, place) = read_moved(bytes, place, cursor.original_column)?;
-    let behind = Cursor {
+    let after = Cursor {
         place,
         column,
         source,
@@ -102,7 +102,7 @@ pub fn read_straight(bytes: &[u8], cursor: &Cursor) -> Option<StraightSegment>
         return Some(StraightSegment {
             fields: Fields::Four,
             first,
-            behind,
+            after,
         });
     }
     let (name, place) = read_moved(bytes, place, cursor.name)?;
@@ -112,15 +112,15 @@ pub fn read_straight(bytes: &[u8], cursor: &Cursor) -> Option<StraightSegment>
     Some(StraightSegment {
         fields: Fields::Five,
         first,
-        behind: Cursor {
+        after: Cursor {
             place,
             name,
-            ..behind
+            ..after
         },
     })
 }
 
-// The value behind the field that begins at a place, and the place behind it.
+// The value after the field that begins at a place, and the place after it.
 #[inline(always)]
 fn read_moved(bytes: &[u8], place: usize, value: u32) -> Option<(u32, usize)>
     requires { place + 1 < length bytes.now }
@@ -146,10 +146,10 @@ impl StraightSegment {
     pub fn is_sound(&self, sources: u32, names: u32) -> bool
         ensures fits { IsTrue result → is_fitting self.now ≡ true }
         ensures listed { IsTrue result →
-            are_listed sources names self.now.fields self.now.behind ≡ true }
+            are_listed sources names self.now.fields self.now.after ≡ true }
     {
         // A segment without an origin leaves the source as it was.
-        self.is_fitting() && self.behind.source < sources && self.is_name_listed(names)
+        self.is_fitting() && self.after.source < sources && self.is_name_listed(names)
     }
 
     #[inline(always)]
@@ -158,29 +158,29 @@ impl StraightSegment {
     {
         // Each test is cheap and seldom fails, so none is skipped.
         (self.first >= 0)
-            & (self.behind.column <= LIMIT)
-            & (self.behind.source <= LIMIT)
-            & (self.behind.original_line <= LIMIT)
-            & (self.behind.original_column <= LIMIT)
-            & (self.behind.name <= LIMIT)
+            & (self.after.column <= LIMIT)
+            & (self.after.source <= LIMIT)
+            & (self.after.original_line <= LIMIT)
+            & (self.after.original_column <= LIMIT)
+            & (self.after.name <= LIMIT)
     }
 
     #[inline(always)]
     fn is_name_listed(&self, names: u32) -> bool
-        ensures { result ≡ is_name_listed names self.now.fields self.now.behind }
+        ensures { result ≡ is_name_listed names self.now.fields self.now.after }
     {
         match self.fields {
-            Fields::Five => self.behind.name < names,
+            Fields::Five => self.after.name < names,
             _ => true,
         }
     }
 
     #[inline(always)]
     fn name(&self) -> Option<u32>
-        ensures { result ≡ name_of self.now.fields self.now.behind }
+        ensures { result ≡ name_of self.now.fields self.now.after }
     {
         match self.fields {
-            Fields::Five => Some(self.behind.name),
+            Fields::Five => Some(self.after.name),
             _ => None,
         }
     }
@@ -192,15 +192,15 @@ impl StraightSegment {
         let origin = match self.fields {
             Fields::One => None,
             _ => Some(Origin {
-                source: self.behind.source,
-                line: self.behind.original_line,
-                column: self.behind.original_column,
+                source: self.after.source,
+                line: self.after.original_line,
+                column: self.after.original_column,
                 name: self.name(),
             }),
         };
         Mapping {
-            line: self.behind.line,
-            column: self.behind.column,
+            line: self.after.line,
+            column: self.after.column,
             origin,
         }
     }

@@ -45,7 +45,7 @@ impl TextLength {
         let segment = self.last.segment(mapping);
         let more = separators_length(&self.last.mapping, mapping) + segment_length(&segment);
         self.bytes = (self.bytes + more).min(MOST_BYTES as u64 + 1);
-        self.last = self.last.behind(mapping);
+        self.last = self.last.after(mapping);
     }
 
     // The last mapping so far.
@@ -70,7 +70,7 @@ impl TextLength {
     }
 }
 
-// How many bytes stand before the segment of a mapping behind this one.
+// How many bytes stand before the segment of a mapping after this one.
 #[inline(always)]
 fn separators_length(last: &Option<Mapping>, mapping: &Mapping) -> u64
     ensures { result ≡ length (separators last.now mapping.now) }

@@ -50,7 +50,7 @@ impl TextWriter {
         let segment = self.last.segment(mapping);
         write_separators(&self.last.mapping, mapping, &mut self.bytes)?;
         write_segment(&segment, &mut self.bytes)?;
-        self.last = self.last.behind(mapping);
+        self.last = self.last.after(mapping);
         Ok(())
     }
 
@@ -72,7 +72,7 @@ impl TextWriter {
     }
 }
 
-// Writes what stands before the segment of a mapping behind this one.
+// Writes what stands before the segment of a mapping after this one.
 #[inline(always)]
 fn write_separators(
     last: &Option<Mapping>,

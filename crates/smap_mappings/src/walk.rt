@@ -75,7 +75,7 @@ fn walk_line(bytes: &[u8], walk: &Walk, sources: u32, names: u32) -> Option<Walk
     Some(walk)
 }
 
-// The state behind the segment at the state's place, if it has no fault.
+// The state after the segment at the state's place, if it has no fault.
 #[inline(always)]
 fn step_straight(bytes: &[u8], cursor: &Cursor, sources: u32, names: u32) -> Option<Cursor>
     requires room { cursor.now.place + most_segment_digits < length bytes.now }
@@ -84,7 +84,7 @@ fn step_straight(bytes: &[u8], cursor: &Cursor, sources: u32, names: u32) -> Opt
 {
     let straight = read_straight(bytes, cursor)?;
     if straight.is_sound(sources, names) {
-        Some(straight.behind)
+        Some(straight.after)
     } else {
         None
     }

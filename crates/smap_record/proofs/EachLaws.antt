@@ -11,9 +11,9 @@ use Rattle.serde_json.proofs.Views.{view-Array}
 use Rattle.smap_record.specs.Json.{readings, list_of}
 
 module _ {A : Type 0} (read : Data → Option A) where
-  -- what is read of these values, behind what was read before them
-  abbrev pub behind : List A → List Value → Option (List A)
-  behind before values = option_map (λ others. before ++ others) (readings read (items_view values))
+  -- what is read of these values, after what was read before them
+  abbrev pub after : List A → List Value → Option (List A)
+  after before values = option_map (λ others. before ++ others) (readings read (items_view values))
 
   added : (before : List A) (first : A) (others : Option (List A)) → option_map (λ more. (before ++ first ∷ []) ++ more) others ≡ option_map (λ more. before ++ more) (option_map (λ more. first ∷ more) others)
   added before first None = refl
@@ -24,15 +24,15 @@ module _ {A : Type 0} (read : Data → Option A) where
   opened before values found = option_map (λ more. before ++ more) (option_and_then (λ first. option_map (λ others. first ∷ others) (readings read (items_view values))) found)
 
   -- one more item was read
-  pub one_more : (before : List A) (value : Value) (values : List Value) (first : A) → read (view value) ≡ Some first → behind (before ++ first ∷ []) values ≡ behind before (value ∷ values)
+  pub one_more : (before : List A) (value : Value) (values : List Value) (first : A) → read (view value) ≡ Some first → after (before ++ first ∷ []) values ≡ after before (value ∷ values)
   one_more before value values first is = added before first (readings read (items_view values)) ∙ ap (opened before values) (sym is)
 
   -- an item is no such value
-  pub not_one : (before : List A) (value : Value) (values : List Value) → read (view value) ≡ None → behind before (value ∷ values) ≡ None
+  pub not_one : (before : List A) (value : Value) (values : List Value) → read (view value) ≡ None → after before (value ∷ values) ≡ None
   not_one before value values is = ap (opened before values) is
 
   -- nothing is left
-  pub no_more : (before : List A) → behind before [] ≡ Some before
+  pub no_more : (before : List A) → after before [] ≡ Some before
   no_more before = ap Some (append-nil before)
 
   same : (found : Option (List A)) → option_map (λ more. [] ++ more) found ≡ found
@@ -40,10 +40,10 @@ module _ {A : Type 0} (read : Data → Option A) where
   same (Some more) = refl
 
   -- nothing was read so far of the list that an array is
-  pub none_yet : (value : Value) (items : Vec Value Global) → value ≡ Array items → behind [] items.items ≡ list_of read (view value)
+  pub none_yet : (value : Value) (items : Vec Value Global) → value ≡ Array items → after [] items.items ≡ list_of read (view value)
   none_yet value items is = same (readings read (items_view items.items)) ∙ sym (ap (λ v. list_of read (view v)) is ∙ ap (list_of read) (view-Array items))
 
--- the value at a place, and those behind it
+-- the value at a place, and those after it
 pub next_value : (values : List Value) (i : ℕ) (value : Value) → i < length values → value ≡ slice_index_or values i value → drop i values ≡ value ∷ drop (i + 1) values
 next_value values i value within is = drop_more values i value within ∙ ap (λ first. first ∷ drop (i + 1) values) (sym is)
 

@@ -7,9 +7,9 @@ use Rattle.serde_json.proofs.OnLiterals.{serde_json_on_literals}
 use Rattle.smap_mappings.specs.Base64.{digit_of}
 use Rattle.smap_mappings.specs.Vlq.{number_of, unsigned_of}
 use Rattle.smap_mappings.specs.Segment.{fields_of}
-use Rattle.smap_mappings.specs.Pieces.{pieces_of, pieces_from, pieces_on}
-use Rattle.smap_mappings.specs.Mappings.{mappings_of, mapping_after, moves_of, values_on}
-use Rattle.smap_mappings.specs.Faults.{first_fault, spelling_fault, move_fault}
+use Rattle.smap_mappings.specs.Segments.{segments_of, segments_from, segments_on}
+use Rattle.smap_mappings.specs.Mappings.{mappings_of, mapping_after, deltas_of, values_on}
+use Rattle.smap_mappings.specs.Faults.{first_fault, spelling_fault, delta_fault}
 use Rattle.smap_mappings.specs.declared.fault.FaultKind.TheVariants as kinds
 use Rattle.smap_index.specs.Answer.{answer_at_or_before}
 use Rattle.smap_index.specs.Faults.{build_fault, part_fault, order_fault, overlap_fault, range_fault}
@@ -24,7 +24,7 @@ use Rattle.url.specs.Scheme.{scheme_len}
 use Rattle.smap_resolve.specs.SourceName.{kept, source_name}
 use Rattle.smap_record.specs.FileText.{byte_order_mark}
 use Rattle.smap_record.specs.Sources.{StatedSource}
-use Rattle.smap_record.specs.IndexMap.{entries_in, sections_behind}
+use Rattle.smap_record.specs.IndexMap.{entries_in, sections_after}
 use Rattle.smap_record.specs.Outer.{outer_in}
 use Rattle.smap_record.specs.Record.{MapRecord, record_in, record_of, answer_of_map}
 use Rattle.smap_record.specs.Section.{mappings_in, section_in}
@@ -42,7 +42,7 @@ called text = record { name = Some (kept text); content = None; ignored = false 
 
 -- what an example unfolds to compute the record of a file
 unfoldable record_on_literals : ⊤
-unfolding record_of record_in outer_in entries_in sections_behind section_in mappings_in source_name parse_url split_scheme scheme_len split_once strip_tabs_and_new_lines trim_c0_control_and_space is_utf8 chars serde_json_on_literals whole called build_fault part_fault order_fault overlap_fault range_fault placed mappings_of mapping_after moves_of first_fault spelling_fault move_fault values_on pieces_of pieces_from pieces_on fields_of number_of unsigned_of digit_of
+unfolding record_of record_in outer_in entries_in sections_after section_in mappings_in source_name parse_url split_scheme scheme_len split_once strip_tabs_and_new_lines trim_c0_control_and_space is_utf8 chars serde_json_on_literals whole called build_fault part_fault order_fault overlap_fault range_fault placed mappings_of mapping_after deltas_of first_fault spelling_fault delta_fault values_on segments_of segments_from segments_on fields_of number_of unsigned_of digit_of
 record_on_literals = tt
 
 -- the refusal of a file, where it is refused
@@ -66,22 +66,22 @@ one_source : record_of (codes "{\"version\":3,\"sources\":[\"a.ts\"],\"mappings\
 unfolding record_on_literals
 one_source = refl
 
-behind_a_mark : record_of (byte_order_mark ++ codes "{\"version\":3,\"sources\":[\"a.ts\"],\"mappings\":\"AAAA,CAAC\"}") None 1
+after_a_mark : record_of (byte_order_mark ++ codes "{\"version\":3,\"sources\":[\"a.ts\"],\"mappings\":\"AAAA,CAAC\"}") None 1
     ≡ Ok (record { parts = whole (codes "AAAA,CAAC"); sources = called (codes "a.ts") ∷ []; names = []; file = None })
 unfolding record_on_literals
-behind_a_mark = refl
+after_a_mark = refl
 
-behind_a_guard_line : record_of (codes ")]}' and more" ++ 10 ∷ codes "{\"version\":3,\"sources\":[\"a.ts\"],\"mappings\":\"AAAA,CAAC\"}") None 1
+after_a_guard_line : record_of (codes ")]}' and more" ++ 10 ∷ codes "{\"version\":3,\"sources\":[\"a.ts\"],\"mappings\":\"AAAA,CAAC\"}") None 1
     ≡ Ok (record { parts = whole (codes "AAAA,CAAC"); sources = called (codes "a.ts") ∷ []; names = []; file = None })
 unfolding record_on_literals
-behind_a_guard_line = refl
+after_a_guard_line = refl
 
-behind_both : record_of (byte_order_mark ++ codes ")]}'" ++ 10 ∷ codes "{\"version\":3,\"sources\":[\"a.ts\"],\"mappings\":\"AAAA,CAAC\"}") None 1
+after_both : record_of (byte_order_mark ++ codes ")]}'" ++ 10 ∷ codes "{\"version\":3,\"sources\":[\"a.ts\"],\"mappings\":\"AAAA,CAAC\"}") None 1
     ≡ Ok (record { parts = whole (codes "AAAA,CAAC"); sources = called (codes "a.ts") ∷ []; names = []; file = None })
 unfolding record_on_literals
-behind_both = refl
+after_both = refl
 
--- a source at null has no name, and a content beyond the sources is passed over
+-- a source at null has no name, and a content beyond the sources is ignored
 all_fields : record_of (codes "{\"version\":3,\"file\":\"o.js\",\"sourceRoot\":\"src\",\"sources\":[\"a.ts\",null],\"names\":[\"f\"],\"sourcesContent\":[null,\"x\",\"y\"],\"ignoreList\":[1,1],\"mappings\":\"AAAAA\"}") None 1
     ≡ Ok (record { parts = whole (codes "AAAAA"); sources = called (codes "src/a.ts") ∷ record { name = None; content = Some (codes "x"); ignored = true } ∷ []; names = codes "f" ∷ []; file = Some (codes "o.js") })
 unfolding record_on_literals
@@ -158,7 +158,7 @@ bad_sections : refusals_of (codes "{\"version\":3,\"sections\":7}" ∷ codes "{\
 unfolding record_on_literals
 bad_sections = refl
 
--- no offset; no column; a line that is no whole number; one past the limit, behind an index map
+-- no offset; no column; a line that is no whole number; one past the limit, after an index map
 bad_offsets : refusals_of (codes "{\"version\":3,\"sections\":[{\"map\":{}}]}" ∷ codes "{\"version\":3,\"sections\":[{\"offset\":{\"line\":0},\"map\":{}}]}" ∷ codes "{\"version\":3,\"sections\":[{\"offset\":{\"line\":1.0,\"column\":0},\"map\":{}}]}" ∷ codes "{\"version\":3,\"sections\":[{\"offset\":{\"line\":0,\"column\":0},\"map\":{\"sections\":[]}},{\"offset\":{\"line\":2147483648,\"column\":0},\"map\":{}}]}" ∷ [])
     ≡ Some (refusals.SectionOffset 0) ∷ Some (refusals.SectionOffset 0) ∷ Some (refusals.SectionOffset 0) ∷ Some (refusals.SectionOffset 1) ∷ []
 unfolding record_on_literals

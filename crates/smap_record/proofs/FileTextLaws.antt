@@ -1,4 +1,4 @@
--- From the bytes of a file to its JSON text: what stands behind the first element that passes a test, and UTF-8.
+-- From the bytes of a file to its JSON text: what stands after the first element that passes a test, and UTF-8.
 use Rattle.std.proofs.Common.{◌≡◌, ℕ, ◌+◌, ◌-◌, List, [], length, drop, take, Bool, true, false, Some, None, cond, nat_lt, ltb-false, ⊎_elim, refl, sym, ap, ◌∙◌, arith}
 use Rattle.std.specs.List.{position, position_or_len, after_first}
 use Rattle.std.specs.Str.{IsUtf8, is_utf8}
@@ -18,13 +18,13 @@ none_chosen : (b : Bool) (i : ℕ) → cond b (Some i) None ≡ None → b ≡ f
 none_chosen true i h = absurd (cc)
 none_chosen false i h = refl
 
-pub behind_first : (p : ℕ → Bool) (xs : List ℕ) (e : ℕ) → position p xs ≡ Some e → take (length xs - (e + 1)) (drop (e + 1) xs) ≡ after_first p xs
-behind_first p xs e h =
+pub after_first_is : (p : ℕ → Bool) (xs : List ℕ) (e : ℕ) → position p xs ≡ Some e → take (length xs - (e + 1)) (drop (e + 1) xs) ≡ after_first p xs
+after_first_is p xs e h =
     let at = chosen (nat_lt (position_or_len p xs) (length xs)) (position_or_len p xs) e h in
     take_all (length xs - (e + 1)) (drop (e + 1) xs) (omega (arith, length-drop (e + 1) xs)) ∙ ap (λ i. drop (i + 1) xs) (sym at.1)
 
-pub nothing_behind : (p : ℕ → Bool) (xs : List ℕ) → position p xs ≡ None → [] ≡ after_first p xs
-nothing_behind p xs h = sym (drop_all (position_or_len p xs + 1) xs (omega (arith, ltb-false _ _ (none_chosen _ _ h))))
+pub nothing_after : (p : ℕ → Bool) (xs : List ℕ) → position p xs ≡ None → [] ≡ after_first p xs
+nothing_after p xs h = sym (drop_all (position_or_len p xs + 1) xs (omega (arith, ltb-false _ _ (none_chosen _ _ h))))
 
 -- ---- UTF-8
 

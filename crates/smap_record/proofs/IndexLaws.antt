@@ -13,7 +13,7 @@ use Rattle.smap_record.proofs.EntryLaws.{enumerate_push}
 use Rattle.smap_record.proofs.ValueLaws.{array_of}
 use Rattle.smap_record.proofs.WithinLaws.{both_false}
 
--- the indices of the ignored ones among these sources, which stand behind this many
+-- the indices of the ignored ones among these sources, which stand after this many
 abbrev pub indices_from : ℕ → List StatedSource → List ℕ
 indices_from n sources = map (λ at. at.0) (filter (λ at. is_ignored_source at.1) (enumerate_from n sources))
 
@@ -86,8 +86,8 @@ module _ (values : List Value) (sources : List SourceEntry) (i : ℕ) (source : 
       ∙ ap (λ (n : ℕ). ignored_indices before ++ (if source.ignored then n ∷ [] else [])) (length-map (take i sources) source_of ∙ length-take-le i sources (omega (arith, within)))
 
   -- one source more, which is not ignored
-  pub passed_over : source.ignored ≡ false → AreIndices values sources (i + 1)
-  passed_over not_ignored = are ∙ ap (map index_value) (sym (pushed ∙ ap with_last not_ignored ∙ append-nil (ignored_indices before)))
+  pub skipped : source.ignored ≡ false → AreIndices values sources (i + 1)
+  skipped not_ignored = are ∙ ap (map index_value) (sym (pushed ∙ ap with_last not_ignored ∙ append-nil (ignored_indices before)))
 
   -- one source more, which is ignored
   pub added : source.ignored ≡ true → (value : Value) → view value ≡ index_value i → AreIndices (values ++ value ∷ []) sources (i + 1)

@@ -4,7 +4,7 @@ use Rattle.std.specs.List.{sum_by}
 use Rattle.std.proofs.lemmas.List.{length-map}
 use Rattle.std.proofs.lemmas.List.Sums.{sum_by-cons}
 use Rattle.smap_index.specs.declared.part.Part.{Part}
-use Rattle.smap_record.specs.IndexMap.{SectionEntry, StatedSections, place_behind, sections_behind, source_count, with_section}
+use Rattle.smap_record.specs.IndexMap.{SectionEntry, StatedSections, place_after, sections_after, source_count, with_section}
 use Rattle.smap_record.specs.Refusals.{◌>>=◌}
 use Rattle.smap_record.specs.Section.{StatedSection, section_in}
 use Rattle.smap_record.specs.Seen.{sources_seen}
@@ -34,14 +34,14 @@ count_seen (section ∷ sections) =
     ∙ sym (sum_by-cons (λ (s : SectionSources). length s.texts.items) section sections)
 
 -- the next section is read at its place
-module _ (before : StatedSections) (entry : SectionEntry) (entries : List SectionEntry) (place : SectionPlace) (place_is : place ≡ place_behind before entry) where
-  pub next_section : sections_behind before (entry ∷ entries) ≡ (section_in place entry.fields >>= λ section. sections_behind (with_section before place section) entries)
-  unfolding sections_behind
-  next_section = ap (λ (p : SectionPlace). section_in p entry.fields >>= λ section. sections_behind (with_section before p section) entries) (sym place_is)
+module _ (before : StatedSections) (entry : SectionEntry) (entries : List SectionEntry) (place : SectionPlace) (place_is : place ≡ place_after before entry) where
+  pub next_section : sections_after before (entry ∷ entries) ≡ (section_in place entry.fields >>= λ section. sections_after (with_section before place section) entries)
+  unfolding sections_after
+  next_section = ap (λ (p : SectionPlace). section_in p entry.fields >>= λ section. sections_after (with_section before p section) entries) (sym place_is)
 
-  pub one_more : (section : StatedSection) → section_in place entry.fields ≡ Ok section → sections_behind before (entry ∷ entries) ≡ sections_behind (with_section before place section) entries
+  pub one_more : (section : StatedSection) → section_in place entry.fields ≡ Ok section → sections_after before (entry ∷ entries) ≡ sections_after (with_section before place section) entries
   one_more section read = next_section ∙ rw read refl
 
-pub no_more : (before : StatedSections) → sections_behind before [] ≡ Ok before
-unfolding sections_behind
+pub no_more : (before : StatedSections) → sections_after before [] ≡ Ok before
+unfolding sections_after
 no_more before = refl

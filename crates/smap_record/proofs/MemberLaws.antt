@@ -7,7 +7,7 @@ use Rattle.smap_record.specs.Written.{member_where}
 abbrev pub version_value : Data
 version_value = number (unsigned 3)
 
--- what stands behind `sources`
+-- what stands after `sources`
 abbrev pub tail : Option Data → Members
 tail contents = member_where (codes "sourcesContent") contents (member (codes "version") version_value no_members)
 

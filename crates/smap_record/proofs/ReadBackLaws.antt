@@ -17,9 +17,9 @@ use Rattle.smap_index.specs.Parts.{joined, whole_text}
 use Rattle.smap_record.specs.Fields.{Fields, section_fields_of}
 use Rattle.smap_record.specs.FileText.{json_text, read_utf8, value_of_file}
 use Rattle.smap_record.specs.Ignored.{ignored_flags}
-use Rattle.smap_record.specs.IndexMap.{SectionEntry, StatedSections, entries_in, no_sections, place_behind, regular_entry, sections_behind}
+use Rattle.smap_record.specs.IndexMap.{SectionEntry, StatedSections, entries_in, no_sections, place_after, regular_entry, sections_after}
 use Rattle.smap_record.specs.Json.{field}
-use Rattle.smap_record.specs.Limits.{most_entries, most_file_bytes}
+use Rattle.smap_record.specs.Limits.{most_listed, most_file_bytes}
 use Rattle.smap_record.specs.Outer.{StatedOuter, outer_in, version_in}
 use Rattle.smap_record.specs.ReadBack.{IsReadBackOf, IsRegularMap, ReadsBackAs}
 use Rattle.smap_record.specs.Record.{MapRecord, members_in}
@@ -54,8 +54,8 @@ value_there rest value utf8 is = ap read_utf8 (begins rest) ∙ value_of_utf8 (1
 pub members_there : (bytes : List ℕ) (ms : Members) → value_of_file bytes ≡ Some (object ms) → members_in bytes ≡ Ok ms
 members_there bytes ms is = ap (λ found. ok_or found refusals.NotJson >>= λ value. ok_or (as_object value) refusals.NotObject) is
 
-few_of : {A : Type 0} (entries : List A) → length entries ≤ most_entries → few 0 entries ≡ Some entries
-few_of entries small = cond-false (nat_lt most_entries (0 + length entries)) None (Some entries) (le-ltb most_entries (0 + length entries) (omega (arith, small)))
+few_of : {A : Type 0} (entries : List A) → length entries ≤ most_listed → few 0 entries ≡ Some entries
+few_of entries small = cond-false (nat_lt most_listed (0 + length entries)) None (Some entries) (le-ltb most_listed (0 + length entries) (omega (arith, small)))
 
 file_stated : (file : Option (List ℕ)) → text_in (option_map string file) ≡ Ok file
 file_stated None = refl
@@ -133,14 +133,14 @@ module _ (sources : List StatedSource) (names : List (List ℕ)) (file : Option 
       sections = record { parts = whole_text mappings ∷ []; sources = written_sources sources ∷ []; names = names }
 
       abbrev place : SectionPlace
-      place = place_behind no_sections (regular_entry fields)
+      place = place_after no_sections (regular_entry fields)
 
       section_read : section_in place fields ≡ Ok (record { sources = written_sources sources; names = names; text = mappings })
       unfolding section_in
       section_read = rw (sources_are, names_are, contents_are, ← many, ignored_are, text_is) refl
 
-      sections_read : sections_behind no_sections outer.entries ≡ Ok sections
-      unfolding sections_behind
+      sections_read : sections_after no_sections outer.entries ≡ Ok sections
+      unfolding sections_after
       sections_read = one_more no_sections (regular_entry fields) [] place refl _ section_read
 
       module _ (list_is : joined (whole_text mappings ∷ []) ≡ mappings_of mappings) (sound : part_fault (whole_text mappings ∷ []) ≡ None) where

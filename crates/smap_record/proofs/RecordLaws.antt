@@ -5,7 +5,7 @@ use Rattle.std.proofs.lemmas.Bool.{cond-false, le-ltb}
 use Rattle.serde_json.specs.Data.{Members, object}
 use Rattle.url.specs.Parts.{Parts}
 use Rattle.smap_index.specs.declared.part.Part.{Part}
-use Rattle.smap_record.specs.IndexMap.{StatedSections, no_sections, sections_behind}
+use Rattle.smap_record.specs.IndexMap.{StatedSections, no_sections, sections_after}
 use Rattle.smap_record.specs.Limits.{most_file_bytes}
 use Rattle.smap_record.specs.Outer.{StatedOuter, outer_in}
 use Rattle.smap_record.specs.Record.{indexed, members_in, record_in, record_of}
@@ -19,7 +19,7 @@ unless_is None value given is = cc
 unless_is (Some refusal) value given is = absurd (cc)
 
 pub stated : (bytes : List ℕ) (base : Option Parts) (k : ℕ) (ms : Members) (outer : StatedOuter) (sections : StatedSections) (parts : List Part) → length bytes ≤ most_file_bytes
-    → members_in bytes ≡ Ok ms → outer_in (object ms) ≡ Ok outer → sections_behind no_sections outer.entries ≡ Ok sections → indexed sections.parts k ≡ Ok parts
+    → members_in bytes ≡ Ok ms → outer_in (object ms) ≡ Ok outer → sections_after no_sections outer.entries ≡ Ok sections → indexed sections.parts k ≡ Ok parts
     → record_of bytes base k ≡ Ok (record { parts = parts; sources = flat_map (sources_stated base) sections.sources; names = sections.names; file = outer.file })
 unfolding record_of record_in
 stated bytes base k ms outer sections parts short members_read outer_read sections_read built =

@@ -18,7 +18,7 @@ either Less a b apart = refl
 either Equal a b apart = absurd (cc)
 either Greater a b apart = refl
 
--- another key is passed over
+-- another key is ignored
 passed : (key other : List ℕ) (value : Option Data) (others : Members) → is_eq (slice_cmp nat_cmp key other) ≡ false → get_member key (member_where other value others) ≡ get_member key others
 passed key other None others apart = refl
 passed key other (Some value) others apart = either (slice_cmp nat_cmp key other) (get_member key others) (Some value) apart
@@ -28,33 +28,33 @@ module _ (file ignored contents : Option Data) (mappings names sources : Data) w
   all = member_where (codes "file") file (member_where (codes "ignoreList") ignored (middle mappings names sources contents))
 
   -- a key that is neither `file` nor `ignoreList`
-  behind_two : (key : List ℕ) → is_eq (slice_cmp nat_cmp key (codes "file")) ≡ false → is_eq (slice_cmp nat_cmp key (codes "ignoreList")) ≡ false → get_member key all ≡ get_member key (middle mappings names sources contents)
-  behind_two key not_file not_ignored = passed key (codes "file") file (member_where (codes "ignoreList") ignored (middle mappings names sources contents)) not_file ∙ passed key (codes "ignoreList") ignored (middle mappings names sources contents) not_ignored
+  after_two : (key : List ℕ) → is_eq (slice_cmp nat_cmp key (codes "file")) ≡ false → is_eq (slice_cmp nat_cmp key (codes "ignoreList")) ≡ false → get_member key all ≡ get_member key (middle mappings names sources contents)
+  after_two key not_file not_ignored = passed key (codes "file") file (member_where (codes "ignoreList") ignored (middle mappings names sources contents)) not_file ∙ passed key (codes "ignoreList") ignored (middle mappings names sources contents) not_ignored
 
-  -- a key behind `sources` that is not `sourcesContent`
+  -- a key after `sources` that is not `sourcesContent`
   in_tail : (key : List ℕ) → is_eq (slice_cmp nat_cmp key (codes "sourcesContent")) ≡ false → get_member key (tail contents) ≡ get_member key (member (codes "version") version_value no_members)
   in_tail key apart = passed key (codes "sourcesContent") contents (member (codes "version") version_value no_members) apart
 
   pub at_version : get_member (codes "version") all ≡ Some version_value
-  at_version = behind_two (codes "version") refl refl ∙ in_tail (codes "version") refl
+  at_version = after_two (codes "version") refl refl ∙ in_tail (codes "version") refl
 
   pub at_sections : get_member (codes "sections") all ≡ None
-  at_sections = behind_two (codes "sections") refl refl ∙ in_tail (codes "sections") refl
+  at_sections = after_two (codes "sections") refl refl ∙ in_tail (codes "sections") refl
 
   pub at_root : get_member (codes "sourceRoot") all ≡ None
-  at_root = behind_two (codes "sourceRoot") refl refl ∙ in_tail (codes "sourceRoot") refl
+  at_root = after_two (codes "sourceRoot") refl refl ∙ in_tail (codes "sourceRoot") refl
 
   pub at_older_ignored : get_member (codes "x_google_ignoreList") all ≡ None
-  at_older_ignored = behind_two (codes "x_google_ignoreList") refl refl ∙ in_tail (codes "x_google_ignoreList") refl
+  at_older_ignored = after_two (codes "x_google_ignoreList") refl refl ∙ in_tail (codes "x_google_ignoreList") refl
 
   pub at_mappings : get_member (codes "mappings") all ≡ Some mappings
-  at_mappings = behind_two (codes "mappings") refl refl ∙ ap (λ found. match_ordering Equal found (Some mappings) found) (in_tail (codes "mappings") refl)
+  at_mappings = after_two (codes "mappings") refl refl ∙ ap (λ found. match_ordering Equal found (Some mappings) found) (in_tail (codes "mappings") refl)
 
   pub at_names : get_member (codes "names") all ≡ Some names
-  at_names = behind_two (codes "names") refl refl ∙ ap (λ found. match_ordering Equal found (Some names) found) (in_tail (codes "names") refl)
+  at_names = after_two (codes "names") refl refl ∙ ap (λ found. match_ordering Equal found (Some names) found) (in_tail (codes "names") refl)
 
   pub at_sources : get_member (codes "sources") all ≡ Some sources
-  at_sources = behind_two (codes "sources") refl refl ∙ ap (λ found. match_ordering Equal found (Some sources) found) (in_tail (codes "sources") refl)
+  at_sources = after_two (codes "sources") refl refl ∙ ap (λ found. match_ordering Equal found (Some sources) found) (in_tail (codes "sources") refl)
 
 contents_there : (contents : Option Data) → get_member (codes "sourcesContent") (tail contents) ≡ contents
 contents_there None = refl
@@ -74,7 +74,7 @@ file_there (Some file) ignored contents mappings names sources = refl
 
 module _ (file ignored contents : Option Data) (mappings names sources : Data) where
   pub at_contents : get_member (codes "sourcesContent") (all file ignored contents mappings names sources) ≡ contents
-  at_contents = behind_two file ignored contents mappings names sources (codes "sourcesContent") refl refl ∙ contents_there contents
+  at_contents = after_two file ignored contents mappings names sources (codes "sourcesContent") refl refl ∙ contents_there contents
 
   pub at_ignored : get_member (codes "ignoreList") (all file ignored contents mappings names sources) ≡ ignored
   at_ignored = passed (codes "ignoreList") (codes "file") file (member_where (codes "ignoreList") ignored (middle mappings names sources contents)) refl ∙ ignored_there ignored contents mappings names sources

@@ -27,16 +27,16 @@ indices_below limit n (source ∷ sources) few =
 abbrev is_in : ℕ → List ℕ → Bool
 is_in i indices = list_any (λ index. index == i) indices
 
-behind_first : (n i : ℕ) (sources : List StatedSource) (ignored : Bool) → (n == i) ≡ false → is_in i (found_first n sources ignored) ≡ is_in i (indices_from (n + 1) sources)
-behind_first n i sources true apart = ap (λ b. b || is_in i (indices_from (n + 1) sources)) apart
-behind_first n i sources false apart = refl
+past_first : (n i : ℕ) (sources : List StatedSource) (ignored : Bool) → (n == i) ≡ false → is_in i (found_first n sources ignored) ≡ is_in i (indices_from (n + 1) sources)
+past_first n i sources true apart = ap (λ b. b || is_in i (indices_from (n + 1) sources)) apart
+past_first n i sources false apart = refl
 
 -- an index before the first is not among them
 not_before : (n i : ℕ) (sources : List StatedSource) → i < n → is_in i (indices_from n sources) ≡ false
 not_before n i [] before = refl
 not_before n i (source ∷ sources) before =
     ap (is_in i) (first_index n source sources (is_ignored_source source) refl)
-    ∙ behind_first n i sources (is_ignored_source source) (ne_eqb n i (λ same. absurd (omega (arith, same))))
+    ∙ past_first n i sources (is_ignored_source source) (ne_eqb n i (λ same. absurd (omega (arith, same))))
     ∙ not_before (n + 1) i sources (omega arith)
 
 first_flag : (n : ℕ) (sources : List StatedSource) (ignored : Bool) → (n == n) ≡ true → is_in n (found_first n sources ignored) ≡ ignored
@@ -53,7 +53,7 @@ flag_of n zero (source ∷ sources) within =
 flag_of n (suc j) (source ∷ sources) within =
     flag_of (n + 1) j sources (omega arith)
     ∙ sym (ap (is_in (n + suc j)) (first_index n source sources (is_ignored_source source) refl)
-    ∙ behind_first n (n + suc j) sources (is_ignored_source source) (ne_eqb n (n + suc j) (λ same. absurd (omega (arith, same))))
+    ∙ past_first n (n + suc j) sources (is_ignored_source source) (ne_eqb n (n + suc j) (λ same. absurd (omega (arith, same))))
     ∙ ap (λ (i : ℕ). is_in i (indices_from (n + 1) sources)) (omega arith))
 
 at_zero : (sources : List StatedSource) (j : ℕ) → j < length sources → get_or (map is_ignored_source sources) j false ≡ is_ignored (ignored_indices sources) j
@@ -65,22 +65,22 @@ flags_are sources = sym (fill_by_all (is_ignored (ignored_indices sources)) (map
 
 -- ---- by place
 
-get_here : {A : Type 0} (before : List A) (x : A) (behind : List A) → slice_get (before ++ x ∷ behind) (length before) ≡ Some x
-get_here [] x behind = refl
-get_here (y ∷ before) x behind = get_here before x behind
+get_here : {A : Type 0} (before : List A) (x : A) (after : List A) → slice_get (before ++ x ∷ after) (length before) ≡ Some x
+get_here [] x after = refl
+get_here (y ∷ before) x after = get_here before x after
 
 module _ {A B T : Type 0} (out : Option A → B) where
-  from_place : (before behind : List A) (texts : List T) → length texts ≡ length behind
-      → map (λ (at : ℕ × T). out (slice_get (before ++ behind) at.0)) (enumerate_from (length before) texts) ≡ map (λ x. out (Some x)) behind
+  from_place : (before after : List A) (texts : List T) → length texts ≡ length after
+      → map (λ (at : ℕ × T). out (slice_get (before ++ after) at.0)) (enumerate_from (length before) texts) ≡ map (λ x. out (Some x)) after
   from_place before [] [] many = refl
   from_place before [] (text ∷ texts) many = absurd (omega (arith, many))
-  from_place before (x ∷ behind) [] many = absurd (omega (arith, many))
-  from_place before (x ∷ behind) (text ∷ texts) many =
-      ap (λ found. out found ∷ map (λ (at : ℕ × T). out (slice_get (before ++ x ∷ behind) at.0)) (enumerate_from (length before + 1) texts)) (get_here before x behind)
+  from_place before (x ∷ after) [] many = absurd (omega (arith, many))
+  from_place before (x ∷ after) (text ∷ texts) many =
+      ap (λ found. out found ∷ map (λ (at : ℕ × T). out (slice_get (before ++ x ∷ after) at.0)) (enumerate_from (length before + 1) texts)) (get_here before x after)
       ∙ ap (λ others. out (Some x) ∷ others)
-      (ap (λ all. map (λ (at : ℕ × T). out (slice_get all at.0)) (enumerate_from (length before + 1) texts)) (sym (append_assoc before (x ∷ []) behind))
-      ∙ ap (λ (n : ℕ). map (λ (at : ℕ × T). out (slice_get ((before ++ x ∷ []) ++ behind) at.0)) (enumerate_from n texts)) (sym (length_push before x))
-      ∙ from_place (before ++ x ∷ []) behind texts (omega (arith, many)))
+      (ap (λ all. map (λ (at : ℕ × T). out (slice_get all at.0)) (enumerate_from (length before + 1) texts)) (sym (append_assoc before (x ∷ []) after))
+      ∙ ap (λ (n : ℕ). map (λ (at : ℕ × T). out (slice_get ((before ++ x ∷ []) ++ after) at.0)) (enumerate_from n texts)) (sym (length_push before x))
+      ∙ from_place (before ++ x ∷ []) after texts (omega (arith, many)))
 
   -- what stands at each place of a list that is as long
   pub by_place : (list : List A) (texts : List T) → length texts ≡ length list → map (λ (at : ℕ × T). out (slice_get list at.0)) (enumerate_from 0 texts) ≡ map (λ x. out (Some x)) list

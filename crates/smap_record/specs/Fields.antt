@@ -1,4 +1,4 @@
--- The fields of a section's map that are read (ECMA-426, Source map format). Other keys are passed over.
+-- The fields of a section's map that are read (ECMA-426, Source map format). Other keys are ignored.
 use Rattle.std.specs.Prelude.{Option, codes}
 use Rattle.std.specs.Option.{option_or}
 use Rattle.serde_json.specs.Data.{Data}

@@ -17,7 +17,7 @@ guard = codes ")]}'"
 abbrev pub without_mark : List ℕ → List ℕ
 without_mark bytes = if starts_with nat_eq bytes byte_order_mark then drop (length byte_order_mark) bytes else bytes
 
--- what stands behind the guard line, where there is one; nothing, which is no JSON, where no LF ends it
+-- what stands after the guard line, where there is one; nothing, which is no JSON, where no LF ends it
 abbrev pub without_guard_line : List ℕ → List ℕ
 without_guard_line bytes = if starts_with nat_eq bytes guard then after_first (λ byte. byte == 10) bytes else bytes
 

@@ -1,4 +1,4 @@
--- Which sources a map says to pass over (ECMA-426, Source map format, `ignoreList`).
+-- Which sources a map says to ignore (ECMA-426, Source map format, `ignoreList`).
 use Rattle.std.specs.Prelude.{ℕ, List, Bool, ◌==◌, map}
 use Rattle.std.specs.List.{list_any, range_with_len}
 

@@ -103,9 +103,9 @@ no_sections = record { parts = []; sources = []; names = [] }
 abbrev pub source_count : List StatedSources → ℕ
 source_count sections = sum_by (λ sources. length sources.texts) sections
 
--- the place of an entry behind these sections
-abbrev pub place_behind : StatedSections → SectionEntry → SectionPlace
-place_behind before entry = record {
+-- the place of an entry after these sections
+abbrev pub place_after : StatedSections → SectionEntry → SectionPlace
+place_after before entry = record {
   number = length before.parts;
   line = (unwrap_or entry.offset start).line;
   column = (unwrap_or entry.offset start).column;
@@ -113,7 +113,7 @@ place_behind before entry = record {
   name_base = length before.names;
 }
 
--- these sections, and one at this place behind them
+-- these sections, and one at this place after them
 abbrev pub with_section : StatedSections → SectionPlace → StatedSection → StatedSections
 with_section before place section = record {
   parts = before.parts ++ part_at place section.text ∷ [];
@@ -122,8 +122,8 @@ with_section before place section = record {
 }
 
 -- these sections, and those that entries are, one after another
-unfoldable pub sections_behind : StatedSections → List SectionEntry → Result StatedSections MapRefusal
-sections_behind before [] = Ok before
-sections_behind before (entry ∷ entries) = do
-  section ← section_in (place_behind before entry) entry.fields
-  sections_behind (with_section before (place_behind before entry) section) entries
+unfoldable pub sections_after : StatedSections → List SectionEntry → Result StatedSections MapRefusal
+sections_after before [] = Ok before
+sections_after before (entry ∷ entries) = do
+  section ← section_in (place_after before entry) entry.fields
+  sections_after (with_section before (place_after before entry) section) entries

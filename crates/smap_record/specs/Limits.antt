@@ -7,5 +7,5 @@ abbrev pub most_file_bytes : ℕ
 most_file_bytes = most_text_bytes
 
 -- how many sources a map lists at most, and how many names
-abbrev pub most_entries : ℕ
-most_entries = 33554432
+abbrev pub most_listed : ℕ
+most_listed = 33554432

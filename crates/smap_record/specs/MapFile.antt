@@ -7,7 +7,7 @@ use Rattle.smap_index.specs.Parts.{joined}
 use Rattle.smap_index.specs.declared.answer.Answer.{Answer}
 use Rattle.smap_index.specs.declared.answer.Answer.TheVariants.{Nothing, Unmapped, Found}
 use Rattle.smap_index.specs.declared.part.Part.{Part}
-use Rattle.smap_record.specs.Limits.{most_entries}
+use Rattle.smap_record.specs.Limits.{most_listed}
 use Rattle.smap_record.specs.Record.{MapRecord}
 use Rattle.smap_record.specs.Sources.{source_of}
 use Rattle.smap_record.specs.declared.map_file.MapFile.TheInside.{Inside}
@@ -29,7 +29,7 @@ map_seen inside = record {
   k = inside.index.k;
 }
 
--- the mappings of a part's text name some of the sources and names behind its bases, and of those there are this many
+-- the mappings of a part's text name some of the sources and names after its bases, and of those there are this many
 pub record IsPartWithin (sources names : ℕ) (part : Part) : Type 0 where
   pub own_sources : ℕ
   pub own_names : ℕ
@@ -41,8 +41,8 @@ pub record IsPartWithin (sources names : ℕ) (part : Part) : Type 0 where
 -- the limit and to its sources and names
 pub record IsCounted (inside : Inside) : Type 0 where
   pub sections : inside.sections ≡ length inside.index.parts
-  pub few_sources : length inside.sources.items ≤ most_entries
-  pub few_names : length inside.names.items ≤ most_entries
+  pub few_sources : length inside.sources.items ≤ most_listed
+  pub few_names : length inside.names.items ≤ most_listed
   pub within : All (IsWithin (length inside.sources.items) (length inside.names.items)) (joined inside.index.parts)
 
 -- the origin that an answer gives, where it gives one, names one of these many sources and names

@@ -5,15 +5,15 @@ use Rattle.smap_mappings.specs.Limits.{most_text_bytes}
 use Rattle.smap_mappings.specs.declared.mapping.Mapping.{Mapping}
 use Rattle.smap_index.specs.Faults.{build_fault}
 use Rattle.smap_index.specs.Parts.{joined}
-use Rattle.smap_record.specs.Limits.{most_entries}
+use Rattle.smap_record.specs.Limits.{most_listed}
 use Rattle.smap_record.specs.Record.{MapRecord, record_of}
 use Rattle.smap_record.specs.Sources.{StatedSource}
 use Rattle.smap_record.specs.Written.{content_of_source, is_ignored_source}
 
 -- a regular map may have this many sources, this many names and this text
 pub record IsRegularMap (sources names : ℕ) (text : List ℕ) : Type 0 where
-  pub few_sources : sources ≤ most_entries
-  pub few_names : names ≤ most_entries
+  pub few_sources : sources ≤ most_listed
+  pub few_names : names ≤ most_listed
   pub short : length text ≤ most_text_bytes
   pub accepted : IsAccepted text sources names
 

@@ -11,7 +11,7 @@ use Rattle.smap_index.specs.Parts.{joined}
 use Rattle.smap_index.specs.declared.answer.Answer.{Answer}
 use Rattle.smap_index.specs.declared.part.Part.{Part}
 use Rattle.smap_record.specs.FileText.{value_of_file}
-use Rattle.smap_record.specs.IndexMap.{no_sections, sections_behind}
+use Rattle.smap_record.specs.IndexMap.{no_sections, sections_after}
 use Rattle.smap_record.specs.Limits.{most_file_bytes}
 use Rattle.smap_record.specs.Outer.{outer_in}
 use Rattle.smap_record.specs.Refusals.{◌>>=◌, unless}
@@ -40,7 +40,7 @@ indexed parts k = unless (option_map Build (build_fault parts k)) parts
 unfoldable pub record_in : Members → Option Parts → ℕ → Result MapRecord MapRefusal
 record_in members base k = do
   outer ← outer_in (object members)
-  sections ← sections_behind no_sections outer.entries
+  sections ← sections_after no_sections outer.entries
   parts ← indexed sections.parts k
   Ok (record {
     parts = parts;

@@ -9,7 +9,7 @@ use Rattle.smap_index.specs.declared.part.Part.{Part}
 use Rattle.smap_record.specs.Fields.{Fields}
 use Rattle.smap_record.specs.Ignored.{ignored_flags}
 use Rattle.smap_record.specs.Json.{or_absent, number_below, text_or_null, list_of}
-use Rattle.smap_record.specs.Limits.{most_entries}
+use Rattle.smap_record.specs.Limits.{most_listed}
 use Rattle.smap_record.specs.Refusals.{◌>>=◌, unless}
 use Rattle.smap_record.specs.Sources.{StatedSources}
 use Rattle.smap_record.specs.declared.refusal.MapRefusal.{MapRefusal}
@@ -20,7 +20,7 @@ use Rattle.smap_record.specs.declared.section.SectionPlace.{SectionPlace}
 
 -- a list with which there are no more entries than a map may list, where this many stand before it
 abbrev pub few : {A : Type 0} → ℕ → List A → Option (List A)
-few before entries = if nat_lt most_entries (before + length entries) then None else Some entries
+few before entries = if nat_lt most_listed (before + length entries) then None else Some entries
 
 -- the sources, each a text or none
 abbrev pub sources_in : ℕ → Option Data → Result (List (Option (List ℕ))) MapRefusal

@@ -6,7 +6,7 @@ use Rattle.url.specs.Parts.{Parts}
 use Rattle.smap_resolve.specs.SourceName.{Name, name_of, source_name}
 use Rattle.smap_record.specs.declared.entry.SourceEntry.{SourceEntry}
 
--- what a map states of a source: its name, its content, and whether it is to be passed over
+-- what a map states of a source: its name, its content, and whether it is to be ignored
 pub record StatedSource : Type 0 where
   pub name : Option Name
   pub content : Option (List ℕ)
@@ -17,7 +17,7 @@ abbrev pub source_of : SourceEntry → StatedSource
 source_of entry = record { name = option_map name_of entry.name; content = option_map string_bytes entry.content; ignored = entry.ignored }
 
 -- what a section states of its sources: the `sourceRoot` of all, and by place the text of each, its content, and whether
--- it is to be passed over
+-- it is to be ignored
 pub record StatedSources : Type 0 where
   pub root : Option (List ℕ)
   pub texts : List (Option (List ℕ))

@@ -8,6 +8,6 @@ pub struct SourceEntry {
     pub name: Option<SourceName>,
     /// Its text, where the map holds it.
     pub content: Option<String>,
-    /// Whether the map says that a debugger should pass over it.
+    /// Whether the map says that a debugger should ignore it.
     pub ignored: bool,
 }

@@ -32,14 +32,14 @@ fn file_value(alloc: Global, bytes: &[u8]) -> Result<Value, MapRefusal>
     }
 }
 
-// What stands behind a byte order mark and a guard line.
+// What stands after a byte order mark and a guard line.
 fn json_text(bytes: &[u8]) -> &[u8]
     ensures { result.now ≡ json_text bytes.now }
 {
     without_guard_line(without_mark(bytes))
 }
 
-// The bytes behind a byte order mark, where one stands there.
+// The bytes after a byte order mark, where one stands there.
 fn without_mark(bytes: &[u8]) -> &[u8]
     ensures { result.now ≡ without_mark bytes.now }
 {
@@ -50,7 +50,7 @@ fn without_mark(bytes: &[u8]) -> &[u8]
     }
 }
 
-// The bytes behind a guard line, where one stands there.
+// The bytes after a guard line, where one stands there.
 fn without_guard_line(bytes: &[u8]) -> &[u8]
     ensures { result.now ≡ without_guard_line bytes.now }
 {

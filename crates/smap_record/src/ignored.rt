@@ -1,4 +1,4 @@
-//! Which sources a map says to pass over.
+//! Which sources a map says to ignore.
 ghost use Rattle.std.specs.Prelude.{◌≡◌, [], option_map, IfOk};
 ghost use Rattle.serde_json.specs.View.{view};
 ghost use Rattle.smap_record.specs.Ignored.{ignored_flags};
@@ -31,7 +31,7 @@ pub fn ignored_flags(
     Ok(Some(flags))
 }
 
-/// The flags of this many sources, none of which is to be passed over.
+/// The flags of this many sources, none of which is to be ignored.
 pub fn none_ignored(alloc: Global, sources: usize) -> Result<Vec<bool>, AllocError>
     ensures { IfOk result (λ flags. flags.items ≡ ignored_flags sources []) }
 {

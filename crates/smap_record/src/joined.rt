@@ -2,8 +2,8 @@
 ghost use Rattle.std.specs.Prelude.{◌≡◌, ◌≤◌, ◌++◌, ◌∷◌, [], length, IfOk, OnOk};
 ghost use Rattle.std.specs.List.{All, sum_by};
 ghost use Rattle.smap_index.specs.Parts.{most_parts};
-ghost use Rattle.smap_record.specs.IndexMap.{no_sections, sections_behind};
-ghost use Rattle.smap_record.specs.Limits.{most_entries};
+ghost use Rattle.smap_record.specs.IndexMap.{no_sections, sections_after};
+ghost use Rattle.smap_record.specs.Limits.{most_listed};
 ghost use Rattle.smap_record.specs.MapFile.{IsPartWithin};
 ghost use Rattle.smap_record.specs.Refusals.{Gives};
 ghost use Rattle.smap_record.specs.Section.{part_at};
@@ -30,11 +30,11 @@ pub fn read_sections(
     entries: Vec<SectionEntry>,
 ) -> Result<JoinedSections, MapRefusal>
     requires { length entries.items ≤ most_parts }
-    ensures statement { Gives sections_seen result (sections_behind no_sections (entries_seen entries.items)) }
+    ensures statement { Gives sections_seen result (sections_after no_sections (entries_seen entries.items)) }
     ensures count { IfOk result (λ joined. length joined.parts.items ≡ length entries.items) }
     ensures few_sources { IfOk result
-        (λ joined. sum_by (λ sources. length sources.texts.items) joined.sources.items ≤ most_entries) }
-    ensures few_names { IfOk result (λ joined. length joined.names.items ≤ most_entries) }
+        (λ joined. sum_by (λ sources. length sources.texts.items) joined.sources.items ≤ most_listed) }
+    ensures few_names { IfOk result (λ joined. length joined.names.items ≤ most_listed) }
     ensures within { IfOk result (λ joined. All
         (IsPartWithin (sum_by (λ sources. length sources.texts.items) joined.sources.items) (length joined.names.items))
         joined.parts.items) }
@@ -71,7 +71,7 @@ fn no_sections(alloc: Global, room: usize) -> Result<JoinedSections, AllocError>
 }
 
 impl JoinedSections {
-    // Puts the section at this place behind the others.
+    // Puts the section at this place after the others.
     fn push(&mut self, place: SectionPlace, section: SectionMap) -> Result<(), AllocError>
         ensures parts { OnOk result (self.new.parts.items
             ≡ self.old.parts.items ++ part_at place section.text ∷ []) }

@@ -19,7 +19,7 @@ pub enum MapRefusal {
     /// M1: it has more than 67,108,864 bytes.
     #[error("the file is too large")]
     TooLarge,
-    /// M2: what stands behind a byte order mark and a guard line is no JSON text, or one that `serde_json` doesn't
+    /// M2: what stands after a byte order mark and a guard line is no JSON text, or one that `serde_json` doesn't
     /// read: nested more than 127 deep, or with a number past those that a float can hold.
     #[error("the file is no JSON")]
     NotJson,

@@ -4,12 +4,12 @@ ghost use Rattle.std.specs.List.{All};
 ghost use Rattle.serde_json.specs.View.{view};
 ghost use Rattle.smap_mappings.specs.Mappings.{mappings_of};
 ghost use Rattle.smap_mappings.specs.Within.{IsWithin};
-ghost use Rattle.smap_record.specs.Limits.{most_entries};
+ghost use Rattle.smap_record.specs.Limits.{most_listed};
 ghost use Rattle.smap_record.specs.Refusals.{Gives};
 ghost use Rattle.smap_record.specs.Section.{contents_in, ignored_in, mappings_in, names_in, section_in, sources_in};
 ghost use Rattle.smap_record.specs.Seen.{fields_seen, section_seen, texts_seen};
 
-use crate::MOST_ENTRIES;
+use crate::MOST_LISTED;
 use crate::fields::{read_text, take_fields};
 use crate::ignored::{ignored_flags, none_ignored};
 use crate::json::{nullable_texts, texts};
@@ -29,7 +29,7 @@ pub struct SectionPlace {
 }
 
 /// What a section states of its sources: the `sourceRoot` of all, and by place the text of each, its content, and
-/// whether it is to be passed over.
+/// whether it is to be ignored.
 #[derive(Drop)]
 pub struct SectionSources {
     pub root: Option<String>,
@@ -53,13 +53,13 @@ pub fn read_section(
     place: SectionPlace,
     members: Map<String, Value>,
 ) -> Result<SectionMap, MapRefusal>
-    requires sources_before { place.source_base ≤ most_entries }
-    requires names_before { place.name_base ≤ most_entries }
+    requires sources_before { place.source_base ≤ most_listed }
+    requires names_before { place.name_base ≤ most_listed }
     ensures statement { Gives section_seen result (section_in place (fields_seen members.entries)) }
     ensures few_sources { IfOk result
-        (λ section. place.source_base + length section.sources.texts.items ≤ most_entries) }
+        (λ section. place.source_base + length section.sources.texts.items ≤ most_listed) }
     ensures few_names { IfOk result
-        (λ section. place.name_base + length section.names.items ≤ most_entries) }
+        (λ section. place.name_base + length section.names.items ≤ most_listed) }
     ensures within { IfOk result
         (λ section. All (IsWithin (length section.sources.texts.items) (length section.names.items)) (mappings_of section.text)) }
 {
@@ -93,30 +93,30 @@ fn read_sources(
     before: u32,
     field: Option<Value>,
 ) -> Result<Vec<Option<String>>, MapRefusal>
-    requires { before ≤ most_entries }
+    requires { before ≤ most_listed }
     ensures statement { Gives (λ texts. texts_seen texts.items) result (sources_in before (option_map view field)) }
-    ensures few { IfOk result (λ texts. before + length texts.items ≤ most_entries) }
+    ensures few { IfOk result (λ texts. before + length texts.items ≤ most_listed) }
 {
     let Some(value) = field else {
         return Err(MapRefusal::Sources);
     };
     match nullable_texts(alloc, value)? {
-        Some(texts) if texts.len() <= MOST_ENTRIES - before as usize => Ok(texts),
+        Some(texts) if texts.len() <= MOST_LISTED - before as usize => Ok(texts),
         _ => Err(MapRefusal::Sources),
     }
 }
 
 // The names, where this many stand before them.
 fn read_names(alloc: Global, before: u32, field: Option<Value>) -> Result<Vec<String>, MapRefusal>
-    requires { before ≤ most_entries }
+    requires { before ≤ most_listed }
     ensures statement { Gives (λ names. map string_bytes names.items) result (names_in before (option_map view field)) }
-    ensures few { IfOk result (λ names. before + length names.items ≤ most_entries) }
+    ensures few { IfOk result (λ names. before + length names.items ≤ most_listed) }
 {
     let Some(value) = field else {
         return Ok(Vec::new(alloc));
     };
     match texts(alloc, value)? {
-        Some(names) if names.len() <= MOST_ENTRIES - before as usize => Ok(names),
+        Some(names) if names.len() <= MOST_LISTED - before as usize => Ok(names),
         _ => Err(MapRefusal::Names),
     }
 }
@@ -134,7 +134,7 @@ fn read_contents(alloc: Global, field: Option<Value>) -> Result<Vec<Option<Strin
     }
 }
 
-// Which of the sources are to be passed over.
+// Which of the sources are to be ignored.
 fn read_ignored(
     alloc: Global,
     field: Option<Value>,

@@ -7,8 +7,8 @@ use Rattle.smap_resolve.specs.declared.refusal.ResolveRefusal.{ResolveRefusal}
 use Rattle.smap_resolve.specs.declared.refusal.ResolveRefusal.TheVariants.{UrlTooLong, Memory}
 
 -- its URL, or none where it does not parse; where there was no room for the URL, nothing is told
-abbrev pub url_in : Parsed Parts → Result (Option Parts) ResolveRefusal
-url_in (Ok url) = Ok (Some url)
-url_in (Err Overflow) = Err UrlTooLong
-url_in (Err OutOfMemory) = Err Memory
-url_in (Err _) = Ok None
+abbrev pub parsed_url : Parsed Parts → Result (Option Parts) ResolveRefusal
+parsed_url (Ok url) = Ok (Some url)
+parsed_url (Err Overflow) = Err UrlTooLong
+parsed_url (Err OutOfMemory) = Err Memory
+parsed_url (Err _) = Ok None

@@ -3,7 +3,7 @@ ghost use Rattle.std.specs.Prelude.{◌≡◌, ◌++◌, option_copied, IfOk};
 ghost use Rattle.std.specs.Cow.{cow_str_bytes};
 ghost use Rattle.std.specs.Result.{result_ok};
 ghost use Rattle.url.specs.Parser.{parse_url};
-ghost use Rattle.smap_resolve.specs.ParseAnswer.{url_in};
+ghost use Rattle.smap_resolve.specs.ParseAnswer.{parsed_url};
 ghost use Rattle.smap_resolve.specs.SourceName.{name_of, root_prefix, source_name};
 
 use crate::refusal::ResolveRefusal;
@@ -16,7 +16,7 @@ use url::{ParseError, ParseResult, Url};
 /// sources): the URL that the URL Standard's parser (4.4, URL parsing) gives for the prefix, the text and the base.
 ///
 /// Own: the prefix is empty where the root is absent or empty, the root where it ends in `/`, and else the root and
-/// `/`; a text that does not parse is kept, behind its prefix. A URL that `url` has no room for is refused and not kept.
+/// `/`; a text that does not parse is kept, after its prefix. A URL that `url` has no room for is refused and not kept.
 #[tactic(auto, unfolding(crate::specs::SourceName::source_name))]
 pub fn resolve(
     alloc: Global,
@@ -34,7 +34,7 @@ pub fn resolve(
     }
 }
 
-// The text behind the prefix that the root makes. Where there is no prefix, it is not copied.
+// The text after the prefix that the root makes. Where there is no prefix, it is not copied.
 fn prefixed<'a>(
     alloc: Global,
     root: Option<&str>,
@@ -68,7 +68,7 @@ fn parse(alloc: Global, text: &str, base: Option<&Url>) -> Result<Option<Url>, R
 
 // That there was no room for a URL does not say that the text has none.
 fn url_or_none(parsed: ParseResult<Url>) -> Result<Option<Url>, ResolveRefusal>
-    ensures { result ≡ url_in parsed }
+    ensures { result ≡ parsed_url parsed }
 {
     match parsed {
         Ok(url) => Ok(Some(url)),

@@ -49,9 +49,9 @@ four_units_before_a_pair : units_before face_bytes 4 ≡ 4
 unfolding units_before chars
 four_units_before_a_pair = refl
 
-six_behind_it : units_before face_bytes 8 ≡ 6
+six_after_it : units_before face_bytes 8 ≡ 6
 unfolding units_before chars
-six_behind_it = refl
+six_after_it = refl
 
 seven_in_all : units_in face_bytes ≡ 7
 unfolding units_in units_before chars

@@ -50,21 +50,21 @@ ends_in_last_cr : FirstLine (0x0D ∷ [])
 unfolding lines_of encode line_bytes
 ends_in_last_cr = ended [] (0x0D ∷ []) [] refl refl refl refl (omega arith)
 
--- the byte behind a CR is an LF only where the character is
+-- the byte after a CR is an LF only where the character is
 no_line_feed : (d : ℕ) (ds : List ℕ) → eqb d 0x0A ≡ false → eqb (get_or (encode d ++ encodes ds) 0 0) 0x0A ≡ false
 no_line_feed d ds other = ne_eqb (get_or (encode d ++ encodes ds) 0 0) 0x0A (λ e.
     let some : 0 < length (encode d ++ encodes ds) = omega (arith, length-append (encode d) (encodes ds), length-encode d, (len_utf8_bounds d).0) in
     eqb-false d 0x0A other (char_from_byte (encode d ++ encodes ds) (encodes ds) d refl (omega arith) some ∙ e))
 
-lines_behind_cr : (b : Bool) (lines : List (List ℕ)) → b ≡ false → lines_from 0x0D b lines ≡ [] ∷ lines
-lines_behind_cr true lines never = cc
-lines_behind_cr false lines _ = refl
+lines_after_cr : (b : Bool) (lines : List (List ℕ)) → b ≡ false → lines_from 0x0D b lines ≡ [] ∷ lines
+lines_after_cr true lines never = cc
+lines_after_cr false lines _ = refl
 
 ends_in_cr : (d : ℕ) (ds : List ℕ) → eqb d 0x0A ≡ false → FirstLine (0x0D ∷ d ∷ ds)
 unfolding lines_of encode
 ends_in_cr d ds other =
     let end : end_bytes (0x0D ∷ (encode d ++ encodes ds)) ≡ 1 = cr_ends (encode d ++ encodes ds) (no_line_feed d ds other) in
-    ended [] (0x0D ∷ []) (d ∷ ds) refl (lines_behind_cr (eqb d 0x0A) (lines_of (d ∷ ds)) other)
+    ended [] (0x0D ∷ []) (d ∷ ds) refl (lines_after_cr (eqb d 0x0A) (lines_of (d ∷ ds)) other)
     (byte_ends 0x0D (encode d ++ encodes ds) (omega arith)) end (omega arith)
 
 ends_in_any_cr : (cs : List ℕ) → FirstLine (0x0D ∷ cs)
@@ -104,7 +104,7 @@ pub record FirstBytes (text : List ℕ) (line end : ℕ) : Type 0 where
   pub boundary : IsCharBoundary text line
   pub first : slice_get (lines_of (chars text)) 0 ≡ Some (chars (take line text))
   pub last : end ≡ 0 → drop 1 (lines_of (chars text)) ≡ []
-  pub behind : 0 < end → IsCharBoundary text (line + end) × (drop 1 (lines_of (chars text)) ≡ lines_of (chars (drop (line + end) text)))
+  pub after : 0 < end → IsCharBoundary text (line + end) × (drop 1 (lines_of (chars text)) ≡ lines_of (chars (drop (line + end) text)))
 
 last_bytes : (cs : List ℕ) → scalars cs ≡ true → lines_of cs ≡ cs ∷ [] → FirstBytes (encodes cs) (length (encodes cs)) 0
 last_bytes cs is lines =
@@ -114,7 +114,7 @@ last_bytes cs is lines =
       boundary = IsCharBoundary-end (encodes cs);
       first = ap (λ l. slice_get (lines_of l) 0) back ∙ ap (λ l. slice_get l 0) lines ∙ ap Some (sym (ap chars all ∙ back));
       last = λ _. ap (λ l. drop 1 (lines_of l)) back ∙ ap (drop 1) lines;
-      behind = λ never. absurd (omega arith);
+      after = λ never. absurd (omega arith);
     }
 
 ended_bytes : (first ending rest : List ℕ) → scalars (first ++ (ending ++ rest)) ≡ true → lines_of (first ++ (ending ++ rest)) ≡ first ∷ lines_of rest
@@ -135,7 +135,7 @@ ended_bytes first ending rest is lines some =
       boundary = IsCharBoundary-at_seam text (encodes first) (encodes (ending ++ rest)) seam (ending ++ rest, (is_first.1, refl));
       first = ap (λ l. slice_get (lines_of l) 0) back ∙ ap (λ l. slice_get l 0) lines ∙ ap Some (sym (ap chars taken ∙ chars-encodes first is_first.0));
       last = λ never. absurd (omega arith);
-      behind = λ _. (
+      after = λ _. (
         subst (λ n. IsCharBoundary text n) both (IsCharBoundary-at_seam text (encodes first ++ encodes ending) (encodes rest) later (rest, (is_rest.1, refl))),
         ap (λ l. drop 1 (lines_of l)) back ∙ ap (drop 1) lines ∙ ap lines_of (sym (ap chars dropped ∙ chars-encodes rest is_rest.1)),
       );
@@ -155,9 +155,9 @@ found_of cs is (last lines bytes) =
     found (encodes cs) (length (encodes cs)) 0 bytes (ap end_bytes (drop_all (length (encodes cs)) (encodes cs) (omega arith))) (last_bytes cs is lines)
 found_of cs is (ended first ending rest whole lines bytes end some) =
     let seam : encodes cs ≡ encodes first ++ encodes (ending ++ rest) = ap encodes whole ∙ encodes-append first (ending ++ rest) in
-    let behind : drop (length (encodes first)) (encodes cs) ≡ encodes (ending ++ rest) =
+    let after : drop (length (encodes first)) (encodes cs) ≡ encodes (ending ++ rest) =
     ap (drop (length (encodes first))) seam ∙ drop_at (encodes first) (encodes (ending ++ rest)) (length (encodes first)) refl in
-    found (encodes cs) (length (encodes first)) (length (encodes ending)) bytes (ap end_bytes behind ∙ end)
+    found (encodes cs) (length (encodes first)) (length (encodes ending)) bytes (ap end_bytes after ∙ end)
     (subst (λ l. FirstBytes (encodes l) (length (encodes first)) (length (encodes ending))) (sym whole)
     (ended_bytes first ending rest (ap scalars (sym whole) ∙ is) (ap lines_of (sym whole) ∙ lines) some))
 
@@ -197,8 +197,8 @@ from_next content line text rest from lines within = record {
 }
 
 -- where the text ends with the line before, it has no line of that number or a later one
-pub none_behind : (content : List ℕ) (line asked : ℕ) (text : List ℕ) → IsRestFrom content line text → line < asked → drop 1 (lines_of (chars text)) ≡ [] → slice_get (lines_of (chars content)) asked ≡ None
-none_behind content line asked text from later none =
+pub none_after : (content : List ℕ) (line asked : ℕ) (text : List ℕ) → IsRestFrom content line text → line < asked → drop 1 (lines_of (chars text)) ≡ [] → slice_get (lines_of (chars content)) asked ≡ None
+none_after content line asked text from later none =
     let gone : drop (line + 1) (lines_of (chars content)) ≡ [] = sym (drop-drop 1 line (lines_of (chars content))) ∙ ap (drop 1) from.lines ∙ none in
     slice_get_past (lines_of (chars content)) asked (drop_all asked (lines_of (chars content)) (omega (arith, ap length gone, length-drop (line + 1) (lines_of (chars content)))))
 

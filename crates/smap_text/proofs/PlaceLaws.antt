@@ -42,7 +42,7 @@ past line bytes column at units same within end counted most other =
 one_at_least : (c : ℕ) → 1 ≤ units_of c
 one_at_least c = grind (arith, nat_tests)
 
--- a column so many units behind some characters
+-- a column so many units after some characters
 counted : (front back : List ℕ) (column n : ℕ) → sum_by units_of front + n ≡ column → characters_before back n ≡ Some 0 → characters_before (front ++ back) column ≡ Some (length front)
 unfolding characters_before
 counted [] back column n all first = let same : n ≡ column = omega arith in ap (characters_before back) (sym same) ∙ first
@@ -86,10 +86,10 @@ before_inside line column byte is_text in_pair =
 
 pub before_past : (line : List ℕ) (column units : ℕ) → IsPast line column units → characters_before (chars line) column ≡ None
 unfolding units_before units_in
-before_past line column units behind =
+before_past line column units after =
     let whole : take (length line) line ≡ line = take_all (length line) line (omega arith) in
-    let all : sum_by units_of (chars line) ≡ units = ap (λ l. sum_by units_of (chars l)) (sym whole) ∙ behind.all in
-    none_so_far (chars line) column (omega (arith, behind.fewer))
+    let all : sum_by units_of (chars line) ≡ units = ap (λ l. sum_by units_of (chars l)) (sym whole) ∙ after.all in
+    none_so_far (chars line) column (omega (arith, after.fewer))
 
 pub before_place : (line : List ℕ) (column byte : ℕ) (place : Place) → IsUtf8 line → IsPlace line column place → (place ≡ At byte) ⊎ (place ≡ Inside byte)
     → characters_before (chars line) column ≡ Some (length (chars (take byte line)))

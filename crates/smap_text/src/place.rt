@@ -10,7 +10,7 @@ pub enum Place {
     At(usize),
     /// Between the two units of the character that begins at this byte.
     Inside(usize),
-    /// Behind the line's end: the line has so many units, which are fewer.
+    /// After the line's end: the line has so many units, which are fewer.
     Past(u64),
 }
 

@@ -1,15 +1,15 @@
--- What the editor of frames has counted behind a text.
+-- What the editor of frames has counted after a text.
 use Rattle.std.proofs.Common.{◌≡◌, ◌+◌, ◌≤◌, ℕ, Bool, true, false, cond, List, [], ◌∷◌, length, filter, fold, Option, Some, None, is_some, refl, sym, ap, ◌∙◌, arith, subst, take, ◌-◌}
 use Rattle.std.specs.Prelude.{not, ◌&&◌, ◌==◌}
 use Rattle.std.specs.List.{list_any}
 use Rattle.std.proofs.lemmas.Bool.{cond-false, cond_both}
-use Rattle.smap_lines.specs.Edited.{behind_line, behind_text, is_short}
-use Rattle.smap_lines.specs.Lines.{Line, lines_of}
+use Rattle.smap_lines.specs.Edited.{after_line, after_text, is_short}
+use Rattle.smap_lines.specs.Lines.{Line, lines_with_ends}
 use Rattle.smap_record.specs.Record.{MapRecord}
 use Rattle.smap_trace.specs.Frame.{FrameParts, is_line}
 use Rattle.smap_trace.specs.FrameOf.{frame_of}
-use Rattle.smap_trace.specs.FrameRewriter.{behind_frame, hidden_in, mapped_in, staying_in}
-use Rattle.smap_trace.specs.Rewritten.{Fate, SourcePlace, counts_of, fate, fate_at, fate_of, hidden, is_frame_line, is_hidden, is_hidden_line, is_ignored, is_mapped, is_mapped_line, name_in, named_fate, no_frame, original_of, replaced, stays}
+use Rattle.smap_trace.specs.FrameRewriter.{after_frame, hidden_in, mapped_in, staying_in}
+use Rattle.smap_trace.specs.Rewritten.{Fate, SourceLocation, counts_of, fate, fate_at, fate_of, hidden, is_frame_line, is_hidden, is_hidden_line, is_ignored, is_mapped, is_mapped_line, name_in, named_fate, no_frame, original_of, replaced, stays}
 use Rattle.smap_trace.specs.declared.frame_rewriter.FrameRewriter.{FrameRewriter}
 
 -- ---- a line
@@ -25,14 +25,14 @@ long_is_none line long =
 abbrev frames_in : Fate → ℕ
 frames_in met = staying_in met + mapped_in met + hidden_in met
 
-named_frame : (parts : FrameParts) (place : SourcePlace) (name : Option (List ℕ)) → frames_in (named_fate parts place name) ≡ 1
-named_frame parts place None = refl
-named_frame parts place (Some name) = refl
+named_frame : (parts : FrameParts) (location : SourceLocation) (name : Option (List ℕ)) → frames_in (named_fate parts location name) ≡ 1
+named_frame parts location None = refl
+named_frame parts location (Some name) = refl
 
-one_frame : (hide : Bool) (parts : FrameParts) (place : Option SourcePlace) → frames_in (fate_at hide parts place) ≡ 1
+one_frame : (hide : Bool) (parts : FrameParts) (location : Option SourceLocation) → frames_in (fate_at hide parts location) ≡ 1
 one_frame hide parts None = refl
-one_frame hide parts (Some place) = cond_both (hide && is_ignored place.source) hidden (named_fate parts place (name_in place.source)) (λ met. frames_in met ≡ 1)
-    (λ _. refl) (λ _. named_frame parts place (name_in place.source))
+one_frame hide parts (Some location) = cond_both (hide && is_ignored location.source) hidden (named_fate parts location (name_in location.source)) (λ met. frames_in met ≡ 1)
+    (λ _. refl) (λ _. named_frame parts location (name_in location.source))
 
 frames_of : (hide : Bool) (table : List (List ℕ × MapRecord)) (parts : Option FrameParts) → frames_in (fate_of hide table parts) ≡ cond (is_some parts) 1 0
 frames_of hide table None = refl
@@ -77,7 +77,7 @@ module _ (table : List (List ℕ × MapRecord)) (hide : Bool) where
       × (new.mapped ≡ rewriter.mapped + cond (is_mapped_line table hide line) 1 0)
       × (new.hidden ≡ rewriter.hidden + cond (is_hidden_line table hide line) 1 0)
 
-  adds_at : (rewriter : FrameRewriter) (line : Line) (short : Bool) → IsOver rewriter → is_short line ≡ short → Adds rewriter line (cond short (behind_frame rewriter line) rewriter)
+  adds_at : (rewriter : FrameRewriter) (line : Line) (short : Bool) → IsOver rewriter → is_short line ≡ short → Adds rewriter line (cond short (after_frame rewriter line) rewriter)
   unfolding fate
   adds_at rewriter line true is short =
       let met : Fate = fate line.bytes rewriter.table.now rewriter.hide_ignored in
@@ -98,11 +98,11 @@ module _ (table : List (List ℕ × MapRecord)) (hide : Bool) where
       × (new.mapped ≡ rewriter.mapped + length (filter (is_mapped_line table hide) lines))
       × (new.hidden ≡ rewriter.hidden + length (filter (is_hidden_line table hide) lines))
 
-  counted_over : (rewriter : FrameRewriter) (lines : List Line) → IsOver rewriter → Counted rewriter lines (fold (behind_line behind_frame) rewriter lines)
+  counted_over : (rewriter : FrameRewriter) (lines : List Line) → IsOver rewriter → Counted rewriter lines (fold (after_line after_frame) rewriter lines)
   counted_over rewriter [] is = (omega arith, omega arith, omega arith)
   counted_over rewriter (line ∷ lines) is =
       let adds = adds_at rewriter line (is_short line) is refl in
-      let more = counted_over (behind_line behind_frame rewriter line) lines adds.0 in (
+      let more = counted_over (after_line after_frame rewriter line) lines adds.0 in (
         omega (arith, adds.1, more.0, one_more (is_frame_line line) line (filter is_frame_line lines)),
         omega (arith, adds.2, more.1, one_more (is_mapped_line table hide line) line (filter (is_mapped_line table hide) lines)),
         omega (arith, adds.3, more.2, one_more (is_hidden_line table hide line) line (filter (is_hidden_line table hide) lines)),
@@ -110,18 +110,18 @@ module _ (table : List (List ℕ × MapRecord)) (hide : Bool) where
 
   module _ (rewriter new : FrameRewriter) (bytes : List ℕ) (lines : ℕ)
       (is : IsOver rewriter) (none_staying : rewriter.staying ≡ 0) (none_mapped : rewriter.mapped ≡ 0) (none_hidden : rewriter.hidden ≡ 0)
-      (behind : new ≡ behind_text behind_frame rewriter bytes) (lines_is : lines ≡ length (lines_of bytes)) where
-    counted : Counted rewriter (lines_of bytes) new
-    unfolding behind_text
-    counted = subst (λ n. Counted rewriter (lines_of bytes) n) (sym behind) (counted_over rewriter (lines_of bytes) is)
+      (after : new ≡ after_text after_frame rewriter bytes) (lines_is : lines ≡ length (lines_with_ends bytes)) where
+    counted : Counted rewriter (lines_with_ends bytes) new
+    unfolding after_text
+    counted = subst (λ n. Counted rewriter (lines_with_ends bytes) n) (sym after) (counted_over rewriter (lines_with_ends bytes) is)
 
     pub counts_are : record { lines = lines; frames = new.staying + new.mapped + new.hidden; mapped = new.mapped; hidden = new.hidden } ≡ counts_of bytes table hide
     unfolding counts_of
     counts_are =
-        let frames : new.staying + new.mapped + new.hidden ≡ length (filter is_frame_line (lines_of bytes)) = omega (arith, counted.0, none_staying, none_mapped, none_hidden) in
-        let mapped : new.mapped ≡ length (filter (is_mapped_line table hide) (lines_of bytes)) = omega (arith, counted.1, none_mapped) in
-        let hiding : new.hidden ≡ length (filter (is_hidden_line table hide) (lines_of bytes)) = omega (arith, counted.2, none_hidden) in
+        let frames : new.staying + new.mapped + new.hidden ≡ length (filter is_frame_line (lines_with_ends bytes)) = omega (arith, counted.0, none_staying, none_mapped, none_hidden) in
+        let mapped : new.mapped ≡ length (filter (is_mapped_line table hide) (lines_with_ends bytes)) = omega (arith, counted.1, none_mapped) in
+        let hiding : new.hidden ≡ length (filter (is_hidden_line table hide) (lines_with_ends bytes)) = omega (arith, counted.2, none_hidden) in
         λ i. record { lines = lines_is i; frames = frames i; mapped = mapped i; hidden = hiding i }
 
     pub frames_few : new.staying + new.mapped + new.hidden ≤ lines
-    frames_few = omega (arith, counted.0, none_staying, none_mapped, none_hidden, lines_is, few_of is_frame_line (lines_of bytes))
+    frames_few = omega (arith, counted.0, none_staying, none_mapped, none_hidden, lines_is, few_of is_frame_line (lines_with_ends bytes))

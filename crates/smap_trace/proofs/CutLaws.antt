@@ -109,7 +109,7 @@ none_in_empty : HasNoCall []
 none_in_empty [] after is = cc
 none_in_empty (x ∷ before) after is = cc
 
--- a text without ` (` stays so behind a byte that begins none with it
+-- a text without ` (` stays so after a byte that begins none with it
 none_longer : (x : ℕ) (y : ℕ) (rest front tail : List ℕ) → (x == 32 && y == 40) ≡ false → y ∷ rest ≡ front ++ 32 ∷ 40 ∷ tail → HasNoCall front → HasNoCall (x ∷ front)
 none_longer x y rest front tail off is none (z ∷ before) after e = none before after (cc)
 none_longer x y rest [] tail off is none [] after e = cc
@@ -131,15 +131,15 @@ call_is_first (x ∷ y ∷ rest) =
     (λ off. call_step x y rest (cut_at_call (y ∷ rest)) off (call_is_first (y ∷ rest)))
 
 -- the cut of a text whose front was passed
-abbrev pub behind : List ℕ → List ℕ × List ℕ → List ℕ × List ℕ
-behind front cut = (front ++ cut.0, cut.1)
+abbrev pub after_front : List ℕ → List ℕ × List ℕ → List ℕ × List ℕ
+after_front front cut = (front ++ cut.0, cut.1)
 
-pushed : (front : List ℕ) (x : ℕ) (cut : Option (List ℕ × List ℕ)) → option_map (behind front) (option_map (put_before x) cut) ≡ option_map (behind (front ++ x ∷ [])) cut
+pushed : (front : List ℕ) (x : ℕ) (cut : Option (List ℕ × List ℕ)) → option_map (after_front front) (option_map (put_before x) cut) ≡ option_map (after_front (front ++ x ∷ [])) cut
 pushed front x None = refl
 pushed front x (Some (f, r)) = ap (λ l. Some (l, r)) (sym (append_assoc front (x ∷ []) f))
 
 pub call_later : (text : List ℕ) (place : ℕ) → place + 1 < length text → (get_or text place 0 == 32 && get_or text (place + 1) 0 == 40) ≡ false →
-    option_map (behind (take place text)) (cut_at_call (drop place text)) ≡ option_map (behind (take (place + 1) text)) (cut_at_call (drop (place + 1) text))
+    option_map (after_front (take place text)) (cut_at_call (drop place text)) ≡ option_map (after_front (take (place + 1) text)) (cut_at_call (drop (place + 1) text))
 call_later text place within off =
     let x = get_or text place 0 in
     let y = get_or text (place + 1) 0 in
@@ -147,25 +147,25 @@ call_later text place within off =
     let one : drop place text ≡ x ∷ drop (place + 1) text = drop_more text place 0 (omega arith) in
     let two : drop (place + 1) text ≡ y ∷ rest = drop_more text (place + 1) 0 within in
     let on : take (place + 1) text ≡ take place text ++ x ∷ [] = take_more text place 0 (omega arith) in
-    ap (λ l. option_map (behind (take place text)) (cut_at_call l)) (one ∙ ap (λ l. x ∷ l) two)
-    ∙ ap (option_map (behind (take place text))) (cond-false (x == 32 && y == 40) (Some ([], rest)) (option_map (put_before x) (cut_at_call (y ∷ rest))) off)
+    ap (λ l. option_map (after_front (take place text)) (cut_at_call l)) (one ∙ ap (λ l. x ∷ l) two)
+    ∙ ap (option_map (after_front (take place text))) (cond-false (x == 32 && y == 40) (Some ([], rest)) (option_map (put_before x) (cut_at_call (y ∷ rest))) off)
     ∙ pushed (take place text) x (cut_at_call (y ∷ rest))
-    ∙ ap (λ l. option_map (behind (take place text ++ x ∷ [])) (cut_at_call l)) (sym two)
-    ∙ ap (λ l. option_map (behind l) (cut_at_call (drop (place + 1) text))) (sym on)
+    ∙ ap (λ l. option_map (after_front (take place text ++ x ∷ [])) (cut_at_call l)) (sym two)
+    ∙ ap (λ l. option_map (after_front l) (cut_at_call (drop (place + 1) text))) (sym on)
 
 pub call_here : (text : List ℕ) (place : ℕ) → place + 1 < length text → get_or text place 0 ≡ 32 → get_or text (place + 1) 0 ≡ 40 →
-    option_map (behind (take place text)) (cut_at_call (drop place text)) ≡ Some (take place text, drop (place + 2) text)
+    option_map (after_front (take place text)) (cut_at_call (drop place text)) ≡ Some (take place text, drop (place + 2) text)
 call_here text place within one two =
     let rest = drop (place + 1 + 1) text in
     let is : drop place text ≡ 32 ∷ 40 ∷ rest =
     drop_more text place 0 (omega arith) ∙ ap (λ x. x ∷ drop (place + 1) text) one ∙ ap (λ l. 32 ∷ l) (drop_more text (place + 1) 0 within ∙ ap (λ y. y ∷ rest) two) in
     let on : place + 1 + 1 ≡ place + 2 = omega arith in
-    ap (λ l. option_map (behind (take place text)) (cut_at_call l)) is ∙ ap (λ l. Some (l, rest)) (append-nil (take place text)) ∙ ap (λ n. Some (take place text, drop n text)) on
+    ap (λ l. option_map (after_front (take place text)) (cut_at_call l)) is ∙ ap (λ l. Some (l, rest)) (append-nil (take place text)) ∙ ap (λ n. Some (take place text, drop n text)) on
 
-pub call_nowhere : (text : List ℕ) (place : ℕ) → length text ≤ place + 1 → option_map (behind (take place text)) (cut_at_call (drop place text)) ≡ None
+pub call_nowhere : (text : List ℕ) (place : ℕ) → length text ≤ place + 1 → option_map (after_front (take place text)) (cut_at_call (drop place text)) ≡ None
 call_nowhere text place past = short (drop place text) (omega (arith, length-drop place text))
   where
-    short : (rest : List ℕ) → length rest ≤ 1 → option_map (behind (take place text)) (cut_at_call rest) ≡ None
+    short : (rest : List ℕ) → length rest ≤ 1 → option_map (after_front (take place text)) (cut_at_call rest) ≡ None
     short [] few = refl
     short (x ∷ []) few = refl
     short (x ∷ y ∷ rest) few = absurd (omega arith)

@@ -2,8 +2,8 @@
 use Rattle.std.proofs.Common.{◌≡◌, true, false, [], ◌∷◌, Option, Some, None, refl, codes}
 use Rattle.smap_resolve.specs.SourceName.{Name, kept}
 use Rattle.smap_trace.specs.Frame.{FrameParts}
-use Rattle.smap_trace.specs.FrameOf.{frame_of, number_of}
-use Rattle.smap_trace.specs.Rewritten.{SourcePlace, fate_at, frame_text, hidden, line_after, replaced, stays}
+use Rattle.smap_trace.specs.FrameOf.{frame_of, decimal_number}
+use Rattle.smap_trace.specs.Rewritten.{SourceLocation, fate_at, frame_text, hidden, line_after, replaced, stays}
 use Rattle.smap_trace.specs.Table.{is_bad_url}
 
 a_call : frame_of (codes "  at async f (a.js:1:6)") ≡ Some (record { head = codes "  at async f ("; url = codes "a.js"; line = 1; column = 6; tail = codes ")" })
@@ -23,7 +23,7 @@ a_bare_sign : frame_of (codes "@u:1:6") ≡ Some (record { head = codes "@"; url
 unfolding frame_of
 a_bare_sign = refl
 
--- behind `at `, an `@` belongs to the URL
+-- after `at `, an `@` belongs to the URL
 an_at_before_a_sign : frame_of (codes " at f@u:1:1") ≡ Some (record { head = codes " at "; url = codes "f@u"; line = 1; column = 1; tail = [] })
 unfolding frame_of
 an_at_before_a_sign = refl
@@ -41,7 +41,7 @@ twice_async : frame_of (codes "at async async u:1:1") ≡ None
 unfolding frame_of
 twice_async = refl
 
-numbers : number_of (codes "2147483648") ∷ number_of (codes "2147483649") ∷ number_of (codes "0") ∷ number_of (codes "01") ∷ [] ≡ Some 2147483648 ∷ None ∷ None ∷ None ∷ []
+numbers : decimal_number (codes "2147483648") ∷ decimal_number (codes "2147483649") ∷ decimal_number (codes "0") ∷ decimal_number (codes "01") ∷ [] ≡ Some 2147483648 ∷ None ∷ None ∷ None ∷ []
 numbers = refl
 
 urls : is_bad_url (codes "eval at u") ∷ is_bad_url (codes "") ∷ is_bad_url (codes "a\nb") ∷ is_bad_url (codes "u") ∷ [] ≡ true ∷ true ∷ true ∷ false ∷ []
@@ -49,7 +49,7 @@ unfolding is_bad_url
 urls = refl
 
 -- a frame of an ignored source is hidden where that is asked, also where the source has no name; else it stays there
-abbrev of_ignored : Option Name → SourcePlace
+abbrev of_ignored : Option Name → SourceLocation
 of_ignored name = record { source = Some (record { name = name; content = None; ignored = true }); line = 1; column = 2 }
 
 abbrev a_parts : FrameParts

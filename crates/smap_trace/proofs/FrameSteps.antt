@@ -9,7 +9,7 @@ use Rattle.std.proofs.lemmas.Slice.Eq.{starts_is}
 use Rattle.std.proofs.lemmas.Bool.Decides.{Decides-eqb}
 use Rattle.smap_trace.specs.Cuts.{cut_at_call, cut_at_first, without_last}
 use Rattle.smap_trace.specs.Frame.{is_line, is_blank}
-use Rattle.smap_trace.specs.FrameOf.{ends_in_digit, frame_of, frame_in, frame_after, frame_behind, call_frame, plain_frame, parts_with, place_of, is_async, sign_frame, sign_frame_at, unless_async}
+use Rattle.smap_trace.specs.FrameOf.{ends_in_digit, frame_of, frame_in, frame_after, at_frame, call_frame, plain_frame, parts_with, location_of, is_async, sign_frame, sign_frame_at, unless_async}
 use Rattle.smap_trace.proofs.CutLaws.{last_stands, call_is_first, cut_is_first}
 
 -- ---- the whole line
@@ -43,7 +43,7 @@ unfolding frame_of
 without_cr line one is =
     same_cut line line [] (sym (append-nil line)) ∙ ap (frame_in line) is ∙ sym (cond-true (is_line line) (frame_in line (without_last 13 line)) None one)
 
--- ---- behind `at `
+-- ---- after `at `
 
 -- a range of the front of a line is that of the line
 range_of_front : (line : List ℕ) (start end : ℕ) → start ≤ end → drop start (take end line) ≡ slice_range line start end
@@ -51,15 +51,15 @@ range_of_front line start end within =
     let sum : end ≡ start + (end - start) = omega arith in
     ap (λ n. drop start (take n line)) sum ∙ drop-take start (end - start) line
 
--- the frame of a line with its `at ` behind the blanks, whatever ends the text behind it
+-- the frame of a line with its `at ` after the blanks, whatever ends the text after it
 begun : (blanks : ℕ) (line : List ℕ) (end : ℕ) → starts_with nat_eq (drop blanks (take end line)) (97 ∷ 116 ∷ 32 ∷ []) ≡ true → blanks + 3 ≤ end →
     frame_after blanks (take end line) (drop end line)
-    ≡ frame_behind (take (blanks + 3) line) (slice_range line (blanks + 3) end) (without_last 41 (slice_range line (blanks + 3) end)) (drop end line)
+    ≡ at_frame (take (blanks + 3) line) (slice_range line (blanks + 3) end) (without_last 41 (slice_range line (blanks + 3) end)) (drop end line)
 begun blanks line end at within =
     let head : take (blanks + 3) (take end line) ≡ take (blanks + 3) line = take-take (blanks + 3) end line within in
     let text : drop (blanks + 3) (take end line) ≡ slice_range line (blanks + 3) end = range_of_front line (blanks + 3) end within in
     cond-true (starts_with nat_eq (drop blanks (take end line)) (97 ∷ 116 ∷ 32 ∷ [])) _ (sign_frame (take end line) (drop end line)) at
-    ∙ (λ i. frame_behind (head i) (text i) (without_last 41 (text i)) (drop end line))
+    ∙ (λ i. at_frame (head i) (text i) (without_last 41 (text i)) (drop end line))
 
 -- the bytes from one place to another, where the last of them is this one
 last_of_range : (line : List ℕ) (start end : ℕ) (inner : List ℕ) (byte : ℕ) → start ≤ end → end ≤ length line → slice_range line start end ≡ inner ++ byte ∷ [] →
@@ -76,7 +76,7 @@ last_of_range line start end inner byte ordered within is =
       sym (drop_at inner (byte ∷ drop end line) (length inner) refl) ∙ ap (drop (length inner)) (sym whole) ∙ drop-drop (length inner) start line ∙ ap (λ n. drop n line) (omega arith),
     )
 
--- as the code slices: what stands behind the blanks, and behind `at `
+-- as the code slices: what stands after the blanks, and after `at `
 abbrev pub rest_from : ℕ → List ℕ → List ℕ
 rest_from start body = take (length body - start) (drop start body)
 
@@ -91,18 +91,18 @@ call_form blanks line end at within inside some = go (without_last 41 (slice_ran
   where
     go : (o : Option (List ℕ)) → o ≡ without_last 41 (slice_range line (blanks + 3) end) → IsSome o →
         call_frame (take (blanks + 3) line) (cut_at_call (slice_range line (blanks + 3) (end - 1))) (drop (end - 1) line)
-        ≡ frame_behind (take (blanks + 3) line) (slice_range line (blanks + 3) end) (without_last 41 (slice_range line (blanks + 3) end)) (drop end line)
+        ≡ at_frame (take (blanks + 3) line) (slice_range line (blanks + 3) end) (without_last 41 (slice_range line (blanks + 3) end)) (drop end line)
     go None is some = cc
     go (Some inner) is some =
         let cut = last_of_range line (blanks + 3) end inner 41 within inside (MatchOption-at_some (Unit {0}) _ inner (sym is) (last_stands 41 (slice_range line (blanks + 3) end))) in
         (λ i. call_frame (take (blanks + 3) line) (cut_at_call (sym cut.0 i)) (sym cut.1 i))
-        ∙ ap (λ o. frame_behind (take (blanks + 3) line) (slice_range line (blanks + 3) end) o (drop end line)) is
+        ∙ ap (λ o. at_frame (take (blanks + 3) line) (slice_range line (blanks + 3) end) o (drop end line)) is
 
 plain_form : (blanks : ℕ) (line : List ℕ) (end : ℕ) → starts_with nat_eq (drop blanks (take end line)) (97 ∷ 116 ∷ 32 ∷ []) ≡ true → blanks + 3 ≤ end →
     without_last 41 (slice_range line (blanks + 3) end) ≡ None →
     plain_frame (take (blanks + 3) line) (slice_range line (blanks + 3) end) (drop end line) ≡ frame_after blanks (take end line) (drop end line)
 plain_form blanks line end at within none =
-    ap (λ o. frame_behind (take (blanks + 3) line) (slice_range line (blanks + 3) end) o (drop end line)) (sym none) ∙ sym (begun blanks line end at within)
+    ap (λ o. at_frame (take (blanks + 3) line) (slice_range line (blanks + 3) end) o (drop end line)) (sym none) ∙ sym (begun blanks line end at within)
 
 -- ---- the forms, as the code finds them
 
@@ -152,7 +152,7 @@ found_plain f o blanks end line found is holds fits ends none counted =
     ap (λ l. is_some (without_last 41 l)) (sym (seen_text (blanks + 3) end line fits)) ∙ ap is_some (sym ends) ∙ is_some_map f o ∙ none in
     plain_form blanks line end (begins blanks end line found is holds) fits (none_if _ gone) ∙ ap (λ n. frame_after n (take end line) (drop end line)) counted
 
--- ---- the place in the line
+-- ---- the location in the line
 
 call_fits : (line : List ℕ) (start end : ℕ) (function rest : List ℕ) → end ≤ length line → slice_range line start end ≡ function ++ 32 ∷ 40 ∷ rest → start ≤ end → start + length function + 2 ≤ end
 call_fits line start end function rest inside is ordered =
@@ -171,24 +171,24 @@ into_range line start end k opening rest long ordered inside is =
       ap (take (end - (start + k))) (sym (drop-drop k start line)) ∙ sym (drop-take k (end - (start + k)) text) ∙ ap (λ n. drop k (take n text)) (sym more) ∙ ap (drop k) is ∙ drop_at opening rest k long,
     )
 
--- the frame of a call is the frame at its place
+-- the frame of a call is the frame at its location
 called_at : (line : List ℕ) (start end : ℕ) (byte : ℕ) (function rest : List ℕ) → start ≤ end → end ≤ length line → slice_range line start end ≡ (byte ∷ function) ++ 32 ∷ 40 ∷ rest →
-    parts_with (take (start + length (byte ∷ function) + 2) line) (place_of (slice_range line (start + length (byte ∷ function) + 2) end)) (drop end line)
-    ≡ parts_with (take start line ++ byte ∷ function ++ 32 ∷ 40 ∷ []) (place_of rest) (drop end line)
+    parts_with (take (start + length (byte ∷ function) + 2) line) (location_of (slice_range line (start + length (byte ∷ function) + 2) end)) (drop end line)
+    ≡ parts_with (take start line ++ byte ∷ function ++ 32 ∷ 40 ∷ []) (location_of rest) (drop end line)
 called_at line start end byte function rest ordered inside is =
     let opening : List ℕ = (byte ∷ function) ++ 32 ∷ 40 ∷ [] in
     let n : ℕ = length (byte ∷ function) + 2 in
     let long : length opening ≡ n = length-append (byte ∷ function) (32 ∷ 40 ∷ []) in
     let both = into_range line start end n opening rest long ordered inside (is ∙ sym (append_assoc (byte ∷ function) (32 ∷ 40 ∷ []) rest)) in
     let same : start + length (byte ∷ function) + 2 ≡ start + n = omega arith in
-    ap (λ k. parts_with (take k line) (place_of (slice_range line k end)) (drop end line)) same ∙ (λ i. parts_with (both.0 i) (place_of (both.1 i)) (drop end line))
-    ∙ ap (λ head. parts_with head (place_of rest) (drop end line)) (sym (append_assoc (take start line) (byte ∷ function) (32 ∷ 40 ∷ [])))
+    ap (λ k. parts_with (take k line) (location_of (slice_range line k end)) (drop end line)) same ∙ (λ i. parts_with (both.0 i) (location_of (both.1 i)) (drop end line))
+    ∙ ap (λ head. parts_with head (location_of rest) (drop end line)) (sym (append_assoc (take start line) (byte ∷ function) (32 ∷ 40 ∷ [])))
 
 -- the cut of a call, and what follows from it
 pub called : (line : List ℕ) (start end : ℕ) (function rest : List ℕ) → start ≤ end → end ≤ length line → (length function == 0) ≡ false →
     Some (function, rest) ≡ cut_at_call (slice_range line start end) →
     (start + length function + 2 ≤ end)
-    × (parts_with (take (start + length function + 2) line) (place_of (slice_range line (start + length function + 2) end)) (drop end line)
+    × (parts_with (take (start + length function + 2) line) (location_of (slice_range line (start + length function + 2) end)) (drop end line)
     ≡ call_frame (take start line) (cut_at_call (slice_range line start end)) (drop end line))
 called line start end [] rest ordered inside named is = cc
 called line start end (byte ∷ function) rest ordered inside named is =
@@ -197,16 +197,16 @@ called line start end (byte ∷ function) rest ordered inside named is =
       called_at line start end byte function rest ordered inside first.0 ∙ ap (λ cut. call_frame (take start line) cut (drop end line)) is,
     )
 
--- the text of the second form behind its `async `
-pub behind_async : (line : List ℕ) (start end : ℕ) (found : Bool) → start ≤ end → end ≤ length line → found ≡ is_async (slice_range line start end) → found ≡ true →
-    unless_async (parts_with (take (start + 6) line) (place_of (slice_range line (start + 6) end)) (drop end line)) ≡ plain_frame (take start line) (slice_range line start end) (drop end line)
-behind_async line start end found ordered inside is holds =
+-- the text of the second form after its `async `
+pub after_async : (line : List ℕ) (start end : ℕ) (found : Bool) → start ≤ end → end ≤ length line → found ≡ is_async (slice_range line start end) → found ≡ true →
+    unless_async (parts_with (take (start + 6) line) (location_of (slice_range line (start + 6) end)) (drop end line)) ≡ plain_frame (take start line) (slice_range line start end) (drop end line)
+after_async line start end found ordered inside is holds =
     let text : List ℕ = slice_range line start end in
     let word : List ℕ = 97 ∷ 115 ∷ 121 ∷ 110 ∷ 99 ∷ 32 ∷ [] in
     let begins : text ≡ word ++ drop 6 text = (starts_is Decides-eqb text word found is).0 holds in
     let both = into_range line start end 6 word (drop 6 text) refl ordered inside begins in
-    (λ i. unless_async (parts_with (both.0 i) (place_of (both.1 i)) (drop end line)))
-    ∙ ap unless_async (sym (cond-true (is_async text) (parts_with (take start line ++ word) (place_of (drop 6 text)) (drop end line)) (parts_with (take start line) (place_of text) (drop end line)) (sym is ∙ holds)))
+    (λ i. unless_async (parts_with (both.0 i) (location_of (both.1 i)) (drop end line)))
+    ∙ ap unless_async (sym (cond-true (is_async text) (parts_with (take start line ++ word) (location_of (drop 6 text)) (drop end line)) (parts_with (take start line) (location_of text) (drop end line)) (sym is ∙ holds)))
 
 -- a line that ends in no digit
 pub unsigned : (text tail : List ℕ) → ends_in_digit text ≡ false → None ≡ sign_frame text tail
@@ -223,7 +223,7 @@ uncut text tail none = sym (none_both (ends_in_digit text))
 -- the cut at the first `@`, and what follows from it
 pub signed : (line : List ℕ) (end : ℕ) (function rest : List ℕ) → end ≤ length line → ends_in_digit (take end line) ≡ true → Some (function, rest) ≡ cut_at_first 64 (take end line) →
     (length function + 1 ≤ end)
-    × (parts_with (take (length function + 1) line) (place_of (slice_range line (length function + 1) end)) (drop end line) ≡ sign_frame (take end line) (drop end line))
+    × (parts_with (take (length function + 1) line) (location_of (slice_range line (length function + 1) end)) (drop end line) ≡ sign_frame (take end line) (drop end line))
 signed line end function rest inside digit is =
     let text : List ℕ = take end line in
     let k : ℕ = length function + 1 in
@@ -233,8 +233,8 @@ signed line end function rest inside digit is =
     let long : length opening ≡ k = length-append function (64 ∷ []) in
     let fits : k ≤ end = omega (arith, long, ap length whole ∙ length-append opening rest, length-take-le end line inside) in
     let head : take k line ≡ opening = sym (take-take k end line fits) ∙ ap (take k) whole ∙ take_at opening rest k long in
-    let place : slice_range line k end ≡ rest = sym (range_of_front line k end fits) ∙ ap (drop k) whole ∙ drop_at opening rest k long in (
+    let location : slice_range line k end ≡ rest = sym (range_of_front line k end fits) ∙ ap (drop k) whole ∙ drop_at opening rest k long in (
       fits,
-      (λ i. parts_with (head i) (place_of (place i)) (drop end line)) ∙ ap (λ cut. sign_frame_at cut (drop end line)) is
+      (λ i. parts_with (head i) (location_of (location i)) (drop end line)) ∙ ap (λ cut. sign_frame_at cut (drop end line)) is
           ∙ sym (cond-true (ends_in_digit text) (sign_frame_at (cut_at_first 64 text) (drop end line)) None digit),
     )

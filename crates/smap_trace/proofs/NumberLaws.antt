@@ -7,7 +7,7 @@ use Rattle.std.proofs.lemmas.Bool.{and_parts, and_from, cond-true, leb-true, le-
 use Rattle.std.proofs.lemmas.Fmt.{decimal_digit, decimal-digits_value, digits_decimal, digits_value-decimal, first_decimal, decimal_nonempty}
 use Rattle.std.proofs.lemmas.Str.Parse.{IsNumeralModel, numerals_by_fold}
 use Rattle.smap_trace.specs.Frame.{IsPrinted}
-use Rattle.smap_trace.specs.FrameOf.{ends_in_digit, read_on, number_of}
+use Rattle.smap_trace.specs.FrameOf.{ends_in_digit, read_on, decimal_number}
 use Rattle.smap_trace.proofs.CutLaws.{is_without, last_is_other}
 use Rattle.smap_trace.specs.Cuts.{without_last}
 
@@ -15,7 +15,7 @@ pub none_else : {A : Type 0} (b : Bool) (o : Option A) (y : A) → cond b o None
 none_else true o y e = (refl, e)
 none_else false o y e = cc
 
--- the number that these digits write behind those of n
+-- the number that these digits write after those of n
 abbrev value_on : ℕ → List ℕ → ℕ
 value_on n [] = n
 value_on n (c ∷ cs) = value_on (10 * n + (c - 48)) cs
@@ -51,7 +51,7 @@ nonempty [] first = absurd (omega arith)
 nonempty (c ∷ text) first = omega arith
 
 -- what is read is what is printed
-pub number_is : (text : List ℕ) (n : ℕ) → number_of text ≡ Some n → (text ≡ decimal n) × IsPrinted n
+pub number_is : (text : List ℕ) (n : ℕ) → decimal_number text ≡ Some n → (text ≡ decimal n) × IsPrinted n
 number_is text n is =
     let parts = none_else (ltb 48 (get_or text 0 0)) (read_on 0 text) n is in
     let first : 48 < get_or text 0 0 = ltb-true _ _ parts.0 in
@@ -65,7 +65,7 @@ number_is text n is =
     positive (suc m) e first = omega arith
 
 -- what is printed is read back
-pub number_reads : (n : ℕ) → IsPrinted n → number_of (decimal n) ≡ Some n
+pub number_reads : (n : ℕ) → IsPrinted n → decimal_number (decimal n) ≡ Some n
 number_reads n printed =
     let small : n < 2 ^ 64 = omega arith in
     let same : value_on 0 (decimal n) ≡ n = digits_value-decimal own n small in

@@ -1,7 +1,7 @@
 -- The frames of a stack trace, narrowed to three forms (this project's own grammar): as V8 prints them,
 --   blanks, `at `, a function, ` (`, a URL, `:`, a line, `:`, a column, `)`
 --   blanks, `at ` or `at async `, a URL, `:`, a line, `:`, a column
--- and as Firefox and Safari do, in a line that does not begin with `at ` behind its blanks,
+-- and as Firefox and Safari do, in a line that does not begin with `at ` after its blanks,
 --   a function, `@`, a URL, `:`, a line, `:`, a column
 -- A CR may end each. Lines and columns count from 1.
 use Rattle.std.specs.Prelude.{◌≡◌, ◌≢◌, ◌≤◌, ◌-◌, ℕ, ◌==◌, ◌||◌, ◌&&◌, Bool, false, not, nat_le, IsTrue, List, [], ◌++◌, ◌⊎◌, codes, length, take}
@@ -33,7 +33,7 @@ IsLineEnd end = (end ≡ []) ⊎ (end ≡ codes "\r")
 abbrev pub IsPrinted : ℕ → Type 0
 IsPrinted n = (1 ≤ n) × (n ≤ most_printed)
 
--- the first form: what stands before the URL and behind the column. The first ` (` behind `at ` ends the function
+-- the first form: what stands before the URL and after the column. The first ` (` after `at ` ends the function
 pub record IsCallFrame (parts : FrameParts) : Type 0 where
   pub blanks : List ℕ
   pub function : List ℕ
@@ -53,7 +53,7 @@ pub record IsPlainFrame (parts : FrameParts) : Type 0 where
   pub head_is : (parts.head ≡ blanks ++ codes "at ") ⊎ (parts.head ≡ blanks ++ codes "at async ")
   pub tail_is : IsLineEnd parts.tail
 
--- the third form. The function may be empty, and the first `@` ends it. It does not begin with `at ` behind blanks, and so
+-- the third form. The function may be empty, and the first `@` ends it. It does not begin with `at ` after blanks, and so
 -- the line does not, since no `@` is in that
 pub record IsSignFrame (parts : FrameParts) : Type 0 where
   pub function : List ℕ
@@ -62,7 +62,7 @@ pub record IsSignFrame (parts : FrameParts) : Type 0 where
   pub head_is : parts.head ≡ function ++ codes "@"
   pub tail_is : IsLineEnd parts.tail
 
--- what stands before the URL and behind the column is that of a frame, in one of the forms
+-- what stands before the URL and after the column is that of a frame, in one of the forms
 abbrev pub IsForm : FrameParts → Type 0
 IsForm parts = IsCallFrame parts ⊎ (IsPlainFrame parts ⊎ IsSignFrame parts)
 

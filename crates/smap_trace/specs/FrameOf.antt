@@ -9,52 +9,52 @@ use Rattle.smap_trace.specs.Limits.{most_printed}
 
 -- ---- numbers
 
--- the number that these digits write behind those of n, if it is at most 2147483648
+-- the number that these digits write after those of n, if it is at most 2147483648
 abbrev pub read_on : ℕ → List ℕ → Option ℕ
 read_on n [] = Some n
 read_on n (byte ∷ text) =
     if is_ascii_digit byte && nat_le (10 * n + (byte - 48)) most_printed then read_on (10 * n + (byte - 48)) text else None
 
 -- the number from 1 to 2147483648 that a text writes without leading zeros
-abbrev pub number_of : List ℕ → Option ℕ
-number_of text = if nat_lt 48 (slice_index text 0) then read_on 0 text else None
+abbrev pub decimal_number : List ℕ → Option ℕ
+decimal_number text = if nat_lt 48 (slice_index text 0) then read_on 0 text else None
 
--- ---- a place: a URL, `:`, a line, `:`, a column
+-- ---- a location: a URL, `:`, a line, `:`, a column
 
-pub record Place : Type 0 where
+pub record Location : Type 0 where
   pub url : List ℕ
   pub line : ℕ
   pub column : ℕ
 
-abbrev pub place_with : List ℕ → Option ℕ → Option ℕ → Option Place
-place_with [] line column = None
-place_with (byte ∷ url) None column = None
-place_with (byte ∷ url) (Some line) None = None
-place_with (byte ∷ url) (Some line) (Some column) = Some (record { url = byte ∷ url; line = line; column = column })
+abbrev pub location_with : List ℕ → Option ℕ → Option ℕ → Option Location
+location_with [] line column = None
+location_with (byte ∷ url) None column = None
+location_with (byte ∷ url) (Some line) None = None
+location_with (byte ∷ url) (Some line) (Some column) = Some (record { url = byte ∷ url; line = line; column = column })
 
--- the place before a column
-abbrev pub place_before : Option (List ℕ × List ℕ) → Option ℕ → Option Place
-place_before None column = None
-place_before (Some (url, line)) column = place_with url (number_of line) column
+-- the location before a column
+abbrev pub location_before : Option (List ℕ × List ℕ) → Option ℕ → Option Location
+location_before None column = None
+location_before (Some (url, line)) column = location_with url (decimal_number line) column
 
-abbrev pub place_cut : Option (List ℕ × List ℕ) → Option Place
-place_cut None = None
-place_cut (Some (front, column)) = place_before (cut_at_last 58 front) (number_of column)
+abbrev pub location_cut : Option (List ℕ × List ℕ) → Option Location
+location_cut None = None
+location_cut (Some (front, column)) = location_before (cut_at_last 58 front) (decimal_number column)
 
--- the place that a text is; its last two `:` cut it
-abbrev pub place_of : List ℕ → Option Place
-place_of text = place_cut (cut_at_last 58 text)
+-- the location that a text is; its last two `:` cut it
+abbrev pub location_of : List ℕ → Option Location
+location_of text = location_cut (cut_at_last 58 text)
 
 -- ---- the three forms
 
-abbrev pub parts_with : (head : List ℕ) → Option Place → (tail : List ℕ) → Option FrameParts
+abbrev pub parts_with : (head : List ℕ) → Option Location → (tail : List ℕ) → Option FrameParts
 parts_with head None tail = None
-parts_with head (Some place) tail = Some (record { head = head; url = place.url; line = place.line; column = place.column; tail = tail })
+parts_with head (Some location) tail = Some (record { head = head; url = location.url; line = location.line; column = location.column; tail = tail })
 
 abbrev pub call_frame : (head : List ℕ) → Option (List ℕ × List ℕ) → (tail : List ℕ) → Option FrameParts
 call_frame head None tail = None
-call_frame head (Some ([], place)) tail = None
-call_frame head (Some (byte ∷ function, place)) tail = parts_with (head ++ byte ∷ function ++ codes " (") (place_of place) tail
+call_frame head (Some ([], location)) tail = None
+call_frame head (Some (byte ∷ function, location)) tail = parts_with (head ++ byte ∷ function ++ codes " (") (location_of location) tail
 
 abbrev pub is_async : List ℕ → Bool
 is_async text = starts_with nat_eq text (codes "async ")
@@ -66,12 +66,12 @@ unless_async (Some parts) = if is_async parts.url then None else Some parts
 
 abbrev pub plain_frame : (head text tail : List ℕ) → Option FrameParts
 plain_frame head text tail =
-    unless_async (if is_async text then parts_with (head ++ codes "async ") (place_of (drop 6 text)) tail else parts_with head (place_of text) tail)
+    unless_async (if is_async text then parts_with (head ++ codes "async ") (location_of (drop 6 text)) tail else parts_with head (location_of text) tail)
 
--- the frame behind its blanks and `at `, where what stands there may end in `)`
-abbrev pub frame_behind : (head text : List ℕ) → Option (List ℕ) → (end : List ℕ) → Option FrameParts
-frame_behind head text (Some inner) end = call_frame head (cut_at_call inner) (codes ")" ++ end)
-frame_behind head text None end = plain_frame head text end
+-- the frame after its blanks and `at `, where what stands there may end in `)`
+abbrev pub at_frame : (head text : List ℕ) → Option (List ℕ) → (end : List ℕ) → Option FrameParts
+at_frame head text (Some inner) end = call_frame head (cut_at_call inner) (codes ")" ++ end)
+at_frame head text None end = plain_frame head text end
 
 -- the last byte is a digit, as a column's is: a line that ends otherwise is not searched for an `@`
 abbrev pub ends_in_digit : List ℕ → Bool
@@ -82,7 +82,7 @@ ends_in_digit (byte ∷ next ∷ text) = ends_in_digit (next ∷ text)
 -- the frame whose function the first `@` ends
 abbrev pub sign_frame_at : Option (List ℕ × List ℕ) → (tail : List ℕ) → Option FrameParts
 sign_frame_at None tail = None
-sign_frame_at (Some (function, place)) tail = parts_with (function ++ codes "@") (place_of place) tail
+sign_frame_at (Some (function, location)) tail = parts_with (function ++ codes "@") (location_of location) tail
 
 abbrev pub sign_frame : (text tail : List ℕ) → Option FrameParts
 sign_frame text tail = if ends_in_digit text then sign_frame_at (cut_at_first 64 text) tail else None
@@ -93,7 +93,7 @@ sign_frame text tail = if ends_in_digit text then sign_frame_at (cut_at_first 64
 abbrev pub frame_after : ℕ → (body end : List ℕ) → Option FrameParts
 frame_after blanks body end =
     if starts_with nat_eq (drop blanks body) (codes "at ")
-    then frame_behind (take (blanks + 3) body) (drop (blanks + 3) body) (without_last 41 (drop (blanks + 3) body)) end
+    then at_frame (take (blanks + 3) body) (drop (blanks + 3) body) (without_last 41 (drop (blanks + 3) body)) end
     else sign_frame body end
 
 abbrev pub frame_in : (line : List ℕ) → Option (List ℕ) → Option FrameParts

@@ -23,9 +23,9 @@ hidden_in stays = 0
 hidden_in (replaced text) = 0
 hidden_in hidden = 1
 
--- the editor behind a line
-abbrev pub behind_frame : FrameRewriter → Line → FrameRewriter
-behind_frame rewriter line =
+-- the editor after a line
+abbrev pub after_frame : FrameRewriter → Line → FrameRewriter
+after_frame rewriter line =
     let met = fate line.bytes rewriter.table.now rewriter.hide_ignored in
     record rewriter {
       staying = rewriter.staying + staying_in met;

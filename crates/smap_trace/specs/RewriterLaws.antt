@@ -2,7 +2,7 @@
 use Rattle.std.specs.Prelude.{◌≤◌, ◌+◌}
 use Rattle.std.proofs.Common.{arith}
 use Rattle.smap_lines.specs.Lines.{Line}
-use Rattle.smap_trace.specs.FrameRewriter.{behind_frame, hidden_in, mapped_in, room_of, staying_in}
+use Rattle.smap_trace.specs.FrameRewriter.{after_frame, hidden_in, mapped_in, room_of, staying_in}
 use Rattle.smap_trace.specs.Rewritten.{Fate, fate, hidden, no_frame, replaced, stays}
 use Rattle.smap_trace.specs.declared.frame_rewriter.FrameRewriter.{FrameRewriter}
 
@@ -12,5 +12,5 @@ one_at_most stays = omega arith
 one_at_most (replaced text) = omega arith
 one_at_most hidden = omega arith
 
-pub room_behind : (rewriter : FrameRewriter) (line : Line) → room_of rewriter ≤ room_of (behind_frame rewriter line) + 1
-room_behind rewriter line = let one = one_at_most (fate line.bytes rewriter.table.now rewriter.hide_ignored) in omega (arith, one)
+pub room_after : (rewriter : FrameRewriter) (line : Line) → room_of rewriter ≤ room_of (after_frame rewriter line) + 1
+room_after rewriter line = let one = one_at_most (fate line.bytes rewriter.table.now rewriter.hide_ignored) in omega (arith, one)

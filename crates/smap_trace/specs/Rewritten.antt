@@ -1,12 +1,12 @@
 -- What a trace becomes: each of its lines by itself, over a table of the maps and their URLs, with the frames of sources
--- that a map says to pass over hidden or not (this project's own).
+-- that a map says to ignore hidden or not (this project's own).
 use Rattle.std.specs.Prelude.{ℕ, ◌+◌, ◌-◌, ◌==◌, ◌||◌, ◌&&◌, Bool, true, false, List, [], ◌++◌, Option, Some, None, is_some, codes, length, nat_lt, if◌then◌else◌, slice_get, filter}
 use Rattle.std.specs.Fmt.{decimal}
 use Rattle.std.specs.List.{list_any}
 use Rattle.smap_index.specs.declared.answer.Answer.{Answer}
 use Rattle.smap_index.specs.declared.answer.Answer.TheVariants.{Nothing, Unmapped, Found}
 use Rattle.smap_lines.specs.Edited.{edited}
-use Rattle.smap_lines.specs.Lines.{Line, end_in, line_text, lines_of}
+use Rattle.smap_lines.specs.Lines.{Line, end_in, line_text, lines_with_ends}
 use Rattle.smap_record.specs.Record.{MapRecord, answer_of_map}
 use Rattle.smap_record.specs.Sources.{StatedSource}
 use Rattle.smap_resolve.specs.SourceName.{Name, name_text}
@@ -31,30 +31,30 @@ name_in (Some source) = printable source.name
 
 -- ---- a frame
 
--- where a frame comes from: a source, and a place in it; the line and the column count from 1
-pub record SourcePlace : Type 0 where
+-- where a frame comes from: a source, and a location in it; the line and the column count from 1
+pub record SourceLocation : Type 0 where
   pub source : Option StatedSource
   pub line : ℕ
   pub column : ℕ
 
--- the place of an answer, whose lines and columns count from 0
-abbrev pub place_of_answer : MapRecord → Answer → Option SourcePlace
-place_of_answer stated Nothing = None
-place_of_answer stated (Unmapped column) = None
-place_of_answer stated (Found column origin) =
+-- the location of an answer, whose lines and columns count from 0
+abbrev pub location_of_answer : MapRecord → Answer → Option SourceLocation
+location_of_answer stated Nothing = None
+location_of_answer stated (Unmapped column) = None
+location_of_answer stated (Found column origin) =
     Some (record { source = slice_get stated.sources origin.source; line = origin.line + 1; column = origin.column + 1 })
 
-abbrev pub place_in_map : FrameParts → Option MapRecord → Option SourcePlace
-place_in_map parts None = None
-place_in_map parts (Some stated) = place_of_answer stated (answer_of_map stated (parts.line - 1) (parts.column - 1))
+abbrev pub location_in_map : FrameParts → Option MapRecord → Option SourceLocation
+location_in_map parts None = None
+location_in_map parts (Some stated) = location_of_answer stated (answer_of_map stated (parts.line - 1) (parts.column - 1))
 
 -- where a frame comes from, if the table has its map, and that an origin for it
-abbrev pub original_of : FrameParts → List (List ℕ × MapRecord) → Option SourcePlace
-original_of parts table = place_in_map parts (record_for parts.url table)
+abbrev pub original_of : FrameParts → List (List ℕ × MapRecord) → Option SourceLocation
+original_of parts table = location_in_map parts (record_for parts.url table)
 
--- the frame at a place in a source of this name
-abbrev pub frame_text : FrameParts → SourcePlace → (name : List ℕ) → List ℕ
-frame_text parts place name = parts.head ++ name ++ codes ":" ++ decimal place.line ++ codes ":" ++ decimal place.column ++ parts.tail
+-- the frame at a location in a source of this name
+abbrev pub frame_text : FrameParts → SourceLocation → (name : List ℕ) → List ℕ
+frame_text parts location name = parts.head ++ name ++ codes ":" ++ decimal location.line ++ codes ":" ++ decimal location.column ++ parts.tail
 
 -- ---- a line
 
@@ -65,20 +65,20 @@ pub data Fate : Type 0 where
   replaced : List ℕ → Fate
   hidden : Fate
 
--- the map says to pass over the source
+-- the map says to ignore the source
 abbrev pub is_ignored : Option StatedSource → Bool
 is_ignored None = false
 is_ignored (Some source) = source.ignored
 
--- the fate of a frame at a place in a source of this name, if it has one that prints
-abbrev pub named_fate : FrameParts → SourcePlace → (name : Option (List ℕ)) → Fate
-named_fate parts place None = stays
-named_fate parts place (Some name) = replaced (frame_text parts place name)
+-- the fate of a frame at a location in a source of this name, if it has one that prints
+abbrev pub named_fate : FrameParts → SourceLocation → (name : Option (List ℕ)) → Fate
+named_fate parts location None = stays
+named_fate parts location (Some name) = replaced (frame_text parts location name)
 
--- that of a frame from this place, with the frames of ignored sources hidden or not; a hidden one needs no name
-abbrev pub fate_at : (hide : Bool) → FrameParts → Option SourcePlace → Fate
+-- that of a frame from this location, with the frames of ignored sources hidden or not; a hidden one needs no name
+abbrev pub fate_at : (hide : Bool) → FrameParts → Option SourceLocation → Fate
 fate_at hide parts None = stays
-fate_at hide parts (Some place) = if hide && is_ignored place.source then hidden else named_fate parts place (name_in place.source)
+fate_at hide parts (Some location) = if hide && is_ignored location.source then hidden else named_fate parts location (name_in location.source)
 
 abbrev pub fate_of : (hide : Bool) → List (List ℕ × MapRecord) → Option FrameParts → Fate
 fate_of hide table None = no_frame
@@ -138,8 +138,8 @@ pub record Counts : Type 0 where
 -- the lines of a trace, those that are frames, those that are replaced, and those that are hidden
 unfoldable pub counts_of : List ℕ → List (List ℕ × MapRecord) → (hide : Bool) → Counts
 counts_of text table hide = record {
-  lines = length (lines_of text);
-  frames = length (filter is_frame_line (lines_of text));
-  mapped = length (filter (is_mapped_line table hide) (lines_of text));
-  hidden = length (filter (is_hidden_line table hide) (lines_of text));
+  lines = length (lines_with_ends text);
+  frames = length (filter is_frame_line (lines_with_ends text));
+  mapped = length (filter (is_mapped_line table hide) (lines_with_ends text));
+  hidden = length (filter (is_hidden_line table hide) (lines_with_ends text));
 }

@@ -2,14 +2,14 @@
 use Rattle.std.specs.Prelude.{ℕ, List, option_map}
 use Rattle.smap_record.specs.Sources.{source_of}
 use Rattle.smap_trace.specs.FrameSeen.{parts_seen}
-use Rattle.smap_trace.specs.Rewritten.{Fate, SourcePlace, frame_text, hidden, no_frame, replaced, stays}
+use Rattle.smap_trace.specs.Rewritten.{Fate, SourceLocation, frame_text, hidden, no_frame, replaced, stays}
 use Rattle.smap_trace.specs.declared.sight.Original.{Original}
 use Rattle.smap_trace.specs.declared.sight.Replacement.{Replacement}
 use Rattle.smap_trace.specs.declared.sight.Sight.{Sight}
 use Rattle.smap_trace.specs.declared.sight.Sight.TheVariants.{Other, Staying, Replaced, Hidden}
 
 -- where a frame comes from
-abbrev pub original_seen : Original → SourcePlace
+abbrev pub original_seen : Original → SourceLocation
 original_seen original = record {
   source = option_map (λ source. source_of source.now) original.source;
   line = original.line;

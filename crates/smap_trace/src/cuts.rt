@@ -4,7 +4,7 @@ ghost use Rattle.smap_trace.specs.Cuts.{cut_at_call, cut_at_first, cut_at_last, 
 
 use memchr::memchr;
 
-/// What stands before the first of these bytes, and what stands behind it.
+/// What stands before the first of these bytes, and what stands after it.
 pub fn cut_at_first(byte: u8, text: &[u8]) -> Option<(&[u8], &[u8])>
     ensures { option_map (λ cut. (cut.0.now, cut.1.now)) result ≡ cut_at_first byte text.now }
 {
@@ -12,7 +12,7 @@ pub fn cut_at_first(byte: u8, text: &[u8]) -> Option<(&[u8], &[u8])>
     Some((&text[..place], &text[place + 1..]))
 }
 
-/// What stands before the last of these bytes, and what stands behind it.
+/// What stands before the last of these bytes, and what stands after it.
 pub fn cut_at_last(byte: u8, text: &[u8]) -> Option<(&[u8], &[u8])>
     ensures { option_map (λ cut. (cut.0.now, cut.1.now)) result ≡ cut_at_last byte text.now }
 {
@@ -26,7 +26,7 @@ pub fn cut_at_last(byte: u8, text: &[u8]) -> Option<(&[u8], &[u8])>
     None
 }
 
-/// What stands before the first ` (`, and what stands behind it.
+/// What stands before the first ` (`, and what stands after it.
 pub fn cut_at_call(text: &[u8]) -> Option<(&[u8], &[u8])>
     ensures { option_map (λ cut. (cut.0.now, cut.1.now)) result ≡ cut_at_call text.now }
 {

@@ -26,14 +26,14 @@ pub struct FrameRewriter<'t> {
 }
 
 impl LineEditor for FrameRewriter<'_> {
-    ghost use Rattle.smap_trace.specs.FrameRewriter.{behind_frame, room_of};
+    ghost use Rattle.smap_trace.specs.FrameRewriter.{after_frame, room_of};
     ghost use Rattle.smap_trace.specs.Rewritten.{rewritten_line};
-    ghost use Rattle.smap_trace.specs.RewriterLaws.{room_behind};
+    ghost use Rattle.smap_trace.specs.RewriterLaws.{room_after};
     ghost use Rattle.std.specs.Prelude.{refl};
 
     ghost becomes = { λ rewriter. rewritten_line rewriter.table.now rewriter.hide_ignored };
 
-    ghost behind = { behind_frame };
+    ghost step = { after_frame };
 
     ghost room = { room_of };
 
@@ -61,7 +61,7 @@ impl LineEditor for FrameRewriter<'_> {
 
     ghost same = { λ rewriter line other. refl };
 
-    ghost room_for_one = { room_behind };
+    ghost room_for_one = { room_after };
 }
 
 // Puts a frame with its original in place of its place, and with the end of its line.

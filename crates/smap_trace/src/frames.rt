@@ -3,9 +3,9 @@ ghost use Rattle.std.specs.Prelude.{◌≡◌, ◌≤◌, ◌↔◌, Some, lengt
 ghost use Rattle.std.specs.List.{prefix_len};
 ghost use Rattle.smap_trace.specs.Cuts.{cut_at_call, without_last};
 ghost use Rattle.smap_trace.specs.Frame.{FrameParts, IsFrame, is_blank, is_line};
-ghost use Rattle.smap_trace.specs.FrameOf.{call_frame, frame_after, frame_of, parts_with, place_of};
+ghost use Rattle.smap_trace.specs.FrameOf.{call_frame, frame_after, frame_of, parts_with, location_of};
 ghost use Rattle.smap_trace.specs.FrameOf.{ends_in_digit, plain_frame, sign_frame, unless_async};
-ghost use Rattle.smap_trace.specs.FrameSeen.{parts_seen, place_seen};
+ghost use Rattle.smap_trace.specs.FrameSeen.{parts_seen, location_seen};
 
 use crate::cuts::{cut_at_call, cut_at_first, cut_at_last, without_last};
 use crate::number::number;
@@ -67,7 +67,7 @@ fn blanks(text: &[u8]) -> usize
         .count()
 }
 
-// The frame of the first form whose function and place stand from `start` to `end`.
+// The frame of the first form whose function and location stand from `start` to `end`.
 fn call_frame(line: &[u8], start: usize, end: usize) -> Option<Frame<'_>>
     requires { (start ≤ end) × (end ≤ length line.now) }
     ensures { option_map parts_seen result
@@ -128,13 +128,13 @@ fn unless_async(frame: Option<Frame<'_>>) -> Option<Frame<'_>>
     }
 }
 
-// The frame whose place stands from `start` to `end`.
+// The frame whose location stands from `start` to `end`.
 fn frame_at(line: &[u8], start: usize, end: usize) -> Option<Frame<'_>>
     requires { (start ≤ end) × (end ≤ length line.now) }
     ensures { option_map parts_seen result
-        ≡ parts_with (take start line.now) (place_of (slice_range line.now start end)) (drop end line.now) }
+        ≡ parts_with (take start line.now) (location_of (slice_range line.now start end)) (drop end line.now) }
 {
-    let (url, printed_line, column) = place_of(&line[start..end])?;
+    let (url, printed_line, column) = location_of(&line[start..end])?;
     Some(Frame {
         head: &line[..start],
         url,
@@ -145,8 +145,8 @@ fn frame_at(line: &[u8], start: usize, end: usize) -> Option<Frame<'_>>
 }
 
 // The URL, the line and the column of a text that is these three, with a `:` between each two.
-fn place_of(text: &[u8]) -> Option<(&[u8], u32, u32)>
-    ensures { option_map place_seen result ≡ place_of text.now }
+fn location_of(text: &[u8]) -> Option<(&[u8], u32, u32)>
+    ensures { option_map location_seen result ≡ location_of text.now }
 {
     let (front, column) = cut_at_last(b':', text)?;
     let (url, line) = cut_at_last(b':', front)?;

@@ -1,6 +1,6 @@
 //! Stack traces, as V8, Firefox and Safari print them, of a program that was generated: a frame whose URL has a map and
 //! whose place has an original gets it in its place, and every other byte stays; frames of sources that a map says to
-//! pass over can be left out. Lines and columns of frames count from 1.
+//! ignore can be left out. Lines and columns of frames count from 1.
 //!
 //! ```text
 //! let mut table = Table::new(alloc);

@@ -1,13 +1,13 @@
 //! The lines and columns of frames.
 ghost use Rattle.std.specs.Prelude.{◌≡◌};
-ghost use Rattle.smap_trace.specs.FrameOf.{number_of};
+ghost use Rattle.smap_trace.specs.FrameOf.{decimal_number};
 
 // The largest line or column that a frame may print: a map's largest, counted from 1.
 const MOST: u64 = 2147483648;
 
 /// The number from 1 to 2147483648 that a text writes in decimal without leading zeros.
 pub fn number(text: &[u8]) -> Option<u32>
-    ensures { result ≡ number_of text.now }
+    ensures { result ≡ decimal_number text.now }
 {
     let first = text.first()?;
     if *first <= b'0' {

@@ -12,7 +12,7 @@ use std::alloc::Global;
 
 /// Rewrites a trace while it is read: a frame whose URL is in the table and whose place has an original gets it in its
 /// place, and every other byte stays. With `hide_ignored` the line of a frame whose original is in a source that the map
-/// says to pass over is dropped, with its LF, whatever the source's name. The caller gives devices that have not failed.
+/// says to ignore is dropped, with its LF, whatever the source's name. The caller gives devices that have not failed.
 /// The output is not flushed.
 ///
 /// What became of each line that was read was written before more is read. The first failure ends it. What was written

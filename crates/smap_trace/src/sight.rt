@@ -40,7 +40,7 @@ pub enum Sight<'l, 't> {
     Hidden,
 }
 
-/// What a line, without its LF, is, where the frames of sources that a map says to pass over are hidden or not.
+/// What a line, without its LF, is, where the frames of sources that a map says to ignore are hidden or not.
 #[tactic(auto, unfolding(crate::specs::Rewritten::fate))]
 pub fn look_at<'l, 't>(
     alloc: Global,
@@ -87,7 +87,7 @@ fn find_original<'t>(alloc: Global, table: &'t Table, frame: &Frame<'_>) -> Opti
     })
 }
 
-// Whether the map says to pass over a source.
+// Whether the map says to ignore a source.
 fn is_ignored(source: Option<&SourceEntry>) -> bool
     ensures { result ≡ is_ignored (option_map (λ entry. source_of entry.now) source.entry) }
 {

@@ -6,7 +6,7 @@ use Rattle.smap_mappings.specs.Mappings.{mappings_of}
 use Rattle.smap_mappings.specs.Within.{IsWithin}
 use Rattle.smap_mappings.specs.declared.mapping.Mapping.{Mapping}
 use Rattle.smap_record.specs.ReadBack.{IsRegularMap}
-use Rattle.smap_record.specs.Limits.{most_entries}
+use Rattle.smap_record.specs.Limits.{most_listed}
 use Rattle.smap_record.specs.Sources.{source_of}
 use Rattle.smap_index.specs.Answer.{answer_at_or_before}
 use Rattle.smap_compose.specs.Composition.{mappings_of_map, names_together, sources_together}
@@ -17,8 +17,8 @@ pub invariant_of-result : goal.invariant_of-result
 invariant_of-result c =
     let outer = c.args.outer.now.stated in
     let inner = c.args.inner.now.stated in
-    let few_sources : sources_together outer inner ≤ most_entries = omega (arith, ltb-false _ _ (sym c.if-are_too_many.ensures), c.sources-2.ensures, c.sources-3.ensures) in
-    let few_names : names_together outer inner ≤ most_entries = omega (arith, ltb-false _ _ (sym c.if-are_too_many-2.ensures), c.names.ensures, c.names-else-are_too_many.ensures) in
+    let few_sources : sources_together outer inner ≤ most_listed = omega (arith, ltb-false _ _ (sym c.if-are_too_many.ensures), c.sources-2.ensures, c.sources-3.ensures) in
+    let few_names : names_together outer inner ≤ most_listed = omega (arith, ltb-false _ _ (sym c.if-are_too_many-2.ensures), c.names.ensures, c.names-else-are_too_many.ensures) in
     let same = c.deref.ensures.value in
     let P : List Mapping → Type 0 = λ list. mappings_of (canonical_text list) ≡ list in
     let Q : List Mapping → Type 0 = λ list. IsRegularMap (length c.in_ok-sources.sources.items) (length c.in_ok-names.names.items) (canonical_text list) in

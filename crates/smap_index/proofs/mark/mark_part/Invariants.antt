@@ -1,7 +1,7 @@
 use Rattle.std.proofs.Common.{◌≡◌, ◌-◌, ◌||◌, true, false, None, length, take}
 use Rattle.std.specs.Prelude.{IfSome}
 use Rattle.std.specs.List.{last_or, list_any}
-use Rattle.smap_mappings.specs.Pieces.{pieces_of}
+use Rattle.smap_mappings.specs.Segments.{segments_of}
 use Rattle.smap_mappings.specs.Mappings.{mappings_of}
 use Rattle.smap_mappings.specs.State.{IsAfter, IsMappingAt}
 use Rattle.smap_index.specs.Parts.{placed}
@@ -18,8 +18,8 @@ invariant-loop-mapping l = record {
   counting : IsCounting l.k l.walk.state.line l.walk.number (take l.meter.segments (mappings_of l.part.text));
   past_limit : l.walk.is_past_limit ≡ (is_number_past_limit l.part.line || is_number_past_limit l.part.column || list_any is_mapping_past_limit (take l.meter.segments (placed l.part)));
   room : l.walk.has_room ≡ true → l.fn.has_room ≡ true;
-  marked : l.walk.is_past_limit ≡ false → l.walk.has_room ≡ true → IsMarked l.part l.number l.k (take l.meter.segments (placed l.part)) l.fn.table l.table;
+  marked : l.walk.is_past_limit ≡ false → l.walk.has_room ≡ true → IsMarked l.part l.number l.k (take l.meter.segments (placed l.part)) l.fn.checkpoints l.checkpoints;
 }
 
 abbrev pub decreases-loop-mapping : goal.decreases-loop-mapping
-decreases-loop-mapping l = length (pieces_of l.part.text) - l.meter.segments
+decreases-loop-mapping l = length (segments_of l.part.text) - l.meter.segments

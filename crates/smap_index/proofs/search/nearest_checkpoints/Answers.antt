@@ -10,10 +10,10 @@ use Rattle.smap_index.proofs.search.nearest_checkpoints.Goals as goal
 pub loop-low-init : goal.loop-low-init
 loop-low-init c = record {
   low = omega arith;
-  high = omega (arith, front_within c.args.bound.now c.args.table.now, c.len-high.ensures);
+  high = omega (arith, front_within c.args.bound.now c.args.checkpoints.now, c.len-high.ensures);
   inside = omega (arith, c.len-high.ensures);
   last = refl;
-  next = sym (slice_get_past c.args.table.now _ (omega (arith, c.len-high.ensures)));
+  next = sym (slice_get_past c.args.checkpoints.now _ (omega (arith, c.len-high.ensures)));
   onward = omega arith;
   few = λ b below. (b, omega arith, omega (arith, c.len-high.ensures));
   none_decoded = refl;
@@ -26,13 +26,13 @@ at-checkpoint-requires-clause-room c =
 
 pub loop-low-preserved-then-reaches : goal.loop-low-preserved-then-reaches
 loop-low-preserved-then-reaches c =
-    let there = read_mapping c.args.table.now _ c.at-checkpoint.result.now c.at-checkpoint.ensures.read in
+    let there = read_mapping c.args.checkpoints.now _ c.at-checkpoint.result.now c.at-checkpoint.ensures.read in
     let counted = ap (λ m. m.comparisons) c.at-checkpoint.ensures.counted in
     record {
-      low = in_front c.args.bound.now (mappings_at c.args.table.now) _ (mapping_of c.at-checkpoint.result.now) c.requires.ordered there (ap (is_up_to c.args.bound.now) (sym c.mapping.ensures) ∙ sym c.reaches.ensures ∙ c.if-reaches.true);
+      low = in_front c.args.bound.now (mappings_at c.args.checkpoints.now) _ (mapping_of c.at-checkpoint.result.now) c.requires.ordered there (ap (is_up_to c.args.bound.now) (sym c.mapping.ensures) ∙ sym c.reaches.ensures ∙ c.if-reaches.true);
       high = c.loop-low.invariant.high;
       inside = c.loop-low.invariant.inside;
-      last = sym (last_taken None c.args.table.now _ c.at-checkpoint.result.now c.at-checkpoint.ensures.read);
+      last = sym (last_taken None c.args.checkpoints.now _ c.at-checkpoint.result.now c.at-checkpoint.ensures.read);
       next = c.loop-low.invariant.next;
       onward = omega (arith, c.loop-low.invariant.onward);
       few = λ b below. one_more _ _ _ b _ _ (omega arith) (omega arith) counted (c.loop-low.invariant.few b below);
@@ -41,11 +41,11 @@ loop-low-preserved-then-reaches c =
 
 pub loop-low-preserved : goal.loop-low-preserved
 loop-low-preserved c =
-    let there = read_mapping c.args.table.now _ c.at-checkpoint.result.now c.at-checkpoint.ensures.read in
+    let there = read_mapping c.args.checkpoints.now _ c.at-checkpoint.result.now c.at-checkpoint.ensures.read in
     let counted = ap (λ m. m.comparisons) c.at-checkpoint.ensures.counted in
     record {
       low = c.loop-low.invariant.low;
-      high = ends_front c.args.bound.now (mappings_at c.args.table.now) _ (mapping_of c.at-checkpoint.result.now) there (ap (is_up_to c.args.bound.now) (sym c.mapping.ensures) ∙ sym c.reaches.ensures ∙ c.if-reaches.false);
+      high = ends_front c.args.bound.now (mappings_at c.args.checkpoints.now) _ (mapping_of c.at-checkpoint.result.now) there (ap (is_up_to c.args.bound.now) (sym c.mapping.ensures) ∙ sym c.reaches.ensures ∙ c.if-reaches.false);
       inside = omega (arith, c.loop-low.invariant.inside);
       last = c.loop-low.invariant.last;
       next = sym c.at-checkpoint.ensures.read;

@@ -8,13 +8,13 @@ use Rattle.smap_index.proofs.search.nearest_checkpoints.Given as goal
 -- comparison so far the number of checkpoints between them came below a power of two that is one lower
 abbrev pub invariant-loop-low : goal.invariant-loop-low
 invariant-loop-low l = record {
-  low : l.low ≤ front_up_to l.bound (mappings_at l.table);
-  high : front_up_to l.bound (mappings_at l.table) ≤ l.high;
-  inside : l.high ≤ length l.table;
-  last : option_copied l.last ≡ last_or None (take l.low l.table);
-  next : option_copied l.next ≡ slice_get l.table l.high;
+  low : l.low ≤ front_up_to l.bound (mappings_at l.checkpoints);
+  high : front_up_to l.bound (mappings_at l.checkpoints) ≤ l.high;
+  inside : l.high ≤ length l.checkpoints;
+  last : option_copied l.last ≡ last_or None (take l.low l.checkpoints);
+  next : option_copied l.next ≡ slice_get l.checkpoints l.high;
   onward : l.fn.meter.comparisons ≤ l.meter.comparisons;
-  few : (b : ℕ) → length l.table < 2 ^ b → (d : ℕ) × (l.meter.comparisons + d ≡ l.fn.meter.comparisons + b) × (l.high - l.low < 2 ^ d);
+  few : (b : ℕ) → length l.checkpoints < 2 ^ b → (d : ℕ) × (l.meter.comparisons + d ≡ l.fn.meter.comparisons + b) × (l.high - l.low < 2 ^ d);
   none_decoded : l.meter.segments ≡ l.fn.meter.segments;
 }
 

@@ -1,5 +1,5 @@
 use Rattle.std.proofs.Common.{arith, sym, ◌∙◌}
-use Rattle.smap_mappings.proofs.CheckLaws.{walk_or_start, none_at_end, lines_at_end, all_behind, is_new, checks_more, from_bool_most}
+use Rattle.smap_mappings.proofs.CheckLaws.{walk_or_start, none_at_end, lines_at_end, all_after, is_new, checks_more, from_bool_most}
 use Rattle.smap_mappings.proofs.check.check_segments.Goals as goal
 
 pub loop-at-init : goal.loop-at-init
@@ -11,7 +11,7 @@ returns-then-next-bytes-clause-fault c =
 
 pub returns-then-next-bytes-clause-segments : goal.returns-then-next-bytes-clause-segments
 returns-then-next-bytes-clause-segments c =
-    all_behind c.args.bytes.now c.loop-at.segments c.skip_separators-next.result (c.skip_separators-next.ensures.after c.loop-at.segments c.loop-at.invariant.after) (omega arith)
+    all_after c.args.bytes.now c.loop-at.segments c.skip_separators-next.result (c.skip_separators-next.ensures.after c.loop-at.segments c.loop-at.invariant.after) (omega arith)
 
 pub returns-then-next-bytes-clause-used_lines : goal.returns-then-next-bytes-clause-used_lines
 returns-then-next-bytes-clause-used_lines c =

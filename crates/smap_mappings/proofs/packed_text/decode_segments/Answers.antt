@@ -9,7 +9,7 @@ loop-mapping-init c = subst (DecodesUpTo c.args.bytes.now _) (sym c.in_ok-list.e
 pub loop-mapping-preserved : goal.loop-mapping-preserved
 loop-mapping-preserved c =
     let decodes = c.loop-mapping.invariant in
-    decodes_more c.args.bytes.now c.loop-mapping.at c.in-Some.behind c.loop-mapping.list.items _ c.in-Some.mapping decodes (c.in-Some.ensures.some decodes.j decodes.after) c.in_ok-push.ensures.items
+    decodes_more c.args.bytes.now c.loop-mapping.at c.in-Some.after c.loop-mapping.list.items _ c.in-Some.mapping decodes (c.in-Some.ensures.some decodes.j decodes.after) c.in_ok-push.ensures.items
 
 pub returns : goal.returns
 returns c =

@@ -1,5 +1,5 @@
 use Rattle.std.proofs.Common.{arith, refl}
-use Rattle.smap_mappings.proofs.CheckLaws.{all_behind}
+use Rattle.smap_mappings.proofs.CheckLaws.{all_after}
 use Rattle.smap_mappings.proofs.StepLaws.{skips_comma}
 use Rattle.smap_mappings.proofs.packed_text.next_segment.Goals as goal
 
@@ -12,4 +12,4 @@ returns-then-is_joined_by_one-clause-some c j after =
     c.checked_straight_step.ensures.next j (skips_comma c.args.bytes.now j c.args.cursor.now _ after (omega (arith, c.is_joined_by_one.ensures.room c.if-is_joined_by_one.true)) (c.is_joined_by_one.ensures.comma c.if-is_joined_by_one.true) refl)
 
 pub returns-then-at-bytes-clause-none : goal.returns-then-at-bytes-clause-none
-returns-then-at-bytes-clause-none c j after = all_behind c.args.bytes.now j c.skip_separators-at.result (c.skip_separators-at.ensures.after j after) (omega arith)
+returns-then-at-bytes-clause-none c j after = all_after c.args.bytes.now j c.skip_separators-at.result (c.skip_separators-at.ensures.after j after) (omega arith)

@@ -3,7 +3,7 @@ use Rattle.std.specs.Prelude.{ℤ, IfSome}
 use Rattle.std.proofs.lemmas.Bool.{both_ways}
 use Rattle.smap_mappings.specs.Limits.{most_indices}
 use Rattle.smap_mappings.specs.State.{IsOriginAt, IsMappingAt}
-use Rattle.smap_mappings.specs.Step.{fault_from, name_behind, origin_behind, mapping_in}
+use Rattle.smap_mappings.specs.Step.{fault_from, cursor_name, cursor_origin, mapping_in}
 use Rattle.smap_mappings.specs.declared.cursor.Cursor.{Cursor}
 use Rattle.smap_mappings.specs.declared.segment.Segment.{Segment}
 use Rattle.smap_mappings.specs.declared.segment.OriginFields.{OriginFields}
@@ -32,11 +32,11 @@ returns-clause-next c j after =
     rw c.mapping_in.ensures steps.next
 
 -- a mapping that is made from a state has the state's values
-name_at : (name : Option ℤ) (after : Cursor) → IfSome (name_behind name after) (λ name. name ≡ after.name)
+name_at : (name : Option ℤ) (after : Cursor) → IfSome (cursor_name name after) (λ name. name ≡ after.name)
 name_at None after = tt
 name_at (Some name) after = refl
 
-origin_at : (origin : Option OriginFields) (after : Cursor) → IfSome (origin_behind origin after) (IsOriginAt after)
+origin_at : (origin : Option OriginFields) (after : Cursor) → IfSome (cursor_origin origin after) (IsOriginAt after)
 origin_at None after = tt
 origin_at (Some origin) after = record { source = refl; line = refl; column = refl; name = name_at origin.name after }
 

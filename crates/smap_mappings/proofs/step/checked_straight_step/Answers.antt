@@ -2,8 +2,8 @@ use Rattle.std.proofs.Common.{◌≡◌, ◌<◌, None, length, arith, ap, refl,
 use Rattle.std.proofs.lemmas.Bool.{both_ways}
 use Rattle.smap_mappings.specs.Limits.{most_indices}
 use Rattle.smap_mappings.specs.State.{values_at}
-use Rattle.smap_mappings.specs.Reading.{move_in}
-use Rattle.smap_mappings.specs.Advance.{values_behind, sums_fault, IsBehind}
+use Rattle.smap_mappings.specs.Reading.{delta_in}
+use Rattle.smap_mappings.specs.Advance.{values_after, sums_fault, IsAdvanced}
 use Rattle.smap_mappings.specs.Step.{fault_from}
 use Rattle.smap_mappings.proofs.CheckLaws.{no_fault_from}
 use Rattle.smap_mappings.proofs.StepLaws.{steps_to, can_be_read, clean_values}
@@ -28,10 +28,10 @@ returns-clause-next c j after =
     let straight = c.in-Some.straight in
     let read = c.in-Some.ensures.some in
     let within : cursor.place < length text = omega arith in
-    let clean = clean_values text c.requires.state.0 cursor most_indices most_indices (none (goal.at.returns-clause-next c).Start) c.requires.state.1 within c.requires.inside read.segment straight.behind.place read.reads in
-    let sums = values_behind (values_at cursor) (move_in cursor.line read.segment) in
+    let clean = clean_values text c.requires.state.0 cursor most_indices most_indices (none (goal.at.returns-clause-next c).Start) c.requires.state.1 within c.requires.inside read.segment straight.after.place read.reads in
+    let sums = values_after (values_at cursor) (delta_in cursor.line read.segment) in
     let values = values_from_sums text cursor straight read (sums_in_range most_indices most_indices read.segment sums clean) in
-    let advances : IsBehind cursor read.segment straight.behind.place most_indices most_indices straight.behind =
+    let advances : IsAdvanced cursor read.segment straight.after.place most_indices most_indices straight.after =
     record { place = refl; line = read.line; values = values; allowed = ap (sums_fault most_indices most_indices read.segment) values ∙ clean } in
-    let steps = steps_to text j cursor read.segment straight.behind.place after within c.requires.inside read.reads most_indices most_indices straight.behind advances in
+    let steps = steps_to text j cursor read.segment straight.after.place after within c.requires.inside read.reads most_indices most_indices straight.after advances in
     rw (c.mapping.ensures, mapping_same text cursor straight read) steps.next

@@ -3,7 +3,7 @@ use Rattle.smap_mappings.specs.Limits.{most_digits}
 use Rattle.smap_mappings.specs.Canonical.{digits_of}
 use Rattle.smap_mappings.proofs.vlq.count_digits.Given as goal
 
--- the digits behind those counted are those of the rest
+-- the digits after those counted are those of the rest
 abbrev pub invariant-loop-rest : goal.invariant-loop-rest
 invariant-loop-rest l = record {
   left : ℕ;

@@ -3,7 +3,7 @@ use Rattle.smap_mappings.specs.Limits.{most_digits}
 use Rattle.smap_mappings.specs.Canonical.{digits_of}
 use Rattle.smap_mappings.proofs.vlq.write_long.Given as goal
 
--- the digits behind those written are those of the rest, and there is room for them
+-- the digits after those written are those of the rest, and there is room for them
 abbrev pub invariant-loop-rest : goal.invariant-loop-rest
 invariant-loop-rest l = record {
   left : ℕ;

@@ -4,7 +4,7 @@ use Rattle.std.proofs.lemmas.List.{length-append, length-map, length_push, map-a
 use Rattle.std.proofs.lemmas.List.Elements.{All-push}
 use Rattle.std.proofs.lemmas.List.Sums.{sum_by_push}
 use Rattle.std.proofs.lemmas.Result.{err_from_is_err_and}
-use Rattle.smap_record.specs.IndexMap.{sections_behind}
+use Rattle.smap_record.specs.IndexMap.{sections_after}
 use Rattle.smap_record.specs.MapFile.{IsPartWithin}
 use Rattle.smap_record.specs.Seen.{entry_seen, entries_seen, sections_seen, sources_seen, section_seen}
 use Rattle.smap_record.specs.declared.index_map.Offset.{Offset}
@@ -26,7 +26,7 @@ returns-in_err-section-clause-statement c =
     (sym so_far.source_base ∙ sym (count_seen joined.sources.items)) names_before in
     rw (p.1, p.2)
     (handed_on c.in_err-section.field-0.0 _ _ _
-    (sym so_far.chain ∙ ap (λ rest. sections_behind (sections_seen joined) (entries_seen rest)) c.in-Some.ensures.steps.0
+    (sym so_far.chain ∙ ap (λ rest. sections_after (sections_seen joined) (entries_seen rest)) c.in-Some.ensures.steps.0
     ∙ next_section (sections_seen joined) (entry_seen c.in-Some.entry) (entries_seen c.next.new.self.rest.items) _ place_is)
     c.in_err-section.ensures.statement)
 
@@ -48,9 +48,9 @@ loop-entry-preserved c =
     let part_total = ap length c.in_ok-push.ensures.parts ∙ length_push joined.parts.items _ in
     let name_total : names ≡ length joined.names.items + length read.names.items = ap length c.in_ok-push.ensures.names ∙ length-append joined.names.items read.names.items in
     record {
-      chain = ap (λ sections. sections_behind sections (entries_seen rest)) pushed
+      chain = ap (λ sections. sections_after sections (entries_seen rest)) pushed
           ∙ sym (one_more (sections_seen joined) (entry_seen c.in-Some.entry) (entries_seen rest) _ place_is (section_seen read) c.in_ok-section.ensures.statement)
-          ∙ sym (ap (λ entries. sections_behind (sections_seen joined) (entries_seen entries)) c.in-Some.ensures.steps.0) ∙ so_far.chain;
+          ∙ sym (ap (λ entries. sections_after (sections_seen joined) (entries_seen entries)) c.in-Some.ensures.steps.0) ∙ so_far.chain;
       count = omega (arith, so_far.count, part_total, ap length c.in-Some.ensures.steps.0);
       source_base = ap count_of c.in_ok-push.ensures.sources ∙ sum_by_push (λ (s : SectionSources). length s.texts.items) joined.sources.items read.sources
           ∙ omega (arith, so_far.source_base, c.len-in-loop-entry-3.ensures);
@@ -71,5 +71,5 @@ loop-entry-preserved c =
 pub returns-clause-statement : goal.returns-clause-statement
 returns-clause-statement c =
     sym c.loop-entry.invariant.chain
-    ∙ ap (λ rest. sections_behind (sections_seen c.loop-entry.joined) (entries_seen rest)) (none_left c.loop-entry.entry-iterator c.in-None.ensures.steps.0)
+    ∙ ap (λ rest. sections_after (sections_seen c.loop-entry.joined) (entries_seen rest)) (none_left c.loop-entry.entry-iterator c.in-None.ensures.steps.0)
     ∙ no_more (sections_seen c.loop-entry.joined)

@@ -1,7 +1,7 @@
 use Rattle.std.proofs.Common.{◌+◌, ◌<◌, Vec, Global, length, ap, subst, sym, ◌∙◌, arith, eqb-true}
 use Rattle.std.proofs.lemmas.Bool.{eqb-false}
 use Rattle.serde_json.specs.declared.value.Value.{Value}
-use Rattle.smap_record.proofs.IndexLaws.{AreIndices, passed_over, added, nothing, something}
+use Rattle.smap_record.proofs.IndexLaws.{AreIndices, skipped, added, nothing, something}
 use Rattle.smap_record.proofs.written.ignored.Goals as goal
 use Rattle.smap_record.proofs.written.ignored.Goals.{then-source+in_ok-push, else-source}
 
@@ -14,7 +14,7 @@ loop-i-preserved c =
           (added c.loop-i.values.items c.args.sources.now c.loop-i.i c.index-sources-i.result within c.index-sources-i.is c.loop-i.invariant w.if-source.true w.from.result w.from.ensures)
       | else-source w ↦
           subst (λ values. AreIndices values c.args.sources.now (c.loop-i.i + 1)) (ap (λ (values : Vec Value Global). values.items) (sym w.values-is))
-          (passed_over c.loop-i.values.items c.args.sources.now c.loop-i.i c.index-sources-i.result within c.index-sources-i.is c.loop-i.invariant w.if-source.false)
+          (skipped c.loop-i.values.items c.args.sources.now c.loop-i.i c.index-sources-i.result within c.index-sources-i.is c.loop-i.invariant w.if-source.false)
     ]
 
 pub returns-then-is_empty : goal.returns-then-is_empty

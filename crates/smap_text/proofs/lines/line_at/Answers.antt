@@ -1,7 +1,7 @@
 use Rattle.std.proofs.Common.{◌≡◌, Some, slice_get, subst, sym, rules, arith}
 use Rattle.std.specs.Str.{chars}
 use Rattle.smap_text.specs.Lines.{IsRestFrom, lines_of}
-use Rattle.smap_text.proofs.LineLaws.{from_start, from_next, line_here, none_behind}
+use Rattle.smap_text.proofs.LineLaws.{from_start, from_next, line_here, none_after}
 use Rattle.smap_text.proofs.lines.line_at.Goals as goal
 
 pub loop-passed-init : goal.loop-passed-init
@@ -16,7 +16,7 @@ loop-passed-preserved c = (
 pub returns-in_err-rest-clause-text : goal.returns-in_err-rest-clause-text
 returns-in_err-rest-clause-text c =
     rw c.from_residual.ensures
-    (sym (none_behind c.args.content.now c.loop-passed._passed c.args.line c.loop-passed.rest.now c.loop-passed.invariant.1 c.loop-passed-test.true c.in_err-rest.ensures.lines))
+    (sym (none_after c.args.content.now c.loop-passed._passed c.args.line c.loop-passed.rest.now c.loop-passed.invariant.1 c.loop-passed-test.true c.in_err-rest.ensures.lines))
 
 pub returns-clause-text : goal.returns-clause-text
 returns-clause-text c =

@@ -3,7 +3,7 @@ use Rattle.smap_index.specs.Joined.{left_of}
 use Rattle.smap_index.proofs.WalkLaws.{placed_in_range}
 use Rattle.smap_index.proofs.JoinedLaws.{left_none, first_state, first_in_range, walk_on, first_given, rest_left, walk_rest}
 use Rattle.smap_index.proofs.joined.JoinedMappingsIterator.next.Goals as goal
-use Rattle.smap_index.proofs.joined.JoinedMappingsIterator.next.Goals.{In-Some, In-Some-place}
+use Rattle.smap_index.proofs.joined.JoinedMappingsIterator.next.Goals.{In-Some, In-Some-placed_mapping}
 
 pub loop-part-init : goal.loop-part-init
 loop-part-init c = record { same = c.self.view_is; walk = c.self.invariant }
@@ -20,19 +20,19 @@ pub unreachable-requires : goal.unreachable-requires
 unreachable-requires c =
     let walk = c.loop-part.invariant.walk in
     let next = c.in-Some-next.ensures.some _ (first_state _ _ _ c.in-Some.ensures.cases.0 _ _ walk) in
-    placed_in_range c.in-Some.part.now _ c.in-Some-next.mapping c.in-Some-next.behind next (first_in_range _ _ _ c.in-Some.ensures.cases.0 _ _ walk) (sym c.place.ensures ∙ c.in_default-place.is)
+    placed_in_range c.in-Some.part.now _ c.in-Some-next.mapping c.in-Some-next.after next (first_in_range _ _ _ c.in-Some.ensures.cases.0 _ _ walk) (sym c.placed_mapping.ensures ∙ c.in_default-placed_mapping.is)
 
 pub invariant_of-self : goal.invariant_of-self
 invariant_of-self c =
     let walk = c.loop-part.invariant.walk in
     let next = c.in-Some-next.ensures.some _ (first_state _ _ _ c.in-Some.ensures.cases.0 _ _ walk) in
-    walk_on _ _ _ c.in-Some.ensures.cases.0 _ _ walk c.in-Some-next.mapping c.in-Some-next.behind next c.next.new.meter.segments (ap (λ m. m.segments) c.in-Some-next.ensures.counted) _ (cc)
+    walk_on _ _ _ c.in-Some.ensures.cases.0 _ _ walk c.in-Some-next.mapping c.in-Some-next.after next c.next.new.meter.segments (ap (λ m. m.segments) c.in-Some-next.ensures.counted) _ (cc)
 
-given : (c : In-Some-place) → left_of c.loop-part.self-inside.parts.now c.loop-part.self-inside.meter.segments ≡ c.in-Some-place.placed ∷ left_of c.loop-part.self-inside.parts.now c.next.new.meter.segments
+given : (c : In-Some-placed_mapping) → left_of c.loop-part.self-inside.parts.now c.loop-part.self-inside.meter.segments ≡ c.in-Some-placed_mapping.placed ∷ left_of c.loop-part.self-inside.parts.now c.next.new.meter.segments
 given c =
     let walk = c.loop-part.invariant.walk in
     let next = c.in-Some-next.ensures.some _ (first_state _ _ _ c.in-Some.ensures.cases.0 _ _ walk) in
-    first_given _ _ _ c.in-Some.ensures.cases.0 _ _ walk c.in-Some-next.mapping c.in-Some-next.behind next c.next.new.meter.segments (ap (λ m. m.segments) c.in-Some-next.ensures.counted) c.in-Some-place.placed (sym c.place.ensures ∙ c.in-Some-place.is)
+    first_given _ _ _ c.in-Some.ensures.cases.0 _ _ walk c.in-Some-next.mapping c.in-Some-next.after next c.next.new.meter.segments (ap (λ m. m.segments) c.in-Some-next.ensures.counted) c.in-Some-placed_mapping.placed (sym c.placed_mapping.ensures ∙ c.in-Some-placed_mapping.is)
 
 pub returns-in-Some-next-clause-steps : goal.returns-in-Some-next-clause-steps
 returns-in-Some-next-clause-steps c = sym c.loop-part.invariant.same ∙ given c

@@ -1,5 +1,5 @@
 use Rattle.std.proofs.lemmas.Result.{err_from_is_err_and, on_err_weaker, on_ok_weaker}
-use Rattle.smap_lines.proofs.TakingLaws.{all_behind, front_behind, front_of_more}
+use Rattle.smap_lines.proofs.TakingLaws.{all_after, front_after, front_of_more}
 use Rattle.smap_lines.proofs.gathered.Gathered.put.Goals as goal
 
 pub returns-in_err-write-clause-front : goal.returns-in_err-write-clause-front
@@ -10,8 +10,8 @@ returns-in_err-write-clause-front g c =
 pub returns-then-bytes-gt-MOST_GATHERED-clause-put : goal.returns-then-bytes-gt-MOST_GATHERED-clause-put
 returns-then-bytes-gt-MOST_GATHERED-clause-put g c =
     on_ok_weaker c.write_all.result
-    (λ took. rw c.in_ok-write.ensures.none (all_behind _ _ _ _ _ c.in_ok-write.ensures.written took)) c.write_all.ensures.whole
+    (λ took. rw c.in_ok-write.ensures.none (all_after _ _ _ _ _ c.in_ok-write.ensures.written took)) c.write_all.ensures.whole
 
 pub returns-then-bytes-gt-MOST_GATHERED-clause-front : goal.returns-then-bytes-gt-MOST_GATHERED-clause-front
 returns-then-bytes-gt-MOST_GATHERED-clause-front g c =
-    on_err_weaker c.write_all.result (λ took. front_behind _ _ _ _ _ c.in_ok-write.ensures.written took) c.write_all.ensures.front
+    on_err_weaker c.write_all.result (λ took. front_after _ _ _ _ _ c.in_ok-write.ensures.written took) c.write_all.ensures.front

@@ -3,7 +3,7 @@ use Rattle.std.specs.Prelude.{string_bytes}
 use Rattle.smap_mappings.specs.Limits.{most_text_bytes}
 use Rattle.smap_mappings.specs.Accepted.{IsAccepted}
 use Rattle.smap_mappings.specs.Faults.{first_fault}
-use Rattle.smap_mappings.specs.Counts.{segments_of, used_lines_of}
+use Rattle.smap_mappings.specs.Counts.{segment_count, used_lines_of}
 use Rattle.smap_mappings.proofs.CheckLaws.{widest, no_fault_is_accepted, accepted_has_no_fault}
 use Rattle.smap_mappings.proofs.WithinLaws.{mappings_within}
 use Rattle.smap_mappings.proofs.packed_text.PackedText.check.Goals as goal
@@ -18,7 +18,7 @@ accepted c = subst (λ text. IsAccepted text c.args.sources c.args.names) c.as_b
 pub invariant_of-result : goal.invariant_of-result
 invariant_of-result c = record {
   packed = record { short = short (goal.at.invariant_of-result c).After-as_bytes; accepted = widest (string_bytes c.args.text) c.args.sources c.args.names (accepted (goal.at.invariant_of-result c).In-Ok) };
-  segments_are = c.in-Ok.ensures.segments ∙ ap segments_of c.as_bytes.ensures.value;
+  segments_are = c.in-Ok.ensures.segments ∙ ap segment_count c.as_bytes.ensures.value;
   used_lines_are = c.in-Ok.ensures.used_lines ∙ ap used_lines_of c.as_bytes.ensures.value;
 }
 

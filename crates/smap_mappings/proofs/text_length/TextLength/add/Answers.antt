@@ -7,4 +7,4 @@ pub returns : goal.returns
 returns c list is =
     length_more list c.args.self.now _ c.args.mapping.now c.separators_length.result c.segment_length.result is c.separators_length.ensures
     (c.segment_length.ensures.length ∙ ap (λ fields. length (spelled fields)) c.segment-segment.ensures.fields)
-    c.min-self.ensures c.behind-self.ensures.values c.behind-self.ensures.in_range
+    c.min-self.ensures c.after-self.ensures.values c.after-self.ensures.in_range

@@ -7,4 +7,4 @@ pub returns : goal.returns
 returns c list is =
     text_more list c.args.self.now _ c.args.mapping.now _ is c.in_ok-write_separators.ensures
     (c.in_ok-write_segment.ensures ∙ ap (λ fields. c.write_separators.new.out.items ++ spelled fields) c.segment-segment.ensures.fields)
-    c.behind-self.ensures.values c.behind-self.ensures.in_range
+    c.after-self.ensures.values c.after-self.ensures.in_range

@@ -3,9 +3,9 @@ use Rattle.smap_mappings.specs.State.{IsAfter}
 use Rattle.smap_index.specs.Checkpoint.{mapping_of, state_of}
 use Rattle.smap_index.specs.Parts.{placed}
 use Rattle.smap_index.specs.Search.{last_from, first_past}
-use Rattle.smap_index.proofs.resume.decode_behind.Given as goal
+use Rattle.smap_index.proofs.resume.decode_after.Given as goal
 
--- what is looked for is the last of those that are left, and where there is none, the last so far; and the first behind
+-- what is looked for is the last of those that are left, and where there is none, the last so far; and the first after
 -- it is the first of those that are left
 abbrev pub invariant-loop-left : goal.invariant-loop-left
 invariant-loop-left l = record {

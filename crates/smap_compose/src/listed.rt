@@ -1,7 +1,7 @@
 //! The sources and names of two maps, side by side.
 ghost use Rattle.std.specs.Prelude.{◌≡◌, ◌≤◌, ◌++◌, length, map, option_map, string_bytes, IfOk, OnOk};
 ghost use Rattle.smap_resolve.specs.SourceName.{name_of};
-ghost use Rattle.smap_record.specs.Limits.{most_entries};
+ghost use Rattle.smap_record.specs.Limits.{most_listed};
 ghost use Rattle.smap_record.specs.Sources.{source_of};
 ghost use Rattle.smap_compose.specs.Composition.{AreFew};
 
@@ -44,7 +44,7 @@ pub fn joined_names(
 
 // Adds the sources of a map to those before them.
 fn add_sources(map_file: &MapFile, sources: &mut Vec<SourceEntry>) -> Result<(), AllocError>
-    requires { length map_file.now.stated.sources ≤ most_entries }
+    requires { length map_file.now.stated.sources ≤ most_listed }
     ensures { OnOk result (map source_of sources.new.items
         ≡ map source_of sources.old.items ++ map_file.now.stated.sources) }
 {
@@ -58,7 +58,7 @@ fn add_sources(map_file: &MapFile, sources: &mut Vec<SourceEntry>) -> Result<(),
 
 // Adds the names of a map to those before them.
 fn add_names(alloc: Global, map_file: &MapFile, names: &mut Vec<String>) -> Result<(), AllocError>
-    requires { length map_file.now.stated.names ≤ most_entries }
+    requires { length map_file.now.stated.names ≤ most_listed }
     ensures { OnOk result (map string_bytes names.new.items
         ≡ map string_bytes names.old.items ++ map_file.now.stated.names) }
 {

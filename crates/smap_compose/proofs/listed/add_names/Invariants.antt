@@ -1,5 +1,5 @@
 use Rattle.std.proofs.Common.{◌≡◌, ◌++◌, map, string_bytes, take}
-use Rattle.smap_compose.proofs.entries.add_names.Given as goal
+use Rattle.smap_compose.proofs.listed.add_names.Given as goal
 
 -- the names so far are added
 abbrev pub invariant-loop-i : goal.invariant-loop-i

@@ -9,11 +9,11 @@ use std::marker::Model;
 
 // The checkpoints of an index, in order. One is read only by a call that counts it.
 #[derive(Drop)]
-pub struct Table {
+pub struct Checkpoints {
     checkpoints: Vec<Checkpoint>,
 }
 
-impl Model for Table {
+impl Model for Checkpoints {
     ghost use Rattle.std.specs.Prelude.{List};
     ghost use Rattle.smap_index.specs.declared.checkpoint.Checkpoint.{Checkpoint};
 
@@ -22,12 +22,12 @@ impl Model for Table {
     ghost view = { λ t. t.checkpoints.items };
 }
 
-impl Table {
+impl Checkpoints {
     // A table of no checkpoint.
     pub fn new(alloc: Global) -> Self
         ensures { result ≡ [] }
     {
-        Table {
+        Checkpoints {
             checkpoints: Vec::new(alloc),
         }
     }
@@ -69,7 +69,7 @@ impl Table {
 // A further field would not compile.
 #[test]
 fn a_table_has_its_checkpoints_alone(rt: HostRuntime) {
-    let table = Table::new(rt.alloc());
-    let Table { checkpoints } = &table;
+    let none = Checkpoints::new(rt.alloc());
+    let Checkpoints { checkpoints } = &none;
     assert!(&rt; checkpoints.is_empty());
 }

@@ -1,8 +1,8 @@
 use Rattle.std.proofs.Common.{◌<◌, ◌++◌, ◌∷◌, [], length, map, string_bytes, sym, ap, ◌∙◌, arith, Vec, String, Global}
 use Rattle.std.proofs.lemmas.List.{map-append}
 use Rattle.smap_compose.proofs.ListLaws.{none_past, copied_next}
-use Rattle.smap_compose.proofs.entries.add_names.Goals as goal
-use Rattle.smap_compose.proofs.entries.add_names.Goals.{in-Some+in_ok-from_str+in_ok-push, in_default}
+use Rattle.smap_compose.proofs.listed.add_names.Goals as goal
+use Rattle.smap_compose.proofs.listed.add_names.Goals.{in-Some+in_ok-from_str+in_ok-push, in_default}
 
 pub loop-i-preserved : goal.loop-i-preserved
 loop-i-preserved c =

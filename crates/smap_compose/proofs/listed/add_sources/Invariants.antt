@@ -1,6 +1,6 @@
 use Rattle.std.proofs.Common.{◌≡◌, ◌++◌, map, take}
 use Rattle.smap_record.specs.Sources.{source_of}
-use Rattle.smap_compose.proofs.entries.add_sources.Given as goal
+use Rattle.smap_compose.proofs.listed.add_sources.Given as goal
 
 -- the sources so far are added
 abbrev pub invariant-loop-i : goal.invariant-loop-i

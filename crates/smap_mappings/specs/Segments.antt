@@ -5,14 +5,14 @@ use Rattle.std.specs.Prelude.{ℕ, ◌+◌, List, [], ◌∷◌, ◌++◌, Bool,
 use Rattle.std.specs.List.{slice_split}
 
 -- a segment's bytes, the generated line on which it stands, from 0, and the place of its first byte in the text
-pub record Piece : Type 0 where
+pub record TextSegment : Type 0 where
   pub line : ℕ
   pub place : ℕ
   pub bytes : List ℕ
 
 -- a `;`
-abbrev pub is_line_end : ℕ → Bool
-is_line_end byte = byte == 59
+abbrev pub is_semicolon : ℕ → Bool
+is_semicolon byte = byte == 59
 
 -- a `,`
 abbrev pub is_comma : ℕ → Bool
@@ -23,9 +23,9 @@ abbrev pub parts_from : ℕ → List (List ℕ) → List (ℕ × List ℕ)
 parts_from place [] = []
 parts_from place (part ∷ parts) = (place, part) ∷ parts_from (place + length part + 1) parts
 
--- a part of a line, given with its place, as a piece on that line
-abbrev pub piece_on : ℕ → ℕ × List ℕ → Piece
-piece_on line part = record { line = line; place = part.0; bytes = part.1 }
+-- a part of a line, given with its place, as a segment on that line
+abbrev pub segment_on : ℕ → ℕ × List ℕ → TextSegment
+segment_on line part = record { line = line; place = part.0; bytes = part.1 }
 
 -- the part has a byte
 abbrev pub is_nonempty : ℕ × List ℕ → Bool
@@ -33,19 +33,19 @@ is_nonempty (place, []) = false
 is_nonempty (place, byte ∷ bytes) = true
 
 -- the segments of one line, which begins at this place
-unfoldable pub pieces_on : ℕ → ℕ → List ℕ → List Piece
-pieces_on line place bytes =
-    map (piece_on line) (filter is_nonempty (parts_from place (slice_split is_comma bytes)))
+unfoldable pub segments_on : ℕ → ℕ → List ℕ → List TextSegment
+segments_on line place bytes =
+    map (segment_on line) (filter is_nonempty (parts_from place (slice_split is_comma bytes)))
 
 -- the segments of these lines, the first of which has this number and begins at this place
-abbrev pub pieces_of_lines : ℕ → ℕ → List (List ℕ) → List Piece
-pieces_of_lines line place [] = []
-pieces_of_lines line place (bytes ∷ lines) = pieces_on line place bytes ++ pieces_of_lines (line + 1) (place + length bytes + 1) lines
+abbrev pub segments_of_lines : ℕ → ℕ → List (List ℕ) → List TextSegment
+segments_of_lines line place [] = []
+segments_of_lines line place (bytes ∷ lines) = segments_on line place bytes ++ segments_of_lines (line + 1) (place + length bytes + 1) lines
 
 -- the segments of a text, or of the rest of a text that begins on this line and at this place
-unfoldable pub pieces_from : ℕ → ℕ → List ℕ → List Piece
-pieces_from line place text = pieces_of_lines line place (slice_split is_line_end text)
+unfoldable pub segments_from : ℕ → ℕ → List ℕ → List TextSegment
+segments_from line place text = segments_of_lines line place (slice_split is_semicolon text)
 
 -- the segments of a text
-unfoldable pub pieces_of : List ℕ → List Piece
-pieces_of text = pieces_from 0 0 text
+unfoldable pub segments_of : List ℕ → List TextSegment
+segments_of text = segments_from 0 0 text

@@ -3,8 +3,8 @@ use Rattle.std.proofs.lemmas.List.{map-append}
 use Rattle.smap_record.specs.Sources.{source_of}
 use Rattle.smap_record.specs.declared.entry.SourceEntry.{SourceEntry}
 use Rattle.smap_compose.proofs.ListLaws.{none_past, copied_next}
-use Rattle.smap_compose.proofs.entries.add_sources.Goals as goal
-use Rattle.smap_compose.proofs.entries.add_sources.Goals.{in-Some+in_ok-copied_source+in_ok-push, in_default}
+use Rattle.smap_compose.proofs.listed.add_sources.Goals as goal
+use Rattle.smap_compose.proofs.listed.add_sources.Goals.{in-Some+in_ok-copied_source+in_ok-push, in_default}
 
 pub loop-i-preserved : goal.loop-i-preserved
 loop-i-preserved c =

@@ -23,7 +23,7 @@ fn sum_in_range(base: u32, n: u32) -> Option<u32>
 }
 
 // The origin with the indices of the whole map, if no number of it is past the limit.
-fn place_origin(part: &Part, origin: &Origin) -> Option<Origin>
+fn placed_origin(part: &Part, origin: &Origin) -> Option<Origin>
     ensures { let placed = placed_origin part.now origin.now in
         result ≡ (if is_origin_past_limit (Some placed) then None else Some placed) }
 {
@@ -50,14 +50,14 @@ fn added_column(part: &Part, line: u32) -> u32
 }
 
 // The mapping of a part's text at its place, if no number of it is past the limit there.
-pub fn place(part: &Part, mapping: &Mapping) -> Option<Mapping>
+pub fn placed_mapping(part: &Part, mapping: &Mapping) -> Option<Mapping>
     ensures { let placed = placed_mapping part.now mapping.now in
         result ≡ (if is_mapping_past_limit placed then None else Some placed) }
 {
     let line = sum_in_range(part.line, mapping.line)?;
     let column = sum_in_range(added_column(part, mapping.line), mapping.column)?;
     let origin = match &mapping.origin {
-        Some(origin) => Some(place_origin(part, origin)?),
+        Some(origin) => Some(placed_origin(part, origin)?),
         None => None,
     };
     Some(Mapping {
@@ -89,7 +89,7 @@ pub fn is_offset_past_limit(part: &Part) -> bool
 pub fn is_past_limit(part: &Part, mapping: &Mapping) -> bool
     ensures { result ≡ is_mapping_past_limit (placed_mapping part.now mapping.now) }
 {
-    place(part, mapping).is_none()
+    placed_mapping(part, mapping).is_none()
 }
 
 // Whether a mapping of a part's text, of which these are the values, stands at its place after the offset of the next
