@@ -6,6 +6,7 @@ use Rattle.std.proofs.lemmas.Bool.{cond-true, cond-false, cond_both, cases_Bool,
 use Rattle.std.proofs.lemmas.List.{append_assoc, length-append, length-map}
 use Rattle.std.proofs.lemmas.List.Elements.{filter-append}
 use Rattle.std.proofs.lemmas.List.Folds.{list_any-append}
+use Rattle.std.proofs.lemmas.List.Sums.{sum_by-cons}
 use Rattle.smap_mappings.specs.Counts.{new_lines, used_lines_of}
 use Rattle.smap_mappings.specs.Mappings.{Delta, deltas_of, has_segment_on, mapping_after, mappings_after, mappings_of}
 use Rattle.smap_mappings.specs.Order.{IsInOrder}
@@ -120,8 +121,9 @@ few_from i (part ∷ parts) k positive order =
     let segments = length-append (placed part) (joined parts) in
     let number : length (marks_from i (part ∷ parts) k) ≡ length (marked_segments k [] (placed part)) + length (marks_from (i + 1) parts k) =
     length-append (map (mark_in i) (marked_segments k [] (placed part))) (marks_from (i + 1) parts k) ∙ ap (λ n. n + length (marks_from (i + 1) parts k)) (length-map (marked_segments k [] (placed part)) (mark_in i)) in
+    let lines = ap (λ n. k * n) (sum_by-cons (λ (p : Part). used_lines_of p.text) part parts) in
     let all = ap (λ n. k * n) number in
-    omega (arith, here, rest, segments, all)
+    omega (arith, here, rest, segments, lines, all)
 
 -- at most one mark for each k segments, and one for each line that holds a segment
 pub few_marks : (parts : List Part) (k : ℕ) → 0 < k → IsInOrder (joined parts) → length (marks parts k) ≤ length (joined parts) / k + used_lines_in parts

@@ -1,7 +1,8 @@
 -- A walk over the parts adds one part more at each step.
 use Rattle.std.proofs.Common.{◌≡◌, ℕ, ◌+◌, ◌<◌, ◌≤◌, List, [], ◌∷◌, ◌++◌, Some, cond, length, take, map, sym, ap, subst, eqb, ◌∙◌, get_or, arith}
 use Rattle.std.specs.List.{AllByRecursion, AllZip, list_any, slice_get}
-use Rattle.std.proofs.lemmas.List.{append-nil, append_assoc, take_more, length-map, length-take-le}
+use Rattle.std.proofs.lemmas.List.{append-nil, append_assoc, take_more, length-map, length-take-le, flat_map_more}
+use Rattle.std.proofs.lemmas.List.Sums.{sum_by_push}
 use Rattle.std.proofs.lemmas.Option.{slice_get-get_or}
 use Rattle.smap_mappings.specs.Counts.{segment_count, used_lines_of, new_lines}
 use Rattle.smap_mappings.specs.Mappings.{Delta, delta_of, deltas_of}
@@ -13,18 +14,6 @@ use Rattle.smap_index.specs.declared.part.Part.{Part}
 use Rattle.smap_index.specs.declared.checkpoint.Checkpoint.{Checkpoint}
 use Rattle.smap_index.proofs.CountingLaws.{IsMarked}
 use Rattle.smap_index.proofs.MarkLaws.{AllZip-append}
-
-joined-push : (parts : List Part) (part : Part) → joined (parts ++ part ∷ []) ≡ joined parts ++ placed part
-joined-push [] part = append-nil (placed part)
-joined-push (p ∷ parts) part = ap (λ rest. placed p ++ rest) (joined-push parts part) ∙ sym (append_assoc (placed p) (joined parts) (placed part))
-
-used_lines_in-push : (parts : List Part) (part : Part) → used_lines_in (parts ++ part ∷ []) ≡ used_lines_in parts + used_lines_of part.text
-used_lines_in-push [] part = omega arith
-used_lines_in-push (p ∷ parts) part = let rest = used_lines_in-push parts part in omega arith
-
-bytes_in-push : (parts : List Part) (part : Part) → bytes_in (parts ++ part ∷ []) ≡ bytes_in parts + length part.text
-bytes_in-push [] part = omega arith
-bytes_in-push (p ∷ parts) part = let rest = bytes_in-push parts part in omega arith
 
 marks_from-push : (i n : ℕ) (parts : List Part) (part : Part) (k : ℕ) → n ≡ i + length parts → marks_from i (parts ++ part ∷ []) k ≡ marks_from i parts k ++ map (mark_in n) (marked_segments k [] (placed part))
 marks_from-push i n [] part k is = let e : i ≡ n = omega arith in append-nil (map (mark_in i) (marked_segments k [] (placed part))) ∙ ap (λ i. map (mark_in i) (marked_segments k [] (placed part))) e
@@ -46,13 +35,13 @@ module _ (parts : List Part) (i : ℕ) (part : Part) (within : i < length parts)
   taken = take_more parts i part within ∙ ap (λ p. take i parts ++ p ∷ []) (sym is)
 
   pub joined_next : joined (take (i + 1) parts) ≡ joined (take i parts) ++ placed part
-  joined_next = ap joined taken ∙ joined-push (take i parts) part
+  joined_next = ap joined taken ∙ sym (flat_map_more placed [] (take i parts) part)
 
   pub used_lines_next : used_lines_in (take (i + 1) parts) ≡ used_lines_in (take i parts) + used_lines_of part.text
-  used_lines_next = ap used_lines_in taken ∙ used_lines_in-push (take i parts) part
+  used_lines_next = ap used_lines_in taken ∙ sum_by_push (λ (p : Part). used_lines_of p.text) (take i parts) part
 
   pub bytes_next : bytes_in (take (i + 1) parts) ≡ bytes_in (take i parts) + length part.text
-  bytes_next = ap bytes_in taken ∙ bytes_in-push (take i parts) part
+  bytes_next = ap bytes_in taken ∙ sum_by_push (λ (p : Part). length p.text) (take i parts) part
 
   part_at : slice_get parts i ≡ Some part
   part_at = slice_get-get_or parts i part within ∙ ap Some (sym is)

@@ -1,6 +1,6 @@
 -- Which segments have a checkpoint, and what a checkpoint is of.
 use Rattle.std.specs.Prelude.{◌≡◌, ℕ, ◌+◌, ◌%◌, List, [], ◌∷◌, ◌++◌, Some, ◌==◌, if◌then◌else◌, length, map, filter, slice_get}
-use Rattle.std.specs.List.{AllZip}
+use Rattle.std.specs.List.{AllZip, sum_by}
 use Rattle.smap_mappings.specs.Counts.{used_lines_of}
 use Rattle.smap_mappings.specs.State.{IsAfter}
 use Rattle.smap_mappings.specs.declared.mapping.Mapping.{Mapping}
@@ -57,5 +57,4 @@ AreCheckpointsOf parts k checkpoints = AllZip (IsCheckpointOf parts) (marks part
 
 -- how many lines hold a mapping, each part's lines counted by themselves
 abbrev pub used_lines_in : List Part → ℕ
-used_lines_in [] = 0
-used_lines_in (part ∷ parts) = used_lines_of part.text + used_lines_in parts
+used_lines_in parts = sum_by (λ part. used_lines_of part.text) parts

@@ -1,5 +1,6 @@
 -- The parts of a map (ECMA-426, Index source map): each text's mappings at its part's offset, joined part after part.
-use Rattle.std.specs.Prelude.{ℕ, ◌+◌, List, [], ◌∷◌, ◌++◌, ◌==◌, if◌then◌else◌, length, map, option_map}
+use Rattle.std.specs.Prelude.{ℕ, ◌+◌, List, ◌==◌, if◌then◌else◌, length, map, option_map}
+use Rattle.std.specs.List.{flat_map, sum_by}
 use Rattle.smap_mappings.specs.Mappings.{mappings_of}
 use Rattle.smap_mappings.specs.declared.mapping.Mapping.{Mapping}
 use Rattle.smap_mappings.specs.declared.mapping.Origin.{Origin}
@@ -23,8 +24,7 @@ placed part = map (placed_mapping part) (mappings_of part.text)
 
 -- the mappings of all parts, part after part
 abbrev pub joined : List Part → List Mapping
-joined [] = []
-joined (part ∷ parts) = placed part ++ joined parts
+joined parts = flat_map placed parts
 
 -- how many parts a map has at most
 abbrev pub most_parts : ℕ
@@ -32,8 +32,7 @@ most_parts = 65536
 
 -- how many bytes the texts of the parts have together
 abbrev pub bytes_in : List Part → ℕ
-bytes_in [] = 0
-bytes_in (part ∷ parts) = length part.text + bytes_in parts
+bytes_in parts = sum_by (λ part. length part.text) parts
 
 -- a text as a part that begins at the start and moves no index
 abbrev pub whole_text : List ℕ → Part
