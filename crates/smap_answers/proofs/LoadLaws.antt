@@ -9,6 +9,6 @@ first_of path paths = (0, omega arith, refl)
 pub second_of : (first path : List ℕ) (paths : List (List ℕ)) → Contains (first ∷ path ∷ paths) path
 second_of first path paths = (1, omega arith, refl)
 
--- the path in a word of several
-pub path_of_word : {A : Type 0} (path_in : A → List ℕ) (words : List A) (i : ℕ) (word : A) → i < length words → word ≡ get_or words i word → Contains (map path_in words) (path_in word)
-path_of_word path_in words i word less is = (i, rw length-map less, get_or-map path_in words i word (path_in word) less ∙ ap path_in (sym is))
+-- the path in an argument of several
+pub path_of_argument : {A : Type 0} (path_in : A → List ℕ) (words : List A) (i : ℕ) (word : A) → i < length words → word ≡ get_or words i word → Contains (map path_in words) (path_in word)
+path_of_argument path_in words i word less is = (i, rw length-map less, get_or-map path_in words i word (path_in word) less ∙ ap path_in (sym is))

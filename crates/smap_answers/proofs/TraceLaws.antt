@@ -1,4 +1,4 @@
--- What the words of `rewrite` come to, word by word.
+-- What the arguments of `rewrite` come to, argument by argument.
 use Rattle.std.proofs.Common.{◌≡◌, ℕ, ◌+◌, ◌<◌, ◌⊎◌, min, List, [], ◌∷◌, length, get_or, drop, drop-cons, map, suc, refl, sym, ap, subst, ◌∙◌, inl, inr, arith, add-one}
 use Rattle.std.specs.List.{zip}
 use Rattle.std.specs.Prelude.{Option, Some, None, Result, Ok, Err, MatchOption, ⊤}
@@ -41,7 +41,7 @@ puts_read base k maps url file stated result read (inr puts) =
 
 -- ---- all files
 
--- the words from a place on, with their files
+-- the arguments from a place on, with their files
 pub next_pair : {W F A : Type 0} (word_in : W → A) (words : List W) (files : List F) (i : ℕ) (word : W) (file : F)
     → (i < length words) × (i < length files) × ((d : W) → word ≡ get_or words i d) × ((d : F) → file ≡ get_or files i d)
     → drop i (zip (map word_in words) files) ≡ (word_in word, file) ∷ drop (i + 1) (zip (map word_in words) files)

@@ -7,8 +7,8 @@ use Rattle.smap_answers.specs.Lines.{counts_line}
 use Rattle.smap_answers.specs.declared.lines.MapCounts.{MapCounts}
 
 -- how much a map holds, with its checkpoints at this interval
-abbrev pub counts_of : MapRecord → (k : ℕ) → MapCounts
-counts_of stated k = record {
+abbrev pub map_counts : MapRecord → (k : ℕ) → MapCounts
+map_counts stated k = record {
   sections = length stated.parts;
   sources = length stated.sources;
   names = length stated.names;
@@ -18,4 +18,4 @@ counts_of stated k = record {
 }
 
 abbrev pub check_line : (k : ℕ) → MapRecord → List ℕ
-check_line k stated = counts_line (counts_of stated k)
+check_line k stated = counts_line (map_counts stated k)

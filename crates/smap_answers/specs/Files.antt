@@ -7,7 +7,7 @@ use Rattle.smap_command.specs.declared.command.Command.{Command}
 use Rattle.smap_command.specs.declared.command.Command.TheVariants.{Raw, Check, Show, Lookup, Rewrite, Compose}
 use Rattle.smap_answers.specs.declared.load.Loaded.{Loaded}
 
--- the path in a word of `rewrite`, which is a URL and a path
+-- the path in an argument of `rewrite`, which is a URL and a path
 abbrev pub path_in : {A : Type 0} → String A × String A → List ℕ
 path_in word = string_bytes word.1
 

@@ -1,17 +1,12 @@
 -- The lines that the program prints, and the texts that they are made of.
 use Rattle.std.specs.Prelude.{ℕ, ◌+◌, codes, Bool, if◌then◌else◌, Option, None, Some, List, [], ◌∷◌, ◌++◌}
 use Rattle.std.specs.Fmt.{decimal}
+use Rattle.std.specs.List.{concat}
 use Rattle.smap_mappings.specs.declared.fault.Fault.{Fault}
 use Rattle.smap_mappings.specs.declared.fault.FaultKind.{FaultKind}
 use Rattle.smap_mappings.specs.declared.fault.FaultKind.TheVariants.{BadDigit, Unended, TooLong, TooLarge, NegativeZero, FieldCount, Negative, PastLimit, ColumnFalls, SourceIndex, NameIndex}
 use Rattle.smap_command.specs.Shown.{shown}
 use Rattle.smap_answers.specs.declared.lines.MapCounts.{MapCounts}
-
--- the pieces one after the other
-abbrev pub text_from : List (List ℕ) → List ℕ
-text_from [] = []
-text_from (piece ∷ []) = piece
-text_from (piece ∷ next ∷ pieces) = piece ++ text_from (next ∷ pieces)
 
 -- the pieces one after the other, and an LF
 abbrev pub line_from : List (List ℕ) → List ℕ
@@ -55,14 +50,14 @@ place_line source line column name ignored = line_from (
 
 -- how many sections, sources and names a map has
 abbrev pub lists_text : MapCounts → List ℕ
-lists_text counts = text_from (
+lists_text counts = concat (
     codes " sections " ∷ decimal counts.sections
     ∷ codes " sources " ∷ decimal counts.sources
     ∷ codes " names " ∷ decimal counts.names ∷ [])
 
 -- how many mappings it has, lines that hold one, and checkpoints
 abbrev pub mappings_text : MapCounts → List ℕ
-mappings_text counts = text_from (
+mappings_text counts = concat (
     codes " segments " ∷ decimal counts.segments
     ∷ codes " lines " ∷ decimal counts.lines
     ∷ codes " checkpoints " ∷ decimal counts.checkpoints ∷ [])
@@ -89,7 +84,7 @@ kind_text NameIndex = codes "F11 NameIndex"
 
 -- a fault of a mappings text; its line counts from 0, and prints from 1, its byte from 0
 abbrev pub fault_text : Fault → List ℕ
-fault_text fault = text_from (
+fault_text fault = concat (
     kind_text fault.kind ∷ codes " line " ∷ decimal (fault.line + 1) ∷ codes " byte " ∷ decimal fault.byte ∷ [])
 
 -- a mappings text that is refused for its first fault
@@ -122,10 +117,10 @@ output_failed_line = line_from (codes "device: write" ∷ [])
 abbrev pub memory_line : List ℕ
 memory_line = line_from (codes "memory" ∷ [])
 
-abbrev pub words_not_utf8_line : List ℕ
-words_not_utf8_line = line_from (codes "error: a word of the command line is not UTF-8" ∷ [])
+abbrev pub argument_not_utf8_line : List ℕ
+argument_not_utf8_line = line_from (codes "error: a word of the command line is not UTF-8" ∷ [])
 
--- a word of `rewrite` whose URL no frame has, and one whose URL has a map already
+-- an argument of `rewrite` whose URL no frame has, and one whose URL has a map already
 abbrev pub bad_url_line : (word : List ℕ) → List ℕ
 bad_url_line word = line_from (codes "usage: A1 BadUrl: " ∷ shown word ∷ [])
 

@@ -20,16 +20,16 @@ abbrev pub source_text : Option StatedSource → ℕ → List ℕ
 source_text (Some source) i = name_or_index source.name i
 source_text None i = name_or_index None i
 
-abbrev pub is_passed_over : Option StatedSource → Bool
-is_passed_over (Some source) = source.ignored
-is_passed_over None = false
+abbrev pub is_ignored : Option StatedSource → Bool
+is_ignored (Some source) = source.ignored
+is_ignored None = false
 
 -- the line for a place in a source
 abbrev pub origin_line : MapRecord → Origin → List ℕ
 origin_line stated origin =
     let source = slice_get stated.sources origin.source in
     place_line (source_text source origin.source) origin.line origin.column
-    (option_and_then (slice_get stated.names) origin.name) (is_passed_over source)
+    (option_and_then (slice_get stated.names) origin.name) (is_ignored source)
 
 -- the excerpt of the source's content that shows a place, where there is one
 abbrev pub source_excerpt : Option StatedSource → Origin → Option (List ℕ)
@@ -56,6 +56,6 @@ abbrev pub lookup_answer : (after : Bool) (line column : ℕ) → MapRecord → 
 lookup_answer after line column stated =
     if after then answer_of_map_from stated line column else answer_of_map stated line column
 
--- what is printed for it: a line, and behind that of a place its excerpt
+-- what is printed for it: a line, and after that of a place its excerpt
 abbrev pub lookup_text : (after : Bool) (line column : ℕ) → MapRecord → List ℕ
 lookup_text after line column stated = map_answer_text stated (lookup_answer after line column stated)

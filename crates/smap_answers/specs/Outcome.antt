@@ -2,7 +2,7 @@
 use Rattle.std.specs.Prelude.{◌≡◌, ℕ, ◌⊎◌, List, [], Result, Ok, Err, string_bytes}
 use Rattle.smap_trace.specs.declared.outcome.RewriteFault.{RewriteFault}
 use Rattle.smap_trace.specs.declared.outcome.RewriteFault.TheVariants.{Read, Write, TooMuch, Memory}
-use Rattle.smap_answers.specs.Lines.{input_failed_line, memory_line, trace_too_long_line, trace_unread_line, trace_unwritten_line, words_not_utf8_line}
+use Rattle.smap_answers.specs.Lines.{input_failed_line, memory_line, trace_too_long_line, trace_unread_line, trace_unwritten_line, argument_not_utf8_line}
 use Rattle.smap_answers.specs.declared.outcome.Failure.{Failure}
 use Rattle.smap_answers.specs.declared.outcome.Failure.TheVariants as failures
 use Rattle.smap_answers.specs.declared.outcome.Reply.{Reply}
@@ -21,7 +21,7 @@ answer text = record { status = 0; text = text }
 abbrev pub refusal : List ℕ → Telling
 refusal text = record { status = 1; text = text }
 
--- why the words give no command
+-- why the arguments give no command
 abbrev pub misuse : List ℕ → Telling
 misuse text = record { status = 2; text = text }
 
@@ -49,7 +49,7 @@ reply_telling replies.Rewritten = answer []
 abbrev pub failure_telling : Failure → Telling
 failure_telling (failures.Refusal text) = refusal (string_bytes text)
 failure_telling (failures.Misuse text) = misuse (string_bytes text)
-failure_telling failures.WordsNotUtf8 = misuse words_not_utf8_line
+failure_telling failures.ArgumentNotUtf8 = misuse argument_not_utf8_line
 failure_telling (failures.Unreadable text) = failure (string_bytes text)
 failure_telling failures.InputFailure = failure input_failed_line
 failure_telling (failures.Fault fault) = fault_telling fault

@@ -11,7 +11,7 @@ use Rattle.smap_answers.specs.Outcome.{OrMemory, Telling, failure}
 use Rattle.smap_answers.specs.Raw.{raw_result}
 use Rattle.smap_answers.specs.Show.{show_result}
 use Rattle.smap_answers.specs.Streams.{SinkSeen, Streams, Work, Ends, sinks_seen, work_seen}
-use Rattle.smap_answers.specs.Trace.{RewriteTells, url_in_word}
+use Rattle.smap_answers.specs.Trace.{RewriteTells, url_in_argument}
 use Rattle.smap_command.specs.declared.command.Command.{Command}
 use Rattle.smap_command.specs.declared.command.Command.TheVariants.{Raw, Check, Show, Lookup, Rewrite, Compose}
 use Rattle.smap_answers.specs.declared.load.Loaded.{Loaded}
@@ -59,7 +59,7 @@ Tells (Show path base) files =
 Tells (Lookup path line column base interval after) files =
     TellsAside (OfFirst files (λ file. TellsMap file base interval (IsLine (lookup_text after line column))))
 Tells (Rewrite maps base interval hide_ignored) files =
-    RewriteTells base interval hide_ignored (zip (map url_in_word maps.items) files)
+    RewriteTells base interval hide_ignored (zip (map url_in_argument maps.items) files)
 Tells (Compose outer source inner base) files =
     TellsAside (OfBoth files (λ first second. TellsComposed first source second base))
 

@@ -11,7 +11,7 @@ pub record SourceSeen : Type 0 where
   pub left : Option (List ℕ)
   pub failed : Bool
 
--- of an output: the bytes that it has taken, where the device tells them, whether it was flushed behind the last of
+-- of an output: the bytes that it has taken, where the device tells them, whether it was flushed after the last of
 -- them, and whether it has failed
 pub record SinkSeen : Type 0 where
   pub taken : Option (List ℕ)
@@ -51,13 +51,13 @@ streams_seen input output errors = record { input = input; sinks = sinks_seen ou
 
 -- ---- how telling ends
 
--- the stream took all of the text, was flushed behind it, and has not failed
+-- the stream took all of the text, was flushed after it, and has not failed
 pub record IsPrintedTo (before after : SinkSeen) (text : List ℕ) : Type 0 where
   pub whole : Takes before.taken after.taken text
   pub flushed : after.flushed ≡ true
   pub works : after.failed ≡ false
 
--- the stream took the text and was flushed behind it or, where it has failed, took a front of the text
+-- the stream took the text and was flushed after it or, where it has failed, took a front of the text
 pub record IsToldTo (before after : SinkSeen) (text : List ℕ) : Type 0 where
   pub whole : after.failed ≡ false → Takes before.taken after.taken text
   pub flushed : after.failed ≡ false → after.flushed ≡ true

@@ -1,4 +1,4 @@
--- What `rewrite` does: it reads the map of each of its words and puts it into a table, word by word, and rewrites the
+-- What `rewrite` does: it reads the map of each of its arguments and puts it into a table, argument by argument, and rewrites the
 -- trace on standard input over that table.
 use Rattle.std.specs.Prelude.{◌≡◌, ℕ, ◌⊎◌, Bool, List, [], ◌∷◌, Option, Some, None, Result, Ok, Err, String, codes, string_bytes}
 use Rattle.url.specs.Parser.{Parsed, parse_url}
@@ -14,7 +14,8 @@ use Rattle.smap_trace.specs.declared.outcome.RewriteFault.TheVariants as fault
 use Rattle.smap_trace.specs.declared.outcome.Summary.{Summary}
 use Rattle.smap_trace.specs.declared.refusal.TableRefusal.{TableRefusal}
 use Rattle.smap_trace.specs.declared.refusal.TableRefusal.TheVariants.{BadUrl, Twice, Memory}
-use Rattle.smap_answers.specs.Lines.{bad_url_line, text_from, twice_line}
+use Rattle.std.specs.List.{concat}
+use Rattle.smap_answers.specs.Lines.{bad_url_line, twice_line}
 use Rattle.smap_answers.specs.Map.{IsFoundRefusal, map_in, refusal_result}
 use Rattle.smap_answers.specs.Files.{path_of}
 use Rattle.smap_answers.specs.Outcome.{Telling, answer, failure_telling, fault_telling, misuse, out_of_memory}
@@ -24,13 +25,13 @@ use Rattle.smap_answers.specs.declared.outcome.Failure.{Failure}
 
 -- ---- the table
 
--- the URL in a word of `rewrite`, which is that and a path
-abbrev pub url_in_word : {A : Type 0} → String A × String A → List ℕ
-url_in_word word = string_bytes word.0
+-- the URL in an argument of `rewrite`, which is that and a path
+abbrev pub url_in_argument : {A : Type 0} → String A × String A → List ℕ
+url_in_argument word = string_bytes word.0
 
--- how such a word is written
-abbrev pub word_text : (url path : List ℕ) → List ℕ
-word_text url path = text_from (url ∷ codes "=" ∷ path ∷ [])
+-- how such an argument is written
+abbrev pub argument_text : (url path : List ℕ) → List ℕ
+argument_text url path = concat (url ∷ codes "=" ∷ path ∷ [])
 
 -- the URL that the parser gave, if it did
 abbrev pub url_in : Parsed Parts → Option Parts
@@ -53,8 +54,8 @@ Maps = List (List ℕ × MapRecord)
 
 -- why the map of the file at this path is not put under this URL
 abbrev pub url_refusal_result : TableRefusal → (url path : List ℕ) → Telling
-url_refusal_result BadUrl url path = misuse (bad_url_line (word_text url path))
-url_refusal_result Twice url path = misuse (twice_line (word_text url path))
+url_refusal_result BadUrl url path = misuse (bad_url_line (argument_text url path))
+url_refusal_result Twice url path = misuse (twice_line (argument_text url path))
 url_refusal_result Memory url path = out_of_memory
 
 -- a map goes under a URL, or is refused
@@ -74,7 +75,7 @@ PutsMap base k maps url file result =
     (result ≡ Err out_of_memory)
     ⊎ ((used : Option Parts) × IsBaseUsed base url used × PutsFound maps url (path_of file) (map_in file used k) result)
 
--- behind a file: its refusal decides, or the next files do
+-- after a file: its refusal decides, or the next files do
 abbrev pub GathersOn : Result Maps Telling → (rest : Maps → Type 0) → Result Maps Telling → Type 0
 GathersOn (Err refused) rest result = result ≡ Err refused
 GathersOn (Ok more) rest result = rest more

@@ -1,6 +1,6 @@
 //! Counting what a map file holds.
 ghost use Rattle.std.specs.Prelude.{◌≡◌, string_bytes, option_copied, IfOk};
-ghost use Rattle.smap_answers.specs.Check.{check_line, counts_of};
+ghost use Rattle.smap_answers.specs.Check.{check_line, map_counts};
 ghost use Rattle.smap_answers.specs.Map.{IsLine, TellsMap};
 ghost use Rattle.smap_answers.specs.Outcome.{OrMemory, telling_of};
 
@@ -29,12 +29,12 @@ pub fn answer_check(
 fn check_line(alloc: Global, map: &MapFile) -> Result<String, AllocError>
     ensures { IfOk result (λ text. string_bytes text ≡ check_line map.now.k map.now.stated) }
 {
-    lines::counts_line(alloc, counts_of(map))
+    lines::counts_line(alloc, map_counts(map))
 }
 
 // How much a map holds.
-fn counts_of(map: &MapFile) -> MapCounts
-    ensures { result ≡ counts_of map.now.stated map.now.k }
+fn map_counts(map: &MapFile) -> MapCounts
+    ensures { result ≡ map_counts map.now.stated map.now.k }
 {
     MapCounts {
         sections: map.sections(),

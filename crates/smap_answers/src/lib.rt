@@ -1,4 +1,4 @@
-//! What the program answers, apart from its words: the files that a command names, what it comes to over their bytes and
+//! What the program answers, apart from its arguments: the files that a command names, what it comes to over their bytes and
 //! standard input, and the lines that tell this.
 //!
 //! ```text

@@ -4,7 +4,7 @@ ghost use Rattle.smap_answers.specs.Lines.{counts_line, fault_text, file_failed_
 ghost use Rattle.smap_answers.specs.Lines.{ignored_text, kind_text, lists_text, map_refused_line};
 ghost use Rattle.smap_answers.specs.Lines.{mappings_text, name_suffix, place_line, refused_line};
 ghost use Rattle.smap_answers.specs.Lines.{bad_url_line, twice_line};
-ghost use Rattle.smap_answers.specs.Trace.{word_text};
+ghost use Rattle.smap_answers.specs.Trace.{argument_text};
 ghost use Rattle.smap_command.specs.Shown.{shown};
 
 use smap_command::shown;
@@ -26,8 +26,8 @@ pub const WRITTEN_TEXT_TOO_LONG: &str = "refused: O1 TextTooLong\n";
 /// Standard error: the input is not UTF-8.
 pub const NOT_UTF8: &str = "refused: NotUtf8\n";
 
-/// Standard error: a word of the command line is not UTF-8.
-pub const WORDS_NOT_UTF8: &str = "error: a word of the command line is not UTF-8\n";
+/// Standard error: an argument of the command line is not UTF-8.
+pub const ARGUMENT_NOT_UTF8: &str = "error: a word of the command line is not UTF-8\n";
 
 /// Standard error: the outer map has no source of this number.
 pub const NO_SOURCE: &str = "refused: C1 SourceIndex\n";
@@ -175,28 +175,28 @@ pub fn file_failed_line(alloc: Global, path: &str) -> Result<String, AllocError>
     format!(in alloc; "device: read {path}\n")
 }
 
-/// Standard error: a word of `rewrite` whose URL no frame has.
+/// Standard error: an argument of `rewrite` whose URL no frame has.
 pub fn bad_url_line(alloc: Global, url: &str, path: &str) -> Result<String, AllocError>
     ensures { IfOk result (λ text. string_bytes text
-        ≡ bad_url_line (word_text url.now path.now)) }
+        ≡ bad_url_line (argument_text url.now path.now)) }
 {
-    let word = shown_word(alloc, url, path)?;
+    let word = shown_argument(alloc, url, path)?;
     format!(in alloc; "usage: A1 BadUrl: {word}\n")
 }
 
-/// Standard error: a word of `rewrite` whose URL has a map already.
+/// Standard error: an argument of `rewrite` whose URL has a map already.
 pub fn twice_line(alloc: Global, url: &str, path: &str) -> Result<String, AllocError>
     ensures { IfOk result (λ text. string_bytes text
-        ≡ twice_line (word_text url.now path.now)) }
+        ≡ twice_line (argument_text url.now path.now)) }
 {
-    let word = shown_word(alloc, url, path)?;
+    let word = shown_argument(alloc, url, path)?;
     format!(in alloc; "usage: A2 Twice: {word}\n")
 }
 
-// A word of `rewrite`, for one line.
-fn shown_word(alloc: Global, url: &str, path: &str) -> Result<String, AllocError>
+// An argument of `rewrite`, for one line.
+fn shown_argument(alloc: Global, url: &str, path: &str) -> Result<String, AllocError>
     ensures { IfOk result (λ text. string_bytes text
-        ≡ shown (word_text url.now path.now)) }
+        ≡ shown (argument_text url.now path.now)) }
 {
     let (url, path) = (shown(alloc, url)?, shown(alloc, path)?);
     format!(in alloc; "{url}={path}")

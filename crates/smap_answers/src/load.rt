@@ -42,7 +42,7 @@ pub fn load_files(rt: &HostRuntime, command: &Command) -> Result<Vec<Loaded>, Fa
     Ok(files)
 }
 
-// Loads the files of the maps of a trace, behind those that are loaded.
+// Loads the files of the maps of a trace, after those that are loaded.
 fn load_maps(
     rt: &HostRuntime,
     files: &mut Vec<Loaded>,
@@ -59,7 +59,7 @@ fn load_maps(
     Ok(())
 }
 
-// Loads the file at a path, behind those that are loaded.
+// Loads the file at a path, after those that are loaded.
 fn load_next(rt: &HostRuntime, files: &mut Vec<Loaded>, path: &str) -> Result<(), Failure>
     ensures loaded { OnOk result
         (map path_of files.new.items ≡ map path_of files.old.items ++ path.now ∷ []) }

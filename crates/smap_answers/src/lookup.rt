@@ -1,7 +1,7 @@
 //! Looking a position up in a map file.
 ghost use Rattle.std.specs.Prelude.{◌≡◌, option_and_then, option_map, slice_get, string_bytes, option_copied, IfOk};
 ghost use Rattle.smap_record.specs.Sources.{source_of};
-ghost use Rattle.smap_answers.specs.Lookup.{is_passed_over, lookup_answer, lookup_text, origin_line, origin_text};
+ghost use Rattle.smap_answers.specs.Lookup.{is_ignored, lookup_answer, lookup_text, origin_line, origin_text};
 ghost use Rattle.smap_answers.specs.Lookup.{source_excerpt, source_text};
 ghost use Rattle.smap_answers.specs.Map.{IsLine, TellsMap};
 ghost use Rattle.smap_answers.specs.Outcome.{OrMemory, telling_of};
@@ -109,7 +109,7 @@ fn origin_line(alloc: Global, map: &MapFile, origin: &Origin) -> Result<String, 
         origin.line,
         origin.column,
         name,
-        is_passed_over(entry),
+        is_ignored(entry),
     )
 }
 
@@ -129,9 +129,9 @@ fn source_text(alloc: Global, entry: Option<&SourceEntry>, index: u32) -> Result
     }
 }
 
-// Whether the map says to pass over a source.
-fn is_passed_over(entry: Option<&SourceEntry>) -> bool
-    ensures { result ≡ is_passed_over (option_map (λ entry. source_of entry.now) entry.entry) }
+// Whether the map says to ignore a source.
+fn is_ignored(entry: Option<&SourceEntry>) -> bool
+    ensures { result ≡ is_ignored (option_map (λ entry. source_of entry.now) entry.entry) }
 {
     match entry {
         Some(entry) => entry.ignored,

@@ -11,7 +11,7 @@ use std::alloc::AllocError;
 pub const DONE: u8 = 0;
 /// The exit status of a run whose input is refused.
 pub const REFUSED: u8 = 1;
-/// The exit status where the words give no command.
+/// The exit status where the arguments give no command.
 pub const MISUSED: u8 = 2;
 /// The exit status of a run in which a device failed, or memory ran out.
 pub const FAILED: u8 = 3;
@@ -32,10 +32,10 @@ pub enum Reply {
 pub enum Failure {
     /// Why the input is refused: status 1.
     Refusal(String),
-    /// Why the words of the command line give no command: status 2.
+    /// Why the arguments of the command line give no command: status 2.
     Misuse(String),
-    /// A word of the command line is not UTF-8: status 2.
-    WordsNotUtf8,
+    /// An argument of the command line is not UTF-8: status 2.
+    ArgumentNotUtf8,
     /// Which file can't be read: status 3.
     Unreadable(String),
     /// Standard input failed: status 3.
@@ -74,7 +74,7 @@ impl Failure {
     {
         match self {
             Failure::Refusal(_) | Failure::Fault(RewriteFault::TooMuch) => REFUSED,
-            Failure::Misuse(_) | Failure::WordsNotUtf8 => MISUSED,
+            Failure::Misuse(_) | Failure::ArgumentNotUtf8 => MISUSED,
             Failure::Unreadable(_) | Failure::InputFailure | Failure::Fault(_) | Failure::Memory =>
                 FAILED,
         }
@@ -87,7 +87,7 @@ impl Failure {
         match self {
             Failure::Refusal(text) => text.as_bytes(),
             Failure::Misuse(text) => text.as_bytes(),
-            Failure::WordsNotUtf8 => lines::WORDS_NOT_UTF8.as_bytes(),
+            Failure::ArgumentNotUtf8 => lines::ARGUMENT_NOT_UTF8.as_bytes(),
             Failure::Unreadable(text) => text.as_bytes(),
             Failure::InputFailure => lines::INPUT_FAILED.as_bytes(),
             Failure::Fault(fault) => fault_line(*fault).as_bytes(),

@@ -79,7 +79,7 @@ fn cause_text(refusal: MapRefusal) -> &'static str
     }
 }
 
-// Its parts, where it has some, each behind a space.
+// Its parts, where it has some, each after a space.
 fn parts_text(alloc: Global, refusal: MapRefusal) -> Result<String, AllocError>
     ensures { IfOk result (λ text. string_bytes text ≡ parts_text refusal) }
 {

@@ -3,7 +3,7 @@ ghost use Rattle.std.specs.Prelude.{◌≡◌, [], false, map, option_copied, zi
 ghost use Rattle.smap_answers.specs.Outcome.{OrMemory, failure_telling, telling_of};
 ghost use Rattle.smap_answers.specs.Streams.{sink_seen, source_seen, work_seen};
 ghost use Rattle.smap_answers.specs.Trace.{Gathers, IsBaseUsed, IsReadAs, IsReadRefusal, PutsMap};
-ghost use Rattle.smap_answers.specs.Trace.{RewriteTells, TraceTells, gathered, put_seen, url_in_word, url_refusal_result};
+ghost use Rattle.smap_answers.specs.Trace.{RewriteTells, TraceTells, gathered, put_seen, url_in_argument, url_refusal_result};
 
 use crate::lines;
 use crate::load::Loaded;
@@ -15,9 +15,9 @@ use smap_trace::{Table, TableRefusal, rewrite};
 use std::alloc::{AllocError, Global};
 use url::ParseError;
 
-/// Reads the map of each word, which is a URL and a path, from its file, with checkpoints at this interval, and rewrites
+/// Reads the map of each argument, which is a URL and a path, from its file, with checkpoints at this interval, and rewrites
 /// the trace on standard input over them, with the frames of ignored sources hidden or not. The caller gives a file for
-/// each word, in their order, and devices that have not failed.
+/// each argument, in their order, and devices that have not failed.
 pub fn answer_rewrite<R: ByteSource, W: ByteSink>(
     alloc: Global,
     words: &[(String, String)],
@@ -31,7 +31,7 @@ pub fn answer_rewrite<R: ByteSource, W: ByteSink>(
     requires input_works { R.has_failed input.old ≡ false }
     requires output_works { W.has_failed output.old ≡ false }
     ensures { RewriteTells (option_copied base.entry) interval hide_ignored
-        (zip (map url_in_word words.now) files.now)
+        (zip (map url_in_argument words.now) files.now)
         (work_seen (source_seen R.left R.has_failed input.old)
         (sink_seen W.taken W.is_flushed W.has_failed output.old))
         (work_seen (source_seen R.left R.has_failed input.new)
@@ -65,7 +65,7 @@ fn rewrite_over<R: ByteSource, W: ByteSink>(
     }
 }
 
-// The maps of these files, each under the URL of its word; or the first refusal.
+// The maps of these files, each under the URL of its argument; or the first refusal.
 fn table_of(
     alloc: Global,
     words: &[(String, String)],
@@ -74,7 +74,7 @@ fn table_of(
     interval: u32,
 ) -> Result<Table, Failure>
     ensures { Gathers (option_copied base.entry) interval []
-        (zip (map url_in_word words.now) files.now) (gathered result) }
+        (zip (map url_in_argument words.now) files.now) (gathered result) }
 {
     let mut table = Table::new(alloc);
     for ((url, _), file) in words.iter().zip(files) {

@@ -14,7 +14,7 @@ ghost use Rattle.smap_command.specs.Interval.{HasInterval};
 use smap_answers::{Failure, Loaded, Reply, load_files, run, tell};
 pub use smap_command::Command;
 use smap_io::FromStd;
-pub use smap_words::{Usage, parse};
+pub use smap_arguments::{Usage, parse};
 use std::io;
 use std::process::ExitCode;
 use usage::outcome_of;
@@ -54,12 +54,12 @@ fn command_with_files(rt: &HostRuntime) -> Result<(Command, Vec<Loaded>), Result
 fn command_of(rt: &HostRuntime) -> Result<Command, Result<Reply, Failure>>
     ensures { IfOk result HasInterval }
 {
-    let words = match words_of(rt) {
+    let words = match arguments_of(rt) {
         Ok(words) => words,
         Err(error) if error.kind() == io::ErrorKind::OutOfMemory => {
             return Err(Err(Failure::Memory));
         }
-        Err(_) => return Err(Err(Failure::WordsNotUtf8)),
+        Err(_) => return Err(Err(Failure::ArgumentNotUtf8)),
     };
     match parse(rt.alloc(), words) {
         Ok(command) => Ok(command),
@@ -67,7 +67,7 @@ fn command_of(rt: &HostRuntime) -> Result<Command, Result<Reply, Failure>>
     }
 }
 
-// The words of the command line, of which the first is the program's name.
-fn words_of(rt: &HostRuntime) -> io::Result<Vec<String>> {
+// The arguments of the command line, of which the first is the program's name.
+fn arguments_of(rt: &HostRuntime) -> io::Result<Vec<String>> {
     Ok(std::env::args(rt)?.collect(rt.alloc())?)
 }

@@ -1,10 +1,10 @@
-//! What the program comes to where the words give no command.
+//! What the program comes to where the arguments give no command.
 ghost use Rattle.std.specs.Prelude.{◌≡◌};
 ghost use Rattle.smap_answers.specs.Outcome.{telling_of};
 ghost use Rattle.smap_cli.specs.Usage.{telling_of_usage};
 
 use smap_answers::{Failure, Reply};
-use smap_words::Usage;
+use smap_arguments::Usage;
 
 /// What the program comes to.
 pub fn outcome_of(usage: Usage) -> Result<Reply, Failure>

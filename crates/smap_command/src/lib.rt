@@ -1,5 +1,5 @@
 //! What the program can be asked, as values: the commands, the numbers that they may have, and how texts of the user's
-//! print. The words of the command line are read into these commands, and the answers are given for them, by crates
+//! print. The arguments of the command line are read into these commands, and the answers are given for them, by crates
 //! that do not know each other.
 //!
 //! ```text

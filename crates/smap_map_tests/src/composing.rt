@@ -62,14 +62,14 @@ fn real_maps_compose_at_each_interval(rt: HostRuntime) -> Result<(), Fail> {
 }
 
 fn first_two_first(alloc: Global, three: &ComposedThree, interval: u32) -> Result<String, Fail> {
-    let (first, source, second, behind, third, sources, _) = *three;
+    let (first, source, second, after, third, sources, _) = *three;
     let two = composed_text(alloc, first, source, second, interval)?;
-    composed_text(alloc, &two, sources.saturating_add(behind), third, interval)
+    composed_text(alloc, &two, sources.saturating_add(after), third, interval)
 }
 
 fn last_two_first(alloc: Global, three: &ComposedThree, interval: u32) -> Result<String, Fail> {
-    let (first, source, second, behind, third, _, _) = *three;
-    let two = composed_text(alloc, second, behind, third, interval)?;
+    let (first, source, second, after, third, _, _) = *three;
+    let two = composed_text(alloc, second, after, third, interval)?;
     composed_text(alloc, first, source, &two, interval)
 }
 

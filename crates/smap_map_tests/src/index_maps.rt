@@ -13,7 +13,7 @@ use std::test::Fail;
 // No map of the table has so many sources, or so many names.
 const MOST_LISTED: u32 = 100;
 
-// Puts a text behind a list of others, with a comma between two.
+// Puts a text after a list of others, with a comma between two.
 fn push_entry(list: &mut String, place: u32, entry: &str) -> Result<(), AllocError> {
     if place > 0 {
         list.push(',')?;
@@ -21,7 +21,7 @@ fn push_entry(list: &mut String, place: u32, entry: &str) -> Result<(), AllocErr
     list.push_str(entry)
 }
 
-// The names of the sources, with `*` behind each one that is ignored.
+// The names of the sources, with `*` after each one that is ignored.
 fn sources_text(alloc: Global, map: &MapFile) -> Result<String, AllocError> {
     let mut text = String::new(alloc);
     for i in 0..MOST_LISTED {

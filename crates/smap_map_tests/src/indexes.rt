@@ -230,7 +230,7 @@ fn assert_counted(
 }
 
 #[test]
-fn segments_behind_the_checkpoint_are_decoded(rt: HostRuntime) -> Result<(), Fail> {
+fn segments_after_the_checkpoint_are_decoded(rt: HostRuntime) -> Result<(), Fail> {
     for counted in COUNTED {
         assert_counted(&rt, rt.alloc(), counted, Direction::Before)?;
     }

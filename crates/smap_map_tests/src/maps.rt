@@ -92,7 +92,7 @@ fn other_intervals_are_refused(rt: HostRuntime) -> Result<(), Fail> {
     Ok(())
 }
 
-// The same of an empty map with so many blanks behind it that it has this many bytes.
+// The same of an empty map with so many blanks after it that it has this many bytes.
 fn refusal_of_size(alloc: Global, size: usize, interval: u32) -> Result<String, AllocError> {
     let mut bytes = EMPTY.as_bytes().to_vec(alloc)?;
     bytes.resize(size, b' ')?;

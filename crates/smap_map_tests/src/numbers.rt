@@ -4,7 +4,7 @@ use smap_mappings::{read_vlq, write_vlq};
 use std::alloc::{AllocError, Global};
 use std::test::Fail;
 
-// The bytes, the place, and what is read there: the number and the place behind it, or why there is none.
+// The bytes, the place, and what is read there: the number and the place after it, or why there is none.
 const NUMBERS: &[(&str, usize, &str)] = &[
     ("A", 0, "Ok((0, 1))"),
     ("C", 0, "Ok((1, 1))"),
@@ -71,7 +71,7 @@ const SPELLINGS: &[(i32, &str)] = &[
     (-2147483647, "//////D"),
 ];
 
-// The spelling of a number behind another text, which stays as it is.
+// The spelling of a number after another text, which stays as it is.
 fn spelled(alloc: Global, number: i32) -> Result<String, AllocError> {
     let mut bytes = b"!".to_vec(alloc)?;
     if number > i32::MIN {

@@ -4,7 +4,7 @@ use smap_mappings::{Mapping, Origin};
 use smap_record::MapFile;
 use std::alloc::{AllocError, Global};
 
-/// Puts a text and a number behind another text.
+/// Puts a text and a number after another text.
 pub fn push_number(
     text: &mut String,
     alloc: Global,
@@ -14,7 +14,7 @@ pub fn push_number(
     text.push_str(&format!(in alloc; "{before}{number}")?)
 }
 
-// The source, the original line and column and the name, as far as they are there, each behind a comma.
+// The source, the original line and column and the name, as far as they are there, each after a comma.
 fn push_origin(text: &mut String, alloc: Global, origin: Option<Origin>) -> Result<(), AllocError> {
     let Some(origin) = origin else {
         return Ok(());

@@ -86,7 +86,7 @@ fn decoded(alloc: Global, packed: &PackedText) -> Result<String, AllocError> {
     )
 }
 
-// The mappings of a text, one after another, behind how many the meter has counted.
+// The mappings of a text, one after another, after how many the meter has counted.
 fn walked(alloc: Global, packed: &PackedText) -> Result<String, AllocError> {
     let mut meter = Meter::new(alloc);
     let mut list = Vec::new(alloc);
@@ -95,11 +95,11 @@ fn walked(alloc: Global, packed: &PackedText) -> Result<String, AllocError> {
         if !meter.has_room() {
             break;
         }
-        let Some((mapping, behind)) = packed.next(&state, &mut meter) else {
+        let Some((mapping, after)) = packed.next(&state, &mut meter) else {
             break;
         };
         list.push(mapping)?;
-        state = behind;
+        state = after;
     }
     held_text(alloc, meter.segments(), packed.used_lines(), &list)
 }

@@ -45,15 +45,15 @@ fn written(left: &str) -> &str {
 }
 
 fn first_two_first(alloc: Global, three: &ComposedThree) -> Result<String, AllocError> {
-    let (first, source, second, behind, third, sources, _) = *three;
+    let (first, source, second, after, third, sources, _) = *three;
     let two = run_compose(alloc, first, source, second, ALL_SOUND)?;
-    let place = sources.saturating_add(behind);
+    let place = sources.saturating_add(after);
     run_compose(alloc, written(&two), place, third, ALL_SOUND)
 }
 
 fn last_two_first(alloc: Global, three: &ComposedThree) -> Result<String, AllocError> {
-    let (first, source, second, behind, third, _, _) = *three;
-    let two = run_compose(alloc, second, behind, third, ALL_SOUND)?;
+    let (first, source, second, after, third, _, _) = *three;
+    let two = run_compose(alloc, second, after, third, ALL_SOUND)?;
     run_compose(alloc, first, source, written(&two), ALL_SOUND)
 }
 

@@ -265,7 +265,7 @@ const PLACES: &[(&str, u32, u32, &str)] = &[
         1,
         "0|a? ?é?:1:1 name ?\n|",
     ),
-    // A pair of units is one character, and the caret stands behind characters.
+    // A pair of units is one character, and the caret stands after characters.
     (
         r#"{"version":3,"sources":["a.ts"],"sourcesContent":["let 😀x"],"mappings":"AAAM"}"#,
         1,

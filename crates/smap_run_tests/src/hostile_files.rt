@@ -20,13 +20,13 @@ fn a_file_that_is_cut_off_is_no_json(rt: HostRuntime) -> Result<(), Fail> {
     Ok(())
 }
 
-// A text so many times, with a comma between two, and a text before and behind all.
+// A text so many times, with a comma between two, and a text before and after all.
 fn listed(
     alloc: Global,
     before: &str,
     entry: &str,
     count: usize,
-    behind: &str,
+    after: &str,
 ) -> Result<String, AllocError> {
     let mut text = String::from_str(alloc, before)?;
     for i in 0..count {
@@ -35,7 +35,7 @@ fn listed(
         }
         text.push_str(entry)?;
     }
-    text.push_str(behind)?;
+    text.push_str(after)?;
     Ok(text)
 }
 
@@ -66,8 +66,8 @@ const LONG: &[(&str, &str, usize, &str, &str)] = &[
 
 #[test]
 fn as_many_sections_are_read_as_a_map_may_have(rt: HostRuntime) -> Result<(), Fail> {
-    for (before, entry, count, behind, wanted) in LONG {
-        let map = listed(rt.alloc(), before, entry, *count, behind)?;
+    for (before, entry, count, after, wanted) in LONG {
+        let map = listed(rt.alloc(), before, entry, *count, after)?;
         let left = run_check(rt.alloc(), "m.map", map.as_bytes(), 64, ALL_SOUND)?;
         assert_same(&rt, wanted, &left, wanted);
     }

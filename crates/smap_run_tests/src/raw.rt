@@ -13,13 +13,13 @@ fn assert_row(
     alloc: Global,
     row: &str,
     before: &str,
-    behind: &str,
+    after: &str,
 ) -> Result<(), Fail> {
     let (line, rest) = halves(row);
     let (column, rest) = halves(rest);
     let (text, printed) = halves(rest);
     let (line, column) = (line.parse()?, column.parse()?);
-    let wanted = format!(in alloc; "{before}{printed}{behind}")?;
+    let wanted = format!(in alloc; "{before}{printed}{after}")?;
     for interval in INTERVALS {
         let left = run_raw(alloc, text.as_bytes(), line, column, *interval, ALL_SOUND)?;
         assert_same(rt, row, &left, &wanted);
@@ -61,7 +61,7 @@ fn one_line_end_is_dropped(rt: HostRuntime) -> Result<(), Fail> {
     Ok(())
 }
 
-// Long texts: what stands before some commas, how many of these there are, what stands behind, and what `raw 1 1`
+// Long texts: what stands before some commas, how many of these there are, what stands after, and what `raw 1 1`
 // leaves.
 const LONG_TEXTS: &[(&str, usize, &str, &str)] = &[
     ("", 67_108_864, "", "0|none\n|"),
@@ -76,17 +76,17 @@ const LONG_TEXTS: &[(&str, usize, &str, &str)] = &[
     ),
 ];
 
-fn run_long(alloc: Global, before: &str, count: usize, behind: &str) -> Result<String, AllocError> {
+fn run_long(alloc: Global, before: &str, count: usize, after: &str) -> Result<String, AllocError> {
     let mut text = before.as_bytes().to_vec(alloc)?;
     text.resize(before.len().saturating_add(count), b',')?;
-    text.extend_from_slice(behind.as_bytes())?;
+    text.extend_from_slice(after.as_bytes())?;
     run_raw(alloc, &text, 1, 1, 64, ALL_SOUND)
 }
 
 #[test]
 fn a_text_may_be_too_long(rt: HostRuntime) -> Result<(), Fail> {
-    for (before, count, behind, wanted) in LONG_TEXTS {
-        let left = run_long(rt.alloc(), before, *count, behind)?;
+    for (before, count, after, wanted) in LONG_TEXTS {
+        let left = run_long(rt.alloc(), before, *count, after)?;
         assert_same(&rt, wanted, &left, wanted);
     }
     Ok(())

@@ -42,7 +42,7 @@ fn maps_are_written_or_refused(rt: HostRuntime) -> Result<(), Fail> {
     Ok(())
 }
 
-// What `show` would leave of a map that is read at this interval, made of the calls behind it.
+// What `show` would leave of a map that is read at this interval, made of the calls after it.
 fn left_at(alloc: Global, map: &str, interval: u32) -> Result<String, Fail> {
     match MapFile::read(alloc, map.as_bytes(), None, interval) {
         Ok(map) => left_of(alloc, &map),

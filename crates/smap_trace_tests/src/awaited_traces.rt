@@ -9,7 +9,7 @@ use std::cell::Cell;
 use std::io;
 use std::test::Fail;
 
-// The pieces that the reads give, each behind how many bytes were written before that read.
+// The pieces that the reads give, each after how many bytes were written before that read.
 const PIECES: &[(usize, &str)] = &[
     (0, "    at f (https://ex.test/app.js:1:6)\n    at f (https"),
     (36, "://ex.test/app.js:1:6)"),
@@ -105,7 +105,7 @@ fn long_line(alloc: Global, bytes: usize, place: &str) -> Result<String, AllocEr
 }
 
 // The bytes of the function, and the place in the line that is left: with 65,504 bytes the line has 65,536, and is a
-// frame; with one more it is too long, and stays. The text behind it is looked at as lines of its own.
+// frame; with one more it is too long, and stays. The text after it is looked at as lines of its own.
 const LONG: &[(usize, &str)] = &[(65_504, "a.ts:1:2"), (65_505, "app.js:1:6")];
 
 #[test]

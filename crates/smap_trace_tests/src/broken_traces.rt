@@ -90,7 +90,7 @@ fn assert_unread(
     Ok(())
 }
 
-// The read behind the last piece finds the end, and no read follows that one.
+// The read after the last piece finds the end, and no read follows that one.
 #[test]
 fn each_read_may_break_off(rt: HostRuntime) -> Result<(), Fail> {
     for row in TRACES {
@@ -107,7 +107,7 @@ fn each_read_may_break_off(rt: HostRuntime) -> Result<(), Fail> {
     Ok(())
 }
 
-// Write `call` breaks off, from 1: what was taken before stands there. Behind the last write is the flush.
+// Write `call` breaks off, from 1: what was taken before stands there. After the last write is the flush.
 fn assert_unwritten(
     rt: &impl Abort,
     alloc: Global,

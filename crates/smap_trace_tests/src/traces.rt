@@ -89,7 +89,7 @@ const FRAMES: &[(&str, &str)] = &[
         "    at f@https://ex.test/app.js:1:1",
         "    at |f@https://ex.test/app.js|1|1|",
     ),
-    // A line with `at ` behind its blanks is none of the third form, also where it is none of the others.
+    // A line with `at ` after its blanks is none of the third form, also where it is none of the others.
     ("at async async f@u:1:1", "none"),
     ("\t at  f (@u:1:1)", "\t at  f (|@u|1|1|)"),
     (" at  (@u:1:1)", "none"),
@@ -373,7 +373,7 @@ const NAMES: &[(&str, &str)] = &[
     ),
 ];
 
-// What `at u:1:6` becomes over this map of `u`, behind the counts of the trace and a `|`.
+// What `at u:1:6` becomes over this map of `u`, after the counts of the trace and a `|`.
 fn line_of(alloc: Global, map: &str, hide_ignored: bool, interval: u32) -> Result<String, Fail> {
     let table = table_of(alloc, "u", map, interval)?;
     Ok(rewritten(alloc, &table, hide_ignored, "at u:1:6", (99, 99), (0, 0))?)
@@ -494,7 +494,7 @@ const ADDED: &[(&str, &str)] = &[
     ("v", "Twice v"),
 ];
 
-// How adding a map under a URL ends; the URL that comes back stands behind a refusal.
+// How adding a map under a URL ends; the URL that comes back stands after a refusal.
 fn added_text(alloc: Global, table: &mut Table, url: &str, interval: u32) -> Result<String, Fail> {
     let map = MapFile::read(alloc, MAP.as_bytes(), None, interval)?;
     match table.add(String::from_str(alloc, url)?, map) {

@@ -11,7 +11,7 @@ pub fn rows_of(text: &str, count: usize) -> Result<&str, &'static str> {
     }
 }
 
-/// What stands before the first `|` of a row, and what stands behind it.
+/// What stands before the first `|` of a row, and what stands after it.
 pub fn halves(row: &str) -> (&str, &str) {
     match row.split_once('|') {
         Some(halves) => halves,
@@ -19,7 +19,7 @@ pub fn halves(row: &str) -> (&str, &str) {
     }
 }
 
-/// The text of an excerpt: what shows of the line, and the caret behind so many spaces.
+/// The text of an excerpt: what shows of the line, and the caret after so many spaces.
 pub fn caret_text(alloc: Global, shown: &str, spaces: usize) -> Result<String, AllocError> {
     let spaces = " ".repeat(alloc, spaces)?;
     [shown, "\n", &spaces, "^"].concat(alloc)

@@ -1,0 +1,273 @@
+-- What the arguments ask for, where clap finds no fault in them.
+use Rattle.std.proofs.Common.{◌≡◌, ◌∙◌, ◌||◌, ◌&&◌, ◌⊎◌, ⊎_elim, ℕ, Bool, true, false, refl, sym, subst, inl, inr, List, [], ◌∷◌, not, fold, find, Option, Some, None, true≢false, codes, cond, is_some}
+use Rattle.std.specs.Prelude.{⊤, option_map, unwrap_or}
+use Rattle.std.specs.List.{list_any}
+use Rattle.std.proofs.lemmas.Slice.Eq.{bytes_eq-Decides}
+use Rattle.std.specs.Option.{option_map_or}
+use Rattle.std.specs.Str.{bytes_eq}
+use Rattle.clap.specs.Walk.{Row, Rule, Text, answers_to, finished, nothing_held, rows_after, settled, stop_after, walk, walk_from, with_default}
+use Rattle.clap.specs.declared.parser.matches.ArgMatches.{ArgMatches}
+use Rattle.clap.specs.Simple.{App, HasMatchesOf, subcommand_rows_of, Shape, argument_words, built, built_leaf, entered, filled, help_rule, is_simple, label_of, names_of, new_rule, rows_at, subcommand_of, with_index}
+use Rattle.clap.specs.Kinds.{HasKind, check_kinds}
+use Rattle.clap.specs.Faults.{check_fault, is_simple_and_free, entered_fault, fault_of, defaults_fault, level_fault, settle_fault, walk_fault}
+use Rattle.clap.specs.Takes.{is_given}
+use Rattle.clap.specs.ValueTests.{accepts}
+use Rattle.clap.specs.Values.{kind_of}
+use Rattle.clap.proofs.OnLiterals.{clap_on_literals}
+use Rattle.clap.specs.declared.builder.action.ArgAction.TheVariants.{Append}
+use Rattle.clap.specs.declared.builder.value_parser.ValueParser.{ValueParser}
+use Rattle.clap.specs.declared.builder.value_parser.ValueParser.TheVariants as parser
+use Rattle.clap.specs.declared.error.Error.{Error}
+use Rattle.clap.specs.declared.error.kind.ErrorKind.TheVariants.{DisplayHelp, DisplayVersion, OutOfMemory}
+use Rattle.smap_arguments.specs.CommandLine.{after_rule, base_rule, check, compose, hide_rule, interval_number, interval_rule, lookup, named, number, raw, rewrite, show, smap, source_number}
+use Rattle.smap_arguments.specs.declared.usage.Usage.{Usage}
+use Rattle.smap_arguments.specs.declared.usage.Usage.TheVariants.{Help, Words, Memory}
+use Rattle.smap_arguments.specs.Arguments.{HasArguments, HasCommand, HasValue, HasValues, IsNamedRefusal, IsUsageOf, IsRefusalOf, SubcommandTells}
+use Rattle.smap_arguments.proofs.Rows.{AreReadRows, Keeps, first_none, flag_at, flag_default_keeps, flag_keeps, given_value, help_keeps, long_option_keeps, more_values_keeps, no_default_keeps, second_none, settle_keeps, text_value, value_keeps, walk_keeps}
+use Rattle.smap_arguments.proofs.Stops.{IsNoHelp, walk_names}
+
+-- ---- the rules of a level
+
+-- the fact holds of each
+abbrev Each : {X : Type 0} → (X → Type 0) → List X → Type 0
+Each P [] = ⊤
+Each P (x ∷ xs) = P x × Each P xs
+
+found_in : {X : Type 0} (P : X → Type 0) (p : X → Bool) (xs : List X) (a : X) → Each (λ x. p x ≡ true → P x) xs → find p xs ≡ Some a → P a
+found_in P p [] a each is = cc
+found_in P p (x ∷ xs) a each is = go (p x) refl is (found_in P p xs a each.1)
+  where
+    go : (b : Bool) → p x ≡ b → cond b (Some x) (find p xs) ≡ Some a → (find p xs ≡ Some a → P a) → P a
+    go true passes is later = let same : x ≡ a = cc in subst P same (each.0 passes)
+    go false passes is later = later is
+
+neither : (x y : Bool) → (x || y) ≡ false → (x ≡ false) × (y ≡ false)
+neither true y = λ no. cc
+neither false y = λ no. (refl, no)
+
+given_if : (required given : Bool) → required ≡ true → (required && not given) ≡ false → given ≡ true
+given_if true true = λ is no. refl
+given_if true false = λ is no. cc
+given_if false given = λ is no. cc
+
+none_missing : (help command negates any : Bool) → check_kinds help command (not (negates && false) && any) ≡ [] → any ≡ false
+none_missing help command negates false = λ none. refl
+none_missing true command negates true = λ none. cc
+none_missing false true negates true = λ none. cc
+none_missing false false true true = λ none. cc
+none_missing false false false true = λ none. cc
+
+module _ (parser_at : Text → ValueParser) where
+  -- the argument has no default, or it is read too, and its values are read by the parser
+  abbrev IsPlain : Rule → Type 0
+  IsPlain a = Keeps parser_at a
+      × ((a.defaults ≡ []) ⊎ ((rows : List Row) → AreReadRows parser_at rows → AreReadRows parser_at (with_default rows a)))
+      × (parser_at a.id ≡ unwrap_or a.parser parser.String)
+
+  default_keeps : (rows : List Row) (a : Rule) → IsPlain a → AreReadRows parser_at rows → AreReadRows parser_at (with_default rows a)
+  default_keeps rows a plain good = ⊎_elim (λ none. no_default_keeps parser_at rows a none good) (λ keeps. keeps rows good) plain.1
+
+  finished_keeps : (rules : List Rule) (rows : List Row) → Each IsPlain rules → AreReadRows parser_at rows → AreReadRows parser_at (fold with_default rows rules)
+  finished_keeps [] rows plain good = good
+  finished_keeps (a ∷ rest) rows plain good = finished_keeps rest (with_default rows a) plain.1 (default_keeps rows a plain.0 good)
+
+  each_keeps : (rules : List Rule) (p : Rule → Bool) → Each IsPlain rules → Each (λ a. p a ≡ true → Keeps parser_at a) rules
+  each_keeps [] p plain = tt
+  each_keeps (a ∷ rest) p plain = (λ passes. plain.0.0, each_keeps rest p plain.1)
+
+  values_given : (rules : List Rule) (rows : List Row) → Each IsPlain rules → AreReadRows parser_at rows
+      → list_any (λ a. a.required && not (is_given a.id rows)) rules ≡ false → HasValues rules rows
+  values_given [] rows plain good none = tt
+  values_given (a ∷ rest) rows plain good none =
+      let no = neither (a.required && not (is_given a.id rows)) _ none in (
+        λ required. subst (λ by. HasValue by rows a.id) plain.0.2
+            (given_value parser_at a.id rows good (given_if a.required (is_given a.id rows) required no.0)),
+        λ some. subst (λ by. HasValue by rows a.id) plain.0.2 (text_value parser_at a.id rows good some),
+        values_given rest rows plain.1 good no.1,
+      )
+
+  -- a level in which clap finds no fault has all that it requires
+  level_gives : (s : Shape) → Each IsPlain s.rules → (words : List Text) → level_fault s [] nothing_held words false [] ≡ []
+      → HasValues s.rules (rows_after s.rules [] words)
+  level_gives s plain words none =
+      let keeps : (p : Rule → Bool) (a : Rule) → find p s.rules ≡ Some a → Keeps parser_at a = λ p a is. found_in (Keeps parser_at) p s.rules a (each_keeps s.rules p plain) is in
+      let end = (walk s.rules [] nothing_held words).held in
+      let walked_none = first_none (walk_fault s [] (walk_from nothing_held) words) _ none in
+      let later = second_none (walk_fault s [] (walk_from nothing_held) words) _ none in
+      let settled_none = first_none (settle_fault s.rules s.args_override_self end) _ later in
+      let last = second_none (defaults_fault (settled s.rules end).rows s.rules) _ (second_none (settle_fault s.rules s.args_override_self end) _ later) in
+      let walk_good = walk_keeps parser_at s [] keeps words (walk_from nothing_held) walked_none tt in
+      let end_good = settle_keeps parser_at s.rules s.args_override_self keeps end settled_none walk_good in
+      let rows = rows_after s.rules [] words in
+      values_given s.rules rows plain (finished_keeps s.rules (settled s.rules end).rows plain end_good)
+      (none_missing _ _ s.subcommand_negates_reqs (list_any (λ a. a.required && not (is_given a.id rows)) s.rules) last)
+
+  value : (i : ℕ) (id : Text) → IsPlain (with_index i (filled (record (new_rule id) { required = true; parser = Some (parser_at id) })))
+  value i id = (value_keeps parser_at i id true, inl refl, refl)
+
+  more_values : (i : ℕ) (id : Text) → IsPlain (with_index i (filled (record (new_rule id) { required = true; action = Some Append; parser = Some (parser_at id) })))
+  more_values i id = (more_values_keeps parser_at i id true, inl refl, refl)
+
+  option : (i : ℕ) (id long : Text) → IsPlain (with_index i (filled (record (new_rule id) { long = Some long; parser = Some (parser_at id) })))
+  option i id long = (long_option_keeps parser_at i id long, inl refl, refl)
+
+  flag : (i : ℕ) (id long : Text) → accepts false (parser_at id) (codes "false") ≡ true → IsPlain (flag_at parser_at i id long)
+  flag i id long accepted = (flag_keeps parser_at i id long, inr (flag_default_keeps parser_at i id long accepted), refl)
+
+  help : parser_at (codes "help") ≡ parser.String → IsPlain (filled help_rule)
+  help any = (help_keeps parser_at, inl refl, any)
+
+-- ---- the commands of `smap`
+
+-- lines, columns, sources and intervals are numbers, flags are true or false, and the other arguments are any text
+abbrev at_argument : Text → ValueParser
+at_argument id = cond (bytes_eq id (codes "SOURCE")) source_number
+    (cond (bytes_eq id (codes "K")) interval_number
+    (cond (bytes_eq id (codes "after")) parser.Bool
+    (cond (bytes_eq id (codes "hide-ignored")) parser.Bool
+    (cond (bytes_eq id (codes "LINE") || bytes_eq id (codes "COLUMN")) number parser.String))))
+
+base_plain : (i : ℕ) → IsPlain at_argument (with_index i (filled base_rule))
+base_plain i = option at_argument i (codes "URL") (codes "base")
+
+interval_plain : (i : ℕ) → IsPlain at_argument (with_index i (filled interval_rule))
+interval_plain i = option at_argument i (codes "K") (codes "interval")
+
+after_plain : (i : ℕ) → IsPlain at_argument (with_index i (filled after_rule))
+after_plain i = flag at_argument i (codes "after") (codes "after") refl
+
+hide_plain : (i : ℕ) → IsPlain at_argument (with_index i (filled hide_rule))
+hide_plain i = flag at_argument i (codes "hide-ignored") (codes "hide-ignored") refl
+
+help_plain : IsPlain at_argument (filled help_rule)
+help_plain = help at_argument refl
+
+lookup_plain : Each (IsPlain at_argument) (built_leaf lookup.top).rules
+lookup_plain = (
+  value at_argument 1 (codes "PATH"),
+  (
+    value at_argument 2 (codes "LINE"),
+    (value at_argument 3 (codes "COLUMN"), (base_plain 4, (interval_plain 4, (after_plain 4, (help_plain, tt))))),
+  ),
+)
+
+rewrite_plain : Each (IsPlain at_argument) (built_leaf rewrite.top).rules
+rewrite_plain = (more_values at_argument 1 (codes "URL=FILE"), (base_plain 2, (interval_plain 2, (hide_plain 2, (help_plain, tt)))))
+
+check_plain : Each (IsPlain at_argument) (built_leaf check.top).rules
+check_plain = (value at_argument 1 (codes "PATH"), (base_plain 2, (interval_plain 2, (help_plain, tt))))
+
+show_plain : Each (IsPlain at_argument) (built_leaf show.top).rules
+show_plain = (value at_argument 1 (codes "PATH"), (base_plain 2, (help_plain, tt)))
+
+compose_plain : Each (IsPlain at_argument) (built_leaf compose.top).rules
+compose_plain = (
+  value at_argument 1 (codes "OUTER"),
+  (
+    value at_argument 2 (codes "SOURCE"),
+    (value at_argument 3 (codes "INNER"), (base_plain 4, (help_plain, tt))),
+  ),
+)
+
+raw_plain : Each (IsPlain at_argument) (built_leaf raw.top).rules
+raw_plain = (value at_argument 1 (codes "LINE"), (value at_argument 2 (codes "COLUMN"), (interval_plain 3, (help_plain, tt))))
+
+-- where clap finds no fault in the arguments of the subcommand, it has its arguments
+abbrev Gives : Shape → Type 0
+Gives s = (words : List Text) → level_fault s [] nothing_held words false [] ≡ [] → HasArguments (named s.name) (rows_after s.rules [] words)
+
+each_gives : (word : Text) → bytes_eq word (codes "help") ≡ false → Each (λ s. answers_to word (label_of s) ≡ true → Gives s) (built smap).subs
+each_gives word no_help = (
+  λ answers. level_gives at_argument (built_leaf lookup.top) lookup_plain,
+  (
+    λ answers. level_gives at_argument (built_leaf rewrite.top) rewrite_plain,
+    (
+      λ answers. level_gives at_argument (built_leaf check.top) check_plain,
+      (
+        λ answers. level_gives at_argument (built_leaf show.top) show_plain,
+        (
+          λ answers. level_gives at_argument (built_leaf compose.top) compose_plain,
+          (
+            λ answers. level_gives at_argument (built_leaf raw.top) raw_plain,
+            (λ answers. absurd (is_no_help (bytes_eq (codes "help") word) refl answers), tt),
+          ),
+        ),
+      ),
+    ),
+  ),
+)
+  where
+    is_no_help : (b : Bool) → bytes_eq (codes "help") word ≡ b → (b || false) ≡ true → ⊥
+    is_no_help true is answers =
+        let help : bytes_eq word (codes "help") ≡ true = (bytes_eq-Decides word (codes "help")).1 (sym ((bytes_eq-Decides (codes "help") word).0 is)) in
+        true≢false (sym help ∙ no_help)
+    is_no_help false is answers = cc
+
+stopped_command : (stop : Option (Text × List Text)) → IsNoHelp stop → is_some (entered (built smap) stop) ≡ true → entered_fault (built smap) stop ≡ []
+    → HasCommand (entered (built smap) stop)
+stopped_command None no_help some none = cc
+stopped_command (Some p) no_help some none = go (find (λ s. answers_to p.0 (label_of s)) (built smap).subs) refl some none
+  where
+    go : (o : Option Shape) → find (λ s. answers_to p.0 (label_of s)) (built smap).subs ≡ o → is_some (option_map (λ s. rows_at s p.1) o) ≡ true
+        → option_map_or (λ s. level_fault s [] nothing_held p.1 false []) o [] ≡ [] → HasCommand (option_map (λ s. rows_at s p.1) o)
+    go None is some none = cc
+    go (Some s) is some none =
+        (s.name, rows_after s.rules [] p.1, refl, found_in Gives (λ s. answers_to p.0 (label_of s)) (built smap).subs s (each_gives p.0 no_help) is p.1 none)
+
+wants_subcommand : (rows : List Row) (has : Bool) → check_fault (built smap).top rows has ≡ [] → has ≡ true
+wants_subcommand rows true none = refl
+wants_subcommand rows false none = cc
+
+-- where clap finds no fault in the arguments, they name a subcommand and give it its arguments
+pub command_asked : (words : List Text) → fault_of smap words ≡ [] → HasCommand (subcommand_of smap words)
+command_asked words none =
+    let top = (built smap).top in
+    let names = names_of (built smap) in
+    let rest = argument_words smap words in
+    let stop = stop_after top.rules names rest in
+    let walked_none = first_none (walk_fault top names (walk_from nothing_held) rest) _ none in
+    let below = second_none (walk_fault top names (walk_from nothing_held) rest) _ none in
+    let entered_none = first_none (entered_fault (built smap) stop) _ below in
+    let end = (walk top.rules names nothing_held rest).held in
+    let later = second_none (settle_fault top.rules false end) _ (second_none (entered_fault (built smap) stop) _ below) in
+    let last = second_none (defaults_fault (settled top.rules end).rows top.rules) _ later in
+    stopped_command stop (walk_names top names refl rest (walk_from nothing_held) walked_none tt)
+    (wants_subcommand (finished top.rules end) (is_some (entered (built smap) stop)) last) entered_none
+
+-- ---- what `parse` cites
+
+smap_is_simple : (is_simple_and_free smap ≡ true) × (is_simple smap ≡ true)
+unfolding clap_on_literals
+smap_is_simple = (refl, refl)
+
+-- what a parse by a command that is `smap` gives
+pub parsed_smap : (a : App) (words : List Text) (m : ArgMatches) → a ≡ smap → (is_simple_and_free a ≡ true → fault_of a words ≡ []) → HasMatchesOf a words m
+    → (fault_of smap words ≡ []) × (subcommand_of smap words ≡ subcommand_rows_of m)
+parsed_smap a words m is none matches =
+    let found = subst (λ b. HasMatchesOf b words m) is matches in
+    (subst (λ b. is_simple_and_free b ≡ true → fault_of b words ≡ []) is none smap_is_simple.0, sym (found smap_is_simple.1).1)
+
+pub failed_smap : (a : App) (words : List Text) (e : Error) (usage : Usage) → a ≡ smap → (is_simple_and_free a ≡ true → HasKind (fault_of a words) e)
+    → IsUsageOf (kind_of e) usage → IsRefusalOf words usage
+failed_smap a words e usage is_smap fails is = refusal_of usage (subst (λ b. is_simple_and_free b ≡ true → HasKind (fault_of b words) e) is_smap fails smap_is_simple.0) is
+  where
+    refusal_of : (usage : Usage) → HasKind (fault_of smap words) e → IsUsageOf (kind_of e) usage → IsRefusalOf words usage
+    refusal_of (Help text) kind is = elim kind [
+      | inl memory ↦ elim is [
+        | inl help ↦ let bad : OutOfMemory ≡ DisplayHelp = sym memory ∙ help in cc
+        | inr version ↦ let bad : OutOfMemory ≡ DisplayVersion = sym memory ∙ version in cc
+      ]
+      | inr among ↦ (kind_of e, among, is)
+    ]
+    refusal_of (Words text) kind is = elim kind [
+      | inl memory ↦ absurd (is.1 memory)
+      | inr among ↦ inl (kind_of e, among, is.0)
+    ]
+    refusal_of Memory kind is = tt
+
+-- where clap finds no fault in the arguments, but the base or an argument of `rewrite` is refused
+pub named_refused : (words : List Text) (usage : Usage) → fault_of smap words ≡ [] → IsNamedRefusal (SubcommandTells (subcommand_of smap words)) usage
+    → IsRefusalOf words usage
+named_refused words (Help text) none refused = absurd refused
+named_refused words (Words text) none refused = inr (none, refused)
+named_refused words Memory none refused = tt

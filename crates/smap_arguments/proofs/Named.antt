@@ -1,0 +1,95 @@
+-- The subcommand that clap's matches name.
+use Rattle.std.proofs.Common.{◌≡◌, ◌∙◌, Bool, true, false, List, [], ◌∷◌, Option, Some, None, ap, codes, cond, find, inl, refl, subst, sym}
+use Rattle.std.specs.Borrow.{Bor}
+use Rattle.std.specs.Box.{box_value}
+use Rattle.std.specs.Prelude.{Box, option_map}
+use Rattle.std.specs.Str.{bytes_eq}
+use Rattle.std.proofs.lemmas.Slice.Eq.{bytes_eq-Decides}
+use Rattle.clap.specs.Matches.{subcommand_name_of}
+use Rattle.clap.specs.Simple.{subcommand_rows, subcommand_rows_of}
+use Rattle.clap.specs.Words.{Row, Shape, Text, found_of, rows_of}
+use Rattle.clap.specs.declared.parser.matches.ArgMatches.{ArgMatches}
+use Rattle.clap.specs.declared.parser.matches.ArgMatches.TheViews.{out-ArgMatches, out-SubCommand}
+use Rattle.clap.specs.declared.parser.matches.SubCommand.{SubCommand}
+use Rattle.smap_command.specs.declared.command.Command.{Command}
+use Rattle.smap_arguments.specs.CommandLine.{check, compose, interval_number, lookup, named, number, raw, rewrite, show}
+use Rattle.smap_arguments.specs.Arguments.{HasArguments, HasCommand, HasValue, HasValueIfGiven, IsNamedRefusal, NamedAsksFor, SubcommandAsksFor, SubcommandTells, TellsBadBase, TellsRefusal}
+use Rattle.smap_arguments.specs.declared.usage.Usage.{Usage}
+use Rattle.smap_arguments.specs.declared.usage.Usage.TheVariants.{Help, Words, Memory}
+
+-- ---- its name and its rows
+
+name_of_rows : (m : ArgMatches) → option_map (λ p. p.0) (subcommand_rows_of m) ≡ subcommand_name_of m
+name_of_rows m = go (out-ArgMatches m).subcommand
+  where
+    go : {Z : Type 0} (o : Option (Box SubCommand Z))
+        → option_map (λ p. p.0) (subcommand_rows o) ≡ option_map (λ b. (out-SubCommand (box_value b)).name.now) o
+    go None = refl
+    go (Some b) = refl
+
+subcommand_is : (o : Option (Text × List Row)) (name : Text) (rows : List Row) → option_map (λ p. p.0) o ≡ Some name → option_map (λ p. p.1) o ≡ Some rows
+    → o ≡ Some (name, rows)
+subcommand_is None name rows is_name is_rows = cc
+subcommand_is (Some p) name rows is_name is_rows =
+    let name_is : p.0 ≡ name = cc in
+    let rows_are : p.1 ≡ rows = cc in
+    λ i. Some (name_is i, rows_are i)
+
+pub found_subcommand : (m : ArgMatches) (met : Option (Bor Text × Bor ArgMatches)) (s : Bor Text × Bor ArgMatches) → met ≡ Some s
+    → option_map (λ p. p.0.now) met ≡ subcommand_name_of m
+    → option_map (λ p. rows_of (found_of p.1.now)) met ≡ option_map (λ p. p.1) (subcommand_rows_of m)
+    → subcommand_rows_of m ≡ Some (s.0.now, rows_of (found_of s.1.now))
+found_subcommand m met s is name rows = subcommand_is (subcommand_rows_of m) s.0.now (rows_of (found_of s.1.now))
+    (name_of_rows m ∙ (sym name ∙ ap (option_map (λ (p : Bor Text × Bor ArgMatches). p.0.now)) is))
+    (sym rows ∙ ap (option_map (λ (p : Bor Text × Bor ArgMatches). rows_of (found_of p.1.now))) is)
+
+-- ---- what it has, asks for and is told
+
+abbrev pub HasArgumentsOf : Option (Text × List Row) → Type 0
+HasArgumentsOf None = ⊥
+HasArgumentsOf (Some p) = HasArguments (named p.0) p.1
+
+module _ (subcommand : Option (Text × List Row)) (name : Text) (rows : List Row) (is : subcommand ≡ Some (name, rows)) where
+  pub has_arguments : HasCommand subcommand → HasArguments (named name) rows
+  has_arguments has = subst HasArgumentsOf (sym has.2 ∙ is) has.3
+
+  pub asks_for : (command : Command) → NamedAsksFor name rows command → SubcommandAsksFor subcommand command
+  asks_for command asks = (rows, is ∙ ap (λ n. Some (n, rows)) (sym asks.0), asks.1)
+
+  pub tells : (usage : Usage) → IsNamedRefusal (TellsRefusal name rows) usage → IsNamedRefusal (SubcommandTells subcommand) usage
+  tells (Help text) told = told
+  tells (Words text) told = (name, rows, is, told)
+  tells Memory told = tt
+
+  pub tells_base : (usage : Usage) → IsNamedRefusal (TellsBadBase rows) usage → IsNamedRefusal (SubcommandTells subcommand) usage
+  tells_base (Help text) told = told
+  tells_base (Words text) told = (name, rows, is, inl told)
+  tells_base Memory told = tt
+
+-- ---- a name that is none of the others
+
+passed : (name : Text) (s : Shape) (rest : List Shape) → (name ≡ s.name → ⊥) → find (λ c. bytes_eq c.name name) (s ∷ rest) ≡ find (λ c. bytes_eq c.name name) rest
+passed name s rest other = go (bytes_eq s.name name) refl
+  where
+    go : (b : Bool) → bytes_eq s.name name ≡ b → cond b (Some s) (find (λ c. bytes_eq c.name name) rest) ≡ find (λ c. bytes_eq c.name name) rest
+    go true is = absurd (other (sym ((bytes_eq-Decides s.name name).0 is)))
+    go false is = refl
+
+abbrev pub IsRaw : Text → List Row → Type 0
+IsRaw name rows = (name ≡ codes "raw") × HasValue number rows (codes "LINE") × HasValue number rows (codes "COLUMN")
+    × HasValueIfGiven interval_number rows (codes "K")
+
+pub only_raw : (name : Text) (rows : List Row) → (name ≡ codes "lookup" → ⊥) → (name ≡ codes "rewrite" → ⊥) → (name ≡ codes "check" → ⊥)
+    → (name ≡ codes "show" → ⊥) → (name ≡ codes "compose" → ⊥) → HasArguments (named name) rows → IsRaw name rows
+only_raw name rows no_lookup no_rewrite no_check no_show no_compose has =
+    go (bytes_eq (codes "raw") name) refl (subst (λ o. HasArguments o rows) past has)
+  where
+    past : named name ≡ find (λ c. bytes_eq c.name name) (raw.top ∷ [])
+    past = passed name lookup.top (rewrite.top ∷ check.top ∷ show.top ∷ compose.top ∷ raw.top ∷ []) no_lookup
+        ∙ (passed name rewrite.top (check.top ∷ show.top ∷ compose.top ∷ raw.top ∷ []) no_rewrite
+        ∙ (passed name check.top (show.top ∷ compose.top ∷ raw.top ∷ []) no_check
+        ∙ (passed name show.top (compose.top ∷ raw.top ∷ []) no_show ∙ passed name compose.top (raw.top ∷ []) no_compose)))
+
+    go : (b : Bool) → bytes_eq (codes "raw") name ≡ b → HasArguments (cond b (Some raw.top) None) rows → IsRaw name rows
+    go true is has = (sym ((bytes_eq-Decides (codes "raw") name).0 is), has.0 refl, has.2.0 refl, has.2.2.1)
+    go false is has = absurd has

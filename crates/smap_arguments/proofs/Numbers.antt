@@ -1,0 +1,56 @@
+-- A number that clap reads for an argument.
+use Rattle.std.proofs.Common.{◌≡◌, ◌∙◌, ◌≤◌, ◌<◌, ◌^◌, ℕ, Option, Some, None, sym, subst, pos, codes, List, refl, leb, arith, true}
+use Rattle.std.proofs.Common.{Result}
+use Rattle.std.specs.Option.{IsSome}
+use Rattle.std.proofs.lemmas.Bool.{and_from, le-leb}
+use Rattle.std.specs.Str.Parse.{ExplainsUnsignedError, HasUnsignedDigitsIfOk, ParsesUnsigned}
+use Rattle.std.specs.declared.num.ParseIntError.{ParseIntError}
+use Rattle.clap.specs.Matches.{ReadsOne}
+use Rattle.clap.specs.Words.{Text, one_text, rows_of, without_minus}
+use Rattle.clap.specs.declared.builder.value_parser.ValueParser.TheVariants.{Signed}
+use Rattle.clap.specs.declared.parser.matches.Found.{Found}
+use Rattle.clap.proofs.WalkLemmas.{one_text-rows}
+use Rattle.clap.proofs.CallerReads.{signed_reads}
+use Rattle.clap.specs.Words.{Row, one_of}
+use Rattle.smap_command.specs.Limits.{is_interval, most_interval, usual_interval}
+use Rattle.smap_arguments.specs.CommandLine.{interval_number}
+use Rattle.smap_arguments.specs.Arguments.{GivesInterval, GivesNumber, HasValue, HasValueIfGiven, IsIntervalOf}
+
+-- how a `u32` is read from a text
+abbrev pub ReadsU32 : Text → Result ℕ ParseIntError → Type 0
+ReadsU32 text r = ParsesUnsigned 32 10 text r × ExplainsUnsignedError 10 text r × HasUnsignedDigitsIfOk text r
+
+-- an argument whose numbers lie between these has one of them
+pub number_read : (low high : ℕ) → high < 2 ^ 32 → (found : Found) (name : Text) (result : Option ℕ) → HasValue (Signed (pos low) (pos high)) (rows_of found) name
+    → ((t : Text) → one_text found name ≡ Some t → ReadsOne ReadsU32 t result)
+    → (n : ℕ) × (result ≡ Some n) × (low ≤ n) × (n ≤ high) × GivesNumber (rows_of found) name n
+number_read low high fits found name result has reads =
+    let one = reads (without_minus has.0) (one_text-rows found name ∙ has.1) in
+    let got = signed_reads _ ReadsU32 32 low high has.0 result one (λ u x g. g.0) fits has.2 in
+    let read = subst (ReadsOne ReadsU32 (without_minus has.0)) got.1 one in
+    (got.0, got.1, got.2, got.3, (without_minus has.0, has.1, sym read.0.1))
+
+-- ---- the interval
+
+-- it is none, or one at which checkpoints may stand
+abbrev pub IsReadInterval : List Row → Option ℕ → Type 0
+IsReadInterval rows None = GivesInterval rows usual_interval
+IsReadInterval rows (Some n) = GivesInterval rows n × (is_interval n ≡ true)
+
+pub interval_read : (found : Found) (result : Option ℕ) → HasValueIfGiven interval_number (rows_of found) (codes "K")
+    → (one_text found (codes "K") ≡ None → result ≡ None) → ((t : Text) → one_text found (codes "K") ≡ Some t → ReadsOne ReadsU32 t result)
+    → IsReadInterval (rows_of found) result
+interval_read found result has none reads = go (one_of (codes "K") (rows_of found)) refl
+  where
+    Read : Option ℕ → Type 0
+    Read = IsReadInterval (rows_of found)
+
+    go : (o : Option Text) → one_of (codes "K") (rows_of found) ≡ o → Read result
+    go None is = subst Read (sym (none (one_text-rows found (codes "K") ∙ is))) (subst (λ text. IsIntervalOf text usual_interval) (sym is) refl)
+    go (Some text) is =
+        let read = number_read 1 most_interval (omega arith) found (codes "K") result (has (subst IsSome (sym is) refl)) reads in
+        let given = read.4 in
+        subst Read (sym read.1) (
+          subst (λ text. IsIntervalOf text read.0) (sym given.1) given.2,
+          and_from (leb 1 read.0) (leb read.0 most_interval) (le-leb 1 read.0 read.2) (le-leb read.0 most_interval read.3),
+        )

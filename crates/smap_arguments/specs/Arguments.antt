@@ -1,0 +1,227 @@
+-- What the arguments of the command line ask for.
+use Rattle.std.specs.Prelude.{◌≡◌, ◌≢◌, ◌≤◌, ◌+◌, ◌++◌, ◌==◌, ◌⊎◌, ◌∷◌, ℕ, Bool, false, true, codes, List, []}
+use Rattle.std.specs.Prelude.{None, Ok, Option, Some, String, find, if◌then◌else◌, map, not, unwrap_or, ⊤}
+use Rattle.std.specs.List.{AllZip, list_any}
+use Rattle.std.specs.Option.{IsSome}
+use Rattle.std.specs.Str.Parse.{digits_value, without_leading_plus}
+use Rattle.std.specs.String.{string_bytes}
+use Rattle.smap_command.specs.Interval.{HasInterval}
+use Rattle.smap_command.specs.Limits.{limit, usual_interval}
+use Rattle.smap_command.specs.Shown.{shown}
+use Rattle.url.specs.Parser.{parse_url}
+use Rattle.url.specs.Parts.{Parts}
+use Rattle.clap.specs.Faults.{fault_of}
+use Rattle.clap.specs.Kinds.{IsAmong}
+use Rattle.clap.specs.Simple.{built_leaf}
+use Rattle.clap.specs.Words.{Accepts, Row, Rule, Shape, Text, all_of, first_of, one_of, read_as, reading_of, subcommand_of}
+use Rattle.clap.specs.declared.builder.value_parser.ValueParser.{ValueParser}
+use Rattle.clap.specs.declared.builder.value_parser.ValueParser.TheVariants as parser
+use Rattle.clap.specs.declared.error.kind.ErrorKind.{ErrorKind}
+use Rattle.clap.specs.declared.error.kind.ErrorKind.TheVariants.{DisplayHelp, DisplayVersion, OutOfMemory}
+use Rattle.smap_command.specs.declared.command.Command.{Command}
+use Rattle.smap_command.specs.declared.command.Command.TheVariants.{Raw, Check, Show, Lookup, Rewrite, Compose}
+use Rattle.smap_arguments.specs.CommandLine.{named, smap}
+use Rattle.smap_arguments.specs.declared.usage.Usage.{Usage}
+use Rattle.smap_arguments.specs.declared.usage.Usage.TheVariants.{Help, Words, Memory}
+
+-- the lines and columns are ones that there can be, counted from 0
+abbrev pub HasPosition : Command → Type 0
+HasPosition (Raw line column interval) = (line ≤ limit) × (column ≤ limit)
+HasPosition (Check path base interval) = ⊤
+HasPosition (Show path base) = ⊤
+HasPosition (Lookup path line column base interval after) = (line ≤ limit) × (column ≤ limit)
+HasPosition (Rewrite maps base interval hide_ignored) = ⊤
+HasPosition (Compose outer source inner base) = ⊤
+
+-- the same, and checkpoints may stand at its interval
+abbrev pub IsInRange : Command → Type 0
+IsInRange command = HasPosition command × HasInterval command
+
+-- the arguments as text
+abbrev pub texts : {A : Type 0} → List (String A) → List Text
+texts = map (λ word. string_bytes word)
+
+-- ---- what clap reads for an argument
+
+-- the rows have a text that the argument's parser takes
+abbrev pub HasValue : ValueParser → List Row → (name : Text) → Type 0
+HasValue parser rows name =
+    (text : Text) × (one_of name rows ≡ Some (read_as (reading_of parser) text)) × Accepts false parser text
+
+-- the same, where they have a text
+abbrev pub HasValueIfGiven : ValueParser → List Row → (name : Text) → Type 0
+HasValueIfGiven parser rows name = IsSome (one_of name rows) → HasValue parser rows name
+
+-- it is the number n
+abbrev pub GivesNumber : List Row → (name : Text) → ℕ → Type 0
+GivesNumber rows name n = (text : Text) × (one_of name rows ≡ Some text)
+    × (digits_value 10 (without_leading_plus text) ≡ n)
+
+-- it is this text
+abbrev pub GivesText : List Row → (name text : Text) → Type 0
+GivesText rows name text = first_of name rows ≡ Some text
+
+-- it is a text, where it is given, that is this URL
+abbrev pub GivesUrl : Option Text → Option Parts → Type 0
+GivesUrl None base = base ≡ None
+GivesUrl (Some text) base = (url : Parts) × (parse_url None text ≡ Ok url) × (base ≡ Some url)
+
+-- the base
+abbrev pub GivesBase : List Row → Option Parts → Type 0
+GivesBase rows = GivesUrl (first_of (codes "URL") rows)
+
+-- the text, where it is given, is the number of this interval; else this is the usual one
+abbrev pub IsIntervalOf : Option Text → ℕ → Type 0
+IsIntervalOf None interval = interval ≡ usual_interval
+IsIntervalOf (Some text) interval = digits_value 10 (without_leading_plus text) ≡ interval
+
+-- the interval
+abbrev pub GivesInterval : List Row → ℕ → Type 0
+GivesInterval rows = IsIntervalOf (one_of (codes "K") rows)
+
+-- the text, where there is one, says whether a flag is given
+abbrev pub IsFlagOf : Option Text → Bool → Type 0
+IsFlagOf None given = given ≡ false
+IsFlagOf (Some text) given = text ≡ (if given then codes "true" else codes "false")
+
+-- a flag
+abbrev pub GivesFlag : List Row → (name : Text) → Bool → Type 0
+GivesFlag rows name = IsFlagOf (one_of name rows)
+
+-- ---- the arguments of `rewrite`
+
+-- the text has an `=`
+abbrev pub has_equals_sign : Text → Bool
+has_equals_sign = list_any (λ byte. byte == 61)
+
+-- the argument is a URL, `=` and a path, and is cut at its last `=`
+abbrev pub IsPair : (word url path : Text) → Type 0
+IsPair word url path = (word ≡ url ++ (codes "=" ++ path)) × (has_equals_sign path ≡ false)
+
+-- the arguments are these pairs of a URL and a path
+abbrev pub ArePairs : {A : Type 0} → List Text → List (String A × String A) → Type 0
+ArePairs = AllZip (λ word pair. IsPair word (string_bytes pair.0) (string_bytes pair.1))
+
+-- the arguments that clap reads are these pairs
+abbrev pub GivesPairs : {A : Type 0} → List Row → List (String A × String A) → Type 0
+GivesPairs rows pairs = (words : List Text) × (all_of (codes "URL=FILE") rows ≡ Some words) × ArePairs words pairs
+
+-- the first argument that is no pair
+abbrev pub first_without : List Text → Option Text
+first_without = find (λ word. not (has_equals_sign word))
+
+-- ---- what any arguments ask for
+
+-- how the command is called
+abbrev pub name_of : Command → Text
+name_of (Raw line column interval) = codes "raw"
+name_of (Check path base interval) = codes "check"
+name_of (Show path base) = codes "show"
+name_of (Lookup path line column base interval after) = codes "lookup"
+name_of (Rewrite maps base interval hide_ignored) = codes "rewrite"
+name_of (Compose outer source inner base) = codes "compose"
+
+-- what clap reads for the arguments of a command asks for it, with lines and columns counted from 1
+abbrev pub RowsAskFor : List Row → Command → Type 0
+RowsAskFor rows (Raw line column interval) = GivesNumber rows (codes "LINE") (line + 1)
+    × GivesNumber rows (codes "COLUMN") (column + 1) × GivesInterval rows interval
+RowsAskFor rows (Check path base interval) =
+    GivesText rows (codes "PATH") (string_bytes path) × GivesBase rows base × GivesInterval rows interval
+RowsAskFor rows (Show path base) = GivesText rows (codes "PATH") (string_bytes path) × GivesBase rows base
+RowsAskFor rows (Lookup path line column base interval after) = GivesText rows (codes "PATH") (string_bytes path)
+    × GivesNumber rows (codes "LINE") (line + 1) × GivesNumber rows (codes "COLUMN") (column + 1) × GivesBase rows base
+    × GivesInterval rows interval × GivesFlag rows (codes "after") after
+RowsAskFor rows (Rewrite maps base interval hide_ignored) = GivesPairs rows maps.items × GivesBase rows base × GivesInterval rows interval
+    × GivesFlag rows (codes "hide-ignored") hide_ignored
+RowsAskFor rows (Compose outer source inner base) = GivesText rows (codes "OUTER") (string_bytes outer)
+    × GivesNumber rows (codes "SOURCE") source × GivesText rows (codes "INNER") (string_bytes inner) × GivesBase rows base
+
+-- the same, where the arguments name the command so
+abbrev pub NamedAsksFor : (name : Text) → List Row → Command → Type 0
+NamedAsksFor name rows command = (name_of command ≡ name) × RowsAskFor rows command
+
+-- the subcommand, where the arguments name one, asks for the command
+abbrev pub SubcommandAsksFor : Option (Text × List Row) → Command → Type 0
+SubcommandAsksFor subcommand command =
+    (rows : List Row) × (subcommand ≡ Some (name_of command, rows)) × RowsAskFor rows command
+
+-- clap finds no fault in the arguments, and the subcommand that they name asks for the command
+abbrev pub ArgumentsAskFor : List Text → Command → Type 0
+ArgumentsAskFor words command =
+    (fault_of smap words ≡ []) × SubcommandAsksFor (subcommand_of smap words) command
+
+-- ---- what the rows have where clap finds no fault
+
+-- a value for each of these arguments that is required, and for each that is given
+abbrev pub HasValues : List Rule → List Row → Type 0
+HasValues [] rows = ⊤
+HasValues (rule ∷ rules) rows =
+    let parser = unwrap_or rule.parser parser.String in
+    (rule.required ≡ true → HasValue parser rows rule.id) × HasValueIfGiven parser rows rule.id × HasValues rules rows
+
+-- the same, of the arguments of a command, as clap fills them in
+abbrev pub HasArguments : Option Shape → List Row → Type 0
+HasArguments None rows = ⊥
+HasArguments (Some command) rows = HasValues (built_leaf command).rules rows
+
+-- the subcommand is one of `smap`, and has its arguments
+abbrev pub HasCommand : Option (Text × List Row) → Type 0
+HasCommand subcommand = (name : Text) × (rows : List Row) × (subcommand ≡ Some (name, rows)) × HasArguments (named name) rows
+
+-- ---- why there is no command
+
+-- an error of this kind is a request for help or for the version
+abbrev pub IsRequest : ErrorKind → Type 0
+IsRequest kind = (kind ≡ DisplayHelp) ⊎ (kind ≡ DisplayVersion)
+
+-- what an error of this kind comes to
+abbrev pub IsUsageOf : ErrorKind → Usage → Type 0
+IsUsageOf kind (Help text) = IsRequest kind
+IsUsageOf kind (Words text) = (¬ (IsRequest kind)) × (kind ≢ OutOfMemory)
+IsUsageOf kind Memory = ⊤
+
+-- the base is no URL
+abbrev pub bad_base_line : Text
+bad_base_line = codes "usage: bad base URL" ++ 10 ∷ []
+
+-- an argument of `rewrite` has no `=`
+abbrev pub no_pair_line : (word : Text) → Text
+no_pair_line word = codes "usage: no URL=FILE: " ++ shown word ++ 10 ∷ []
+
+-- it is told that the base is no URL
+abbrev pub TellsBadBase : List Row → Text → Type 0
+TellsBadBase rows text = (text ≡ bad_base_line) × ((base : Text) × GivesText rows (codes "URL") base)
+
+-- an argument of `rewrite` is told that is the first without `=`
+abbrev pub TellsNoPair : List Text → Text → Type 0
+TellsNoPair words text = (word : Text) × (first_without words ≡ Some word) × (text ≡ no_pair_line word)
+
+-- the same, of the arguments that clap reads
+abbrev pub TellsBadPair : List Row → Text → Type 0
+TellsBadPair rows text = (words : List Text) × (all_of (codes "URL=FILE") rows ≡ Some words) × TellsNoPair words text
+
+-- the arguments are told that clap takes, but the command of this name does not: its base, or an argument of `rewrite`, whose base
+-- is not refused
+abbrev pub TellsRefusal : (name : Text) → List Row → Text → Type 0
+TellsRefusal name rows text = TellsBadBase rows text
+    ⊎ ((base : Option Parts) × (name ≡ codes "rewrite") × GivesBase rows base × TellsBadPair rows text)
+
+-- where clap finds no fault, this alone may be told, or memory ran out
+abbrev pub IsNamedRefusal : (Text → Type 0) → Usage → Type 0
+IsNamedRefusal Tells (Help text) = ⊥
+IsNamedRefusal Tells (Words text) = Tells (string_bytes text)
+IsNamedRefusal Tells Memory = ⊤
+
+-- the same, of the subcommand that the arguments name
+abbrev pub SubcommandTells : Option (Text × List Row) → Text → Type 0
+SubcommandTells subcommand text =
+    (name : Text) × (rows : List Row) × (subcommand ≡ Some (name, rows)) × TellsRefusal name rows text
+
+-- clap finds a request for help or for the version, or another fault in the arguments; or it finds none, and what is told is
+-- that the base is no URL or an argument no pair; or memory ran out
+abbrev pub IsRefusalOf : List Text → Usage → Type 0
+IsRefusalOf words (Help text) = (kind : ErrorKind) × IsAmong kind (fault_of smap words) × IsRequest kind
+IsRefusalOf words (Words text) =
+    ((kind : ErrorKind) × IsAmong kind (fault_of smap words) × (¬ (IsRequest kind)))
+    ⊎ ((fault_of smap words ≡ []) × SubcommandTells (subcommand_of smap words) (string_bytes text))
+IsRefusalOf words Memory = ⊤

@@ -1,0 +1,99 @@
+-- The command line, as clap reads it.
+use Rattle.std.specs.Prelude.{◌≡◌, ◌+◌, false, true, pos, codes, Option, Some, List, []}
+use Rattle.std.specs.Prelude.{◌∷◌, find, fold}
+use Rattle.std.specs.Str.{bytes_eq}
+use Rattle.smap_command.specs.Limits.{limit, most_interval}
+use Rattle.clap.specs.Simple.{on_top}
+use Rattle.clap.specs.Words.{App, Rule, Shape, Text, app_of, new_app, new_rule, rule_of, with_rule, with_subcommand}
+use Rattle.clap.specs.declared.builder.action.ArgAction.TheVariants.{Append, SetTrue}
+use Rattle.clap.specs.declared.builder.arg.Arg.{Arg as ClapArgument}
+use Rattle.clap.specs.declared.builder.command.Command.{Command as ClapCommand}
+use Rattle.clap.specs.declared.builder.command.Command.TheViews.{out-Command}
+use Rattle.clap.specs.declared.builder.value_parser.ValueParser.{ValueParser}
+use Rattle.clap.specs.declared.builder.value_parser.ValueParser.TheVariants as parser
+
+-- ---- arguments
+
+-- a line or column, counted from 1
+abbrev pub number : ValueParser
+number = parser.Signed (pos 1) (pos (limit + 1))
+
+-- the number of a source, counted from 0
+abbrev pub source_number : ValueParser
+source_number = parser.Signed (pos 0) (pos 4294967295)
+
+-- an interval at which checkpoints may stand
+abbrev pub interval_number : ValueParser
+interval_number = parser.Signed (pos 1) (pos most_interval)
+
+-- a required argument that is of any text
+abbrev pub text_rule : Text → Rule
+text_rule name = record (new_rule name) { required = true }
+
+-- a required argument that this parser reads
+abbrev pub number_rule : ValueParser → Text → Rule
+number_rule parser name = record (new_rule name) { required = true; parser = Some parser }
+
+-- the required argument that is one or more arguments, of any text
+abbrev pub pairs_rule : Rule
+pairs_rule = record (new_rule (codes "URL=FILE")) { required = true; action = Some Append }
+
+-- the option that is a URL, of any text
+abbrev pub base_rule : Rule
+base_rule = record (new_rule (codes "URL")) { long = Some (codes "base") }
+
+-- the option that is an interval
+abbrev pub interval_rule : Rule
+interval_rule = record (new_rule (codes "K")) { long = Some (codes "interval"); parser = Some interval_number }
+
+-- the flag that looks up in the other direction
+abbrev pub after_rule : Rule
+after_rule = record (new_rule (codes "after")) { long = Some (codes "after"); action = Some SetTrue }
+
+-- the flag that hides the frames of ignored sources
+abbrev pub hide_rule : Rule
+hide_rule = record (new_rule (codes "hide-ignored")) { long = Some (codes "hide-ignored"); action = Some SetTrue }
+
+-- clap's argument is the one described, and does not hold in subcommands too
+abbrev pub IsLocalArgument : Rule → ClapArgument → Type 0
+IsLocalArgument rule argument = (rule_of argument ≡ rule) × (argument.global ≡ false)
+
+-- ---- commands
+
+-- the command of this name with these arguments
+abbrev pub with_rules : Text → List Rule → App
+with_rules name rules = fold with_rule (new_app name) rules
+
+abbrev pub lookup : App
+lookup = with_rules (codes "lookup") (text_rule (codes "PATH") ∷ number_rule number (codes "LINE")
+    ∷ number_rule number (codes "COLUMN") ∷ base_rule ∷ interval_rule ∷ after_rule ∷ [])
+
+abbrev pub rewrite : App
+rewrite = with_rules (codes "rewrite") (pairs_rule ∷ base_rule ∷ interval_rule ∷ hide_rule ∷ [])
+
+abbrev pub check : App
+check = with_rules (codes "check") (text_rule (codes "PATH") ∷ base_rule ∷ interval_rule ∷ [])
+
+abbrev pub show : App
+show = with_rules (codes "show") (text_rule (codes "PATH") ∷ base_rule ∷ [])
+
+abbrev pub compose : App
+compose = with_rules (codes "compose") (text_rule (codes "OUTER") ∷ number_rule source_number (codes "SOURCE")
+    ∷ text_rule (codes "INNER") ∷ base_rule ∷ [])
+
+abbrev pub raw : App
+raw = with_rules (codes "raw") (number_rule number (codes "LINE") ∷ number_rule number (codes "COLUMN") ∷ interval_rule ∷ [])
+
+-- `smap`, which has a version and wants a subcommand
+abbrev pub smap : App
+smap = fold (λ above command. with_subcommand above command.top)
+    (on_top (λ shape. record shape { subcommand_required = true; has_version = true }) (new_app (codes "smap")))
+    (lookup ∷ rewrite ∷ check ∷ show ∷ compose ∷ raw ∷ [])
+
+-- clap's command is the one described, and no argument of it holds in subcommands too
+abbrev pub IsLocalCommand : App → ClapCommand → Type 0
+IsLocalCommand app command = (app_of command ≡ app) × ((out-Command command).has_globals ≡ false)
+
+-- the command of `smap` that has this name
+abbrev pub named : Text → Option Shape
+named name = find (λ command. bytes_eq command.name name) smap.subs

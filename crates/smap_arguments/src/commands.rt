@@ -1,0 +1,186 @@
+//! The command that the arguments ask for, read from what clap found in them.
+ghost use Rattle.std.specs.Prelude.{◌≡◌, ◌≤◌, ◌+◌, ◌∷◌, [], IfErr, IfOk, codes, map, string_bytes, true};
+ghost use Rattle.clap.specs.Words.{found_of, rows_of, subcommand_rows_of};
+ghost use Rattle.smap_command.specs.Limits.{is_interval, limit};
+ghost use Rattle.smap_arguments.specs.CommandLine.{interval_number, named, number, source_number};
+ghost use Rattle.smap_arguments.specs.Arguments.{ArePairs, GivesBase, GivesFlag, GivesInterval, GivesNumber, GivesPairs};
+ghost use Rattle.smap_arguments.specs.Arguments.{GivesText, HasArguments, HasCommand, HasValue, HasValueIfGiven};
+ghost use Rattle.smap_arguments.specs.Arguments.{IsInRange, IsNamedRefusal, IsPair};
+ghost use Rattle.smap_arguments.specs.Arguments.{NamedAsksFor, SubcommandAsksFor, SubcommandTells, TellsBadBase};
+ghost use Rattle.smap_arguments.specs.Arguments.{TellsBadPair, TellsNoPair, TellsRefusal};
+ghost use Rattle.clap.specs.declared.builder.value_parser.ValueParser.TheVariants as parser;
+
+use crate::mistakes::{BAD_BASE, no_pair_line};
+use crate::usage::Usage;
+use clap::ArgMatches;
+use smap_command::{Command, USUAL_INTERVAL};
+use std::alloc::{AllocError, Global};
+use url::{ParseError, Url};
+
+/// The command that the subcommand and its arguments ask for. A base that is no URL is refused first.
+pub fn command_in(alloc: Global, matches: &ArgMatches<'_>) -> Result<Command, Usage>
+    requires { HasCommand (subcommand_rows_of matches.now) }
+    ensures asked { IfOk result (SubcommandAsksFor (subcommand_rows_of matches.now)) }
+    ensures in_range { IfOk result IsInRange }
+    ensures refused { IfErr result (IsNamedRefusal
+        (SubcommandTells (subcommand_rows_of matches.now))) }
+{
+    let (name, matches) = matches.subcommand().unwrap();
+    let base = base_in(alloc, matches)?;
+    named_command(alloc, name, matches, base)
+}
+
+// The command of this name that the arguments ask for, over the base.
+fn named_command(
+    alloc: Global,
+    name: &str,
+    matches: &ArgMatches<'_>,
+    base: Option<Url>,
+) -> Result<Command, Usage>
+    requires required { HasArguments (named name.now) (rows_of (found_of matches.now)) }
+    requires given { GivesBase (rows_of (found_of matches.now)) base }
+    ensures asked { IfOk result (NamedAsksFor name.now (rows_of (found_of matches.now))) }
+    ensures in_range { IfOk result IsInRange }
+    ensures refused { IfErr result (IsNamedRefusal
+        (TellsRefusal name.now (rows_of (found_of matches.now)))) }
+{
+    match name {
+        "lookup" => Ok(Command::Lookup {
+            path: text_in(alloc, matches, "PATH")?,
+            line: position_number_in(matches, "LINE"),
+            column: position_number_in(matches, "COLUMN"),
+            base,
+            interval: interval_in(matches),
+            after: flag_in(matches, "after"),
+        }),
+        "rewrite" => Ok(Command::Rewrite {
+            maps: maps_in(alloc, matches)?,
+            base,
+            interval: interval_in(matches),
+            hide_ignored: flag_in(matches, "hide-ignored"),
+        }),
+        "check" => Ok(Command::Check {
+            path: text_in(alloc, matches, "PATH")?,
+            base,
+            interval: interval_in(matches),
+        }),
+        "show" => Ok(Command::Show {
+            path: text_in(alloc, matches, "PATH")?,
+            base,
+        }),
+        "compose" => Ok(Command::Compose {
+            outer: text_in(alloc, matches, "OUTER")?,
+            source: source_in(matches),
+            inner: text_in(alloc, matches, "INNER")?,
+            base,
+        }),
+        _ => {
+            let (line, column) = (position_number_in(matches, "LINE"), position_number_in(matches, "COLUMN"));
+            Ok(Command::Raw {
+                line,
+                column,
+                interval: interval_in(matches),
+            })
+        }
+    }
+}
+
+// The text of an argument.
+fn text_in(alloc: Global, matches: &ArgMatches<'_>, name: &str) -> Result<String, AllocError>
+    requires { HasValue parser.String (rows_of (found_of matches.now)) name.now }
+    ensures { IfOk result (λ text. GivesText (rows_of (found_of matches.now)) name.now
+        (string_bytes text)) }
+{
+    String::from_str(alloc, matches.get_str(name).unwrap())
+}
+
+// The line or column of an argument, counted from 0.
+fn position_number_in(matches: &ArgMatches<'_>, name: &str) -> u32
+    requires { HasValue number (rows_of (found_of matches.now)) name.now }
+    ensures given { GivesNumber (rows_of (found_of matches.now)) name.now (result + 1) }
+    ensures in_range { result ≤ limit }
+{
+    matches.get_one::<u32>(name).unwrap() - 1
+}
+
+// The number of the source.
+fn source_in(matches: &ArgMatches<'_>) -> u32
+    requires { HasValue source_number (rows_of (found_of matches.now)) (codes "SOURCE") }
+    ensures { GivesNumber (rows_of (found_of matches.now)) (codes "SOURCE") result }
+{
+    matches.get_one::<u32>("SOURCE").unwrap()
+}
+
+// The interval of the option `--interval`, or the usual one where it is not given.
+fn interval_in(matches: &ArgMatches<'_>) -> u32
+    requires { HasValueIfGiven interval_number (rows_of (found_of matches.now)) (codes "K") }
+    ensures given { GivesInterval (rows_of (found_of matches.now)) result }
+    ensures in_range { is_interval result ≡ true }
+{
+    match matches.get_one::<u32>("K") {
+        Some(interval) => interval,
+        None => USUAL_INTERVAL,
+    }
+}
+
+// Whether a flag is given.
+fn flag_in(matches: &ArgMatches<'_>, name: &str) -> bool
+    requires { HasValueIfGiven parser.Bool (rows_of (found_of matches.now)) name.now }
+    ensures { GivesFlag (rows_of (found_of matches.now)) name.now result }
+{
+    matches.get_flag(name)
+}
+
+// The URL of the option `--base`, where it is given.
+fn base_in(alloc: Global, matches: &ArgMatches<'_>) -> Result<Option<Url>, Usage>
+    ensures given { IfOk result (GivesBase (rows_of (found_of matches.now))) }
+    ensures refused { IfErr result (IsNamedRefusal (TellsBadBase (rows_of (found_of matches.now)))) }
+{
+    let Some(text) = matches.get_str("URL") else {
+        return Ok(None);
+    };
+    match Url::parse(alloc, text) {
+        Ok(url) => Ok(Some(url)),
+        Err(ParseError::OutOfMemory) => Err(Usage::Memory),
+        Err(_) => Err(Usage::Words(String::from_str(alloc, BAD_BASE)?)),
+    }
+}
+
+// The arguments of `rewrite`, each cut into a URL and a path.
+fn maps_in(alloc: Global, matches: &ArgMatches<'_>) -> Result<Vec<(String, String)>, Usage>
+    requires { HasValue parser.String (rows_of (found_of matches.now)) (codes "URL=FILE") }
+    ensures given { IfOk result (λ maps. GivesPairs (rows_of (found_of matches.now)) maps.items) }
+    ensures refused { IfErr result (IsNamedRefusal (TellsBadPair (rows_of (found_of matches.now)))) }
+{
+    pairs_of(alloc, matches.get_strs("URL=FILE").unwrap())
+}
+
+// The URL and the path of each argument of `rewrite`.
+fn pairs_of(alloc: Global, words: &[&str]) -> Result<Vec<(String, String)>, Usage>
+    ensures cut { IfOk result (λ pairs. ArePairs (map (λ word. word.now) words.now) pairs.items) }
+    ensures refused { IfErr result (IsNamedRefusal (TellsNoPair (map (λ word. word.now) words.now))) }
+{
+    let mut pairs = Vec::new(alloc);
+    for word in words {
+        let pair = pair_of(alloc, word)?;
+        match pairs.push(pair) {
+            Ok(_) => {}
+            Err(_) => return Err(Usage::Memory),
+        }
+    }
+    Ok(pairs)
+}
+
+// The URL and the path of an argument, which is cut at its last `=`, since a URL may have others.
+fn pair_of(alloc: Global, word: &str) -> Result<(String, String), Usage>
+    ensures cut { IfOk result (λ pair. IsPair word.now (string_bytes pair.0) (string_bytes pair.1)) }
+    ensures refused { IfErr result (IsNamedRefusal (TellsNoPair (word.now ∷ []))) }
+{
+    match word.rsplit_once('=') {
+        Some((url, path)) => Ok((
+            String::from_str(alloc, url)?,
+            String::from_str(alloc, path)?,
+        )),
+        None => Err(Usage::Words(no_pair_line(alloc, word)?)),
+    }
+}

@@ -1,0 +1,17 @@
+//! The arguments of the command line, which clap reads, as the command that they ask for; or why they ask for none.
+//!
+//! ```text
+//! let arguments = vec![in alloc; "smap", "lookup", "app.js.map", "1", "6"]?;
+//! let command = parse(alloc, arguments)?; // Command::Lookup { path, line: 0, column: 5, .. }
+//! ```
+#![tactic(auto)]
+
+mod commands;
+mod line;
+mod mistakes;
+mod parsing;
+mod usage;
+
+pub use parsing::parse;
+pub use smap_command::Command;
+pub use usage::Usage;

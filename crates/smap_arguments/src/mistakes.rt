@@ -1,0 +1,17 @@
+//! The lines for arguments that clap takes, but the command does not.
+ghost use Rattle.std.specs.Prelude.{◌≡◌, string_bytes, IfOk};
+ghost use Rattle.smap_arguments.specs.Arguments.{no_pair_line};
+
+use smap_command::shown;
+use std::alloc::{AllocError, Global};
+
+/// Standard error: the base is no URL.
+pub const BAD_BASE: &str = "usage: bad base URL\n";
+
+/// Standard error: an argument of `rewrite` without `=`.
+pub fn no_pair_line(alloc: Global, word: &str) -> Result<String, AllocError>
+    ensures { IfOk result (λ text. string_bytes text ≡ no_pair_line word.now) }
+{
+    let word = shown(alloc, word)?;
+    format!(in alloc; "usage: no URL=FILE: {word}\n")
+}

@@ -1,0 +1,43 @@
+//! The arguments of the command line, read into a command.
+ghost use Rattle.std.specs.Prelude.{IfErr, IfOk};
+ghost use Rattle.clap.specs.Words.{kind_of};
+ghost use Rattle.smap_arguments.specs.Arguments.{IsInRange, IsRefusalOf, IsUsageOf, ArgumentsAskFor, texts};
+
+use crate::commands::command_in;
+use crate::line::command_line;
+use crate::usage::Usage;
+use clap::Error;
+use clap::error::ErrorKind;
+use smap_command::Command;
+use std::alloc::Global;
+
+/// The command that the arguments ask for, where the first argument is the program's name. An `Err` has the
+/// text for the user, as clap writes it.
+pub fn parse(alloc: Global, words: Vec<String>) -> Result<Command, Usage>
+    ensures asked { IfOk result (ArgumentsAskFor (texts words.items)) }
+    ensures in_range { IfOk result IsInRange }
+    ensures refused { IfErr result (IsRefusalOf (texts words.items)) }
+{
+    let smap = command_line(alloc)?;
+    match smap.try_get_matches_from(words.as_slice()) {
+        Ok(matches) => command_in(alloc, &matches),
+        Err(error) => Err(usage_of(alloc, &error)),
+    }
+}
+
+// What an error of clap comes to.
+fn usage_of(alloc: Global, error: &Error) -> Usage
+    ensures { IsUsageOf (kind_of error.now) result }
+{
+    match error.kind() {
+        ErrorKind::OutOfMemory => Usage::Memory,
+        kind => {
+            let is_request = kind == ErrorKind::DisplayHelp || kind == ErrorKind::DisplayVersion;
+            match format!(in alloc; "{error}") {
+                Ok(text) if is_request => Usage::Help(text),
+                Ok(text) => Usage::Words(text),
+                Err(_) => Usage::Memory,
+            }
+        }
+    }
+}

@@ -1,7 +1,0 @@
-use Rattle.std.proofs.Common.{take}
-use Rattle.smap_words.proofs.Pairs.{Zips}
-use Rattle.smap_words.proofs.commands.pairs_of.Given as goal
-
--- the words so far are cut
-abbrev pub invariant-loop-word : goal.invariant-loop-word
-invariant-loop-word l = Zips (take l.word-index l.words) l.pairs.items
