@@ -7,7 +7,7 @@ use Rattle.smap_answers.specs.Lines.{input_failed_line}
 use Rattle.smap_answers.specs.Outcome.{OrMemory, Telling, failure}
 use Rattle.smap_answers.specs.Raw.{raw_result}
 use Rattle.smap_answers.specs.Run.{IsRawTelling}
-use Rattle.smap_answers.specs.Streams.{Work}
+use Rattle.smap_lines.specs.Editing.{DevicesSeen}
 use Rattle.smap_answers.specs.declared.load.Loaded.{Loaded}
 use Rattle.smap_answers.proofs.RawLaws.{raw_of_read}
 use Rattle.url.specs.Parts.{Parts}
@@ -48,9 +48,9 @@ raw_input before after bytes line column gives short whole_read = go before (raw
 -- ---- `rewrite`
 
 -- where it tells an answer, standard output works
-pub rewritten_works : (base : Option Parts) (k : ℕ) (hide : Bool) (words : List (List ℕ × Loaded)) (before after : Work) (telling : Telling)
+pub rewritten_works : (base : Option Parts) (k : ℕ) (hide : Bool) (words : List (List ℕ × Loaded)) (before after : DevicesSeen) (telling : Telling)
     → RewriteTells base k hide words before after telling → before.output.failed ≡ false → telling.status ≡ 0 → after.output.failed ≡ false
-rewritten_works base k hide words before after telling (Err refused, gathers, tells) works done = ap (λ (work : Work). work.output.failed) tells.1 ∙ works
+rewritten_works base k hide words before after telling (Err refused, gathers, tells) works done = ap (λ (work : DevicesSeen). work.output.failed) tells.1 ∙ works
 rewritten_works base k hide words before after telling (Ok maps, gathers, tells) works done = go tells.result tells.output_failed (ap (λ (t : Telling). t.status) (sym tells.told) ∙ done)
   where
     go : (result : Result Summary RewriteFault) → after.output.failed ≡ is_write_fault result → (rewrite_telling result).status ≡ 0 → after.output.failed ≡ false

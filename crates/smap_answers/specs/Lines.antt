@@ -1,12 +1,17 @@
 -- The lines that the program prints, and the texts that they are made of.
 use Rattle.std.specs.Prelude.{ℕ, ◌+◌, codes, Bool, if◌then◌else◌, Option, None, Some, List, [], ◌∷◌, ◌++◌}
 use Rattle.std.specs.Fmt.{decimal}
-use Rattle.std.specs.List.{concat}
 use Rattle.smap_mappings.specs.declared.fault.Fault.{Fault}
 use Rattle.smap_mappings.specs.declared.fault.FaultKind.{FaultKind}
 use Rattle.smap_mappings.specs.declared.fault.FaultKind.TheVariants.{BadDigit, Unended, TooLong, TooLarge, NegativeZero, FieldCount, Negative, PastLimit, ColumnFalls, SourceIndex, NameIndex}
 use Rattle.smap_command.specs.Shown.{shown}
 use Rattle.smap_answers.specs.declared.lines.MapCounts.{MapCounts}
+
+-- the pieces one after the other
+abbrev pub text_from : List (List ℕ) → List ℕ
+text_from [] = []
+text_from (piece ∷ []) = piece
+text_from (piece ∷ next ∷ pieces) = piece ++ text_from (next ∷ pieces)
 
 -- the pieces one after the other, and an LF
 abbrev pub line_from : List (List ℕ) → List ℕ
@@ -50,14 +55,14 @@ place_line source line column name ignored = line_from (
 
 -- how many sections, sources and names a map has
 abbrev pub lists_text : MapCounts → List ℕ
-lists_text counts = concat (
+lists_text counts = text_from (
     codes " sections " ∷ decimal counts.sections
     ∷ codes " sources " ∷ decimal counts.sources
     ∷ codes " names " ∷ decimal counts.names ∷ [])
 
 -- how many mappings it has, lines that hold one, and checkpoints
 abbrev pub mappings_text : MapCounts → List ℕ
-mappings_text counts = concat (
+mappings_text counts = text_from (
     codes " segments " ∷ decimal counts.segments
     ∷ codes " lines " ∷ decimal counts.lines
     ∷ codes " checkpoints " ∷ decimal counts.checkpoints ∷ [])
@@ -84,7 +89,7 @@ kind_text NameIndex = codes "F11 NameIndex"
 
 -- a fault of a mappings text; its line counts from 0, and prints from 1, its byte from 0
 abbrev pub fault_text : Fault → List ℕ
-fault_text fault = concat (
+fault_text fault = text_from (
     kind_text fault.kind ∷ codes " line " ∷ decimal (fault.line + 1) ∷ codes " byte " ∷ decimal fault.byte ∷ [])
 
 -- a mappings text that is refused for its first fault

@@ -6,8 +6,7 @@ use Rattle.smap_index.specs.declared.refusal.BuildRefusal.{BuildRefusal}
 use Rattle.smap_index.specs.declared.refusal.BuildRefusal.TheVariants as builds
 use Rattle.smap_record.specs.declared.refusal.MapRefusal.{MapRefusal}
 use Rattle.smap_record.specs.declared.refusal.MapRefusal.TheVariants.{TooLarge, NotJson, NotObject, Version, Sections, SectionOffset, Nested, Sources, Names, SourcesContent, IgnoreList, FileOrRoot, Mappings, Text, Build, Url, Memory}
-use Rattle.std.specs.List.{concat}
-use Rattle.smap_answers.specs.Lines.{fault_text}
+use Rattle.smap_answers.specs.Lines.{fault_text, text_from}
 
 -- its number and name
 abbrev pub cause_text : MapRefusal → List ℕ
@@ -39,7 +38,7 @@ build_text builds.Memory = codes " B5 Memory"
 
 -- the first fault of the mappings of a section, which counts from 0
 abbrev pub section_fault_text : (section : ℕ) → Fault → List ℕ
-section_fault_text section fault = concat (codes " " ∷ decimal section ∷ codes " " ∷ fault_text fault ∷ [])
+section_fault_text section fault = text_from (codes " " ∷ decimal section ∷ codes " " ∷ fault_text fault ∷ [])
 
 -- its parts, where it has some, each after a space
 abbrev pub parts_text : MapRefusal → List ℕ

@@ -10,7 +10,9 @@ use Rattle.smap_answers.specs.Map.{IsLine, IsResult, TellsMap}
 use Rattle.smap_answers.specs.Outcome.{OrMemory, Telling, failure}
 use Rattle.smap_answers.specs.Raw.{raw_result}
 use Rattle.smap_answers.specs.Show.{show_result}
-use Rattle.smap_answers.specs.Streams.{SinkSeen, Streams, Work, Ends, sinks_seen, work_seen}
+use Rattle.smap_io.specs.Device.{SinkSeen}
+use Rattle.smap_answers.specs.Streams.{Streams, Ends, sinks_seen}
+use Rattle.smap_lines.specs.Editing.{DevicesSeen, devices_seen}
 use Rattle.smap_answers.specs.Trace.{RewriteTells, url_in_argument}
 use Rattle.smap_command.specs.declared.command.Command.{Command}
 use Rattle.smap_command.specs.declared.command.Command.TheVariants.{Raw, Check, Show, Lookup, Rewrite, Compose}
@@ -24,7 +26,7 @@ IsRawTelling line column input true telling = telling ≡ failure input_failed_l
 IsRawTelling line column input false telling = OrMemory (λ told. told ≡ raw_result input line column) telling
 
 -- `raw` reads standard input, and leaves standard output alone
-pub record RawTells (line column : ℕ) (before after : Work) (telling : Telling) : Type 0 where
+pub record RawTells (line column : ℕ) (before after : DevicesSeen) (telling : Telling) : Type 0 where
   -- the bytes of standard input, where it tells them
   pub input : List ℕ
   pub is_input : IfSome before.input.left (λ left. left ≡ input)
@@ -34,7 +36,7 @@ pub record RawTells (line column : ℕ) (before after : Work) (telling : Telling
 -- ---- the commands that read map files
 
 -- such a command leaves standard input and output alone, and tells this, or that memory ran out
-abbrev pub TellsAside : (Telling → Type 0) → (before after : Work) → Telling → Type 0
+abbrev pub TellsAside : (Telling → Type 0) → (before after : DevicesSeen) → Telling → Type 0
 TellsAside IsTelling before after telling = (after ≡ before) × OrMemory IsTelling telling
 
 -- this is told of the first file, and there is one
@@ -50,7 +52,7 @@ OfBoth (first ∷ files) Tells telling = OfFirst files (Tells first) telling
 -- ---- all commands
 
 -- what a command over the files of its paths tells, and what it does to standard input and output before it tells it
-abbrev pub Tells : Command → List Loaded → (before after : Work) → Telling → Type 0
+abbrev pub Tells : Command → List Loaded → (before after : DevicesSeen) → Telling → Type 0
 Tells (Raw line column interval) files = RawTells line column
 Tells (Check path base interval) files =
     TellsAside (OfFirst files (λ file. TellsMap file base interval (IsLine (check_line interval))))
@@ -68,5 +70,5 @@ pub record Runs (command : Command) (files : List Loaded) (status : ℕ) (before
   pub telling : Telling
   -- standard output before that is told
   pub written : SinkSeen
-  pub tells : Tells command files (work_seen before.input before.sinks.output) (work_seen after.input written) telling
+  pub tells : Tells command files (devices_seen before.input before.sinks.output) (devices_seen after.input written) telling
   pub ends : Ends telling status (sinks_seen written before.sinks.errors) after.sinks

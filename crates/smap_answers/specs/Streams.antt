@@ -1,22 +1,10 @@
 -- What the program's streams show, and what telling does to them.
-use Rattle.std.specs.Prelude.{◌≡◌, ◌≢◌, ℕ, ◌⊎◌, Bool, true, false, List, Option}
-use Rattle.smap_io.specs.Device.{Takes, TakesFront}
+use Rattle.std.specs.Prelude.{◌≡◌, ◌≢◌, ℕ, ◌⊎◌, true, false, List}
+use Rattle.smap_io.specs.Device.{SinkSeen, SourceSeen, Takes, TakesFront}
 use Rattle.smap_answers.specs.Outcome.{Telling}
 use Rattle.smap_answers.specs.Lines.{output_failed_line}
 
 -- ---- what a stream shows
-
--- of an input: the bytes that it has left, where the device tells them, and whether it has failed
-pub record SourceSeen : Type 0 where
-  pub left : Option (List ℕ)
-  pub failed : Bool
-
--- of an output: the bytes that it has taken, where the device tells them, whether it was flushed after the last of
--- them, and whether it has failed
-pub record SinkSeen : Type 0 where
-  pub taken : Option (List ℕ)
-  pub flushed : Bool
-  pub failed : Bool
 
 -- standard output and standard error
 pub record Sinks : Type 0 where
@@ -28,23 +16,8 @@ pub record Streams : Type 0 where
   pub input : SourceSeen
   pub sinks : Sinks
 
--- what a command reads and writes before it is told what it comes to
-pub record Work : Type 0 where
-  pub input : SourceSeen
-  pub output : SinkSeen
-
--- a device as a stream, by what its trait tells of it
-abbrev pub source_seen : {D : Type 0} → (D → Option (List ℕ)) → (D → Bool) → D → SourceSeen
-source_seen left failed device = record { left = left device; failed = failed device }
-
-abbrev pub sink_seen : {D : Type 0} → (D → Option (List ℕ)) → (D → Bool) → (D → Bool) → D → SinkSeen
-sink_seen taken flushed failed device = record { taken = taken device; flushed = flushed device; failed = failed device }
-
 abbrev pub sinks_seen : SinkSeen → SinkSeen → Sinks
 sinks_seen output errors = record { output = output; errors = errors }
-
-abbrev pub work_seen : SourceSeen → SinkSeen → Work
-work_seen input output = record { input = input; output = output }
 
 abbrev pub streams_seen : SourceSeen → SinkSeen → SinkSeen → Streams
 streams_seen input output errors = record { input = input; sinks = sinks_seen output errors }

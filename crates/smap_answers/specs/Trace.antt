@@ -14,12 +14,10 @@ use Rattle.smap_trace.specs.declared.outcome.RewriteFault.TheVariants as fault
 use Rattle.smap_trace.specs.declared.outcome.Summary.{Summary}
 use Rattle.smap_trace.specs.declared.refusal.TableRefusal.{TableRefusal}
 use Rattle.smap_trace.specs.declared.refusal.TableRefusal.TheVariants.{BadUrl, Twice, Memory}
-use Rattle.std.specs.List.{concat}
-use Rattle.smap_answers.specs.Lines.{bad_url_line, twice_line}
+use Rattle.smap_answers.specs.Lines.{bad_url_line, twice_line, text_from}
 use Rattle.smap_answers.specs.Map.{IsFoundRefusal, map_in, refusal_result}
 use Rattle.smap_answers.specs.Files.{path_of}
 use Rattle.smap_answers.specs.Outcome.{Telling, answer, failure_telling, fault_telling, misuse, out_of_memory}
-use Rattle.smap_answers.specs.Streams.{Work}
 use Rattle.smap_answers.specs.declared.load.Loaded.{Loaded}
 use Rattle.smap_answers.specs.declared.outcome.Failure.{Failure}
 
@@ -31,7 +29,7 @@ url_in_argument word = string_bytes word.0
 
 -- how such an argument is written
 abbrev pub argument_text : (url path : List ℕ) → List ℕ
-argument_text url path = concat (url ∷ codes "=" ∷ path ∷ [])
+argument_text url path = text_from (url ∷ codes "=" ∷ path ∷ [])
 
 -- the URL that the parser gave, if it did
 abbrev pub url_in : Parsed Parts → Option Parts
@@ -108,10 +106,6 @@ gathered (Err failure) = Err (failure_telling failure)
 
 -- ---- the trace
 
--- what standard input has left and standard output has taken
-abbrev pub trace_seen : Work → DevicesSeen
-trace_seen work = record { left = work.input.left; taken = work.output.taken }
-
 -- the trace is rewritten to its end, or up to a fault, with the frames of ignored sources hidden or not
 abbrev pub IsRewritten : Maps → (hide : Bool) → (before after : DevicesSeen) → Result Summary RewriteFault → Type 0
 IsRewritten maps hide before after (Ok summary) = Rewrites before after maps hide summary
@@ -123,20 +117,20 @@ rewrite_telling (Ok summary) = answer []
 rewrite_telling (Err fault) = fault_telling fault
 
 -- rewriting the trace on standard input over these maps tells this; where memory was wanting, neither stream was asked
-pub record TraceTells (maps : Maps) (hide : Bool) (before after : Work) (telling : Telling) : Type 0 where
+pub record TraceTells (maps : Maps) (hide : Bool) (before after : DevicesSeen) (telling : Telling) : Type 0 where
   pub result : Result Summary RewriteFault
-  pub rewritten : IsRewritten maps hide (trace_seen before) (trace_seen after) result
+  pub rewritten : IsRewritten maps hide before after result
   pub input_failed : after.input.failed ≡ is_read_fault result
   pub output_failed : after.output.failed ≡ is_write_fault result
   pub untouched : result ≡ Err fault.Memory → after ≡ before
   pub told : telling ≡ rewrite_telling result
 
 -- where a file or its URL is refused, this is told, and standard input and output stay as they are
-abbrev pub GatheredTells : Result Maps Telling → (hide : Bool) → (before after : Work) → Telling → Type 0
+abbrev pub GatheredTells : Result Maps Telling → (hide : Bool) → (before after : DevicesSeen) → Telling → Type 0
 GatheredTells (Err refused) hide before after telling = (telling ≡ refused) × (after ≡ before)
 GatheredTells (Ok maps) hide before after telling = TraceTells maps hide before after telling
 
 -- what `rewrite` tells, by its base, its interval, whether it hides, and its files, each with its URL
-abbrev pub RewriteTells : Option Parts → (k : ℕ) → (hide : Bool) → List (List ℕ × Loaded) → (before after : Work) → Telling → Type 0
+abbrev pub RewriteTells : Option Parts → (k : ℕ) → (hide : Bool) → List (List ℕ × Loaded) → (before after : DevicesSeen) → Telling → Type 0
 RewriteTells base k hide files before after telling =
     (gathered : Result Maps Telling) × Gathers base k [] files gathered × GatheredTells gathered hide before after telling

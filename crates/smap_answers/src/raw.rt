@@ -11,7 +11,8 @@ ghost use Rattle.smap_answers.specs.Outcome.{OrMemory, telling_of};
 ghost use Rattle.smap_answers.specs.Raw.{answer_line, fault_or_answer, raw_result, text_result};
 ghost use Rattle.smap_answers.specs.Raw.{without_last_line_end};
 ghost use Rattle.smap_answers.specs.Run.{RawTells};
-ghost use Rattle.smap_answers.specs.Streams.{SinkSeen, source_seen, work_seen};
+ghost use Rattle.smap_lines.specs.Editing.{devices_seen};
+ghost use Rattle.smap_io.specs.Device.{SinkSeen};
 
 use crate::lines;
 use crate::outcome::{Failure, Reply};
@@ -32,10 +33,10 @@ pub fn answer_raw<R: ByteSource>(
     interval: u32,
 ) -> Result<Reply, Failure>
     requires may_stand { is_interval interval ≡ true }
-    requires input_works { R.has_failed input.old ≡ false }
+    requires input_works { (R.seen input.old).failed ≡ false }
     ensures { (output : SinkSeen) → RawTells line column
-        (work_seen (source_seen R.left R.has_failed input.old) output)
-        (work_seen (source_seen R.left R.has_failed input.new) output) (telling_of result) }
+        (devices_seen (R.seen input.old) output)
+        (devices_seen (R.seen input.new) output) (telling_of result) }
 {
     // Two bytes more than a text may have: one of them may be the LF that is dropped.
     match read_all(alloc, input, MOST_BYTES + 2) {

@@ -3,7 +3,8 @@ ghost use Rattle.std.specs.Prelude.{◌≡◌, false, map};
 ghost use Rattle.smap_answers.specs.Files.{path_of, paths_of};
 ghost use Rattle.smap_answers.specs.Outcome.{telling_of};
 ghost use Rattle.smap_answers.specs.Run.{Runs, Tells};
-ghost use Rattle.smap_answers.specs.Streams.{sink_seen, source_seen, streams_seen, work_seen};
+ghost use Rattle.smap_answers.specs.Streams.{streams_seen};
+ghost use Rattle.smap_lines.specs.Editing.{devices_seen};
 ghost use Rattle.smap_command.specs.Interval.{HasInterval};
 
 use crate::check::answer_check;
@@ -31,16 +32,12 @@ pub fn run<R: ByteSource, W: ByteSink, E: ByteSink>(
 ) -> u8
     requires interval { HasInterval command.now }
     requires loaded { map path_of files.now ≡ paths_of command.now }
-    requires input_works { R.has_failed input.old ≡ false }
-    requires output_works { W.has_failed output.old ≡ false }
-    requires errors_work { E.has_failed errors.old ≡ false }
+    requires input_works { (R.seen input.old).failed ≡ false }
+    requires output_works { (W.seen output.old).failed ≡ false }
+    requires errors_work { (E.seen errors.old).failed ≡ false }
     ensures { Runs command.now files.now result
-        (streams_seen (source_seen R.left R.has_failed input.old)
-        (sink_seen W.taken W.is_flushed W.has_failed output.old)
-        (sink_seen E.taken E.is_flushed E.has_failed errors.old))
-        (streams_seen (source_seen R.left R.has_failed input.new)
-        (sink_seen W.taken W.is_flushed W.has_failed output.new)
-        (sink_seen E.taken E.is_flushed E.has_failed errors.new)) }
+        (streams_seen (R.seen input.old) (W.seen output.old) (E.seen errors.old))
+        (streams_seen (R.seen input.new) (W.seen output.new) (E.seen errors.new)) }
 {
     let outcome = answer(alloc, command, files, input, output);
     tell(&outcome, output, errors)
@@ -56,15 +53,13 @@ fn answer<R: ByteSource, W: ByteSink>(
 ) -> Result<Reply, Failure>
     requires interval { HasInterval command.now }
     requires loaded { map path_of files.now ≡ paths_of command.now }
-    requires input_works { R.has_failed input.old ≡ false }
-    requires output_works { W.has_failed output.old ≡ false }
+    requires input_works { (R.seen input.old).failed ≡ false }
+    requires output_works { (W.seen output.old).failed ≡ false }
     ensures tells { Tells command.now files.now
-        (work_seen (source_seen R.left R.has_failed input.old)
-        (sink_seen W.taken W.is_flushed W.has_failed output.old))
-        (work_seen (source_seen R.left R.has_failed input.new)
-        (sink_seen W.taken W.is_flushed W.has_failed output.new))
+        (devices_seen (R.seen input.old) (W.seen output.old))
+        (devices_seen (R.seen input.new) (W.seen output.new))
         (telling_of result) }
-    ensures output_works { (telling_of result).status ≡ 0 → W.has_failed output.new ≡ false }
+    ensures output_works { (telling_of result).status ≡ 0 → (W.seen output.new).failed ≡ false }
 {
     match command {
         Command::Raw {

@@ -2,7 +2,7 @@
 ghost use Rattle.std.specs.Prelude.{◌≡◌, false, true, OnErr, OnOk};
 ghost use Rattle.smap_io.specs.Device.{Takes, TakesFront};
 ghost use Rattle.smap_answers.specs.Outcome.{telling_of};
-ghost use Rattle.smap_answers.specs.Streams.{Ends, IsToldTo, sink_seen, sinks_seen};
+ghost use Rattle.smap_answers.specs.Streams.{Ends, IsToldTo, sinks_seen};
 
 use crate::lines;
 use crate::outcome::{DONE, FAILED, Failure, Reply};
@@ -16,12 +16,10 @@ pub fn tell<W: ByteSink, E: ByteSink>(
     output: &mut W,
     errors: &mut E,
 ) -> u8
-    requires output_works { (telling_of outcome.now).status ≡ 0 → W.has_failed output.old ≡ false }
+    requires output_works { (telling_of outcome.now).status ≡ 0 → (W.seen output.old).failed ≡ false }
     ensures { Ends (telling_of outcome.now) result
-        (sinks_seen (sink_seen W.taken W.is_flushed W.has_failed output.old)
-        (sink_seen E.taken E.is_flushed E.has_failed errors.old))
-        (sinks_seen (sink_seen W.taken W.is_flushed W.has_failed output.new)
-        (sink_seen E.taken E.is_flushed E.has_failed errors.new)) }
+        (sinks_seen (W.seen output.old) (E.seen errors.old))
+        (sinks_seen (W.seen output.new) (E.seen errors.new)) }
 {
     match outcome {
         Ok(reply) => match print(output, reply.bytes()) {
@@ -40,11 +38,12 @@ pub fn tell<W: ByteSink, E: ByteSink>(
 
 // Writes the text and flushes.
 fn print<W: ByteSink>(output: &mut W, text: &[u8]) -> Result<(), DeviceFault>
-    ensures whole { OnOk result (Takes (W.taken output.old) (W.taken output.new) text.now) }
-    ensures flushed { OnOk result (W.is_flushed output.new ≡ true) }
-    ensures no_failure { OnOk result (W.has_failed output.new ≡ W.has_failed output.old) }
-    ensures front { OnErr result (TakesFront (W.taken output.old) (W.taken output.new) text.now) }
-    ensures failure { OnErr result (W.has_failed output.new ≡ true) }
+    ensures whole { OnOk result (Takes (W.seen output.old).taken (W.seen output.new).taken text.now) }
+    ensures flushed { OnOk result ((W.seen output.new).flushed ≡ true) }
+    ensures no_failure { OnOk result ((W.seen output.new).failed ≡ (W.seen output.old).failed) }
+    ensures front { OnErr result (TakesFront (W.seen output.old).taken (W.seen output.new).taken
+        text.now) }
+    ensures failure { OnErr result ((W.seen output.new).failed ≡ true) }
 {
     write_all(output, text)?;
     output.flush()
@@ -52,8 +51,7 @@ fn print<W: ByteSink>(output: &mut W, text: &[u8]) -> Result<(), DeviceFault>
 
 // Tells the text to the user, and passes over a failure of the device.
 fn report<E: ByteSink>(errors: &mut E, text: &[u8])
-    ensures { IsToldTo (sink_seen E.taken E.is_flushed E.has_failed errors.old)
-        (sink_seen E.taken E.is_flushed E.has_failed errors.new) text.now }
+    ensures { IsToldTo (E.seen errors.old) (E.seen errors.new) text.now }
 {
     let _ = print(errors, text);
 }

@@ -1,7 +1,7 @@
 //! Rewriting the stack trace on standard input.
 ghost use Rattle.std.specs.Prelude.{◌≡◌, [], false, map, option_copied, zip, IfErr, IfOk, None, Ok};
 ghost use Rattle.smap_answers.specs.Outcome.{OrMemory, failure_telling, telling_of};
-ghost use Rattle.smap_answers.specs.Streams.{sink_seen, source_seen, work_seen};
+ghost use Rattle.smap_lines.specs.Editing.{devices_seen};
 ghost use Rattle.smap_answers.specs.Trace.{Gathers, IsBaseUsed, IsReadAs, IsReadRefusal, PutsMap};
 ghost use Rattle.smap_answers.specs.Trace.{RewriteTells, TraceTells, gathered, put_seen, url_in_argument, url_refusal_result};
 
@@ -28,14 +28,12 @@ pub fn answer_rewrite<R: ByteSource, W: ByteSink>(
     input: &mut R,
     output: &mut W,
 ) -> Result<Reply, Failure>
-    requires input_works { R.has_failed input.old ≡ false }
-    requires output_works { W.has_failed output.old ≡ false }
+    requires input_works { (R.seen input.old).failed ≡ false }
+    requires output_works { (W.seen output.old).failed ≡ false }
     ensures { RewriteTells (option_copied base.entry) interval hide_ignored
         (zip (map url_in_argument words.now) files.now)
-        (work_seen (source_seen R.left R.has_failed input.old)
-        (sink_seen W.taken W.is_flushed W.has_failed output.old))
-        (work_seen (source_seen R.left R.has_failed input.new)
-        (sink_seen W.taken W.is_flushed W.has_failed output.new))
+        (devices_seen (R.seen input.old) (W.seen output.old))
+        (devices_seen (R.seen input.new) (W.seen output.new))
         (telling_of result) }
 {
     let table = table_of(alloc, words, files, base, interval)?;
@@ -50,13 +48,11 @@ fn rewrite_over<R: ByteSource, W: ByteSink>(
     input: &mut R,
     output: &mut W,
 ) -> Result<Reply, Failure>
-    requires input_works { R.has_failed input.old ≡ false }
-    requires output_works { W.has_failed output.old ≡ false }
+    requires input_works { (R.seen input.old).failed ≡ false }
+    requires output_works { (W.seen output.old).failed ≡ false }
     ensures { TraceTells table.now hide_ignored
-        (work_seen (source_seen R.left R.has_failed input.old)
-        (sink_seen W.taken W.is_flushed W.has_failed output.old))
-        (work_seen (source_seen R.left R.has_failed input.new)
-        (sink_seen W.taken W.is_flushed W.has_failed output.new))
+        (devices_seen (R.seen input.old) (W.seen output.old))
+        (devices_seen (R.seen input.new) (W.seen output.new))
         (telling_of result) }
 {
     match rewrite(alloc, input, output, table, hide_ignored) {

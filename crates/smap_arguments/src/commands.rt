@@ -75,7 +75,10 @@ fn named_command(
             base,
         }),
         _ => {
-            let (line, column) = (position_number_in(matches, "LINE"), position_number_in(matches, "COLUMN"));
+            let (line, column) = (
+                position_number_in(matches, "LINE"),
+                position_number_in(matches, "COLUMN"),
+            );
             Ok(Command::Raw {
                 line,
                 column,

@@ -1,6 +1,6 @@
 //! Arguments that are commands, arguments that are none, and requests for help.
-use smap_command::{Command, Url};
 use smap_arguments::{Usage, parse};
+use smap_command::{Command, Url};
 use std::alloc::{AllocError, Global};
 use std::test::Fail;
 

@@ -12,9 +12,9 @@ ghost use Rattle.smap_answers.specs.Files.{path_of, paths_of};
 ghost use Rattle.smap_command.specs.Interval.{HasInterval};
 
 use smap_answers::{Failure, Loaded, Reply, load_files, run, tell};
+pub use smap_arguments::{Usage, parse};
 pub use smap_command::Command;
 use smap_io::FromStd;
-pub use smap_arguments::{Usage, parse};
 use std::io;
 use std::process::ExitCode;
 use usage::outcome_of;

@@ -1,6 +1,19 @@
--- What a call does to the bytes that a device tells: those that a source has left, and those that a sink has taken. A device that tells none has `None`.
-use Rattle.std.specs.Prelude.{◌≡◌, ℕ, ◌≤◌, List, ◌++◌, length, Option}
+-- What a contract sees of a device, and what a call does to the bytes that it tells: those that a source has left, and those that a sink has
+-- taken. A device that tells none has `None`.
+use Rattle.std.specs.Prelude.{◌≡◌, ℕ, ◌≤◌, Bool, List, ◌++◌, length, Option}
 use Rattle.std.specs.Io.KnownBytes.{prepend_known, append_known}
+
+-- of a source: the bytes that it has left, where it tells them, and whether a call has failed
+pub record SourceSeen : Type 0 where
+  pub left : Option (List ℕ)
+  pub failed : Bool
+
+-- of a sink: the bytes that it has taken, where it tells them, whether it was flushed after the last of them, and whether
+-- a call has failed
+pub record SinkSeen : Type 0 where
+  pub taken : Option (List ℕ)
+  pub flushed : Bool
+  pub failed : Bool
 
 -- a read gave these bytes: they stood before those that are left
 abbrev pub Gives : (old new : Option (List ℕ)) → List ℕ → Type 0

@@ -43,9 +43,7 @@ impl<T> FromStd<T> {
 }
 
 impl<R: Read> ByteSource for FromStd<R> {
-    ghost left = { λ _. None };
-
-    ghost has_failed = { has_failed };
+    ghost seen = { λ device. record { left = None; failed = has_failed device } };
 
     fn read(&mut self, room: &mut [u8]) -> Result<usize, DeviceFault>
         ensures fits { IfOk result (λ n. n ≤ length room.new) }
@@ -68,11 +66,7 @@ impl<R: Read> ByteSource for FromStd<R> {
 }
 
 impl<W: Write> ByteSink for FromStd<W> {
-    ghost taken = { λ _. None };
-
-    ghost has_failed = { has_failed };
-
-    ghost is_flushed = { is_flushed };
+    ghost seen = { λ device. record { taken = None; flushed = is_flushed device; failed = has_failed device } };
 
     fn write(&mut self, bytes: &[u8]) -> Result<usize, DeviceFault>
         ensures cleared { is_flushed self.new ≡ false }

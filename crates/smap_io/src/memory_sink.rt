@@ -75,11 +75,7 @@ impl MemorySink {
 }
 
 impl ByteSink for MemorySink {
-    ghost taken = { λ s. Some s.taken };
-
-    ghost has_failed = { λ s. s.failed };
-
-    ghost is_flushed = { λ s. s.flushed };
+    ghost seen = { λ s. record { taken = Some s.taken; flushed = s.flushed; failed = s.failed } };
 
     fn write(&mut self, bytes: &[u8]) -> Result<usize, DeviceFault>
         ensures some { IfOk result (λ n. 0 < length bytes.now → 0 < n) }

@@ -57,9 +57,7 @@ impl MemorySource {
 }
 
 impl ByteSource for MemorySource {
-    ghost left = { λ s. Some s.left };
-
-    ghost has_failed = { λ s. s.failed };
+    ghost seen = { λ s. record { left = Some s.left; failed = s.failed } };
 
     fn read(&mut self, room: &mut [u8]) -> Result<usize, DeviceFault>
         ensures ends { IfOk result (λ n. n ≡ 0 → 0 < length room.new → self.new.left ≡ []) }

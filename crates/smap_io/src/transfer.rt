@@ -18,13 +18,15 @@ pub enum ReadFailure {
 /// Writes all of `bytes`, and does not flush. The first write that fails ends it: the output then has
 /// taken a front of `bytes`.
 pub fn write_all<W: ByteSink>(output: &mut W, bytes: &[u8]) -> Result<(), DeviceFault>
-    ensures whole { OnOk result (Takes (W.taken output.old) (W.taken output.new) bytes.now) }
-    ensures no_failure { OnOk result (W.has_failed output.new ≡ W.has_failed output.old) }
+    ensures whole { OnOk result (Takes (W.seen output.old).taken (W.seen output.new).taken
+        bytes.now) }
+    ensures no_failure { OnOk result ((W.seen output.new).failed ≡ (W.seen output.old).failed) }
 
-    ensures front { OnErr result (TakesFront (W.taken output.old) (W.taken output.new) bytes.now) }
-    ensures failure { OnErr result (W.has_failed output.new ≡ true) }
+    ensures front { OnErr result (TakesFront (W.seen output.old).taken (W.seen output.new).taken
+        bytes.now) }
+    ensures failure { OnErr result ((W.seen output.new).failed ≡ true) }
 
-    ensures cleared { 0 < length bytes.now → W.is_flushed output.new ≡ false }
+    ensures cleared { 0 < length bytes.now → (W.seen output.new).flushed ≡ false }
 {
     let mut rest = bytes;
     while !rest.is_empty() {
@@ -41,15 +43,16 @@ pub fn read_all<R: ByteSource>(
     input: &mut R,
     most: usize,
 ) -> Result<Vec<u8>, ReadFailure>
-    ensures gives { IfOk result (λ bytes. Gives (R.left input.old) (R.left input.new) bytes.items) }
+    ensures gives { IfOk result (λ bytes. Gives (R.seen input.old).left (R.seen input.new).left
+        bytes.items) }
     ensures fits { IfOk result (λ bytes. vec_len bytes ≤ most) }
-    ensures whole { IfOk result (λ bytes. vec_len bytes < most → IsAtEnd (R.left input.new)) }
-    ensures no_failure { OnOk result (R.has_failed input.new ≡ R.has_failed input.old) }
+    ensures whole { IfOk result (λ bytes. vec_len bytes < most → IsAtEnd (R.seen input.new).left) }
+    ensures no_failure { OnOk result ((R.seen input.new).failed ≡ (R.seen input.old).failed) }
 
-    ensures front { OnErr result (GivesAtMost (R.left input.old) (R.left input.new) most) }
-    ensures device { result ≡ Err ReadFailure.Device → R.has_failed input.new ≡ true }
+    ensures front { OnErr result (GivesAtMost (R.seen input.old).left (R.seen input.new).left most) }
+    ensures device { result ≡ Err ReadFailure.Device → (R.seen input.new).failed ≡ true }
     ensures memory { result ≡ Err ReadFailure.Memory
-        → R.has_failed input.new ≡ R.has_failed input.old }
+        → (R.seen input.new).failed ≡ (R.seen input.old).failed }
 {
     let mut bytes = Vec::new(alloc);
     let mut room = [0; 8192];

@@ -1,24 +1,27 @@
 -- What editing a text line by line does to its devices.
-use Rattle.std.specs.Prelude.{◌≡◌, ◌<◌, ◌≤◌, ℕ, Bool, true, false, List, ◌++◌, Option, length, Result, Ok, Err}
+use Rattle.std.specs.Prelude.{◌≡◌, ◌<◌, ◌≤◌, ℕ, Bool, true, false, List, ◌++◌, length, Result, Ok, Err}
 use Rattle.std.specs.Io.KnownBytes.{IsAtEnd}
-use Rattle.smap_io.specs.Device.{Gives, Takes}
+use Rattle.smap_io.specs.Device.{Gives, SinkSeen, SourceSeen, Takes}
 use Rattle.smap_lines.specs.Edited.{after_text, edited}
 use Rattle.smap_lines.specs.Limits.{most_text_bytes}
 use Rattle.smap_lines.specs.Lines.{IsWholeLines, Line, lines_with_ends}
 use Rattle.smap_lines.specs.declared.fault.LineFault.{LineFault}
 use Rattle.smap_lines.specs.declared.fault.LineFault.TheVariants.{Read, Write, TooMuch, Memory}
 
--- the bytes that a source has left and a sink has taken, where they tell them
+-- what an input and an output show
 pub record DevicesSeen : Type 0 where
-  pub left : Option (List ℕ)
-  pub taken : Option (List ℕ)
+  pub input : SourceSeen
+  pub output : SinkSeen
+
+abbrev pub devices_seen : SourceSeen → SinkSeen → DevicesSeen
+devices_seen input output = record { input = input; output = output }
 
 -- all that the input had, which is not too much, was read, and what it becomes was written, and nothing else
 pub record Edits (becomes : Line → List ℕ) (before after : DevicesSeen) (bytes : List ℕ) (lines : ℕ) : Type 0 where
-  pub read : Gives before.left after.left bytes
-  pub ended : IsAtEnd after.left
+  pub read : Gives before.input.left after.input.left bytes
+  pub ended : IsAtEnd after.input.left
   pub fits : length bytes ≤ most_text_bytes
-  pub written : Takes before.taken after.taken (edited becomes bytes)
+  pub written : Takes before.output.taken after.output.taken (edited becomes bytes)
   pub counted : lines ≡ length (lines_with_ends bytes)
 
 -- the same, and the editor is after all its lines
@@ -32,8 +35,8 @@ pub record EditsFront (becomes : Line → List ℕ) (before after : DevicesSeen)
   pub bytes : List ℕ
   pub written : List ℕ
   pub later : List ℕ
-  pub read : Gives before.left after.left bytes
-  pub taken : Takes before.taken after.taken written
+  pub read : Gives before.input.left after.input.left bytes
+  pub taken : Takes before.output.taken after.output.taken written
   pub front : edited becomes bytes ≡ written ++ later
   pub many : fault ≡ TooMuch → most_text_bytes < length bytes
   pub whole : fault ≡ Read → (first rest : List ℕ) → bytes ≡ first ++ rest → IsWholeLines first

@@ -1,6 +1,6 @@
 //! Editing a text while it is read.
 ghost use Rattle.std.specs.Prelude.{◌≡◌, ◌<◌, ◌≤◌, false, IfErr, IfOk};
-ghost use Rattle.smap_lines.specs.Editing.{EditsFront, EditsText, is_read_fault, is_write_fault};
+ghost use Rattle.smap_lines.specs.Editing.{EditsFront, EditsText, devices_seen, is_read_fault, is_write_fault};
 ghost use Rattle.smap_lines.specs.Limits.{most_text_bytes};
 ghost use Rattle.smap_lines.specs.declared.fault.LineFault.TheVariants.{Memory};
 
@@ -30,18 +30,18 @@ pub fn edit_lines<R: ByteSource, W: ByteSink, E: LineEditor>(
     output: &mut W,
     editor: &mut E,
 ) -> Result<u64, LineFault>
-    requires input_works { R.has_failed input.old ≡ false }
-    requires output_works { W.has_failed output.old ≡ false }
+    requires input_works { (R.seen input.old).failed ≡ false }
+    requires output_works { (W.seen output.old).failed ≡ false }
     requires room { most_text_bytes < E.room editor.old }
     ensures edits { IfOk result (λ lines. EditsText (E.becomes editor.old) E.step
-        (record { left = R.left input.old; taken = W.taken output.old })
-        (record { left = R.left input.new; taken = W.taken output.new }) editor.old editor.new lines) }
+        (devices_seen (R.seen input.old) (W.seen output.old))
+        (devices_seen (R.seen input.new) (W.seen output.new)) editor.old editor.new lines) }
     ensures few { IfOk result (λ lines. lines ≤ most_text_bytes) }
     ensures front { IfErr result (λ fault. EditsFront (E.becomes editor.old)
-        (record { left = R.left input.old; taken = W.taken output.old })
-        (record { left = R.left input.new; taken = W.taken output.new }) fault) }
-    ensures input_failure { R.has_failed input.new ≡ is_read_fault result }
-    ensures output_failure { W.has_failed output.new ≡ is_write_fault result }
+        (devices_seen (R.seen input.old) (W.seen output.old))
+        (devices_seen (R.seen input.new) (W.seen output.new)) fault) }
+    ensures input_failure { (R.seen input.new).failed ≡ is_read_fault result }
+    ensures output_failure { (W.seen output.new).failed ≡ is_write_fault result }
     ensures memory_input { IfErr result (λ fault. fault ≡ Memory → input.new ≡ input.old) }
     ensures memory_output { IfErr result (λ fault. fault ≡ Memory → output.new ≡ output.old) }
 {

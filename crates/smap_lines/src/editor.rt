@@ -32,15 +32,16 @@ pub trait LineEditor {
         requires short { length line.now ≤ most_line_bytes }
         requires room { 0 < room self.old }
 
-        ensures put { OnOk result (HandsOn (W.taken output.old) (W.taken output.new)
-            (gathered.old ++ becomes self.old (record { bytes = line.now; is_ended = is_ended })) gathered.new) }
+        ensures put { OnOk result (HandsOn (W.seen output.old).taken (W.seen output.new).taken
+            (gathered.old ++ becomes self.old (record { bytes = line.now; is_ended = is_ended }))
+            gathered.new) }
         ensures after { OnOk result
             (self.new ≡ step self.old (record { bytes = line.now; is_ended = is_ended })) }
-        ensures no_failure { OnOk result (W.has_failed output.new ≡ W.has_failed output.old) }
+        ensures no_failure { OnOk result ((W.seen output.new).failed ≡ (W.seen output.old).failed) }
 
-        ensures front { OnErr result (TakesFront (W.taken output.old) (W.taken output.new)
+        ensures front { OnErr result (TakesFront (W.seen output.old).taken (W.seen output.new).taken
             (gathered.old ++ becomes self.old (record { bytes = line.now; is_ended = is_ended }))) }
-        ensures failure { OnErr result (W.has_failed output.new ≡ true) };
+        ensures failure { OnErr result ((W.seen output.new).failed ≡ true) };
 
     // A line changes nothing of what becomes of others.
     ghost same: { (editor : Self) (line other : Line) → becomes (step editor line) other ≡ becomes editor other };

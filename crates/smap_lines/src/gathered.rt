@@ -44,12 +44,13 @@ impl Gathered {
     /// than ever wait, them too. Where a write fails, it took a front of all of them.
     pub fn put<W: ByteSink>(&mut self, bytes: &[u8], output: &mut W) -> Result<(), DeviceFault>
         ensures put { OnOk result
-            (HandsOn (W.taken output.old) (W.taken output.new) (self.old ++ bytes.now) self.new) }
-        ensures no_failure { OnOk result (W.has_failed output.new ≡ W.has_failed output.old) }
+            (HandsOn (W.seen output.old).taken (W.seen output.new).taken (self.old ++ bytes.now)
+            self.new) }
+        ensures no_failure { OnOk result ((W.seen output.new).failed ≡ (W.seen output.old).failed) }
 
         ensures front { OnErr result
-            (TakesFront (W.taken output.old) (W.taken output.new) (self.old ++ bytes.now)) }
-        ensures failure { OnErr result (W.has_failed output.new ≡ true) }
+            (TakesFront (W.seen output.old).taken (W.seen output.new).taken (self.old ++ bytes.now)) }
+        ensures failure { OnErr result ((W.seen output.new).failed ≡ true) }
     {
         if bytes.len() > MOST_GATHERED.saturating_sub(self.bytes.len()) {
             self.write(output)?;
@@ -70,13 +71,13 @@ impl Gathered {
         is_ended: bool,
         output: &mut W,
     ) -> Result<(), DeviceFault>
-        ensures put { OnOk result (HandsOn (W.taken output.old) (W.taken output.new)
+        ensures put { OnOk result (HandsOn (W.seen output.old).taken (W.seen output.new).taken
             (self.old ++ (line.now ++ end_in is_ended)) self.new) }
-        ensures no_failure { OnOk result (W.has_failed output.new ≡ W.has_failed output.old) }
+        ensures no_failure { OnOk result ((W.seen output.new).failed ≡ (W.seen output.old).failed) }
 
-        ensures front { OnErr result (TakesFront (W.taken output.old) (W.taken output.new)
+        ensures front { OnErr result (TakesFront (W.seen output.old).taken (W.seen output.new).taken
             (self.old ++ (line.now ++ end_in is_ended))) }
-        ensures failure { OnErr result (W.has_failed output.new ≡ true) }
+        ensures failure { OnErr result ((W.seen output.new).failed ≡ true) }
     {
         self.put(line, output)?;
         self.put(end_of_line(is_ended), output)
@@ -88,13 +89,13 @@ impl Gathered {
         pieces: &[&[u8]],
         output: &mut W,
     ) -> Result<(), DeviceFault>
-        ensures put { OnOk result (HandsOn (W.taken output.old) (W.taken output.new)
+        ensures put { OnOk result (HandsOn (W.seen output.old).taken (W.seen output.new).taken
             (self.old ++ concat (map (λ piece. piece.now) pieces.now)) self.new) }
-        ensures no_failure { OnOk result (W.has_failed output.new ≡ W.has_failed output.old) }
+        ensures no_failure { OnOk result ((W.seen output.new).failed ≡ (W.seen output.old).failed) }
 
-        ensures front { OnErr result (TakesFront (W.taken output.old) (W.taken output.new)
+        ensures front { OnErr result (TakesFront (W.seen output.old).taken (W.seen output.new).taken
             (self.old ++ concat (map (λ piece. piece.now) pieces.now))) }
-        ensures failure { OnErr result (W.has_failed output.new ≡ true) }
+        ensures failure { OnErr result ((W.seen output.new).failed ≡ true) }
     {
         for piece in pieces {
             self.put(piece, output)?;
@@ -105,11 +106,13 @@ impl Gathered {
     /// Writes the bytes that wait. Where a write fails, the output took a front of them.
     pub(crate) fn write<W: ByteSink>(&mut self, output: &mut W) -> Result<(), DeviceFault>
         ensures none { OnOk result (self.new ≡ []) }
-        ensures written { OnOk result (Takes (W.taken output.old) (W.taken output.new) self.old) }
-        ensures no_failure { OnOk result (W.has_failed output.new ≡ W.has_failed output.old) }
+        ensures written { OnOk result (Takes (W.seen output.old).taken (W.seen output.new).taken
+            self.old) }
+        ensures no_failure { OnOk result ((W.seen output.new).failed ≡ (W.seen output.old).failed) }
 
-        ensures front { OnErr result (TakesFront (W.taken output.old) (W.taken output.new) self.old) }
-        ensures failure { OnErr result (W.has_failed output.new ≡ true) }
+        ensures front { OnErr result (TakesFront (W.seen output.old).taken (W.seen output.new).taken
+            self.old) }
+        ensures failure { OnErr result ((W.seen output.new).failed ≡ true) }
     {
         write_all(output, &self.bytes)?;
         self.bytes.clear();

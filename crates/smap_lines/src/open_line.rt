@@ -60,15 +60,15 @@ impl OpenLine {
     ) -> Result<(), DeviceFault>
         requires one { has_line_end bytes.now ≡ false }
         requires room { 0 < E.room editor.old }
-        ensures put { OnOk result (HandsOn (W.taken output.old) (W.taken output.new)
+        ensures put { OnOk result (HandsOn (W.seen output.old).taken (W.seen output.new).taken
             (gathered.old ++ ended_text (E.becomes editor.old) self.old bytes.now) gathered.new) }
         ensures after { OnOk result (editor.new ≡ after_ended E.step editor.old self.old bytes.now) }
         ensures none { OnOk result (self.new ≡ nothing_open) }
-        ensures no_failure { OnOk result (W.has_failed output.new ≡ W.has_failed output.old) }
+        ensures no_failure { OnOk result ((W.seen output.new).failed ≡ (W.seen output.old).failed) }
 
-        ensures front { OnErr result (TakesFront (W.taken output.old) (W.taken output.new)
+        ensures front { OnErr result (TakesFront (W.seen output.old).taken (W.seen output.new).taken
             (gathered.old ++ ended_text (E.becomes editor.old) self.old bytes.now)) }
-        ensures failure { OnErr result (W.has_failed output.new ≡ true) }
+        ensures failure { OnErr result ((W.seen output.new).failed ≡ true) }
     {
         if !self.fits(bytes) {
             self.pass(bytes, gathered, output)?;
@@ -92,14 +92,14 @@ impl OpenLine {
         output: &mut W,
     ) -> Result<(), DeviceFault>
         requires { has_line_end bytes.now ≡ false }
-        ensures put { OnOk result (HandsOn (W.taken output.old) (W.taken output.new)
+        ensures put { OnOk result (HandsOn (W.seen output.old).taken (W.seen output.new).taken
             (gathered.old ++ continued_text self.old bytes.now) gathered.new) }
         ensures begun { OnOk result (self.new ≡ continued self.old bytes.now) }
-        ensures no_failure { OnOk result (W.has_failed output.new ≡ W.has_failed output.old) }
+        ensures no_failure { OnOk result ((W.seen output.new).failed ≡ (W.seen output.old).failed) }
 
-        ensures front { OnErr result (TakesFront (W.taken output.old) (W.taken output.new)
+        ensures front { OnErr result (TakesFront (W.seen output.old).taken (W.seen output.new).taken
             (gathered.old ++ continued_text self.old bytes.now)) }
-        ensures failure { OnErr result (W.has_failed output.new ≡ true) }
+        ensures failure { OnErr result ((W.seen output.new).failed ≡ true) }
     {
         if !self.fits(bytes) {
             return self.pass(bytes, gathered, output);
@@ -117,14 +117,14 @@ impl OpenLine {
     ) -> Result<bool, DeviceFault>
         requires { 0 < E.room editor.old }
         ensures is_line { IfOk result (λ is_line. is_line ≡ has_last self.old) }
-        ensures put { OnOk result (HandsOn (W.taken output.old) (W.taken output.new)
+        ensures put { OnOk result (HandsOn (W.seen output.old).taken (W.seen output.new).taken
             (gathered.old ++ last_text (E.becomes editor.old) self.old) gathered.new) }
         ensures after { OnOk result (editor.new ≡ after_last E.step editor.old self.old) }
-        ensures no_failure { OnOk result (W.has_failed output.new ≡ W.has_failed output.old) }
+        ensures no_failure { OnOk result ((W.seen output.new).failed ≡ (W.seen output.old).failed) }
 
-        ensures front { OnErr result (TakesFront (W.taken output.old) (W.taken output.new)
+        ensures front { OnErr result (TakesFront (W.seen output.old).taken (W.seen output.new).taken
             (gathered.old ++ last_text (E.becomes editor.old) self.old)) }
-        ensures failure { OnErr result (W.has_failed output.new ≡ true) }
+        ensures failure { OnErr result ((W.seen output.new).failed ≡ true) }
     {
         if self.kept.is_empty() {
             return Ok(self.is_passing);
@@ -159,14 +159,14 @@ impl OpenLine {
         gathered: &mut Gathered,
         output: &mut W,
     ) -> Result<(), DeviceFault>
-        ensures put { OnOk result (HandsOn (W.taken output.old) (W.taken output.new)
+        ensures put { OnOk result (HandsOn (W.seen output.old).taken (W.seen output.new).taken
             (gathered.old ++ (self.old.kept ++ bytes.now)) gathered.new) }
         ensures begun { OnOk result (self.new ≡ record { kept = []; is_passing = true }) }
-        ensures no_failure { OnOk result (W.has_failed output.new ≡ W.has_failed output.old) }
+        ensures no_failure { OnOk result ((W.seen output.new).failed ≡ (W.seen output.old).failed) }
 
-        ensures front { OnErr result (TakesFront (W.taken output.old) (W.taken output.new)
+        ensures front { OnErr result (TakesFront (W.seen output.old).taken (W.seen output.new).taken
             (gathered.old ++ (self.old.kept ++ bytes.now))) }
-        ensures failure { OnErr result (W.has_failed output.new ≡ true) }
+        ensures failure { OnErr result ((W.seen output.new).failed ≡ true) }
     {
         gathered.put(&self.kept, output)?;
         self.kept.clear();

@@ -24,31 +24,31 @@ pub fn edit_bytes<E: LineEditor, W: ByteSink>(
     ensures through { OnOk result ((first : _) (before : Option (List ℕ)) (text : List ℕ) →
         IsThrough E.becomes E.step E.room first before text (record {
           editor = editor.old;
-          taken = W.taken output.old;
+          taken = (W.seen output.old).taken;
           waiting = gathered.old;
           state = line.old;
           lines = lines.old;
         }) bytes.now →
         IsThrough E.becomes E.step E.room first before text (record {
           editor = editor.new;
-          taken = W.taken output.new;
+          taken = (W.seen output.new).taken;
           waiting = gathered.new;
           state = line.new;
           lines = lines.new;
         }) []) }
     ensures none { OnOk result (gathered.new ≡ []) }
-    ensures no_failure { OnOk result (W.has_failed output.new ≡ W.has_failed output.old) }
+    ensures no_failure { OnOk result ((W.seen output.new).failed ≡ (W.seen output.old).failed) }
 
     ensures front { OnErr result ((first : _) (before : Option (List ℕ)) (text : List ℕ) →
         IsThrough E.becomes E.step E.room first before text (record {
           editor = editor.old;
-          taken = W.taken output.old;
+          taken = (W.seen output.old).taken;
           waiting = gathered.old;
           state = line.old;
           lines = lines.old;
         }) bytes.now →
-        TakesFront before (W.taken output.new) (edited (E.becomes first) text)) }
-    ensures failure { OnErr result (W.has_failed output.new ≡ true) }
+        TakesFront before (W.seen output.new).taken (edited (E.becomes first) text)) }
+    ensures failure { OnErr result ((W.seen output.new).failed ≡ true) }
 {
     let mut rest = bytes;
     while let Some((ended, after)) = cut_at_line_end(rest) {

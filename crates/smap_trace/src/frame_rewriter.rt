@@ -71,13 +71,13 @@ fn put_frame<W: ByteSink>(
     gathered: &mut Gathered,
     output: &mut W,
 ) -> Result<(), DeviceFault>
-    ensures put { OnOk result (HandsOn (W.taken output.old) (W.taken output.new)
+    ensures put { OnOk result (HandsOn (W.seen output.old).taken (W.seen output.new).taken
         (gathered.old ++ (replacement_seen replacement.now ++ end_in is_ended)) gathered.new) }
-    ensures no_failure { OnOk result (W.has_failed output.new ≡ W.has_failed output.old) }
+    ensures no_failure { OnOk result ((W.seen output.new).failed ≡ (W.seen output.old).failed) }
 
-    ensures front { OnErr result (TakesFront (W.taken output.old) (W.taken output.new)
+    ensures front { OnErr result (TakesFront (W.seen output.old).taken (W.seen output.new).taken
         (gathered.old ++ (replacement_seen replacement.now ++ end_in is_ended))) }
-    ensures failure { OnErr result (W.has_failed output.new ≡ true) }
+    ensures failure { OnErr result ((W.seen output.new).failed ≡ true) }
 {
     let (mut line, mut column) = (Buffer::new(), Buffer::new());
     let pieces = pieces_of(
@@ -101,7 +101,8 @@ fn pieces_of<'a>(
     end: &'a [u8],
 ) -> [&'a [u8]; 8]
     ensures { concat (map (λ piece. piece.now) result)
-        ≡ (head.now ++ name.now ++ codes ":" ++ line.now ++ codes ":" ++ column.now ++ tail.now) ++ end.now }
+        ≡ (head.now ++ name.now ++ codes ":" ++ line.now ++ codes ":" ++ column.now ++ tail.now) ++
+        end.now }
 {
     [head, name, b":", line, b":", column, tail, end]
 }

@@ -5,7 +5,7 @@ use Rattle.smap_answers.proofs.raw.answer_raw.Goals as goal
 
 pub returns-in-Ok : goal.returns-in-Ok
 returns-in-Ok g c output =
-    let read = raw_input (g.R.ByteSource.left c.args.input.now) (g.R.ByteSource.left c.read_all.new.input) c.in-Ok.bytes.items c.args.line c.args.column c.in-Ok.ensures.gives
+    let read = raw_input (g.R.ByteSource.seen c.args.input.now).left (g.R.ByteSource.seen c.read_all.new.input).left c.in-Ok.bytes.items c.args.line c.args.column c.in-Ok.ensures.gives
     (omega (arith, c.in-Ok.ensures.fits)) (λ less. c.in-Ok.ensures.whole (omega arith)) in
     record {
       input = read.0;
@@ -17,7 +17,7 @@ returns-in-Ok g c output =
 
 pub returns-in-Err-Device : goal.returns-in-Err-Device
 returns-in-Err-Device g c output =
-    let input = some_input (g.R.ByteSource.left c.args.input.now) in
+    let input = some_input (g.R.ByteSource.seen c.args.input.now).left in
     record {
       input = input.0;
       is_input = input.1;
@@ -27,7 +27,7 @@ returns-in-Err-Device g c output =
 
 pub returns-in-Err-Memory : goal.returns-in-Err-Memory
 returns-in-Err-Memory g c output =
-    let input = some_input (g.R.ByteSource.left c.args.input.now) in
+    let input = some_input (g.R.ByteSource.seen c.args.input.now).left in
     record {
       input = input.0;
       is_input = input.1;

@@ -11,7 +11,7 @@ loop-count-init g c = record {
     gives_none _,
     refl,
     rw (c.in-Ok-Ok.ensures, c.in-Ok-Ok.ensures')
-        (through_start g.row.E.Denot g.E.LineEditor.becomes g.E.LineEditor.step g.E.LineEditor.room g.met.E.LineEditor.same g.met.E.LineEditor.room_for_one c.args.editor.now (g.W.ByteSink.taken c.args.output.now)),
+        (through_start g.row.E.Denot g.E.LineEditor.becomes g.E.LineEditor.step g.E.LineEditor.room g.met.E.LineEditor.same g.met.E.LineEditor.room_for_one c.args.editor.now (g.W.ByteSink.seen c.args.output.now).taken),
   );
   none = c.in-Ok-Ok.ensures';
   fits = omega arith;
@@ -103,7 +103,7 @@ returns-in-Ok-write-clause-edits g c =
         written = through_end g.row.E.Denot g.E.LineEditor.becomes g.E.LineEditor.step g.E.LineEditor.room g.met.E.LineEditor.same g.met.E.LineEditor.room_for_one _ _ read.0 _ _ _ _ read.3 c.in-Ok-finish.ensures.put c.in-Ok-write.ensures.written;
         counted = omega (arith, counted, c.from.ensures, is_line);
       },
-      through_after g.row.E.Denot g.E.LineEditor.becomes g.E.LineEditor.step g.E.LineEditor.room g.met.E.LineEditor.same g.met.E.LineEditor.room_for_one _ (g.W.ByteSink.taken c.args.output.now) read.0 _ _ read.3 c.in-Ok-finish.ensures.after,
+      through_after g.row.E.Denot g.E.LineEditor.becomes g.E.LineEditor.step g.E.LineEditor.room g.met.E.LineEditor.same g.met.E.LineEditor.room_for_one _ (g.W.ByteSink.seen c.args.output.now).taken read.0 _ _ read.3 c.in-Ok-finish.ensures.after,
     )
 
 pub returns-clause-front : goal.returns-clause-front

@@ -16,7 +16,7 @@ pub loop-ended-preserved : goal.loop-ended-preserved
 loop-ended-preserved g c =
     let cut = c.in-Some.ensures.cut in
     let shorter = ap length cut in
-    let falls = room_at g.row.E.Denot g.E.LineEditor.becomes g.E.LineEditor.step g.E.LineEditor.room g.met.E.LineEditor.same g.met.E.LineEditor.room_for_one c.loop-ended.editor (g.W.ByteSink.taken c.loop-ended.output) (is_kept c.loop-ended.line c.in-Some.ended.now) c.loop-ended.editor (line_with c.loop-ended.line c.in-Some.ended.now true) in
+    let falls = room_at g.row.E.Denot g.E.LineEditor.becomes g.E.LineEditor.step g.E.LineEditor.room g.met.E.LineEditor.same g.met.E.LineEditor.room_for_one c.loop-ended.editor (g.W.ByteSink.seen c.loop-ended.output).taken (is_kept c.loop-ended.line c.in-Some.ended.now) c.loop-ended.editor (line_with c.loop-ended.line c.in-Some.ended.now true) in
     record {
       through = λ first before text is.
           through_line g.row.E.Denot _ g.E.LineEditor.step g.E.LineEditor.room g.met.E.LineEditor.same g.met.E.LineEditor.room_for_one first before text _ _ _ _ _ _ _ _ _

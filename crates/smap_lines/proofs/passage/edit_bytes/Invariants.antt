@@ -5,11 +5,11 @@ use Rattle.smap_lines.proofs.passage.edit_bytes.Given as goal
 abbrev pub invariant-loop-ended : goal.invariant-loop-ended
 invariant-loop-ended g l = record {
   through : (first : _) (before : Option (List ℕ)) (text : List ℕ) →
-      IsThrough g.E.LineEditor.becomes g.E.LineEditor.step g.E.LineEditor.room first before text (record { editor = l.initial.editor; taken = g.W.ByteSink.taken l.initial.output; waiting = l.initial.gathered; state = l.initial.line; lines = l.initial.lines }) l.bytes →
-      IsThrough g.E.LineEditor.becomes g.E.LineEditor.step g.E.LineEditor.room first before text (record { editor = l.editor; taken = g.W.ByteSink.taken l.output; waiting = l.gathered; state = l.line; lines = l.lines }) l.rest;
+      IsThrough g.E.LineEditor.becomes g.E.LineEditor.step g.E.LineEditor.room first before text (record { editor = l.initial.editor; taken = (g.W.ByteSink.seen l.initial.output).taken; waiting = l.initial.gathered; state = l.initial.line; lines = l.initial.lines }) l.bytes →
+      IsThrough g.E.LineEditor.becomes g.E.LineEditor.step g.E.LineEditor.room first before text (record { editor = l.editor; taken = (g.W.ByteSink.seen l.output).taken; waiting = l.gathered; state = l.line; lines = l.lines }) l.rest;
   countable : l.lines + length l.rest < 2 ^ 64;
   room : length l.rest ≤ g.E.LineEditor.room l.editor;
-  works : g.W.ByteSink.has_failed l.output ≡ g.W.ByteSink.has_failed l.initial.output;
+  works : (g.W.ByteSink.seen l.output).failed ≡ (g.W.ByteSink.seen l.initial.output).failed;
 }
 
 abbrev pub decreases-loop-ended : goal.decreases-loop-ended

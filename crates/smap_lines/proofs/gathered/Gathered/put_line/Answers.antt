@@ -6,7 +6,7 @@ use Rattle.smap_lines.proofs.gathered.Gathered.put_line.Goals as goal
 pub returns-in_err-put-clause-front : goal.returns-in_err-put-clause-front
 returns-in_err-put-clause-front g c =
     let p = err_from_is_err_and c.from_residual.result c.from_residual.ensures.1 in
-    rw p.1 (front_of_both (g.W.ByteSink.taken c.args.output.now) (g.W.ByteSink.taken c.put.new.output) c.args.self.now c.put.new.self c.args.line.now (end_in c.args.is_ended) c.in_err-put.ensures.front)
+    rw p.1 (front_of_both (g.W.ByteSink.seen c.args.output.now).taken (g.W.ByteSink.seen c.put.new.output).taken c.args.self.now c.put.new.self c.args.line.now (end_in c.args.is_ended) c.in_err-put.ensures.front)
 
 pub returns-clause-put : goal.returns-clause-put
 returns-clause-put g c =

@@ -8,7 +8,7 @@ use Rattle.smap_lines.proofs.open_line.OpenLine.end.Goals as goal
 pub returns-in_err-pass-clause-front : goal.returns-in_err-pass-clause-front
 returns-in_err-pass-clause-front g c =
     let p = err_from_is_err_and c.from_residual.result c.from_residual.ensures.1 in
-    rw p.1 (passing_front (g.E.LineEditor.becomes c.args.editor.now) c.args.self.now c.args.bytes.now (g.W.ByteSink.taken c.args.output.now) (g.W.ByteSink.taken c.pass.new.output) c.args.gathered.now [] (sym c.if-not-fits.ensures.fits) c.in_err-pass.ensures.front)
+    rw p.1 (passing_front (g.E.LineEditor.becomes c.args.editor.now) c.args.self.now c.args.bytes.now (g.W.ByteSink.seen c.args.output.now).taken (g.W.ByteSink.seen c.pass.new.output).taken c.args.gathered.now [] (sym c.if-not-fits.ensures.fits) c.in_err-pass.ensures.front)
 
 pub returns-then-not-fits-clause-put : goal.returns-then-not-fits-clause-put
 returns-then-not-fits-clause-put g c =

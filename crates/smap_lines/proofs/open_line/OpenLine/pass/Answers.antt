@@ -8,7 +8,7 @@ returns-in_err-put-clause-front g c =
     let p = err_from_is_err_and c.from_residual.result c.from_residual.ensures.1 in
     let kept : c.deref.result.now ≡ c.args.self.now.kept = c.deref.ensures.value ∙ ap (λ s. s.kept) c.self.view_is in
     let front = rw kept at c.in_err-put.ensures.front in
-    rw p.1 (front_of_both (g.W.ByteSink.taken c.args.output.now) (g.W.ByteSink.taken c.put.new.output) c.args.gathered.now [] c.args.self.now.kept c.args.bytes.now front)
+    rw p.1 (front_of_both (g.W.ByteSink.seen c.args.output.now).taken (g.W.ByteSink.seen c.put.new.output).taken c.args.gathered.now [] c.args.self.now.kept c.args.bytes.now front)
 
 pub returns-clause-put : goal.returns-clause-put
 returns-clause-put g c =
