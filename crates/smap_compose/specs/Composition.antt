@@ -1,12 +1,13 @@
 -- What composing two maps gives, and why it is refused, which is this project's own. The sources of both maps stand side
 -- by side, and so do their names: none is merged, and the source that is followed stays listed.
-use Rattle.std.specs.Prelude.{ℕ, ◌+◌, ◌≤◌, List, ◌++◌, Option, Some, None, Bool, ◌||◌, nat_le, nat_lt, if◌then◌else◌, length}
+use Rattle.std.specs.Prelude.{ℕ, ◌+◌, ◌≤◌, List, ◌++◌, Option, Some, None, Result, Bool, ◌||◌, nat_le, nat_lt, if◌then◌else◌, length}
 use Rattle.std.specs.Option.{option_or}
 use Rattle.smap_mappings.specs.Encode.{is_text_too_long}
 use Rattle.smap_mappings.specs.declared.mapping.Mapping.{Mapping}
 use Rattle.smap_index.specs.Parts.{joined}
 use Rattle.smap_record.specs.Limits.{most_listed}
 use Rattle.smap_record.specs.Record.{MapRecord}
+use Rattle.smap_record.specs.Refusals.{unless}
 use Rattle.smap_record.specs.Sources.{StatedSource}
 use Rattle.smap_compose.specs.Follow.{CountedMappings, followed}
 use Rattle.smap_compose.specs.declared.refusal.ComposeRefusal.{ComposeRefusal}
@@ -66,3 +67,7 @@ abbrev pub compose_refusal : MapRecord → ℕ → MapRecord → Option ComposeR
 compose_refusal outer source inner =
     option_or (count_refusal outer source inner)
     (if is_text_too_long (followed_mappings outer source inner) then Some TooLarge else None)
+
+-- what two maps compose to, or why they do not
+abbrev pub composed_of : MapRecord → ℕ → MapRecord → Result Composition ComposeRefusal
+composed_of outer source inner = unless (compose_refusal outer source inner) (composition outer source inner)

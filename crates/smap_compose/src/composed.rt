@@ -4,6 +4,7 @@ ghost use Rattle.std.specs.List.{All};
 ghost use Rattle.smap_mappings.specs.Accepted.{IsAccepted};
 ghost use Rattle.smap_mappings.specs.Canonical.{canonical_text};
 ghost use Rattle.smap_mappings.specs.Encode.{is_text_too_long, list_fault};
+ghost use Rattle.smap_mappings.specs.Exact.{GivesOr};
 ghost use Rattle.smap_mappings.specs.Mappings.{mappings_of};
 ghost use Rattle.smap_mappings.specs.Within.{IsWithin};
 ghost use Rattle.smap_mappings.specs.Writing.{IsLengthOf};
@@ -12,7 +13,7 @@ ghost use Rattle.smap_record.specs.Limits.{most_listed, most_file_bytes};
 ghost use Rattle.smap_record.specs.ReadBack.{ReadsBackAs};
 ghost use Rattle.smap_record.specs.Record.{answer_of_map};
 ghost use Rattle.smap_record.specs.Written.{written};
-ghost use Rattle.smap_compose.specs.Composition.{composition, compose_refusal, count_refusal, mappings_of_map};
+ghost use Rattle.smap_compose.specs.Composition.{composed_of, count_refusal, mappings_of_map};
 ghost use Rattle.smap_compose.specs.Follow.{followed_answer};
 ghost use Rattle.smap_compose.specs.declared.refusal.ComposeRefusal.TheVariants.{Memory, TooLarge};
 
@@ -57,18 +58,15 @@ pub fn compose(
     source: u32,
     inner: &MapFile,
 ) -> Result<Composed, ComposeRefusal>
-    ensures composed { IfOk result (λ composed. composed
-        ≡ composition outer.now.stated source inner.now.stated) }
+    ensures composed { GivesOr Memory (λ composed. composed) result
+        (composed_of outer.now.stated source inner.now.stated) }
     ensures answers { IfOk result (λ composed. (line column : ℕ) →
         answer_at_or_before composed.mappings line column
         ≡ followed_answer (mappings_of_map outer.now.stated) source
         (mappings_of_map inner.now.stated) (answer_of_map outer.now.stated line column)) }
-    ensures sound { OnOk result (compose_refusal outer.now.stated source inner.now.stated ≡ None) }
     ensures counted { (refusal : ComposeRefusal) →
         count_refusal outer.now.stated source inner.now.stated ≡ Some refusal →
         result ≡ Err refusal }
-    ensures refused { IfErr result (λ refusal. (refusal ≡ Memory)
-        ⊎ (compose_refusal outer.now.stated source inner.now.stated ≡ Some refusal)) }
 {
     if source as u64 >= outer.sources() {
         return Err(ComposeRefusal::SourceIndex);

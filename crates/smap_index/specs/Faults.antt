@@ -1,15 +1,18 @@
--- Why an index is not built (ECMA-426, Index source map): the sections stand in the order of their offsets, and none
--- reaches past the next one's offset. This project's own are: that a mapping may stand at the next offset, the limit
--- 2147483647 for all that is placed, the order of the refusals, and that one of them refuses all parts. The numbers
--- of parts count from 0.
-use Rattle.std.specs.Prelude.{ℕ, List, [], ◌∷◌, Option, Some, Bool, ◌&&◌, ◌||◌, nat_le, if◌then◌else◌, option_map}
+-- Why an index is not built, and why its mappings are not encoded (ECMA-426, Index source map): the sections stand in the
+-- order of their offsets, and none reaches past the next one's offset. This project's own are: that a mapping may stand at
+-- the next offset, the limit 2147483647 for all that is placed, the order of the refusals, and that one of them refuses all
+-- parts. The numbers of parts count from 0.
+use Rattle.std.specs.Prelude.{ℕ, List, [], ◌∷◌, Option, Some, None, Bool, ◌&&◌, ◌||◌, nat_le, if◌then◌else◌, option_map}
 use Rattle.std.specs.List.{list_any, position_from}
 use Rattle.std.specs.Option.{option_or}
 use Rattle.smap_mappings.specs.declared.mapping.Mapping.{Mapping}
+use Rattle.smap_mappings.specs.Encode.{is_text_too_long}
 use Rattle.smap_mappings.specs.Range.{is_number_past_limit, is_mapping_past_limit, stands_before}
 use Rattle.smap_index.specs.declared.part.Part.{Part}
 use Rattle.smap_index.specs.declared.refusal.BuildRefusal.{BuildRefusal}
 use Rattle.smap_index.specs.declared.refusal.BuildRefusal.TheVariants.{Interval, SectionOrder, SectionOverlap, PositionRange}
+use Rattle.smap_index.specs.declared.refusal.EncodeAllRefusal.{EncodeAllRefusal}
+use Rattle.smap_index.specs.declared.refusal.EncodeAllRefusal.TheVariants.{TooLong}
 use Rattle.smap_index.specs.Parts.{placed}
 use Rattle.smap_index.specs.Position.{offset_of}
 
@@ -73,3 +76,9 @@ is_interval k = nat_le 1 k && nat_le k most_interval
 -- the first refusal of these parts at the interval k, if there is one
 unfoldable pub build_fault : List Part → ℕ → Option BuildRefusal
 build_fault parts k = if is_interval k then part_fault parts else Some Interval
+
+-- ---- encoding
+
+-- the refusal of an index's mappings, which are in order and not past the limit
+abbrev pub encode_all_fault : List Mapping → Option EncodeAllRefusal
+encode_all_fault mappings = if is_text_too_long mappings then Some TooLong else None

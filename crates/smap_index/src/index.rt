@@ -1,19 +1,19 @@
 //! An index: the parts of a map, and the table of checkpoints from which positions are looked up in them.
 
-ghost use Rattle.std.specs.Prelude.{◌≡◌, ℕ, ◌+◌, ◌-◌, ◌*◌, ◌/◌, ◌^◌, ◌<◌, ◌≤◌, length, IfOk, OnOk, IsOkUnless, Err, Some, None, false, option_map, string_bytes};
+ghost use Rattle.std.specs.Prelude.{◌≡◌, ℕ, ◌+◌, ◌-◌, ◌*◌, ◌/◌, ◌^◌, ◌<◌, ◌≤◌, length, IfOk, OnOk, false, option_map, string_bytes};
 ghost use Rattle.std.specs.Option.{option_copied};
 ghost use Rattle.smap_index.specs.Checkpoint.{mapping_of};
 ghost use Rattle.std.specs.List.{All, list_any};
-ghost use Rattle.smap_mappings.specs.Limits.{most_text_bytes};
 ghost use Rattle.smap_mappings.specs.Mappings.{mappings_of};
 ghost use Rattle.smap_mappings.specs.Accepted.{IsAccepted};
 ghost use Rattle.smap_mappings.specs.Within.{IsWithin};
 ghost use Rattle.smap_mappings.specs.Canonical.{canonical_text};
+ghost use Rattle.smap_mappings.specs.Exact.{IsExactOr};
 ghost use Rattle.smap_mappings.specs.Meter.{HasRoom};
 ghost use Rattle.smap_mappings.specs.Order.{IsInOrder};
 ghost use Rattle.smap_index.specs.Parts.{most_parts, joined, bytes_in};
 ghost use Rattle.smap_index.specs.Marks.{marks, used_lines_in};
-ghost use Rattle.smap_index.specs.Faults.{build_fault};
+ghost use Rattle.smap_index.specs.Faults.{build_fault, encode_all_fault};
 ghost use Rattle.smap_mappings.specs.Range.{is_mapping_past_limit};
 ghost use Rattle.smap_index.specs.Answer.{answer_at_or_before, answer_at_or_after};
 ghost use Rattle.smap_index.specs.Search.{first_past};
@@ -68,11 +68,8 @@ impl Index {
     /// where they have none. Each text is read once. After a refusal the parts are dropped.
     pub fn build(alloc: Global, parts: Vec<Part>, k: u32) -> Result<Index, BuildRefusal>
         requires few { length parts.items ≤ most_parts }
-        ensures built { IfOk result (λ index. IsIndexOf index parts.items k) }
-        ensures sound { OnOk result (build_fault parts.items k ≡ None) }
-        ensures fault { (refusal : BuildRefusal) →
-            build_fault parts.items k ≡ Some refusal → result ≡ Err refusal }
-        ensures memory { build_fault parts.items k ≡ None → IsOkUnless result BuildRefusal.Memory }
+        ensures { IsExactOr BuildRefusal.Memory result (build_fault parts.items k)
+            (λ index. IsIndexOf index parts.items k) }
     {
         if !is_interval(k) {
             return Err(BuildRefusal::Interval);
@@ -236,18 +233,13 @@ impl Index {
     /// shortest spelling, `,` between the segments of a line, one `;` for each line passed, nothing at the end. No list
     /// is made: the texts are gone through twice, and room is made once. A text past 67,108,864 bytes is refused.
     pub fn encode_all(&self, alloc: Global) -> Result<String, EncodeAllRefusal>
-        ensures text { IfOk result (λ text. string_bytes text ≡ canonical_text (joined self.now.parts)) }
+        ensures text { IsExactOr EncodeAllRefusal.Memory result (encode_all_fault (joined self.now.parts))
+            (λ text. string_bytes text ≡ canonical_text (joined self.now.parts)) }
         ensures decodes { OnOk result
             (mappings_of (canonical_text (joined self.now.parts)) ≡ joined self.now.parts) }
         ensures accepted { OnOk result ((sources names : ℕ) →
             All (IsWithin sources names) (joined self.now.parts) →
             IsAccepted (canonical_text (joined self.now.parts)) sources names) }
-        ensures too_long { most_text_bytes < length (canonical_text (joined self.now.parts)) →
-            result ≡ Err EncodeAllRefusal.TooLong }
-        ensures fits { OnOk result
-            (length (canonical_text (joined self.now.parts)) ≤ most_text_bytes) }
-        ensures memory { length (canonical_text (joined self.now.parts)) ≤ most_text_bytes →
-            IsOkUnless result EncodeAllRefusal.Memory }
     {
         let length = length_of_parts(alloc, &self.parts);
         let Some(bytes) = length.bytes() else {

@@ -1,10 +1,11 @@
 //! A list of mappings as its canonical text.
-ghost use Rattle.std.specs.Prelude.{◌≡◌, ℕ, None, Some, Err, IfOk, OnOk, IsOkUnless, MatchResult, string_bytes};
+ghost use Rattle.std.specs.Prelude.{◌≡◌, ℕ, None, Some, IfOk, OnOk, MatchResult, string_bytes};
 ghost use Rattle.std.specs.List.{All};
 ghost use Rattle.smap_mappings.specs.Mappings.{mappings_of};
 ghost use Rattle.smap_mappings.specs.Accepted.{IsAccepted};
 ghost use Rattle.smap_mappings.specs.Within.{IsWithin};
 ghost use Rattle.smap_mappings.specs.Canonical.{canonical_text};
+ghost use Rattle.smap_mappings.specs.Exact.{IsExactOr};
 ghost use Rattle.smap_mappings.specs.Encode.{encode_fault, list_fault, mapping_fault};
 ghost use Rattle.smap_mappings.specs.Range.{is_mapping_past_limit, stands_before};
 
@@ -32,14 +33,11 @@ pub enum EncodeRefusal {
 /// the segments of a line joined by `,`, one `;` for each line passed, and nothing at the end. Decoded, it gives the
 /// list. Its length is found first and room is made once.
 pub fn encode(alloc: Global, list: &[Mapping]) -> Result<String, EncodeRefusal>
-    ensures text { IfOk result (λ text. string_bytes text ≡ canonical_text list.now) }
+    ensures text { IsExactOr EncodeRefusal.Memory result (encode_fault list.now)
+        (λ text. string_bytes text ≡ canonical_text list.now) }
     ensures decodes { OnOk result (mappings_of (canonical_text list.now) ≡ list.now) }
     ensures accepted { OnOk result ((sources names : ℕ) → All (IsWithin sources names) list.now
         → IsAccepted (canonical_text list.now) sources names) }
-    ensures sound { OnOk result (encode_fault list.now ≡ None) }
-    ensures fault { (refusal : EncodeRefusal) →
-        encode_fault list.now ≡ Some refusal → result ≡ Err refusal }
-    ensures memory { encode_fault list.now ≡ None → IsOkUnless result EncodeRefusal.Memory }
 {
     let bytes = text_length(list)?;
     match write_text(alloc, list, bytes) {

@@ -1,13 +1,17 @@
 -- A map file is written as what it states.
-use Rattle.std.proofs.Common.{◌≡◌, ℕ, ◌≤◌, List, length, map, string_bytes, String, Global, Option, refl, sym, ap, subst, ◌∙◌}
+use Rattle.std.proofs.Common.{◌≡◌, ℕ, ◌≤◌, List, length, map, string_bytes, String, Global, Option, Some, None, Ok, Bool, true, false, cond, refl, sym, ap, subst, ◌∙◌, arith}
 use Rattle.std.specs.List.{All}
+use Rattle.std.proofs.lemmas.Bool.{ltb-false}
 use Rattle.smap_mappings.specs.Accepted.{IsAccepted}
 use Rattle.smap_mappings.specs.Canonical.{canonical_text}
+use Rattle.smap_mappings.specs.Exact.{IsExactOr}
 use Rattle.smap_mappings.specs.Limits.{most_text_bytes}
 use Rattle.smap_mappings.specs.Mappings.{mappings_of}
 use Rattle.smap_mappings.specs.Within.{IsWithin}
 use Rattle.smap_mappings.specs.declared.mapping.Mapping.{Mapping}
+use Rattle.smap_index.specs.Faults.{encode_all_fault}
 use Rattle.smap_index.specs.Parts.{joined}
+use Rattle.smap_index.specs.declared.refusal.EncodeAllRefusal.TheVariants.{Memory, TooLong}
 use Rattle.smap_record.specs.Limits.{most_file_bytes}
 use Rattle.smap_record.specs.MapFile.{IsCounted, Map, map_seen}
 use Rattle.smap_record.specs.ReadBack.{IsRegularMap, ReadsBackAs}
@@ -15,6 +19,22 @@ use Rattle.smap_record.specs.Sources.{StatedSource, source_of}
 use Rattle.smap_record.specs.Written.{written}
 use Rattle.smap_record.specs.declared.entry.SourceEntry.{SourceEntry}
 use Rattle.smap_record.specs.declared.map_file.MapFile.TheInside.{Inside}
+
+-- an exact call that gave a value refuses nothing
+exact_value : {T E : Type 0} (memory : E) (value : T) (refusal : Option E) (Holds : T → Type 0) → IsExactOr memory (Ok value) refusal Holds → Holds value × (refusal ≡ None)
+exact_value memory value None Holds is = (is, refl)
+exact_value memory value (Some stated) Holds is = absurd (cc)
+
+not_long : (long : Bool) → cond long (Some TooLong) None ≡ None → long ≡ false
+not_long true is = absurd (cc)
+not_long false is = refl
+
+-- so its text is the canonical one, and not too long
+pub encoded : (list : List Mapping) (text : String Global) → IsExactOr Memory (Ok text) (encode_all_fault list) (λ text. string_bytes text ≡ canonical_text list)
+    → (string_bytes text ≡ canonical_text list) × (length (canonical_text list) ≤ most_text_bytes)
+encoded list text is =
+    let both = exact_value Memory text (encode_all_fault list) (λ text. string_bytes text ≡ canonical_text list) is in
+    (both.0, omega (arith, ltb-false _ _ (not_long _ both.1)))
 
 same_text : {sources sources' : List StatedSource} {names names' : List (List ℕ)} {file file' : Option (List ℕ)} {text text' : List ℕ} → sources ≡ sources' → names ≡ names' → file ≡ file' → text ≡ text' → written sources names file text ≡ written sources' names' file' text'
 same_text sources_are names_are file_is text_is = rw (sources_are, names_are, file_is, text_is) refl

@@ -5,7 +5,7 @@ ghost use Rattle.serde_json.specs.Find.{get_member};
 ghost use Rattle.serde_json.specs.View.{members_view, view};
 ghost use Rattle.smap_record.specs.Fields.{ignored_field};
 ghost use Rattle.smap_record.specs.Json.{field, not_null};
-ghost use Rattle.smap_record.specs.Refusals.{Gives};
+ghost use Rattle.smap_record.specs.Refusals.{GivesRead};
 ghost use Rattle.smap_record.specs.Section.{text_in};
 ghost use Rattle.smap_record.specs.Seen.{fields_seen, taken_seen};
 
@@ -40,7 +40,7 @@ pub fn take_fields(mut members: Map<String, Value>) -> SectionFields
 
 /// The text in the field `file` or `sourceRoot`, either of which may be absent.
 pub fn read_text(field: Option<Value>) -> Result<Option<String>, MapRefusal>
-    ensures { Gives (option_map string_bytes) result (text_in (option_map view field)) }
+    ensures { GivesRead (option_map string_bytes) result (text_in (option_map view field)) }
 {
     let Some(value) = field else {
         return Ok(None);

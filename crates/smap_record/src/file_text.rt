@@ -3,7 +3,7 @@ ghost use Rattle.std.specs.Prelude.{◌≡◌, ok_or};
 ghost use Rattle.serde_json.specs.View.{members_view, view};
 ghost use Rattle.smap_record.specs.FileText.{json_text, value_of_file, without_guard_line, without_mark};
 ghost use Rattle.smap_record.specs.Record.{members_in};
-ghost use Rattle.smap_record.specs.Refusals.{Gives};
+ghost use Rattle.smap_record.specs.Refusals.{GivesRead};
 ghost use Rattle.smap_record.specs.declared.refusal.MapRefusal.TheVariants.{NotJson};
 
 use crate::json::object;
@@ -13,7 +13,7 @@ use std::alloc::Global;
 
 /// The members of the object that is the JSON value of a file.
 pub fn file_members(alloc: Global, bytes: &[u8]) -> Result<Map<String, Value>, MapRefusal>
-    ensures { Gives (λ members. members_view members.entries) result (members_in bytes.now) }
+    ensures { GivesRead (λ members. members_view members.entries) result (members_in bytes.now) }
 {
     match object(file_value(alloc, bytes)?) {
         Some(members) => Ok(members),
@@ -23,7 +23,7 @@ pub fn file_members(alloc: Global, bytes: &[u8]) -> Result<Map<String, Value>, M
 
 // The JSON value of a file.
 fn file_value(alloc: Global, bytes: &[u8]) -> Result<Value, MapRefusal>
-    ensures { Gives view result (ok_or (value_of_file bytes.now) NotJson) }
+    ensures { GivesRead view result (ok_or (value_of_file bytes.now) NotJson) }
 {
     match Value::from_slice(alloc, json_text(bytes)) {
         Ok(value) => Ok(value),

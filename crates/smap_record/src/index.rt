@@ -4,7 +4,7 @@ ghost use Rattle.std.specs.List.{list_any};
 ghost use Rattle.smap_mappings.specs.Range.{is_mapping_past_limit};
 ghost use Rattle.smap_index.specs.Parts.{joined, most_parts};
 ghost use Rattle.smap_record.specs.Record.{indexed};
-ghost use Rattle.smap_record.specs.Refusals.{Gives};
+ghost use Rattle.smap_record.specs.Refusals.{GivesRead};
 
 use crate::refusal::MapRefusal;
 use smap_index::{BuildRefusal, Index, Part};
@@ -13,7 +13,7 @@ use std::alloc::Global;
 /// The index of these parts.
 pub fn build_index(alloc: Global, parts: Vec<Part>, k: u32) -> Result<Index, MapRefusal>
     requires { length parts.items ≤ most_parts }
-    ensures parts { Gives (λ index. index.parts) result (indexed parts.items k) }
+    ensures parts { GivesRead (λ index. index.parts) result (indexed parts.items k) }
     ensures interval { IfOk result (λ index. index.k ≡ k) }
     ensures in_range { OnOk result (list_any is_mapping_past_limit (joined parts.items) ≡ false) }
 {

@@ -6,7 +6,7 @@ ghost use Rattle.smap_mappings.specs.Limits.{most_indices};
 ghost use Rattle.smap_index.specs.Parts.{most_parts};
 ghost use Rattle.smap_record.specs.IndexMap.{entries_in, entries_of, entry_in, has_no_offset, index_entries, is_index_map, offset_in, regular_entry};
 ghost use Rattle.smap_record.specs.Json.{list_of, number_below};
-ghost use Rattle.smap_record.specs.Refusals.{Gives};
+ghost use Rattle.smap_record.specs.Refusals.{GivesRead};
 ghost use Rattle.smap_record.specs.Seen.{entries_seen, entry_seen, fields_seen};
 
 use crate::MOST_SECTIONS;
@@ -42,7 +42,7 @@ pub fn read_entries(
     sections: Option<Value>,
     members: Map<String, Value>,
 ) -> Result<Vec<SectionEntry>, MapRefusal>
-    ensures statement { Gives (λ entries. entries_seen entries.items) result
+    ensures statement { GivesRead (λ entries. entries_seen entries.items) result
         (entries_in (option_map view sections) (fields_seen members.entries)) }
     ensures few { IfOk result (λ entries. length entries.items ≤ most_parts) }
 {

@@ -5,7 +5,7 @@ ghost use Rattle.smap_index.specs.Parts.{most_parts};
 ghost use Rattle.smap_record.specs.IndexMap.{no_sections, sections_after};
 ghost use Rattle.smap_record.specs.Limits.{most_listed};
 ghost use Rattle.smap_record.specs.MapFile.{IsPartWithin};
-ghost use Rattle.smap_record.specs.Refusals.{Gives};
+ghost use Rattle.smap_record.specs.Refusals.{GivesRead};
 ghost use Rattle.smap_record.specs.Section.{part_at};
 ghost use Rattle.smap_record.specs.Seen.{entries_seen, sections_seen};
 
@@ -30,7 +30,7 @@ pub fn read_sections(
     entries: Vec<SectionEntry>,
 ) -> Result<JoinedSections, MapRefusal>
     requires { length entries.items ≤ most_parts }
-    ensures statement { Gives sections_seen result (sections_after no_sections (entries_seen entries.items)) }
+    ensures statement { GivesRead sections_seen result (sections_after no_sections (entries_seen entries.items)) }
     ensures count { IfOk result (λ joined. length joined.parts.items ≡ length entries.items) }
     ensures few_sources { IfOk result
         (λ joined. sum_by (λ sources. length sources.texts.items) joined.sources.items ≤ most_listed) }

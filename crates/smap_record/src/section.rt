@@ -5,7 +5,7 @@ ghost use Rattle.serde_json.specs.View.{view};
 ghost use Rattle.smap_mappings.specs.Mappings.{mappings_of};
 ghost use Rattle.smap_mappings.specs.Within.{IsWithin};
 ghost use Rattle.smap_record.specs.Limits.{most_listed};
-ghost use Rattle.smap_record.specs.Refusals.{Gives};
+ghost use Rattle.smap_record.specs.Refusals.{GivesRead};
 ghost use Rattle.smap_record.specs.Section.{contents_in, ignored_in, mappings_in, names_in, section_in, sources_in};
 ghost use Rattle.smap_record.specs.Seen.{fields_seen, section_seen, texts_seen};
 
@@ -55,7 +55,7 @@ pub fn read_section(
 ) -> Result<SectionMap, MapRefusal>
     requires sources_before { place.source_base ≤ most_listed }
     requires names_before { place.name_base ≤ most_listed }
-    ensures statement { Gives section_seen result (section_in place (fields_seen members.entries)) }
+    ensures statement { GivesRead section_seen result (section_in place (fields_seen members.entries)) }
     ensures few_sources { IfOk result
         (λ section. place.source_base + length section.sources.texts.items ≤ most_listed) }
     ensures few_names { IfOk result
@@ -94,7 +94,7 @@ fn read_sources(
     field: Option<Value>,
 ) -> Result<Vec<Option<String>>, MapRefusal>
     requires { before ≤ most_listed }
-    ensures statement { Gives (λ texts. texts_seen texts.items) result (sources_in before (option_map view field)) }
+    ensures statement { GivesRead (λ texts. texts_seen texts.items) result (sources_in before (option_map view field)) }
     ensures few { IfOk result (λ texts. before + length texts.items ≤ most_listed) }
 {
     let Some(value) = field else {
@@ -109,7 +109,7 @@ fn read_sources(
 // The names, where this many stand before them.
 fn read_names(alloc: Global, before: u32, field: Option<Value>) -> Result<Vec<String>, MapRefusal>
     requires { before ≤ most_listed }
-    ensures statement { Gives (λ names. map string_bytes names.items) result (names_in before (option_map view field)) }
+    ensures statement { GivesRead (λ names. map string_bytes names.items) result (names_in before (option_map view field)) }
     ensures few { IfOk result (λ names. before + length names.items ≤ most_listed) }
 {
     let Some(value) = field else {
@@ -123,7 +123,7 @@ fn read_names(alloc: Global, before: u32, field: Option<Value>) -> Result<Vec<St
 
 // The texts of the sources.
 fn read_contents(alloc: Global, field: Option<Value>) -> Result<Vec<Option<String>>, MapRefusal>
-    ensures { Gives (λ contents. texts_seen contents.items) result (contents_in (option_map view field)) }
+    ensures { GivesRead (λ contents. texts_seen contents.items) result (contents_in (option_map view field)) }
 {
     let Some(value) = field else {
         return Ok(Vec::new(alloc));
@@ -140,7 +140,7 @@ fn read_ignored(
     field: Option<Value>,
     sources: usize,
 ) -> Result<Vec<bool>, MapRefusal>
-    ensures { Gives (λ flags. flags.items) result (ignored_in sources (option_map view field)) }
+    ensures { GivesRead (λ flags. flags.items) result (ignored_in sources (option_map view field)) }
 {
     let Some(value) = field else {
         return Ok(none_ignored(alloc, sources)?);
@@ -159,7 +159,7 @@ fn read_mappings(
     sources: u32,
     names: u32,
 ) -> Result<PackedText, MapRefusal>
-    ensures statement { Gives (λ text. text) result (mappings_in number sources names (option_map view field)) }
+    ensures statement { GivesRead (λ text. text) result (mappings_in number sources names (option_map view field)) }
     ensures within { IfOk result (λ text. All (IsWithin sources names) (mappings_of text)) }
 {
     let Some(Value::String(text)) = field else {

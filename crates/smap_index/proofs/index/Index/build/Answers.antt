@@ -1,4 +1,4 @@
-use Rattle.std.proofs.Common.{subst, sym, ◌∙◌}
+use Rattle.std.proofs.Common.{refl, subst, sym, ◌∙◌}
 use Rattle.std.specs.List.{AllByRecursion}
 use Rattle.std.proofs.lemmas.Bool.{not-false}
 use Rattle.smap_index.specs.Faults.{order_fault, overlap_fault, range_fault}
@@ -8,90 +8,45 @@ use Rattle.smap_index.proofs.OrderLaws.{joined_in_order}
 use Rattle.smap_index.proofs.MarkLaws.{index_made}
 use Rattle.smap_index.proofs.index.Index.build.Goals as goal
 
-pub returns-then-not-is_interval-clause-fault : goal.returns-then-not-is_interval-clause-fault
-returns-then-not-is_interval-clause-fault c refusal is =
-    let known = at_interval c.args.parts.items c.args.k (sym c.is_interval.ensures ∙ c.if-not-is_interval.true) in
-    cc (known, is)
+pub returns-then-not-is_interval : goal.returns-then-not-is_interval
+returns-then-not-is_interval c =
+    rw (at_interval c.args.parts.items c.args.k (sym c.is_interval.ensures ∙ c.if-not-is_interval.true)) refl
 
-pub returns-then-not-is_interval-clause-memory : goal.returns-then-not-is_interval-clause-memory
-returns-then-not-is_interval-clause-memory c none =
-    let known = at_interval c.args.parts.items c.args.k (sym c.is_interval.ensures ∙ c.if-not-is_interval.true) in
-    absurd (cc (known, none))
-
-pub returns-in-Some-clause-fault : goal.returns-in-Some-clause-fault
-returns-in-Some-clause-fault c refusal is =
+pub returns-in-Some : goal.returns-in-Some
+returns-in-Some c =
     let order = seen order_fault _ _ _ _ c.deref.ensures.value c.first_out_of_order.ensures c.in-Some.is in
-    let known = at_order c.args.parts.items c.args.k (sym c.is_interval.ensures ∙ c.if-not-is_interval.false) _ order in
-    cc (known, is)
+    rw (at_order c.args.parts.items c.args.k (sym c.is_interval.ensures ∙ c.if-not-is_interval.false) _ order) refl
 
-pub returns-in-Some-clause-memory : goal.returns-in-Some-clause-memory
-returns-in-Some-clause-memory c none =
-    let order = seen order_fault _ _ _ _ c.deref.ensures.value c.first_out_of_order.ensures c.in-Some.is in
-    let known = at_order c.args.parts.items c.args.k (sym c.is_interval.ensures ∙ c.if-not-is_interval.false) _ order in
-    absurd (cc (known, none))
-
-pub returns-in-Some-overlap-clause-fault : goal.returns-in-Some-overlap-clause-fault
-returns-in-Some-overlap-clause-fault c refusal is =
+pub returns-in-Some-overlap : goal.returns-in-Some-overlap
+returns-in-Some-overlap c =
     let order = seen order_fault _ _ _ _ c.deref.ensures.value c.first_out_of_order.ensures c.in_default.is in
     let overlap = seen overlap_fault _ _ _ _ c.deref-3.ensures.value c.mark_parts-walk.ensures.overlap c.in-Some-overlap.is in
-    let known = at_overlap c.args.parts.items c.args.k (sym c.is_interval.ensures ∙ c.if-not-is_interval.false) _ order overlap in
-    cc (known, is)
+    rw (at_overlap c.args.parts.items c.args.k (sym c.is_interval.ensures ∙ c.if-not-is_interval.false) _ order overlap) refl
 
-pub returns-in-Some-overlap-clause-memory : goal.returns-in-Some-overlap-clause-memory
-returns-in-Some-overlap-clause-memory c none =
-    let order = seen order_fault _ _ _ _ c.deref.ensures.value c.first_out_of_order.ensures c.in_default.is in
-    let overlap = seen overlap_fault _ _ _ _ c.deref-3.ensures.value c.mark_parts-walk.ensures.overlap c.in-Some-overlap.is in
-    let known = at_overlap c.args.parts.items c.args.k (sym c.is_interval.ensures ∙ c.if-not-is_interval.false) _ order overlap in
-    absurd (cc (known, none))
-
-pub returns-in-Some-past_limit-clause-fault : goal.returns-in-Some-past_limit-clause-fault
-returns-in-Some-past_limit-clause-fault c refusal is =
+pub returns-in-Some-past_limit : goal.returns-in-Some-past_limit
+returns-in-Some-past_limit c =
     let order = seen order_fault _ _ _ _ c.deref.ensures.value c.first_out_of_order.ensures c.in_default.is in
     let overlap = seen overlap_fault _ _ _ _ c.deref-3.ensures.value c.mark_parts-walk.ensures.overlap c.in_default-overlap.is in
     let range = seen range_fault _ _ _ _ c.deref-3.ensures.value (c.mark_parts-walk.ensures.past_limit c.in_default-overlap.is) c.in-Some-past_limit.is in
-    let known = at_range c.args.parts.items c.args.k (sym c.is_interval.ensures ∙ c.if-not-is_interval.false) _ order overlap range in
-    cc (known, is)
+    rw (at_range c.args.parts.items c.args.k (sym c.is_interval.ensures ∙ c.if-not-is_interval.false) _ order overlap range) refl
 
-pub returns-in-Some-past_limit-clause-memory : goal.returns-in-Some-past_limit-clause-memory
-returns-in-Some-past_limit-clause-memory c none =
-    let order = seen order_fault _ _ _ _ c.deref.ensures.value c.first_out_of_order.ensures c.in_default.is in
-    let overlap = seen overlap_fault _ _ _ _ c.deref-3.ensures.value c.mark_parts-walk.ensures.overlap c.in_default-overlap.is in
-    let range = seen range_fault _ _ _ _ c.deref-3.ensures.value (c.mark_parts-walk.ensures.past_limit c.in_default-overlap.is) c.in-Some-past_limit.is in
-    let known = at_range c.args.parts.items c.args.k (sym c.is_interval.ensures ∙ c.if-not-is_interval.false) _ order overlap range in
-    absurd (cc (known, none))
-
-pub returns-then-not-walk-clause-fault : goal.returns-then-not-walk-clause-fault
-returns-then-not-walk-clause-fault c refusal is =
+pub returns-then-not-walk : goal.returns-then-not-walk
+returns-then-not-walk c =
     let order = seen order_fault _ _ _ _ c.deref.ensures.value c.first_out_of_order.ensures c.in_default.is in
     let overlap = seen overlap_fault _ _ _ _ c.deref-3.ensures.value c.mark_parts-walk.ensures.overlap c.in_default-overlap.is in
     let range = seen range_fault _ _ _ _ c.deref-3.ensures.value (c.mark_parts-walk.ensures.past_limit c.in_default-overlap.is) c.in_default-past_limit.is in
-    let known = at_none c.args.parts.items c.args.k (sym c.is_interval.ensures ∙ c.if-not-is_interval.false) order overlap range in
-    absurd (cc (known, is))
+    rw (at_none c.args.parts.items c.args.k (sym c.is_interval.ensures ∙ c.if-not-is_interval.false) order overlap range) refl
 
-pub returns-clause-fault : goal.returns-clause-fault
-returns-clause-fault c refusal is =
-    let order = seen order_fault _ _ _ _ c.deref.ensures.value c.first_out_of_order.ensures c.in_default.is in
-    let overlap = seen overlap_fault _ _ _ _ c.deref-3.ensures.value c.mark_parts-walk.ensures.overlap c.in_default-overlap.is in
-    let range = seen range_fault _ _ _ _ c.deref-3.ensures.value (c.mark_parts-walk.ensures.past_limit c.in_default-overlap.is) c.in_default-past_limit.is in
-    let known = at_none c.args.parts.items c.args.k (sym c.is_interval.ensures ∙ c.if-not-is_interval.false) order overlap range in
-    absurd (cc (known, is))
-
-pub returns-clause-sound : goal.returns-clause-sound
-returns-clause-sound c =
-    let order = seen order_fault _ _ _ _ c.deref.ensures.value c.first_out_of_order.ensures c.in_default.is in
-    let overlap = seen overlap_fault _ _ _ _ c.deref-3.ensures.value c.mark_parts-walk.ensures.overlap c.in_default-overlap.is in
-    let range = seen range_fault _ _ _ _ c.deref-3.ensures.value (c.mark_parts-walk.ensures.past_limit c.in_default-overlap.is) c.in_default-past_limit.is in
-    at_none c.args.parts.items c.args.k (sym c.is_interval.ensures ∙ c.if-not-is_interval.false) order overlap range
-
-pub returns-clause-built : goal.returns-clause-built
-returns-clause-built c =
+pub returns : goal.returns
+returns c =
     let order = seen order_fault _ _ _ _ c.deref.ensures.value c.first_out_of_order.ensures c.in_default.is in
     let overlap = seen overlap_fault _ _ _ _ c.deref-3.ensures.value c.mark_parts-walk.ensures.overlap c.in_default-overlap.is in
     let range = seen range_fault _ _ _ _ c.deref-3.ensures.value (c.mark_parts-walk.ensures.past_limit c.in_default-overlap.is) c.in_default-past_limit.is in
     let texts = let P = AllByRecursion IsTextInOrder in subst P c.deref-3.ensures.value (c.mark_parts-walk.ensures.ordered c.in_default-overlap.is) in
+    rw (at_none c.args.parts.items c.args.k (sym c.is_interval.ensures ∙ c.if-not-is_interval.false) order overlap range) (
     index_made c.deref-2.result.now c.deref-3.result.now c.args.parts.items c.args.k c.reserve.new.self c.mark_parts-walk.new.checkpoints c.totals_of-totals.result.segments c.totals_of-totals.result.used_lines c.deref-2.ensures.value c.deref-3.ensures.value (c.reserve.ensures ∙ c.new-checkpoints.ensures)
     (c.mark_parts-walk.ensures.marked c.in_default-overlap.is c.in_default-past_limit.is (not-false _ c.if-not-walk.false)) c.totals_of-totals.ensures.segments c.totals_of-totals.ensures.used_lines c.totals_of-totals.ensures.few
-    (joined_in_order c.args.parts.items order overlap texts) (joined_in_range c.args.parts.items range)
+    (joined_in_order c.args.parts.items order overlap texts) (joined_in_range c.args.parts.items range))
 
 pub invariant_of-result : goal.invariant_of-result
 invariant_of-result c =
