@@ -1,6 +1,6 @@
 -- What composing two maps gives, and why it is refused, which is this project's own. The sources of both maps stand side
 -- by side, and so do their names: none is merged, and the source that is followed stays listed.
-use Rattle.std.specs.Prelude.{ℕ, ◌+◌, ◌≤◌, List, ◌++◌, Option, Some, None, Result, Bool, ◌||◌, nat_le, nat_lt, if◌then◌else◌, length}
+use Rattle.std.specs.Prelude.{ℕ, ◌+◌, List, ◌++◌, Option, Some, None, Result, Bool, ◌||◌, nat_le, nat_lt, if◌then◌else◌, length}
 use Rattle.std.specs.Option.{option_or}
 use Rattle.smap_mappings.specs.Encode.{is_text_too_long}
 use Rattle.smap_mappings.specs.declared.mapping.Mapping.{Mapping}
@@ -50,11 +50,6 @@ names_together outer inner = length outer.names + length inner.names
 -- the two maps have more sources together than a map lists, or more names
 abbrev pub lists_too_many : MapRecord → MapRecord → Bool
 lists_too_many outer inner = nat_lt most_listed (sources_together outer inner) || nat_lt most_listed (names_together outer inner)
-
--- they have no more of either
-pub record AreFew (outer inner : MapRecord) : Type 0 where
-  pub sources : sources_together outer inner ≤ most_listed
-  pub names : names_together outer inner ≤ most_listed
 
 -- the refusal that the numbers of sources and names decide, if there is one
 abbrev pub count_refusal : MapRecord → ℕ → MapRecord → Option ComposeRefusal

@@ -1,3 +1,4 @@
 pub mod Follow
 pub mod Composition
 pub mod Composed
+pub mod Private

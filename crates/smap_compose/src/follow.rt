@@ -5,8 +5,9 @@ ghost use Rattle.smap_mappings.specs.Encode.{list_fault};
 ghost use Rattle.smap_mappings.specs.Within.{IsOriginWithin, IsWithin};
 ghost use Rattle.smap_mappings.specs.Writing.{IsLengthOf};
 ghost use Rattle.smap_record.specs.Record.{answer_of_map};
-ghost use Rattle.smap_compose.specs.Composition.{AreFew, followed_mappings, mappings_of_map, names_together, sources_together};
+ghost use Rattle.smap_compose.specs.Composition.{followed_mappings, mappings_of_map, names_together, sources_together};
 ghost use Rattle.smap_compose.specs.Follow.{follow, moved_origin, origin_of_answer};
+ghost use Rattle.smap_compose.specs.Private.Few.{AreFew};
 
 use smap_mappings::TextLength;
 use smap_mappings::laws::lists_in_order_have_no_fault;

@@ -3,7 +3,7 @@ ghost use Rattle.std.specs.Prelude.{◌≡◌, ◌≤◌, ◌++◌, length, map,
 ghost use Rattle.smap_resolve.specs.SourceName.{name_of};
 ghost use Rattle.smap_record.specs.Limits.{most_listed};
 ghost use Rattle.smap_record.specs.Sources.{source_of};
-ghost use Rattle.smap_compose.specs.Composition.{AreFew};
+ghost use Rattle.smap_compose.specs.Private.Few.{AreFew};
 
 use smap_record::{MapFile, SourceEntry, SourceName};
 use std::alloc::{AllocError, Global};

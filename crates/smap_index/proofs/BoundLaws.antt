@@ -3,8 +3,7 @@ use Rattle.std.proofs.Common.{◌≡◌, ◌<◌, ◌≤◌, true, false, arith,
 use Rattle.std.proofs.lemmas.Bool.{cases_lt, both_ways, not-true, not_from_false}
 use Rattle.smap_mappings.specs.Order.{IsAtOrBefore}
 use Rattle.smap_mappings.specs.declared.mapping.Mapping.{Mapping}
-use Rattle.smap_index.specs.Position.{at_position}
-use Rattle.smap_index.specs.Search.{is_on_side, is_up_to}
+use Rattle.smap_index.specs.Private.Search.{at_position, is_on_side, is_up_to}
 use Rattle.smap_index.specs.declared.bound.Bound.{Bound}
 use Rattle.smap_index.specs.declared.bound.Side.{Side}
 use Rattle.smap_index.specs.declared.bound.Side.TheVariants.{Before, Through}

@@ -6,8 +6,8 @@ use Rattle.smap_mappings.specs.declared.cursor.Cursor.{Cursor}
 use Rattle.smap_mappings.specs.declared.mapping.Mapping.{Mapping}
 use Rattle.smap_mappings.specs.declared.mapping.Origin.{Origin}
 use Rattle.smap_index.specs.Parts.{placed_origin, placed_mapping}
-use Rattle.smap_index.specs.Checkpoint.{kind_with, kind_of, origin_of, mapping_of, state_of}
-use Rattle.smap_index.specs.Walk.{checkpoint_at}
+use Rattle.smap_index.specs.Checkpoint.{origin_of, mapping_of, state_of}
+use Rattle.smap_index.specs.Private.Walk.{checkpoint_at, kind_of, kind_with}
 use Rattle.smap_index.specs.declared.part.Part.{Part}
 
 -- what was added is taken off

@@ -14,7 +14,7 @@ use Rattle.smap_mappings.specs.declared.cursor.Cursor.{Cursor}
 use Rattle.smap_mappings.specs.declared.mapping.Mapping.{Mapping}
 use Rattle.smap_index.specs.Parts.{placed_mapping, placed}
 use Rattle.smap_index.specs.Marks.{number_on_line, marked_segments, IsCheckpointIn}
-use Rattle.smap_index.specs.Walk.{checkpoint_at, number_after}
+use Rattle.smap_index.specs.Private.Walk.{checkpoint_at, number_after}
 use Rattle.smap_index.specs.declared.part.Part.{Part}
 use Rattle.smap_index.specs.declared.checkpoint.Checkpoint.{Checkpoint}
 use Rattle.smap_index.proofs.CheckpointLaws.{shown_state, shown_mapping}

@@ -9,7 +9,7 @@ use Rattle.std.proofs.lemmas.List.{drop_more, length-drop}
 use Rattle.smap_index.specs.declared.part.Part.{Part}
 use Rattle.std.proofs.lemmas.Option.{slice_get_past, slice_get-get_or}
 use Rattle.smap_index.specs.Faults.{neighbours, is_overlapping}
-use Rattle.smap_index.specs.Walk.{is_overlapping_next}
+use Rattle.smap_index.specs.Private.Walk.{is_overlapping_next}
 
 -- ---- places
 

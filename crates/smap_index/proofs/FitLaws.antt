@@ -12,7 +12,7 @@ use Rattle.smap_mappings.specs.State.{IsAfter}
 use Rattle.smap_mappings.specs.declared.cursor.Cursor.{Cursor}
 use Rattle.smap_mappings.specs.declared.mapping.Origin.{Origin}
 use Rattle.smap_index.specs.Parts.{placed_origin, placed_mapping, placed}
-use Rattle.smap_index.specs.Walk.{IsFitting}
+use Rattle.smap_index.specs.Private.Walk.{IsFitting}
 use Rattle.smap_index.specs.declared.part.Part.{Part}
 
 -- ---- values that a segment does not change

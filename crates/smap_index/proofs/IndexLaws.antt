@@ -15,7 +15,7 @@ use Rattle.smap_index.specs.Parts.{placed, joined}
 use Rattle.smap_index.specs.Answer.{answer_of, answer_at_or_before}
 use Rattle.smap_index.specs.Faults.{most_interval}
 use Rattle.smap_index.specs.Marks.{marks, IsCheckpointOf, used_lines_in}
-use Rattle.smap_index.specs.Search.{mappings_at, front_up_to, last_from, first_past, last_checkpoint, next_checkpoint}
+use Rattle.smap_index.specs.Private.Search.{mappings_at, front_up_to, last_from, first_past, last_checkpoint, next_checkpoint}
 use Rattle.smap_index.specs.Index.{IndexContents, IsIndex}
 use Rattle.smap_index.specs.declared.answer.Answer.TheVariants.{Nothing}
 use Rattle.smap_index.specs.declared.bound.Bound.{Bound}

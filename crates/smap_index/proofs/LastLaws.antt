@@ -12,7 +12,7 @@ use Rattle.smap_mappings.specs.Range.{is_mapping_past_limit}
 use Rattle.smap_mappings.specs.declared.cursor.Cursor.{Cursor}
 use Rattle.smap_mappings.specs.declared.mapping.Mapping.{Mapping}
 use Rattle.smap_index.specs.Parts.{placed_mapping, placed}
-use Rattle.smap_index.specs.Search.{is_up_to, front_up_to, last_from, first_past}
+use Rattle.smap_index.specs.Private.Search.{is_up_to, front_up_to, last_from, first_past}
 use Rattle.smap_index.specs.declared.bound.Bound.{Bound}
 use Rattle.smap_index.specs.declared.part.Part.{Part}
 use Rattle.smap_index.proofs.WalkLaws.{length-placed, same_place}

@@ -14,7 +14,7 @@ use Rattle.smap_index.specs.declared.part.Part.{Part}
 use Rattle.smap_index.specs.Parts.{placed_mapping, placed, joined}
 use Rattle.smap_index.specs.Faults.{neighbours, is_out_of_order, is_after_offset, is_overlapping, order_fault, overlap_fault}
 use Rattle.smap_index.specs.Position.{offset_of}
-use Rattle.smap_index.specs.Walk.{position_of, IsTextInOrder}
+use Rattle.smap_index.specs.Private.Walk.{position_of, IsTextInOrder}
 use Rattle.smap_index.proofs.FaultLaws.{none_from}
 use Rattle.smap_index.proofs.PositionLaws.{at_or_before, before_from, before, from_before, not_before}
 use Rattle.smap_index.proofs.WalkLaws.{length-mappings_of}

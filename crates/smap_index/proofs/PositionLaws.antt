@@ -1,5 +1,5 @@
 -- The order of positions, by line and then by column, as a test and as a fact.
-use Rattle.std.proofs.Common.{◌≡◌, ◌<◌, ◌≤◌, true, false, sym, arith, ⊎_elim, inl, inr, ◌⊎◌}
+use Rattle.std.proofs.Common.{◌≡◌, ◌<◌, ◌≤◌, true, false, sym, ◌∙◌, arith, ⊎_elim, inl, inr, ◌⊎◌}
 use Rattle.std.proofs.lemmas.Bool.{cases_Bool, cases_lt, ltb-true, ltb-false, lt-ltb, eqb-true, eqb-false, eq-eqb, or_cases, or_left, or_right, or_parts, and_parts, and_cases, and_from}
 use Rattle.smap_mappings.specs.Order.{IsAtOrBefore}
 use Rattle.smap_mappings.specs.Range.{stands_before}
@@ -12,26 +12,22 @@ IsBefore a b = (a.line < b.line) ⊎ ((a.line ≡ b.line) × (a.column < b.colum
 -- ---- steps
 
 module _ (a b c : Mapping) where
-  pub at_or_before : IsAtOrBefore a b → IsAtOrBefore b c → IsAtOrBefore a c
-  at_or_before first second =
+  -- on another line, or from column to column
+  further : {P Q R : Type 0} → (P → Q → R) → (a.line < b.line) ⊎ ((a.line ≡ b.line) × P) → (b.line < c.line) ⊎ ((b.line ≡ c.line) × Q) → (a.line < c.line) ⊎ ((a.line ≡ c.line) × R)
+  further columns first second =
       ⊎_elim
-      (λ (above : a.line < b.line). inl (⊎_elim (λ (further : b.line < c.line). omega arith) (λ same. omega (arith, same.0)) second))
-      (λ equal. ⊎_elim (λ (further : b.line < c.line). inl (omega (arith, equal.0))) (λ same. inr (omega (arith, equal.0, same.0), omega (arith, equal.1, same.1))) second)
+      (λ (above : a.line < b.line). inl (⊎_elim (λ (below : b.line < c.line). omega arith) (λ same. omega (arith, same.0)) second))
+      (λ equal. ⊎_elim (λ (below : b.line < c.line). inl (omega (arith, equal.0))) (λ same. inr (equal.0 ∙ same.0, columns equal.1 same.1)) second)
       first
+
+  pub at_or_before : IsAtOrBefore a b → IsAtOrBefore b c → IsAtOrBefore a c
+  at_or_before = further (λ (left : a.column ≤ b.column) (right : b.column ≤ c.column). omega arith)
 
   pub before_through : IsAtOrBefore a b → IsBefore b c → IsBefore a c
-  before_through first second =
-      ⊎_elim
-      (λ (above : a.line < b.line). inl (⊎_elim (λ (further : b.line < c.line). omega arith) (λ same. omega (arith, same.0)) second))
-      (λ equal. ⊎_elim (λ (further : b.line < c.line). inl (omega (arith, equal.0))) (λ same. inr (omega (arith, equal.0, same.0), omega (arith, equal.1, same.1))) second)
-      first
+  before_through = further (λ (left : a.column ≤ b.column) (right : b.column < c.column). omega arith)
 
   pub before_from : IsBefore a b → IsAtOrBefore b c → IsBefore a c
-  before_from first second =
-      ⊎_elim
-      (λ (above : a.line < b.line). inl (⊎_elim (λ (further : b.line < c.line). omega arith) (λ same. omega (arith, same.0)) second))
-      (λ equal. ⊎_elim (λ (further : b.line < c.line). inl (omega (arith, equal.0))) (λ same. inr (omega (arith, equal.0, same.0), omega (arith, equal.1, same.1))) second)
-      first
+  before_from = further (λ (left : a.column < b.column) (right : b.column ≤ c.column). omega arith)
 
 -- ---- the test
 

@@ -11,7 +11,7 @@ use Rattle.smap_mappings.specs.declared.mapping.Mapping.{Mapping}
 use Rattle.smap_index.specs.Checkpoint.{mapping_of, state_of}
 use Rattle.smap_index.specs.Parts.{placed}
 use Rattle.smap_index.specs.Answer.{answer_of, answer_of_last, answer_at_or_before}
-use Rattle.smap_index.specs.Search.{mappings_at, is_up_to, front_up_to, last_from, first_past, last_checkpoint}
+use Rattle.smap_index.specs.Private.Search.{mappings_at, is_up_to, front_up_to, last_from, first_past, last_checkpoint}
 use Rattle.smap_index.specs.declared.answer.Answer.TheVariants.{Nothing}
 use Rattle.smap_index.specs.declared.bound.Bound.{Bound}
 use Rattle.smap_index.specs.declared.part.Part.{Part}

@@ -7,7 +7,7 @@ use Rattle.std.proofs.lemmas.Option.{slice_get-map}
 use Rattle.smap_mappings.specs.Order.{IsInOrder}
 use Rattle.smap_mappings.specs.declared.mapping.Mapping.{Mapping}
 use Rattle.smap_index.specs.Checkpoint.{mapping_of}
-use Rattle.smap_index.specs.Search.{mappings_at, is_up_to, front_up_to}
+use Rattle.smap_index.specs.Private.Search.{mappings_at, is_up_to, front_up_to}
 use Rattle.smap_index.specs.declared.bound.Bound.{Bound}
 use Rattle.smap_index.specs.declared.checkpoint.Checkpoint.{Checkpoint}
 use Rattle.smap_index.proofs.BoundLaws.{passes_back}

@@ -10,7 +10,7 @@ use Rattle.smap_mappings.specs.declared.mapping.Mapping.{Mapping}
 use Rattle.smap_index.specs.Checkpoint.{mapping_of}
 use Rattle.smap_index.specs.Parts.{placed, joined}
 use Rattle.smap_index.specs.Marks.{Mark, mark_in, number_on_line, marked_segments, marks_from, IsCheckpointIn, IsCheckpointOf, AreCheckpointsOf}
-use Rattle.smap_index.specs.Search.{mappings_at}
+use Rattle.smap_index.specs.Private.Search.{mappings_at}
 use Rattle.smap_index.specs.declared.part.Part.{Part}
 use Rattle.smap_index.specs.declared.checkpoint.Checkpoint.{Checkpoint}
 use Rattle.smap_index.proofs.ListLaws.{tail_in_order}

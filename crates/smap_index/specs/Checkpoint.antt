@@ -9,16 +9,6 @@ use Rattle.smap_index.specs.declared.checkpoint.Kind.{Kind}
 use Rattle.smap_index.specs.declared.checkpoint.Kind.TheVariants.{Unmapped, Mapped, Named}
 use Rattle.smap_index.specs.declared.part.Part.{Part}
 
--- what a segment has whose origin has this name
-abbrev pub kind_with : Option ℕ → Kind
-kind_with None = Mapped
-kind_with (Some name) = Named
-
--- what a segment with this origin has
-abbrev pub kind_of : Option Origin → Kind
-kind_of None = Unmapped
-kind_of (Some origin) = kind_with origin.name
-
 -- the origin that the running values are, with this name
 abbrev pub origin_with : Checkpoint → Option ℕ → Origin
 origin_with checkpoint name = record { source = checkpoint.source; line = checkpoint.original_line; column = checkpoint.original_column; name = name }

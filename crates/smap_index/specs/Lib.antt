@@ -6,6 +6,5 @@ pub mod Answer
 pub mod Faults
 pub mod Index
 pub mod Fields
-pub mod Search
-pub mod Walk
 pub mod Joined
+pub mod Private

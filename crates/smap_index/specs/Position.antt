@@ -3,14 +3,10 @@
 use Rattle.std.specs.Prelude.{ℕ, None}
 use Rattle.smap_mappings.specs.declared.mapping.Mapping.{Mapping}
 use Rattle.smap_index.specs.declared.part.Part.{Part}
-use Rattle.smap_index.specs.declared.position.Position.{Position}
 
 -- a position, as a mapping without an origin
 abbrev pub position_at : (line column : ℕ) → Mapping
 position_at line column = record { line = line; column = column; origin = None }
-
-abbrev pub at_position : Position → Mapping
-at_position position = position_at position.line position.column
 
 -- the offset of a part
 abbrev pub offset_of : Part → Mapping

@@ -1,7 +1,7 @@
 //! The bound of a search: a position, and whether the mappings at it are before the bound or after it.
 
 ghost use Rattle.std.specs.Prelude.{◌≡◌};
-ghost use Rattle.smap_index.specs.Search.{is_up_to};
+ghost use Rattle.smap_index.specs.Private.Search.{is_up_to};
 
 use crate::position::Position;
 use smap_mappings::Mapping;

@@ -4,8 +4,8 @@ ghost use Rattle.std.specs.Prelude.{◌≡◌, false};
 ghost use Rattle.smap_mappings.specs.Range.{is_mapping_past_limit};
 ghost use Rattle.smap_mappings.specs.State.{IsMappingAt};
 ghost use Rattle.smap_index.specs.Parts.{placed_mapping};
-ghost use Rattle.smap_index.specs.Checkpoint.{kind_of, origin_with, mapping_of, state_of};
-ghost use Rattle.smap_index.specs.Walk.{checkpoint_at, IsFitting};
+ghost use Rattle.smap_index.specs.Checkpoint.{origin_with, mapping_of, state_of};
+ghost use Rattle.smap_index.specs.Private.Walk.{checkpoint_at, kind_of, IsFitting};
 
 use crate::part::Part;
 use smap_mappings::{Cursor, Mapping, Origin, State};

@@ -16,7 +16,7 @@ ghost use Rattle.smap_index.specs.Marks.{marks, used_lines_in};
 ghost use Rattle.smap_index.specs.Faults.{build_fault, encode_all_fault};
 ghost use Rattle.smap_mappings.specs.Range.{is_mapping_past_limit};
 ghost use Rattle.smap_index.specs.Answer.{answer_at_or_before, answer_at_or_after};
-ghost use Rattle.smap_index.specs.Search.{first_past};
+ghost use Rattle.smap_index.specs.Private.Search.{first_past};
 
 use crate::answer::{Answer, answer_of};
 use crate::bound::{Bound, Side};
@@ -233,7 +233,8 @@ impl Index {
     /// shortest spelling, `,` between the segments of a line, one `;` for each line passed, nothing at the end. No list
     /// is made: the texts are gone through twice, and room is made once. A text past 67,108,864 bytes is refused.
     pub fn encode_all(&self, alloc: Global) -> Result<String, EncodeAllRefusal>
-        ensures text { IsExactOr EncodeAllRefusal.Memory result (encode_all_fault (joined self.now.parts))
+        ensures text { IsExactOr EncodeAllRefusal.Memory result
+            (encode_all_fault (joined self.now.parts))
             (λ text. string_bytes text ≡ canonical_text (joined self.now.parts)) }
         ensures decodes { OnOk result
             (mappings_of (canonical_text (joined self.now.parts)) ≡ joined self.now.parts) }

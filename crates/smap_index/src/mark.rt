@@ -9,7 +9,7 @@ ghost use Rattle.smap_index.specs.Faults.{is_interval, overlap_fault, range_faul
 ghost use Rattle.smap_mappings.specs.Range.{is_mapping_past_limit};
 ghost use Rattle.smap_index.specs.Marks.{marked_segments, IsCheckpointIn, AreCheckpointsOf};
 ghost use Rattle.smap_mappings.specs.State.{IsMappingAt};
-ghost use Rattle.smap_index.specs.Walk.{checkpoint_at, IsFitting, number_after, IsTextInOrder, is_overlapping_next};
+ghost use Rattle.smap_index.specs.Private.Walk.{checkpoint_at, IsFitting, number_after, IsTextInOrder, is_overlapping_next};
 ghost use Rattle.smap_index.specs.declared.checkpoint.Checkpoint.{Checkpoint};
 
 use crate::checkpoint::Checkpoint;

@@ -3,7 +3,7 @@
 ghost use Rattle.std.specs.Prelude.{◌≡◌, ◌+◌, ◌||◌, ◌==◌, Some, None, option_map, if◌then◌else◌};
 ghost use Rattle.smap_index.specs.Parts.{placed_origin, placed_mapping};
 ghost use Rattle.smap_index.specs.Faults.{is_after_offset};
-ghost use Rattle.smap_index.specs.Walk.{position_of};
+ghost use Rattle.smap_index.specs.Private.Walk.{position_of};
 ghost use Rattle.smap_mappings.specs.Range.{is_number_past_limit, is_name_past_limit, is_origin_past_limit, is_mapping_past_limit};
 
 use crate::part::Part;

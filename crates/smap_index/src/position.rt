@@ -2,7 +2,7 @@
 
 ghost use Rattle.std.specs.Prelude.{◌≡◌};
 ghost use Rattle.smap_mappings.specs.Range.{stands_before};
-ghost use Rattle.smap_index.specs.Position.{at_position};
+ghost use Rattle.smap_index.specs.Private.Search.{at_position};
 
 // A generated position, from 0. A part may place a mapping past 2 ^ 32.
 #[derive(Clone, Copy)]

@@ -6,7 +6,7 @@ ghost use Rattle.smap_mappings.specs.Range.{is_mapping_past_limit};
 ghost use Rattle.smap_mappings.specs.State.{IsAfter, IsBetween};
 ghost use Rattle.smap_index.specs.Checkpoint.{mapping_of, state_of};
 ghost use Rattle.smap_index.specs.Parts.{placed};
-ghost use Rattle.smap_index.specs.Search.{last_from, first_past};
+ghost use Rattle.smap_index.specs.Private.Search.{last_from, first_past};
 
 use crate::bound::Bound;
 use crate::checkpoint::Checkpoint;

@@ -4,7 +4,7 @@ ghost use Rattle.std.specs.Prelude.{◌≡◌, ℕ, ◌+◌, ◌^◌, ◌<◌, �
 ghost use Rattle.std.specs.Option.{option_copied};
 ghost use Rattle.smap_mappings.specs.Meter.{HasRoom};
 ghost use Rattle.smap_mappings.specs.Order.{IsInOrder};
-ghost use Rattle.smap_index.specs.Search.{mappings_at, last_checkpoint, next_checkpoint};
+ghost use Rattle.smap_index.specs.Private.Search.{mappings_at, last_checkpoint, next_checkpoint};
 
 use crate::bound::Bound;
 use crate::checkpoint::Checkpoint;
@@ -30,7 +30,8 @@ pub fn nearest_checkpoints<'a>(
     ensures last { option_copied result.last ≡ last_checkpoint bound.now checkpoints.now }
     ensures next { option_copied result.next ≡ next_checkpoint bound.now checkpoints.now }
     ensures onward { meter.old.comparisons ≤ meter.new.comparisons }
-    ensures few { (b : ℕ) → length checkpoints.now < 2 ^ b → meter.new.comparisons ≤ meter.old.comparisons + b }
+    ensures few { (b : ℕ) → length checkpoints.now < 2 ^ b →
+        meter.new.comparisons ≤ meter.old.comparisons + b }
     ensures none_decoded { meter.new.segments ≡ meter.old.segments }
 {
     let mut low = 0;

@@ -7,7 +7,7 @@ use Rattle.smap_lines.specs.Edited.{edited}
 use Rattle.smap_lines.specs.Editing.{EditsFront, DevicesSeen}
 use Rattle.smap_lines.specs.Limits.{most_text_bytes}
 use Rattle.smap_lines.specs.Lines.{Line}
-use Rattle.smap_lines.specs.Passage.{IsThrough, Now}
+use Rattle.smap_lines.specs.Private.Passage.{IsThrough, Now}
 use Rattle.smap_lines.specs.declared.fault.LineFault.TheVariants.{Read, Write, TooMuch}
 use Rattle.smap_lines.proofs.ThroughLaws.{through_ahead, through_read, through_whole}
 

@@ -4,7 +4,7 @@ use Rattle.std.proofs.lemmas.Bool.{cond-false, cond-true}
 use Rattle.smap_io.specs.Device.{TakesFront}
 use Rattle.smap_lines.specs.Gathered.{HandsOn}
 use Rattle.smap_lines.specs.Lines.{Line}
-use Rattle.smap_lines.specs.OpenLine.{OpenState, ended_text, is_kept, line_with}
+use Rattle.smap_lines.specs.Private.OpenLine.{OpenState, ended_text, is_kept, line_with}
 use Rattle.smap_lines.proofs.TakingLaws.{front_of_both, put_both, put_then_front}
 
 module _ (becomes : Line → List ℕ) (state : OpenState) (bytes : List ℕ) where

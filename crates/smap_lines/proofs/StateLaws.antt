@@ -7,8 +7,8 @@ use Rattle.std.proofs.lemmas.List.{nil_from_length}
 use Rattle.smap_lines.specs.Edited.{after_line, after_text, edited, edited_line, is_short}
 use Rattle.smap_lines.specs.Limits.{most_line_bytes}
 use Rattle.smap_lines.specs.Lines.{IsWholeLines, Line, has_line_end, line_text, lines_with_ends}
-use Rattle.smap_lines.specs.OpenLine.{OpenState, after_ended, after_last, continued, continued_text, ended_text, has_last, is_kept, last_text, line_with, nothing_open}
-use Rattle.smap_lines.specs.Passage.{IsOpen, IsThrough, Now, passed}
+use Rattle.smap_lines.specs.Private.OpenLine.{OpenState, after_ended, after_last, continued, continued_text, ended_text, has_last, is_kept, last_text, line_with, nothing_open}
+use Rattle.smap_lines.specs.Private.Passage.{IsOpen, IsThrough, Now, passed}
 use Rattle.smap_lines.proofs.LineLaws.{after_both, after_ended_line, after_last_line, after_none, edited_both, edited_ended, edited_last, edited_none, ended, first_line, last, lines_of_both, no_end_in_both, only_line}
 
 -- ---- an open line, by its state

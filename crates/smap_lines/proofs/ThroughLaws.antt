@@ -4,8 +4,8 @@ use Rattle.smap_io.specs.Device.{Takes, TakesFront}
 use Rattle.smap_lines.specs.Edited.{after_text, edited, is_short}
 use Rattle.smap_lines.specs.Gathered.{HandsOn}
 use Rattle.smap_lines.specs.Lines.{IsWholeLines, Line, has_line_end, line_text, lines_with_ends}
-use Rattle.smap_lines.specs.OpenLine.{OpenState, after_ended, after_last, continued, continued_text, ended_text, has_last, is_kept, last_text, line_with, nothing_open}
-use Rattle.smap_lines.specs.Passage.{IsOpen, IsThrough, Now, passed}
+use Rattle.smap_lines.specs.Private.OpenLine.{OpenState, after_ended, after_last, continued, continued_text, ended_text, has_last, is_kept, last_text, line_with, nothing_open}
+use Rattle.smap_lines.specs.Private.Passage.{IsOpen, IsThrough, Now, passed}
 use Rattle.smap_lines.proofs.LineLaws.{after_both, after_ended_line, after_none, edited_both, edited_ended, edited_none, ended, few_lines, first_line, lines_of_both, no_end_in_both, whole_begins}
 use Rattle.smap_lines.proofs.StateLaws.{begins_at, after_at, after_last_at, counted_at, ended_at, goes_on, last_at}
 use Rattle.smap_lines.proofs.TakingLaws.{takes_both, takes_none}

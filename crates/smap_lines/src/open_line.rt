@@ -4,8 +4,8 @@ ghost use Rattle.smap_io.specs.Device.{TakesFront};
 ghost use Rattle.smap_lines.specs.Gathered.{HandsOn};
 ghost use Rattle.smap_lines.specs.Lines.{has_line_end};
 ghost use Rattle.smap_lines.specs.Limits.{most_line_bytes};
-ghost use Rattle.smap_lines.specs.OpenLine.{after_ended, after_last, continued, continued_text, ended_text};
-ghost use Rattle.smap_lines.specs.OpenLine.{has_last, is_kept, last_text, nothing_open};
+ghost use Rattle.smap_lines.specs.Private.OpenLine.{after_ended, after_last, continued, continued_text, ended_text};
+ghost use Rattle.smap_lines.specs.Private.OpenLine.{has_last, is_kept, last_text, nothing_open};
 
 use crate::editor::LineEditor;
 use crate::gathered::Gathered;
@@ -28,7 +28,7 @@ impl Model for OpenLine {
     ghost use Rattle.std.specs.Prelude.{◌≡◌, ◌≤◌, [], false, true, length, vec_capacity};
     ghost use Rattle.smap_lines.specs.Lines.{has_line_end};
     ghost use Rattle.smap_lines.specs.Limits.{most_line_bytes};
-    ghost use Rattle.smap_lines.specs.OpenLine.{OpenState};
+    ghost use Rattle.smap_lines.specs.Private.OpenLine.{OpenState};
 
     ghost Value = { OpenState };
 
@@ -62,7 +62,8 @@ impl OpenLine {
         requires room { 0 < E.room editor.old }
         ensures put { OnOk result (HandsOn (W.seen output.old).taken (W.seen output.new).taken
             (gathered.old ++ ended_text (E.becomes editor.old) self.old bytes.now) gathered.new) }
-        ensures after { OnOk result (editor.new ≡ after_ended E.step editor.old self.old bytes.now) }
+        ensures after { OnOk result (editor.new
+            ≡ after_ended E.step editor.old self.old bytes.now) }
         ensures none { OnOk result (self.new ≡ nothing_open) }
         ensures no_failure { OnOk result ((W.seen output.new).failed ≡ (W.seen output.old).failed) }
 

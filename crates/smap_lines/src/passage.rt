@@ -2,7 +2,7 @@
 ghost use Rattle.std.specs.Prelude.{◌≡◌, ◌+◌, ◌<◌, ◌≤◌, ◌^◌, ℕ, List, Option, [], true, length, OnErr, OnOk};
 ghost use Rattle.smap_io.specs.Device.{TakesFront};
 ghost use Rattle.smap_lines.specs.Edited.{edited};
-ghost use Rattle.smap_lines.specs.Passage.{IsThrough};
+ghost use Rattle.smap_lines.specs.Private.Passage.{IsThrough};
 
 use crate::editor::LineEditor;
 use crate::gathered::Gathered;

@@ -10,7 +10,7 @@ use Rattle.smap_mappings.specs.Segment.{has_known_length, has_origin, has_name}
 use Rattle.smap_mappings.specs.Mappings.{Delta, RunningValues, has_segment_on, difference, total, natural, values_on, origin_in, mapping_after, mappings_after, mappings_of}
 use Rattle.smap_mappings.specs.Accepted.{is_below_zero, is_in_range, are_in_range, is_allowed, is_accepted_after, are_accepted_after, is_accepted, IsAccepted}
 use Rattle.smap_mappings.specs.Within.{IsWithin}
-use Rattle.smap_mappings.specs.Advance.{values_after}
+use Rattle.smap_mappings.specs.Private.Advance.{values_after}
 use Rattle.smap_mappings.specs.Canonical.{column_before, origin_before, name_before, fields_after, canonical_text}
 use Rattle.smap_mappings.specs.Encode.{is_not_sorted, list_fault}
 use Rattle.smap_mappings.specs.Range.{is_mapping_past_limit}

@@ -9,7 +9,7 @@ use Rattle.smap_mappings.specs.Vlq.{is_digit}
 use Rattle.smap_mappings.specs.Segment.{fields_of, AreSpellingsOf}
 use Rattle.smap_mappings.specs.Segments.{is_semicolon, is_comma, segments_from, segments_of}
 use Rattle.smap_mappings.specs.Mappings.{Delta, delta_of, deltas_of}
-use Rattle.smap_mappings.specs.Reading.{is_inside}
+use Rattle.smap_mappings.specs.Private.Reading.{is_inside}
 use Rattle.smap_mappings.specs.Canonical.{shortest_spelling, fields_after, separators, segment_bytes, canonical_after, canonical_text}
 use Rattle.smap_mappings.specs.Encode.{list_fault}
 use Rattle.smap_mappings.specs.declared.mapping.Mapping.{Mapping}

@@ -12,8 +12,8 @@ use Rattle.smap_mappings.specs.Accepted.{are_accepted_after, is_accepted, IsAcce
 use Rattle.smap_mappings.specs.Faults.{spelling_fault, delta_fault, first_kind, segment_fault, fault_or, first_fault_after, first_fault}
 use Rattle.smap_mappings.specs.Counts.{new_lines, used_lines_of, segment_count}
 use Rattle.smap_mappings.specs.State.{IsAfter}
-use Rattle.smap_mappings.specs.Step.{fault_from, IsStep}
-use Rattle.smap_mappings.specs.Walk.{ChecksUpTo, WalksUpTo}
+use Rattle.smap_mappings.specs.Private.Step.{fault_from, IsStep}
+use Rattle.smap_mappings.specs.Private.Walk.{ChecksUpTo, WalksUpTo}
 use Rattle.smap_mappings.specs.declared.cursor.Cursor.{Cursor}
 use Rattle.smap_mappings.specs.declared.cursor.TheConstants.Cursor.{START}
 use Rattle.smap_mappings.specs.declared.fault.Fault.{Fault}

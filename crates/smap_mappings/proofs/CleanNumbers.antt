@@ -9,8 +9,8 @@ use Rattle.smap_mappings.specs.Limits.{limit}
 use Rattle.smap_mappings.specs.Vlq.{is_digit, is_continuing, is_ending, unsigned_of, signed_number, is_too_long, is_too_large, is_negative_zero, number_at}
 use Rattle.smap_mappings.specs.Segment.{cuts_of}
 use Rattle.smap_mappings.specs.Faults.{is_unended}
-use Rattle.smap_mappings.specs.Reading.{front_at}
-use Rattle.smap_mappings.specs.Spelling.{IsClean}
+use Rattle.smap_mappings.specs.Private.Reading.{front_at}
+use Rattle.smap_mappings.specs.Private.Spelling.{IsClean}
 use Rattle.smap_mappings.specs.declared.vlq.VlqFault.{VlqFault}
 use Rattle.smap_mappings.specs.declared.vlq.VlqFault.TheVariants.{TooLong, TooLarge, NegativeZero}
 use Rattle.smap_mappings.proofs.SpelledNumbers.{ends_is_digit, one_number_last}

@@ -5,8 +5,8 @@ use Rattle.std.specs.List.{AllByRecursion, slice_get, list_any}
 use Rattle.std.proofs.lemmas.Bool.{cond-true, cond-false, cases_Bool, or_parts}
 use Rattle.std.proofs.lemmas.Int.{ints}
 use Rattle.smap_mappings.specs.Mappings.{Delta, RunningValues, difference, total, values_on}
-use Rattle.smap_mappings.specs.Reading.{delta_in}
-use Rattle.smap_mappings.specs.Advance.{values_after}
+use Rattle.smap_mappings.specs.Private.Reading.{delta_in}
+use Rattle.smap_mappings.specs.Private.Advance.{values_after}
 use Rattle.smap_mappings.specs.declared.segment.Segment.{Segment}
 use Rattle.smap_mappings.specs.declared.segment.OriginFields.{OriginFields}
 

@@ -8,7 +8,7 @@ use Rattle.smap_mappings.specs.Segments.{segments_of, segments_from, segments_on
 use Rattle.smap_mappings.specs.Mappings.{mappings_of, mapping_after, deltas_of, values_on}
 use Rattle.smap_mappings.specs.Accepted.{is_accepted, is_accepted_after}
 use Rattle.smap_mappings.specs.Faults.{first_fault, spelling_fault, delta_fault}
-use Rattle.smap_mappings.specs.Reading.{checked_number}
+use Rattle.smap_mappings.specs.Private.Reading.{checked_number}
 use Rattle.smap_mappings.specs.declared.fault.Fault.{Fault}
 use Rattle.smap_mappings.specs.declared.fault.FaultKind.{FaultKind}
 use Rattle.smap_mappings.specs.declared.fault.FaultKind.TheVariants as kinds

@@ -12,7 +12,7 @@ use Rattle.std.proofs.lemmas.List.Sums.{take_while-cons}
 use Rattle.smap_mappings.specs.Base64.{digit_of}
 use Rattle.smap_mappings.specs.Vlq.{is_digit, is_continuing, is_ending, is_one_number, number_of, Spells}
 use Rattle.smap_mappings.specs.Segment.{has_known_length, cuts_of, list_with_front, numbers_of, fields_of}
-use Rattle.smap_mappings.specs.Reading.{is_inside, segment_at, fields_at, known_fields, HasNoField, IsFieldAt, IsSegmentAt}
+use Rattle.smap_mappings.specs.Private.Reading.{is_inside, segment_at, fields_at, known_fields, HasNoField, IsFieldAt, IsSegmentAt}
 use Rattle.smap_mappings.proofs.SpelledNumbers.{ends_stops, digit_from_is_digit, one_number_nonempty}
 
 -- ---- a digit is no separator

@@ -11,7 +11,7 @@ use Rattle.std.proofs.lemmas.List.Sums.{prefix_len-drop_yes, prefix_len-drop_no,
 use Rattle.smap_mappings.specs.Limits.{limit}
 use Rattle.smap_mappings.specs.Base64.{digit_of}
 use Rattle.smap_mappings.specs.Vlq.{digit_value, is_digit, is_continuing, digit_sum, unsigned_of, signed_number, number_at}
-use Rattle.smap_mappings.specs.Reading.{front_at, checked_number, number_with_end, long_fault}
+use Rattle.smap_mappings.specs.Private.Reading.{front_at, checked_number, number_with_end, long_fault}
 use Rattle.smap_mappings.specs.declared.vlq.VlqFault.{VlqFault}
 use Rattle.smap_mappings.specs.declared.vlq.VlqFault.TheVariants.{BadDigit, Unended, TooLong, TooLarge, NegativeZero}
 

@@ -1,6 +1,7 @@
 -- The code's limits are those of the definitions.
 use Rattle.std.proofs.Common.{◌≡◌, refl}
-use Rattle.smap_mappings.specs.Limits.{limit, most_indices, most_digits, most_segment_digits, most_text_bytes}
+use Rattle.smap_mappings.specs.Limits.{limit, most_indices, most_digits, most_text_bytes}
+use Rattle.smap_mappings.specs.Private.Straight.{most_segment_digits}
 use Rattle.smap_mappings.specs.declared.limits.TheConstants.{LIMIT, MOST_INDICES, MOST_DIGITS, MOST_SEGMENT_DIGITS, MOST_BYTES}
 
 limit_is : LIMIT ≡ limit

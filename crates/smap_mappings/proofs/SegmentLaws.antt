@@ -7,7 +7,7 @@ use Rattle.std.proofs.lemmas.List.{append-nil, drop_more, drop_all, drop-drop}
 use Rattle.std.proofs.lemmas.List.Folds.{length-prefix_len}
 use Rattle.std.proofs.lemmas.List.Sums.{take_while-cons}
 use Rattle.smap_mappings.specs.Segments.{is_semicolon, is_comma, is_nonempty, parts_from, segment_on, segments_on, segments_of_lines, segments_from}
-use Rattle.smap_mappings.specs.Reading.{is_inside, segment_at}
+use Rattle.smap_mappings.specs.Private.Reading.{is_inside, segment_at}
 
 -- ---- splits
 

@@ -6,7 +6,7 @@ use Rattle.std.proofs.lemmas.Option.{cond_some}
 use Rattle.std.proofs.lemmas.List.Sums.{prefix_len_is, prefix_len_passes, prefix_len_stops, prefix_len-le-length}
 use Rattle.smap_mappings.specs.Base64.{digit_of}
 use Rattle.smap_mappings.specs.Vlq.{digit_value, is_digit, is_continuing, is_ending, digit_sum, unsigned_of, signed_number, is_one_number, number_of, Spells, number_at}
-use Rattle.smap_mappings.specs.Reading.{checked_number, number_with_end, front_at}
+use Rattle.smap_mappings.specs.Private.Reading.{checked_number, number_with_end, front_at}
 use Rattle.smap_mappings.specs.declared.vlq.VlqFault.{VlqFault}
 use Rattle.smap_mappings.specs.declared.vlq.VlqFault.TheVariants.{BadDigit, Unended, TooLong, TooLarge, NegativeZero}
 use Rattle.smap_mappings.proofs.Numbers.{at_number, checked_signed}

@@ -7,7 +7,7 @@ use Rattle.std.proofs.lemmas.Option.{cond_some}
 use Rattle.smap_mappings.specs.Vlq.{is_digit, is_continuing, is_ending, unsigned_of, signed_number, is_one_number, number_of, is_too_long, is_too_large, is_negative_zero}
 use Rattle.smap_mappings.specs.Segment.{cuts_of, list_with_front, numbers_of, fields_of, has_known_length}
 use Rattle.smap_mappings.specs.Faults.{has_bad_digit, is_unended, numbers_fault, spelling_fault}
-use Rattle.smap_mappings.specs.Spelling.{IsClean}
+use Rattle.smap_mappings.specs.Private.Spelling.{IsClean}
 use Rattle.smap_mappings.specs.declared.fault.FaultKind.{FaultKind}
 use Rattle.smap_mappings.specs.declared.fault.FaultKind.TheVariants.{BadDigit, Unended, TooLong, TooLarge, NegativeZero, FieldCount}
 use Rattle.smap_mappings.proofs.SpelledNumbers.{ends_stops, ends_is_digit, ends_from_stops}

@@ -9,9 +9,9 @@ use Rattle.smap_mappings.specs.Segments.{is_semicolon, is_comma, segment_on, seg
 use Rattle.smap_mappings.specs.Mappings.{Delta, RunningValues, delta_of, deltas_of, values_on, natural, origin_in, mapping_after, mappings_after, mappings_of}
 use Rattle.smap_mappings.specs.Faults.{spelling_fault, delta_fault, first_kind, segment_fault, fault_or, first_fault_after}
 use Rattle.smap_mappings.specs.State.{values_at, IsAfter}
-use Rattle.smap_mappings.specs.Reading.{is_inside, segment_at, known_fields, fields_in, origin_fields, name_fields, delta_in, IsSegmentAt}
-use Rattle.smap_mappings.specs.Advance.{values_after, sums_fault, IsAdvanced}
-use Rattle.smap_mappings.specs.Step.{fault_from, fault_at, IsStep, cursor_name, cursor_origin, mapping_in}
+use Rattle.smap_mappings.specs.Private.Reading.{is_inside, segment_at, known_fields, fields_in, origin_fields, name_fields, delta_in, IsSegmentAt}
+use Rattle.smap_mappings.specs.Private.Advance.{values_after, sums_fault, IsAdvanced}
+use Rattle.smap_mappings.specs.Private.Step.{fault_from, fault_at, IsStep, cursor_name, cursor_origin, mapping_in}
 use Rattle.smap_mappings.specs.declared.cursor.Cursor.{Cursor}
 use Rattle.smap_mappings.specs.declared.fault.FaultKind.{FaultKind}
 use Rattle.smap_mappings.specs.declared.segment.Segment.{Segment}

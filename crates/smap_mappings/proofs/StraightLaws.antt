@@ -7,11 +7,11 @@ use Rattle.std.proofs.lemmas.Int.{ints}
 use Rattle.smap_mappings.specs.Segment.{has_origin, has_name}
 use Rattle.smap_mappings.specs.Accepted.{is_below_zero, are_in_range}
 use Rattle.smap_mappings.specs.State.{values_at}
-use Rattle.smap_mappings.specs.Reading.{segment_at, origin_fields, fields_in, delta_in, IsFieldAt}
-use Rattle.smap_mappings.specs.Advance.{values_after, sums_fault, IsAdvanced}
-use Rattle.smap_mappings.specs.Step.{cursor_name, cursor_origin, mapping_in}
-use Rattle.smap_mappings.specs.Straight.{IsMoved, IsMovedBy, fields_named, fields_with, IsReadAfter, are_listed, is_fitting, name_of, origin_of, mapping_of}
-use Rattle.smap_mappings.specs.Walk.{IsStraightStep}
+use Rattle.smap_mappings.specs.Private.Reading.{segment_at, origin_fields, fields_in, delta_in, IsFieldAt}
+use Rattle.smap_mappings.specs.Private.Advance.{values_after, sums_fault, IsAdvanced}
+use Rattle.smap_mappings.specs.Private.Step.{cursor_name, cursor_origin, mapping_in}
+use Rattle.smap_mappings.specs.Private.Straight.{IsMoved, IsMovedBy, fields_named, fields_with, IsReadAfter, are_listed, is_fitting, name_of, origin_of, mapping_of}
+use Rattle.smap_mappings.specs.Private.Walk.{IsStraightStep}
 use Rattle.smap_mappings.specs.declared.cursor.Cursor.{Cursor}
 use Rattle.smap_mappings.specs.declared.segment.OriginFields.{OriginFields}
 use Rattle.smap_mappings.specs.declared.straight.Fields.TheVariants.{One, Four, Five}

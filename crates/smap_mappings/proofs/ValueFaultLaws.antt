@@ -9,8 +9,8 @@ use Rattle.smap_mappings.specs.Segment.{has_known_length, has_origin, has_name}
 use Rattle.smap_mappings.specs.Mappings.{Delta, RunningValues, difference, natural, values_on}
 use Rattle.smap_mappings.specs.Accepted.{is_in_range, are_in_range, is_accepted_after, is_below_zero, is_past_limit}
 use Rattle.smap_mappings.specs.Faults.{has_value_below_zero, has_value_past_limit, values_fault, delta_fault}
-use Rattle.smap_mappings.specs.Reading.{fields_in, delta_in}
-use Rattle.smap_mappings.specs.Advance.{sums_fault}
+use Rattle.smap_mappings.specs.Private.Reading.{fields_in, delta_in}
+use Rattle.smap_mappings.specs.Private.Advance.{sums_fault}
 use Rattle.smap_mappings.specs.declared.fault.FaultKind.{FaultKind}
 use Rattle.smap_mappings.specs.declared.fault.FaultKind.TheVariants.{Negative, PastLimit, ColumnFalls, SourceIndex, NameIndex}
 use Rattle.smap_mappings.specs.declared.segment.Segment.{Segment}

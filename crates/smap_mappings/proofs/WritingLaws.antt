@@ -13,9 +13,9 @@ use Rattle.smap_mappings.proofs.BeforeLaws.{unmapped, mapped, by_fields, last-pu
 use Rattle.smap_mappings.specs.Limits.{most_text_bytes}
 use Rattle.smap_mappings.specs.Canonical.{column_before, origin_before, name_before, name_fields, origin_fields, fields_after, separators, shortest_spelling, segment_bytes, canonical_after, canonical_text}
 use Rattle.smap_mappings.specs.Writing.{last_values_of, AreInRange, AreLastOf, IsLengthOf, IsWritten}
-use Rattle.smap_mappings.specs.OneMore.{name_fields_from, origin_fields_from, fields_from, spelled, bytes_from, last_origin_after, last_name_after, last_values_after}
-use Rattle.smap_mappings.specs.Reading
-use Rattle.smap_mappings.specs.Reading.{fields_in}
+use Rattle.smap_mappings.specs.Private.OneMore.{name_fields_from, origin_fields_from, fields_from, spelled, bytes_from, last_origin_after, last_name_after, last_values_after}
+use Rattle.smap_mappings.specs.Private.Reading
+use Rattle.smap_mappings.specs.Private.Reading.{fields_in}
 use Rattle.smap_mappings.specs.declared.segment.Segment.{Segment}
 use Rattle.smap_mappings.specs.declared.segment.OriginFields.{OriginFields}
 use Rattle.smap_mappings.specs.declared.mapping.Mapping.{Mapping}

@@ -17,11 +17,4 @@ pub mod Writing
 pub mod State
 pub mod PackedText
 pub mod Meter
--- of private contracts only
-pub mod Reading
-pub mod Spelling
-pub mod Advance
-pub mod Step
-pub mod Straight
-pub mod Walk
-pub mod OneMore
+pub mod Private

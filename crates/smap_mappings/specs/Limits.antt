@@ -13,10 +13,6 @@ most_indices = limit + 1
 abbrev pub most_digits : ℕ
 most_digits = 7
 
--- how many digits a segment has at most, which has five numbers
-abbrev pub most_segment_digits : ℕ
-most_segment_digits = 35
-
 -- how many bytes a text has at most, which is 64 MiB
 abbrev pub most_text_bytes : ℕ
 most_text_bytes = 67108864

@@ -4,8 +4,8 @@ ghost use Rattle.smap_mappings.specs.Limits.{most_indices};
 ghost use Rattle.smap_mappings.specs.Accepted.{are_in_range};
 ghost use Rattle.smap_mappings.specs.Faults.{has_value_below_zero, has_value_past_limit};
 ghost use Rattle.smap_mappings.specs.State.{values_at};
-ghost use Rattle.smap_mappings.specs.Reading.{delta_in};
-ghost use Rattle.smap_mappings.specs.Advance.{values_after, values_in, sums_fault, IsAdvanced};
+ghost use Rattle.smap_mappings.specs.Private.Reading.{delta_in};
+ghost use Rattle.smap_mappings.specs.Private.Advance.{values_after, values_in, sums_fault, IsAdvanced};
 
 use crate::cursor::Cursor;
 use crate::fault::FaultKind;

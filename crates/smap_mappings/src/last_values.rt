@@ -3,9 +3,9 @@ ghost use Rattle.std.specs.Prelude.{◌≡◌, ◌≤◌, pos, ◌-ℤ◌, unsig
 ghost use Rattle.smap_mappings.specs.Limits.{limit};
 ghost use Rattle.smap_mappings.specs.Range.{is_mapping_past_limit, is_origin_past_limit};
 ghost use Rattle.smap_mappings.specs.Canonical.{column_before};
-ghost use Rattle.smap_mappings.specs.Reading.{fields_in, origin_fields};
+ghost use Rattle.smap_mappings.specs.Private.Reading.{fields_in, origin_fields};
 ghost use Rattle.smap_mappings.specs.Writing.{AreInRange, AreLastOf};
-ghost use Rattle.smap_mappings.specs.OneMore.{CanBeSpelled, fields_from, origin_fields_from, last_values_after};
+ghost use Rattle.smap_mappings.specs.Private.OneMore.{CanBeSpelled, fields_from, origin_fields_from, last_values_after};
 
 use crate::mapping::{Mapping, Origin};
 use crate::segment::{OriginFields, Segment};
@@ -62,7 +62,8 @@ impl LastValues {
     fn origin_fields(&self, origin: &Origin) -> OriginFields
         requires last { AreInRange self.now }
         requires origin { is_origin_past_limit (Some origin.now) ≡ false }
-        ensures fields { origin_fields (Some result) ≡ origin_fields_from self.now (Some origin.now) }
+        ensures fields { origin_fields (Some result)
+            ≡ origin_fields_from self.now (Some origin.now) }
         ensures small { CanBeSpelled (origin_fields (Some result)) }
     {
         let name = match origin.name {

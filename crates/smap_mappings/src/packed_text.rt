@@ -67,7 +67,8 @@ impl PackedText {
             × IsAccepted (string_bytes text) sources names) }
         ensures inside { IfOk result (λ packed. packed ≡ string_bytes text) }
         ensures clean { OnOk result (first_fault (string_bytes text) sources names ≡ None) }
-        ensures within { OnOk result (All (IsWithin sources names) (mappings_of (string_bytes text))) }
+        ensures within { OnOk result (All (IsWithin sources names)
+            (mappings_of (string_bytes text))) }
         ensures too_long { IfErr result (λ e.
             (e.0 ≡ TextRefusal.TextTooLong) ↔ (most_text_bytes < length (string_bytes text))) }
         ensures faulty { IfErr result (λ e. (fault : Fault) → e.0 ≡ TextRefusal.Fault fault

@@ -2,7 +2,7 @@
 ghost use Rattle.std.specs.Prelude.{◌≡◌, ◌+◌, ◌<◌, ◌≤◌, ◌↔◌, length, slice_index, IfSome, IfNone, IsTrue, false};
 ghost use Rattle.smap_mappings.specs.Limits.{most_digits};
 ghost use Rattle.smap_mappings.specs.Segment.{has_known_length};
-ghost use Rattle.smap_mappings.specs.Reading.{is_inside, segment_at, IsFieldAt, HasNoField, IsSegmentAt, fields_at, known_fields};
+ghost use Rattle.smap_mappings.specs.Private.Reading.{is_inside, segment_at, IsFieldAt, HasNoField, IsSegmentAt, fields_at, known_fields};
 
 use crate::base64::number_of_one;
 use crate::vlq::{read_two_digits, read_vlq};

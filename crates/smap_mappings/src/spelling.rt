@@ -3,8 +3,8 @@ ghost use Rattle.std.specs.Prelude.{◌≡◌, ◌+◌, ◌<◌, length};
 ghost use Rattle.smap_mappings.specs.Vlq.{is_continuing};
 ghost use Rattle.smap_mappings.specs.Segment.{cuts_of};
 ghost use Rattle.smap_mappings.specs.Faults.{has_bad_digit, is_unended, numbers_fault, spelling_fault};
-ghost use Rattle.smap_mappings.specs.Reading.{front_at};
-ghost use Rattle.smap_mappings.specs.Spelling.{IsClean};
+ghost use Rattle.smap_mappings.specs.Private.Reading.{front_at};
+ghost use Rattle.smap_mappings.specs.Private.Spelling.{IsClean};
 
 use crate::base64::digit;
 use crate::fault::FaultKind;

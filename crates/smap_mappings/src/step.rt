@@ -1,13 +1,14 @@
 //! From a state to the next: over separators, and over one segment.
 ghost use Rattle.std.specs.Prelude.{◌≡◌, ◌+◌, ◌<◌, ◌≤◌, ℕ, Some, false, true, length, slice_index, IfOk, IfErr};
-ghost use Rattle.smap_mappings.specs.Limits.{most_segment_digits, most_text_bytes};
+ghost use Rattle.smap_mappings.specs.Limits.{most_text_bytes};
 ghost use Rattle.smap_mappings.specs.Segment.{has_known_length};
 ghost use Rattle.smap_mappings.specs.Accepted.{are_in_range};
 ghost use Rattle.smap_mappings.specs.Faults.{spelling_fault};
 ghost use Rattle.smap_mappings.specs.State.{values_at, IsAfter, IsBetween, IsMappingAt, IsNext};
 ghost use Rattle.smap_mappings.specs.PackedText.{IsPacked};
-ghost use Rattle.smap_mappings.specs.Reading.{is_inside, segment_at, known_fields};
-ghost use Rattle.smap_mappings.specs.Step.{IsStep, fault_at, fault_from, mapping_in};
+ghost use Rattle.smap_mappings.specs.Private.Reading.{is_inside, segment_at, known_fields};
+ghost use Rattle.smap_mappings.specs.Private.Step.{IsStep, fault_at, fault_from, mapping_in};
+ghost use Rattle.smap_mappings.specs.Private.Straight.{most_segment_digits};
 
 use crate::advance::{advance, advance_checked};
 use crate::cursor::Cursor;
@@ -29,7 +30,8 @@ pub fn skip_separators(bytes: &[u8], cursor: &Cursor) -> Cursor
     ensures down { cursor.now.line ≤ result.line }
     ensures in_range { are_in_range (values_at cursor.now) ≡ true →
         are_in_range (values_at result) ≡ true }
-    ensures stops { result.place < length bytes.now → is_inside (slice_index bytes.now result.place) ≡ true }
+    ensures stops { result.place < length bytes.now →
+        is_inside (slice_index bytes.now result.place) ≡ true }
     ensures after { (j : ℕ) → IsAfter bytes.now j cursor.now → IsAfter bytes.now j result }
 {
     let mut at = *cursor;

@@ -1,11 +1,11 @@
 //! The straight way over a segment that stands far enough before the text's end: nothing is asked of that end, and each
 //! difference is added as it is read.
 ghost use Rattle.std.specs.Prelude.{◌≡◌, ◌+◌, ◌<◌, ◌≤◌, length, slice_index, IfSome, IfNone, IsTrue, true, false};
-ghost use Rattle.smap_mappings.specs.Limits.{most_digits, most_segment_digits, most_text_bytes};
+ghost use Rattle.smap_mappings.specs.Limits.{most_digits, most_text_bytes};
 ghost use Rattle.smap_mappings.specs.Segment.{has_known_length};
 ghost use Rattle.smap_mappings.specs.Segments.{is_comma};
-ghost use Rattle.smap_mappings.specs.Reading.{HasNoField, is_inside, known_fields};
-ghost use Rattle.smap_mappings.specs.Straight.{IsMoved, IsMovedBy, IsReadAfter, is_fitting, are_listed, is_name_listed, name_of, mapping_of};
+ghost use Rattle.smap_mappings.specs.Private.Reading.{HasNoField, is_inside, known_fields};
+ghost use Rattle.smap_mappings.specs.Private.Straight.{most_segment_digits, IsMoved, IsMovedBy, IsReadAfter, is_fitting, are_listed, is_name_listed, name_of, mapping_of};
 
 use crate::base64::number_of_one;
 use crate::cursor::Cursor;

@@ -3,8 +3,8 @@ ghost use Rattle.std.specs.Prelude.{◌≡◌, ◌+◌, ◌<◌, ◌≤◌, ◌+
 ghost use Rattle.smap_mappings.specs.Limits.{most_text_bytes};
 ghost use Rattle.smap_mappings.specs.Range.{is_mapping_past_limit};
 ghost use Rattle.smap_mappings.specs.Canonical.{separators, canonical_text};
-ghost use Rattle.smap_mappings.specs.Reading.{fields_in};
-ghost use Rattle.smap_mappings.specs.OneMore.{CanBeSpelled, spelled};
+ghost use Rattle.smap_mappings.specs.Private.Reading.{fields_in};
+ghost use Rattle.smap_mappings.specs.Private.OneMore.{CanBeSpelled, spelled};
 ghost use Rattle.smap_mappings.specs.declared.mapping.Mapping.{Mapping};
 
 use crate::last_values::LastValues;

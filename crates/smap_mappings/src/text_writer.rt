@@ -7,8 +7,8 @@ ghost use Rattle.smap_mappings.specs.Accepted.{IsAccepted};
 ghost use Rattle.smap_mappings.specs.Within.{IsWithin};
 ghost use Rattle.smap_mappings.specs.Canonical.{separators, canonical_text};
 ghost use Rattle.smap_mappings.specs.Encode.{list_fault};
-ghost use Rattle.smap_mappings.specs.Reading.{fields_in};
-ghost use Rattle.smap_mappings.specs.OneMore.{CanBeSpelled, spelled};
+ghost use Rattle.smap_mappings.specs.Private.Reading.{fields_in};
+ghost use Rattle.smap_mappings.specs.Private.OneMore.{CanBeSpelled, spelled};
 ghost use Rattle.smap_mappings.specs.declared.mapping.Mapping.{Mapping};
 
 use crate::last_values::LastValues;

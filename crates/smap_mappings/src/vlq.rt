@@ -3,7 +3,7 @@ ghost use Rattle.std.specs.Prelude.{◌≡◌, ◌+◌, ◌++◌, ◌∷◌, ◌
 ghost use Rattle.smap_mappings.specs.Limits.{limit, most_digits};
 ghost use Rattle.smap_mappings.specs.Vlq.{Spells, number_at};
 ghost use Rattle.smap_mappings.specs.Canonical.{IsShortestSpelling, digits_of, shortest_spelling, unsigned_number};
-ghost use Rattle.smap_mappings.specs.Reading.{checked_number, long_fault};
+ghost use Rattle.smap_mappings.specs.Private.Reading.{checked_number, long_fault};
 
 use crate::base64::{digit, letter};
 use crate::limits::{LIMIT, MOST_DIGITS};

@@ -1,9 +1,10 @@
 //! The straight way through a text that is checked, over segments that have no fault.
 ghost use Rattle.std.specs.Prelude.{◌≡◌, ◌+◌, ◌<◌, ◌≤◌, ℕ, length, IfSome, true};
-ghost use Rattle.smap_mappings.specs.Limits.{most_segment_digits, most_text_bytes};
+ghost use Rattle.smap_mappings.specs.Limits.{most_text_bytes};
 ghost use Rattle.smap_mappings.specs.Accepted.{are_in_range};
 ghost use Rattle.smap_mappings.specs.State.{values_at, IsAfter};
-ghost use Rattle.smap_mappings.specs.Walk.{IsStraightStep, WalksUpTo};
+ghost use Rattle.smap_mappings.specs.Private.Walk.{IsStraightStep, WalksUpTo};
+ghost use Rattle.smap_mappings.specs.Private.Straight.{most_segment_digits};
 
 use crate::check::is_new_line;
 use crate::cursor::Cursor;

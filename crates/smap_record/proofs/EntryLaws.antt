@@ -10,7 +10,7 @@ use Rattle.std.proofs.lemmas.Option.{slice_get-map}
 use Rattle.url.specs.Parts.{Parts}
 use Rattle.smap_resolve.specs.SourceName.{Name, source_name}
 use Rattle.smap_record.specs.Sources.{StatedSource, StatedSources, source_at, sources_with, sources_stated}
-use Rattle.smap_record.specs.Seen.{texts_seen, sources_seen}
+use Rattle.smap_record.specs.Private.Seen.{texts_seen, sources_seen}
 use Rattle.smap_record.specs.declared.section.SectionSources.{SectionSources}
 
 pub enumerate_push : {A : Type 0} (n : ℕ) (xs : List A) (x : A) → enumerate_from n (xs ++ x ∷ []) ≡ enumerate_from n xs ++ (length xs + n, x) ∷ []

@@ -7,7 +7,7 @@ use Rattle.smap_index.specs.declared.part.Part.{Part}
 use Rattle.smap_record.specs.IndexMap.{SectionEntry, StatedSections, place_after, sections_after, source_count, with_section}
 use Rattle.smap_record.specs.Refusals.{◌>>=◌}
 use Rattle.smap_record.specs.Section.{StatedSection, section_in}
-use Rattle.smap_record.specs.Seen.{sources_seen}
+use Rattle.smap_record.specs.Private.Seen.{sources_seen}
 use Rattle.smap_record.specs.Sources.{StatedSources}
 use Rattle.smap_record.specs.declared.section.SectionPlace.{SectionPlace}
 use Rattle.smap_record.specs.declared.section.SectionSources.{SectionSources}

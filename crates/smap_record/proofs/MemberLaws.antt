@@ -1,7 +1,7 @@
 -- The members of a written map, put in one after another, the last key first.
 use Rattle.std.proofs.Common.{◌≡◌, Option, Some, None, codes, refl, ap, ◌∙◌}
 use Rattle.serde_json.specs.Data.{Data, Members, no_members, member, number, unsigned}
-use Rattle.smap_record.specs.Seen.{put_where}
+use Rattle.smap_record.specs.Private.Seen.{put_where}
 use Rattle.smap_record.specs.Written.{member_where}
 
 abbrev pub version_value : Data

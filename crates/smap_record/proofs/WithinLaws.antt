@@ -15,7 +15,8 @@ use Rattle.smap_mappings.specs.Range.{is_number_past_limit, is_name_past_limit, 
 use Rattle.smap_index.specs.Parts.{placed, placed_mapping, placed_origin, joined}
 use Rattle.smap_index.specs.declared.answer.Answer.{Answer}
 use Rattle.smap_index.specs.declared.part.Part.{Part}
-use Rattle.smap_record.specs.MapFile.{Map, map_seen, IsCounted, IsAnswerWithin, IsPartWithin}
+use Rattle.smap_record.specs.MapFile.{Map, map_seen, IsCounted, IsAnswerWithin}
+use Rattle.smap_record.specs.Private.PartWithin.{IsPartWithin}
 use Rattle.smap_record.specs.Sources.{source_of}
 use Rattle.smap_record.specs.declared.map_file.MapFile.TheInside.{Inside}
 

@@ -12,4 +12,4 @@ pub mod Record
 pub mod Written
 pub mod ReadBack
 pub mod MapFile
-pub mod Seen
+pub mod Private

@@ -1,12 +1,10 @@
 -- What callers see of a map file.
-use Rattle.std.specs.Prelude.{◌≡◌, ◌≤◌, ◌+◌, ℕ, length, map, option_map, string_bytes}
+use Rattle.std.specs.Prelude.{◌≡◌, ◌≤◌, ℕ, length, map, option_map, string_bytes}
 use Rattle.std.specs.List.{All}
-use Rattle.smap_mappings.specs.Mappings.{mappings_of}
 use Rattle.smap_mappings.specs.Within.{IsOriginWithin, IsWithin}
 use Rattle.smap_index.specs.Parts.{joined}
 use Rattle.smap_index.specs.declared.answer.Answer.{Answer}
 use Rattle.smap_index.specs.declared.answer.Answer.TheVariants.{Nothing, Unmapped, Found}
-use Rattle.smap_index.specs.declared.part.Part.{Part}
 use Rattle.smap_record.specs.Limits.{most_listed}
 use Rattle.smap_record.specs.Record.{MapRecord}
 use Rattle.smap_record.specs.Sources.{source_of}
@@ -28,14 +26,6 @@ map_seen inside = record {
   };
   k = inside.index.k;
 }
-
--- the mappings of a part's text name some of the sources and names after its bases, and of those there are this many
-pub record IsPartWithin (sources names : ℕ) (part : Part) : Type 0 where
-  pub own_sources : ℕ
-  pub own_names : ℕ
-  pub sources_fit : part.source_base + own_sources ≤ sources
-  pub names_fit : part.name_base + own_names ≤ names
-  pub text : All (IsWithin own_sources own_names) (mappings_of part.text)
 
 -- its sections are the parts of its index, it lists no more sources and names than a map may, and its mappings keep to
 -- the limit and to its sources and names

@@ -1,9 +1,9 @@
 -- What a written map gives when it is read again.
-use Rattle.std.specs.Prelude.{◌≡◌, ◌≤◌, ℕ, List, [], Option, None, length, map, Ok}
+use Rattle.std.specs.Prelude.{◌≡◌, ◌≤◌, ℕ, List, Option, None, true, length, map, Ok}
 use Rattle.smap_mappings.specs.Accepted.{IsAccepted}
 use Rattle.smap_mappings.specs.Limits.{most_text_bytes}
 use Rattle.smap_mappings.specs.declared.mapping.Mapping.{Mapping}
-use Rattle.smap_index.specs.Faults.{build_fault}
+use Rattle.smap_index.specs.Faults.{is_interval}
 use Rattle.smap_index.specs.Parts.{joined}
 use Rattle.smap_record.specs.Limits.{most_listed}
 use Rattle.smap_record.specs.Record.{MapRecord, record_of}
@@ -27,11 +27,7 @@ pub record IsReadBackOf (mappings : List Mapping) (sources : List StatedSource) 
   pub names_are : read.names ≡ names
   pub file_is : read.file ≡ file
 
--- an index is built at this interval, where its parts have no fault
-abbrev pub IsInterval : ℕ → Type 0
-IsInterval k = build_fault [] k ≡ None
-
--- the bytes, which stand at no URL, give such a record at each interval
+-- the bytes, which stand at no URL, give such a record at each interval at which checkpoints may stand
 abbrev pub ReadsBackAs : List ℕ → List Mapping → List StatedSource → List (List ℕ) → Option (List ℕ) → Type 0
 ReadsBackAs bytes mappings sources names file =
-    (k : ℕ) → IsInterval k → (read : MapRecord) × (record_of bytes None k ≡ Ok read) × IsReadBackOf mappings sources names file read
+    (k : ℕ) → is_interval k ≡ true → (read : MapRecord) × (record_of bytes None k ≡ Ok read) × IsReadBackOf mappings sources names file read

@@ -1,6 +1,5 @@
--- Reading up to the first refusal, and what a call that reads a part of a map file gives.
+-- Reading up to the first refusal, and the refusals of other crates.
 use Rattle.std.specs.Prelude.{Option, Some, None, Result, Ok, Err}
-use Rattle.smap_mappings.specs.Exact.{GivesOr}
 use Rattle.smap_index.specs.declared.refusal.EncodeAllRefusal.{EncodeAllRefusal}
 use Rattle.smap_index.specs.declared.refusal.EncodeAllRefusal.TheVariants as texts
 use Rattle.smap_resolve.specs.declared.refusal.ResolveRefusal.{ResolveRefusal}
@@ -20,10 +19,6 @@ abbrev pub ◌>>=◌ : {A B : Type 0} → Result A MapRefusal → (A → Result 
 abbrev pub unless : {A E : Type 0} → Option E → A → Result A E
 unless None value = Ok value
 unless (Some refusal) value = Err refusal
-
--- a call gives what is read, as its value is seen, and refuses what is refused, unless memory ran out
-abbrev pub GivesRead : {X Y : Type 0} → (X → Y) → Result X MapRefusal → Result Y MapRefusal → Type 0
-GivesRead seen result read = GivesOr Memory seen result read
 
 -- the refusal of a map of which a source gets no name
 abbrev pub name_refusal : ResolveRefusal → MapRefusal

@@ -5,9 +5,9 @@ ghost use Rattle.serde_json.specs.Find.{get_member};
 ghost use Rattle.serde_json.specs.View.{members_view, view};
 ghost use Rattle.smap_record.specs.Fields.{ignored_field};
 ghost use Rattle.smap_record.specs.Json.{field, not_null};
-ghost use Rattle.smap_record.specs.Refusals.{GivesRead};
+ghost use Rattle.smap_record.specs.Private.Given.{GivesRead};
 ghost use Rattle.smap_record.specs.Section.{text_in};
-ghost use Rattle.smap_record.specs.Seen.{fields_seen, taken_seen};
+ghost use Rattle.smap_record.specs.Private.Seen.{fields_seen, taken_seen};
 
 use crate::json::text;
 use crate::refusal::MapRefusal;
@@ -53,7 +53,8 @@ pub fn read_text(field: Option<Value>) -> Result<Option<String>, MapRefusal>
 
 /// Moves out what stands at a key, where it is not null. The other keys keep theirs.
 pub fn take(members: &mut Map<String, Value>, key: &str) -> Option<Value>
-    ensures value { option_map view result ≡ field key.now (object (members_view members.old.entries)) }
+    ensures value { option_map view result
+        ≡ field key.now (object (members_view members.old.entries)) }
     ensures others { (other : List ℕ) → bytes_eq other key.now ≡ false
         → get_member other (members_view members.new.entries) ≡ get_member other (members_view members.old.entries) }
 {
@@ -65,8 +66,10 @@ pub fn take(members: &mut Map<String, Value>, key: &str) -> Option<Value>
 
 // Moves out the list of ignored sources, where it is not null. The keys but its two keep theirs.
 fn take_ignored(members: &mut Map<String, Value>) -> Option<Value>
-    ensures value { option_map view result ≡ ignored_field (object (members_view members.old.entries)) }
-    ensures others { (other : List ℕ) → bytes_eq other (codes "ignoreList") ≡ false → bytes_eq other (codes "x_google_ignoreList") ≡ false
+    ensures value { option_map view result
+        ≡ ignored_field (object (members_view members.old.entries)) }
+    ensures others { (other : List ℕ) → bytes_eq other (codes "ignoreList") ≡ false →
+        bytes_eq other (codes "x_google_ignoreList") ≡ false
         → get_member other (members_view members.new.entries) ≡ get_member other (members_view members.old.entries) }
 {
     let newer = take(members, "ignoreList");

@@ -3,7 +3,7 @@ ghost use Rattle.std.specs.Prelude.{◌≡◌, ok_or};
 ghost use Rattle.serde_json.specs.View.{members_view, view};
 ghost use Rattle.smap_record.specs.FileText.{json_text, value_of_file, without_guard_line, without_mark};
 ghost use Rattle.smap_record.specs.Record.{members_in};
-ghost use Rattle.smap_record.specs.Refusals.{GivesRead};
+ghost use Rattle.smap_record.specs.Private.Given.{GivesRead};
 ghost use Rattle.smap_record.specs.declared.refusal.MapRefusal.TheVariants.{NotJson};
 
 use crate::json::object;

@@ -6,8 +6,8 @@ ghost use Rattle.smap_mappings.specs.Limits.{most_indices};
 ghost use Rattle.smap_index.specs.Parts.{most_parts};
 ghost use Rattle.smap_record.specs.IndexMap.{entries_in, entries_of, entry_in, has_no_offset, index_entries, is_index_map, offset_in, regular_entry};
 ghost use Rattle.smap_record.specs.Json.{list_of, number_below};
-ghost use Rattle.smap_record.specs.Refusals.{GivesRead};
-ghost use Rattle.smap_record.specs.Seen.{entries_seen, entry_seen, fields_seen};
+ghost use Rattle.smap_record.specs.Private.Given.{GivesRead};
+ghost use Rattle.smap_record.specs.Private.Seen.{entries_seen, entry_seen, fields_seen};
 
 use crate::MOST_SECTIONS;
 use crate::fields::take;
@@ -153,7 +153,8 @@ fn entry(value: Value) -> Option<SectionEntry>
 
 // The offset that a field states.
 fn read_offset(field: Option<Value>) -> Option<Offset>
-    ensures { result ≡ option_and_then offset_in (option_and_then as_object (option_map view field)) }
+    ensures { result
+        ≡ option_and_then offset_in (option_and_then as_object (option_map view field)) }
 {
     let Some(value) = field else {
         return None;

@@ -4,10 +4,10 @@ ghost use Rattle.std.specs.List.{All, sum_by};
 ghost use Rattle.smap_index.specs.Parts.{most_parts};
 ghost use Rattle.smap_record.specs.IndexMap.{no_sections, sections_after};
 ghost use Rattle.smap_record.specs.Limits.{most_listed};
-ghost use Rattle.smap_record.specs.MapFile.{IsPartWithin};
-ghost use Rattle.smap_record.specs.Refusals.{GivesRead};
+ghost use Rattle.smap_record.specs.Private.PartWithin.{IsPartWithin};
+ghost use Rattle.smap_record.specs.Private.Given.{GivesRead};
 ghost use Rattle.smap_record.specs.Section.{part_at};
-ghost use Rattle.smap_record.specs.Seen.{entries_seen, sections_seen};
+ghost use Rattle.smap_record.specs.Private.Seen.{entries_seen, sections_seen};
 
 use crate::index_map::{Offset, SectionEntry};
 use crate::refusal::MapRefusal;
@@ -30,7 +30,8 @@ pub fn read_sections(
     entries: Vec<SectionEntry>,
 ) -> Result<JoinedSections, MapRefusal>
     requires { length entries.items ≤ most_parts }
-    ensures statement { GivesRead sections_seen result (sections_after no_sections (entries_seen entries.items)) }
+    ensures statement { GivesRead sections_seen result
+        (sections_after no_sections (entries_seen entries.items)) }
     ensures count { IfOk result (λ joined. length joined.parts.items ≡ length entries.items) }
     ensures few_sources { IfOk result
         (λ joined. sum_by (λ sources. length sources.texts.items) joined.sources.items ≤ most_listed) }

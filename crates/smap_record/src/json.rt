@@ -3,7 +3,7 @@ ghost use Rattle.std.specs.Prelude.{◌≡◌, map, option_map, string_bytes, If
 ghost use Rattle.serde_json.specs.Find.{as_object, as_str};
 ghost use Rattle.serde_json.specs.View.{members_view, view};
 ghost use Rattle.smap_record.specs.Json.{list_of, number_below, text_or_null};
-ghost use Rattle.smap_record.specs.Seen.{texts_seen};
+ghost use Rattle.smap_record.specs.Private.Seen.{texts_seen};
 
 use serde_json::{Map, Value};
 use std::alloc::{AllocError, Global};
@@ -41,7 +41,8 @@ pub fn text_or_null(value: Value) -> Option<Option<String>>
 
 /// A list of texts.
 pub fn texts(alloc: Global, value: Value) -> Result<Option<Vec<String>>, AllocError>
-    ensures { IfOk result (λ list. option_map (λ texts. map string_bytes texts.items) list ≡ list_of as_str (view value)) }
+    ensures { IfOk result (λ list. option_map (λ texts. map string_bytes texts.items) list
+        ≡ list_of as_str (view value)) }
 {
     let Value::Array(items) = value else {
         return Ok(None);
@@ -61,7 +62,8 @@ pub fn nullable_texts(
     alloc: Global,
     value: Value,
 ) -> Result<Option<Vec<Option<String>>>, AllocError>
-    ensures { IfOk result (λ list. option_map (λ texts. texts_seen texts.items) list ≡ list_of text_or_null (view value)) }
+    ensures { IfOk result (λ list. option_map (λ texts. texts_seen texts.items) list
+        ≡ list_of text_or_null (view value)) }
 {
     let Value::Array(items) = value else {
         return Ok(None);

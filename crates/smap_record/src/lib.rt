@@ -2,7 +2,7 @@
 //! of a written map. Lines, columns and indices count from 0, columns in UTF-16 code units.
 //!
 //! ```text
-//! let map = MapFile::read(alloc, bytes, None, 1)?;
+//! let map = MapFile::read(alloc, bytes, None, 64)?;
 //! if let Answer::Found { origin, .. } = map.look_up(line, column, &mut meter) {
 //!     let source = map.source(origin.source);
 //! }

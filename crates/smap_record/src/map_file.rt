@@ -90,7 +90,8 @@ impl MapFile {
 
     /// Source `i`, from 0, where there is one. The call takes no memory.
     pub fn source(&self, i: u32) -> Option<&SourceEntry>
-        ensures { option_map (λ entry. source_of entry.now) result ≡ slice_get self.now.stated.sources i }
+        ensures { option_map (λ entry. source_of entry.now) result
+            ≡ slice_get self.now.stated.sources i }
     {
         self.sources.get(i as usize)
     }
@@ -166,11 +167,13 @@ impl MapFile {
     pub fn look_up(&self, line: u32, column: u32, meter: &mut Meter) -> Answer
         requires room { HasRoom meter.old }
         ensures answer { result ≡ answer_of_map self.now.stated line column }
-        ensures within { IsAnswerWithin (length self.now.stated.sources) (length self.now.stated.names) result }
+        ensures within { IsAnswerWithin
+            (length self.now.stated.sources) (length self.now.stated.names) result }
         ensures compared { (b : ℕ) → length (marks self.now.stated.parts self.now.k) < 2 ^ b
             → meter.new.comparisons ≤ meter.old.comparisons + b }
         ensures decoded { meter.new.segments ≤ meter.old.segments + (self.now.k - 1) }
-        ensures onward { (meter.old.comparisons ≤ meter.new.comparisons) × (meter.old.segments ≤ meter.new.segments) }
+        ensures onward { (meter.old.comparisons ≤ meter.new.comparisons)
+            × (meter.old.segments ≤ meter.new.segments) }
     {
         self.index.look_up(line, column, meter)
     }
@@ -182,11 +185,13 @@ impl MapFile {
     pub fn look_up_from(&self, line: u32, column: u32, meter: &mut Meter) -> Answer
         requires room { HasRoom meter.old }
         ensures answer { result ≡ answer_of_map_from self.now.stated line column }
-        ensures within { IsAnswerWithin (length self.now.stated.sources) (length self.now.stated.names) result }
+        ensures within { IsAnswerWithin
+            (length self.now.stated.sources) (length self.now.stated.names) result }
         ensures compared { (b : ℕ) → length (marks self.now.stated.parts self.now.k) < 2 ^ b
             → meter.new.comparisons ≤ meter.old.comparisons + b }
         ensures decoded { meter.new.segments ≤ meter.old.segments + (self.now.k - 1) }
-        ensures onward { (meter.old.comparisons ≤ meter.new.comparisons) × (meter.old.segments ≤ meter.new.segments) }
+        ensures onward { (meter.old.comparisons ≤ meter.new.comparisons)
+            × (meter.old.segments ≤ meter.new.segments) }
     {
         self.index.look_up_from(line, column, meter)
     }
@@ -195,7 +200,8 @@ impl MapFile {
     pub fn mappings<'a>(&'a self, alloc: Global) -> JoinedMappings<'a>
         ensures list { result ≡ joined self.now.stated.parts }
         ensures ordered { IsInOrder (joined self.now.stated.parts) }
-        ensures within { All (IsWithin (length self.now.stated.sources) (length self.now.stated.names)) (joined self.now.stated.parts) }
+        ensures within { All (IsWithin (length self.now.stated.sources) (length self.now.stated.names))
+            (joined self.now.stated.parts) }
     {
         self.index.mappings(alloc)
     }
@@ -204,7 +210,8 @@ impl MapFile {
     pub fn decode_all(&self, alloc: Global) -> Result<Vec<Mapping>, AllocError>
         ensures list { IfOk result (λ list. list.items ≡ joined self.now.stated.parts) }
         ensures ordered { IsInOrder (joined self.now.stated.parts) }
-        ensures within { All (IsWithin (length self.now.stated.sources) (length self.now.stated.names)) (joined self.now.stated.parts) }
+        ensures within { All (IsWithin (length self.now.stated.sources) (length self.now.stated.names))
+            (joined self.now.stated.parts) }
     {
         self.index.decode_all(alloc)
     }
@@ -212,7 +219,8 @@ impl MapFile {
     /// The map as the text of one regular map, whose mappings are canonical: JSON without blanks, as `write_record`
     /// makes it. The same map is read of it again, save that the names of its sources may be resolved once more.
     pub fn write(&self, alloc: Global) -> Result<Vec<u8>, WriteRefusal>
-        ensures text { IfOk result (λ bytes. bytes.items ≡ written self.now.stated.sources self.now.stated.names
+        ensures text { IfOk result (λ bytes. bytes.items
+            ≡ written self.now.stated.sources self.now.stated.names
             self.now.stated.file (canonical_text (joined self.now.stated.parts))) }
         ensures too_long { most_text_bytes < length (canonical_text (joined self.now.stated.parts)) →
             result ≡ Err WriteRefusal.TextTooLong }

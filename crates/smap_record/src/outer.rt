@@ -4,8 +4,8 @@ ghost use Rattle.serde_json.specs.Data.{object};
 ghost use Rattle.serde_json.specs.View.{members_view, view};
 ghost use Rattle.smap_index.specs.Parts.{most_parts};
 ghost use Rattle.smap_record.specs.Outer.{is_three, outer_in};
-ghost use Rattle.smap_record.specs.Refusals.{GivesRead};
-ghost use Rattle.smap_record.specs.Seen.{outer_seen};
+ghost use Rattle.smap_record.specs.Private.Given.{GivesRead};
+ghost use Rattle.smap_record.specs.Private.Seen.{outer_seen};
 
 use crate::fields::{read_text, take};
 use crate::index_map::{SectionEntry, read_entries};
@@ -23,7 +23,8 @@ pub struct Outer {
 /// Reads the outer object. Of an index map's, only `version`, `sections` and `file` are read.
 #[tactic(auto, unfolding(crate::specs::Outer::outer_in))]
 pub fn read_outer(alloc: Global, mut members: Map<String, Value>) -> Result<Outer, MapRefusal>
-    ensures statement { GivesRead outer_seen result (outer_in (object (members_view members.entries))) }
+    ensures statement { GivesRead outer_seen result
+        (outer_in (object (members_view members.entries))) }
     ensures few { IfOk result (λ outer. length outer.entries.items ≤ most_parts) }
 {
     if !is_three(take(&mut members, "version")) {

@@ -5,9 +5,9 @@ ghost use Rattle.serde_json.specs.View.{view};
 ghost use Rattle.smap_mappings.specs.Mappings.{mappings_of};
 ghost use Rattle.smap_mappings.specs.Within.{IsWithin};
 ghost use Rattle.smap_record.specs.Limits.{most_listed};
-ghost use Rattle.smap_record.specs.Refusals.{GivesRead};
+ghost use Rattle.smap_record.specs.Private.Given.{GivesRead};
 ghost use Rattle.smap_record.specs.Section.{contents_in, ignored_in, mappings_in, names_in, section_in, sources_in};
-ghost use Rattle.smap_record.specs.Seen.{fields_seen, section_seen, texts_seen};
+ghost use Rattle.smap_record.specs.Private.Seen.{fields_seen, section_seen, texts_seen};
 
 use crate::MOST_LISTED;
 use crate::fields::{read_text, take_fields};
@@ -55,13 +55,15 @@ pub fn read_section(
 ) -> Result<SectionMap, MapRefusal>
     requires sources_before { place.source_base ≤ most_listed }
     requires names_before { place.name_base ≤ most_listed }
-    ensures statement { GivesRead section_seen result (section_in place (fields_seen members.entries)) }
+    ensures statement { GivesRead section_seen result
+        (section_in place (fields_seen members.entries)) }
     ensures few_sources { IfOk result
         (λ section. place.source_base + length section.sources.texts.items ≤ most_listed) }
     ensures few_names { IfOk result
         (λ section. place.name_base + length section.names.items ≤ most_listed) }
     ensures within { IfOk result
-        (λ section. All (IsWithin (length section.sources.texts.items) (length section.names.items)) (mappings_of section.text)) }
+        (λ section. All (IsWithin (length section.sources.texts.items) (length section.names.items))
+        (mappings_of section.text)) }
 {
     let fields = take_fields(members);
     let texts = read_sources(alloc, place.source_base, fields.sources)?;
@@ -94,7 +96,8 @@ fn read_sources(
     field: Option<Value>,
 ) -> Result<Vec<Option<String>>, MapRefusal>
     requires { before ≤ most_listed }
-    ensures statement { GivesRead (λ texts. texts_seen texts.items) result (sources_in before (option_map view field)) }
+    ensures statement { GivesRead (λ texts. texts_seen texts.items) result
+        (sources_in before (option_map view field)) }
     ensures few { IfOk result (λ texts. before + length texts.items ≤ most_listed) }
 {
     let Some(value) = field else {
@@ -109,7 +112,8 @@ fn read_sources(
 // The names, where this many stand before them.
 fn read_names(alloc: Global, before: u32, field: Option<Value>) -> Result<Vec<String>, MapRefusal>
     requires { before ≤ most_listed }
-    ensures statement { GivesRead (λ names. map string_bytes names.items) result (names_in before (option_map view field)) }
+    ensures statement { GivesRead (λ names. map string_bytes names.items) result
+        (names_in before (option_map view field)) }
     ensures few { IfOk result (λ names. before + length names.items ≤ most_listed) }
 {
     let Some(value) = field else {
@@ -123,7 +127,8 @@ fn read_names(alloc: Global, before: u32, field: Option<Value>) -> Result<Vec<St
 
 // The texts of the sources.
 fn read_contents(alloc: Global, field: Option<Value>) -> Result<Vec<Option<String>>, MapRefusal>
-    ensures { GivesRead (λ contents. texts_seen contents.items) result (contents_in (option_map view field)) }
+    ensures { GivesRead (λ contents. texts_seen contents.items) result
+        (contents_in (option_map view field)) }
 {
     let Some(value) = field else {
         return Ok(Vec::new(alloc));
@@ -159,7 +164,8 @@ fn read_mappings(
     sources: u32,
     names: u32,
 ) -> Result<PackedText, MapRefusal>
-    ensures statement { GivesRead (λ text. text) result (mappings_in number sources names (option_map view field)) }
+    ensures statement { GivesRead (λ text. text) result
+        (mappings_in number sources names (option_map view field)) }
     ensures within { IfOk result (λ text. All (IsWithin sources names) (mappings_of text)) }
 {
     let Some(Value::String(text)) = field else {

@@ -3,7 +3,7 @@ ghost use Rattle.std.specs.Prelude.{◌≡◌, ◌⊎◌, ◌++◌, false, drop,
 ghost use Rattle.std.specs.Option.{option_flatten};
 ghost use Rattle.std.specs.Vec.Iter.{into_iter_items};
 ghost use Rattle.smap_resolve.specs.SourceName.{name_of, source_name};
-ghost use Rattle.smap_record.specs.Seen.{sources_seen, texts_seen};
+ghost use Rattle.smap_record.specs.Private.Seen.{sources_seen, texts_seen};
 ghost use Rattle.smap_record.specs.Sources.{source_of, sources_stated};
 ghost use Rattle.smap_record.specs.declared.refusal.MapRefusal.TheVariants as refusals;
 
@@ -23,7 +23,8 @@ pub fn sources(
 ) -> Result<Vec<SourceEntry>, MapRefusal>
     ensures list { IfOk result (λ sources. map source_of sources.items
         ≡ flat_map (sources_stated (option_copied base.entry)) (map sources_seen sections.items)) }
-    ensures refused { IfErr result (λ refusal. (refusal ≡ refusals.Memory) ⊎ (refusal ≡ refusals.Url)) }
+    ensures refused { IfErr result (λ refusal. (refusal ≡ refusals.Memory)
+        ⊎ (refusal ≡ refusals.Url)) }
 {
     let mut sources = Vec::new(alloc);
     for section in sections {
@@ -40,9 +41,11 @@ fn add_sources(
     base: Option<&Url>,
     sources: &mut Vec<SourceEntry>,
 ) -> Result<(), MapRefusal>
-    ensures list { IfOk result (λ _. map source_of sources.new.items ≡ map source_of sources.old.items
+    ensures list { IfOk result (λ _. map source_of sources.new.items
+        ≡ map source_of sources.old.items
         ++ sources_stated (option_copied base.entry) (sources_seen section)) }
-    ensures refused { IfErr result (λ refusal. (refusal ≡ refusals.Memory) ⊎ (refusal ≡ refusals.Url)) }
+    ensures refused { IfErr result (λ refusal. (refusal ≡ refusals.Memory)
+        ⊎ (refusal ≡ refusals.Url)) }
 {
     let SectionSources {
         root,
@@ -73,8 +76,10 @@ fn source_name(
     base: Option<&Url>,
 ) -> Result<Option<SourceName>, MapRefusal>
     ensures name { IfOk result (λ name. option_map name_of name
-        ≡ option_map (λ t. source_name (option_copied root.entry) t (option_copied base.entry)) (option_map string_bytes text)) }
-    ensures refused { IfErr result (λ refusal. (refusal ≡ refusals.Memory) ⊎ (refusal ≡ refusals.Url)) }
+        ≡ option_map (λ t. source_name (option_copied root.entry) t (option_copied base.entry))
+        (option_map string_bytes text)) }
+    ensures refused { IfErr result (λ refusal. (refusal ≡ refusals.Memory)
+        ⊎ (refusal ≡ refusals.Url)) }
 {
     match text {
         Some(text) => Ok(Some(resolve(alloc, root, &text, base)?)),
@@ -94,7 +99,8 @@ fn text_of(root: &Option<String>) -> Option<&str>
 
 // The next content, where one is left and it is there.
 fn next_content(contents: &mut IntoIter<Option<String>>) -> Option<String>
-    ensures content { option_map string_bytes result ≡ option_flatten (slice_get (texts_seen (into_iter_items contents.old)) 0) }
+    ensures content { option_map string_bytes result
+        ≡ option_flatten (slice_get (texts_seen (into_iter_items contents.old)) 0) }
     ensures onward { into_iter_items contents.new ≡ drop 1 (into_iter_items contents.old) }
 {
     match contents.next() {

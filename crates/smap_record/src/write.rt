@@ -79,7 +79,8 @@ pub fn write_owned(
     mappings: String,
 ) -> Result<Vec<u8>, AllocError>
     ensures text { IfOk result (λ bytes. bytes.items
-        ≡ written (map source_of sources.now) (map string_bytes names.now) (option_copied file.entry) (string_bytes mappings)) }
+        ≡ written (map source_of sources.now) (map string_bytes names.now)
+        (option_copied file.entry) (string_bytes mappings)) }
     ensures reads_back { IfOk result (λ bytes. length bytes.items ≤ most_file_bytes
         → IsRegularMap (length sources.now) (length names.now) (string_bytes mappings)
         → ReadsBackAs bytes.items (mappings_of (string_bytes mappings))

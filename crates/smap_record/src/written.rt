@@ -2,7 +2,7 @@
 ghost use Rattle.std.specs.Prelude.{◌≡◌, Some, codes, map, option_copied, option_map, string_bytes, IfOk, OnOk};
 ghost use Rattle.serde_json.specs.Data.{string};
 ghost use Rattle.serde_json.specs.View.{members_view, view};
-ghost use Rattle.smap_record.specs.Seen.{put_where};
+ghost use Rattle.smap_record.specs.Private.Seen.{put_where};
 ghost use Rattle.smap_record.specs.Sources.{source_of};
 ghost use Rattle.smap_record.specs.Written.{content_of_source, contents_value, ignored_value, list_value, text_of_source, value_of_text, written_members};
 
@@ -20,7 +20,8 @@ pub fn members(
     mappings: String,
 ) -> Result<Map<String, Value>, AllocError>
     ensures { IfOk result (λ members. members_view members.entries
-        ≡ written_members (map source_of sources.now) (map string_bytes names.now) (option_copied file.entry) (string_bytes mappings)) }
+        ≡ written_members (map source_of sources.now) (map string_bytes names.now)
+        (option_copied file.entry) (string_bytes mappings)) }
 {
     let mut members = Map::new(alloc);
     put(alloc, &mut members, "version", Some(Value::from(3u32)))?;
@@ -101,7 +102,8 @@ fn put(
 
 // A text, where there is one.
 fn text_where(alloc: Global, text: Option<&str>) -> Result<Option<Value>, AllocError>
-    ensures { IfOk result (λ value. option_map view value ≡ option_map string (option_copied text.entry)) }
+    ensures { IfOk result (λ value. option_map view value
+        ≡ option_map string (option_copied text.entry)) }
 {
     match text {
         Some(text) => Ok(Some(Value::try_from_str(alloc, text)?)),
@@ -134,7 +136,8 @@ fn source_names(alloc: Global, sources: &[SourceEntry]) -> Result<Value, AllocEr
 
 // The text of the name of a source, null where it has none.
 fn source_name(alloc: Global, source: &SourceEntry) -> Result<Value, AllocError>
-    ensures { IfOk result (λ value. view value ≡ value_of_text (text_of_source (source_of source.now))) }
+    ensures { IfOk result (λ value. view value
+        ≡ value_of_text (text_of_source (source_of source.now))) }
 {
     match &source.name {
         Some(name) => Value::try_from_str(alloc, name.text()),
@@ -144,7 +147,8 @@ fn source_name(alloc: Global, source: &SourceEntry) -> Result<Value, AllocError>
 
 // The contents of the sources, null where one has none, where at least one has one.
 fn contents(alloc: Global, sources: &[SourceEntry]) -> Result<Option<Value>, AllocError>
-    ensures { IfOk result (λ value. option_map view value ≡ contents_value (map source_of sources.now)) }
+    ensures { IfOk result (λ value. option_map view value
+        ≡ contents_value (map source_of sources.now)) }
 {
     if !sources.iter().any(|source| source.content.is_some()) {
         return Ok(None);
@@ -158,7 +162,8 @@ fn contents(alloc: Global, sources: &[SourceEntry]) -> Result<Option<Value>, All
 
 // The content of a source, null where it has none.
 fn content(source: &SourceEntry) -> Result<Value, AllocError>
-    ensures { IfOk result (λ value. view value ≡ value_of_text (content_of_source (source_of source.now))) }
+    ensures { IfOk result (λ value. view value
+        ≡ value_of_text (content_of_source (source_of source.now))) }
 {
     match &source.content {
         Some(content) => Ok(Value::String(content.clone()?)),
@@ -168,7 +173,8 @@ fn content(source: &SourceEntry) -> Result<Value, AllocError>
 
 // The indices of the ignored sources, where at least one is ignored.
 fn ignored(alloc: Global, sources: &[SourceEntry]) -> Result<Option<Value>, AllocError>
-    ensures { IfOk result (λ value. option_map view value ≡ ignored_value (map source_of sources.now)) }
+    ensures { IfOk result (λ value. option_map view value
+        ≡ ignored_value (map source_of sources.now)) }
 {
     let mut values = Vec::new(alloc);
     for (i, source) in sources.iter().enumerate() {

@@ -1,2 +1,2 @@
 pub mod SourceName
-pub mod ParseAnswer
+pub mod Private

@@ -3,7 +3,7 @@ ghost use Rattle.std.specs.Prelude.{◌≡◌, ◌++◌, option_copied, IfOk};
 ghost use Rattle.std.specs.Cow.{cow_str_bytes};
 ghost use Rattle.std.specs.Result.{result_ok};
 ghost use Rattle.url.specs.Parser.{parse_url};
-ghost use Rattle.smap_resolve.specs.ParseAnswer.{parsed_url};
+ghost use Rattle.smap_resolve.specs.Private.ParseAnswer.{parsed_url};
 ghost use Rattle.smap_resolve.specs.SourceName.{name_of, root_prefix, source_name};
 
 use crate::refusal::ResolveRefusal;

@@ -5,7 +5,7 @@ use Rattle.std.proofs.lemmas.Bool.Decides.{nat_tests}
 use Rattle.std.proofs.lemmas.List.{drop_all, drop_more, take_rest}
 use native.Mathlib.Nat.{div-div-eq-div-mul}
 use lib.Utf8.{encode, next, scalar}
-use Rattle.smap_text.specs.Ends.{end_bytes, line_bytes}
+use Rattle.smap_text.specs.Private.Ends.{end_bytes, line_bytes}
 use Rattle.smap_text.specs.Lines.{is_line_end}
 use Rattle.smap_text.proofs.CharacterLaws.{Spelled, one, two, three, four, spelled}
 

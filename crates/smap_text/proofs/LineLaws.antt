@@ -5,7 +5,7 @@ use Rattle.std.proofs.lemmas.Bool.{cond-false, eqb-true, eqb-false, ne_eqb, and_
 use Rattle.std.proofs.lemmas.List.{append_assoc, length-append, take_at, drop_at, take_all, drop_all, drop-drop, length-drop}
 use Rattle.std.proofs.lemmas.Str.{char_from_byte, length-encode, len_utf8_bounds, chars-encodes, encodes-append, IsCharBoundary-at_seam, IsCharBoundary-end}
 use lib.Utf8.{encode, encodes, scalar, scalars}
-use Rattle.smap_text.specs.Ends.{end_bytes, line_bytes}
+use Rattle.smap_text.specs.Private.Ends.{end_bytes, line_bytes}
 use Rattle.smap_text.specs.Lines.{IsRestFrom, is_line_end, lines_from, lines_of, with_front}
 use Rattle.smap_text.proofs.EndLaws.{byte_ends, cr_ends, character_passes, ends_are, others_are, read_from}
 

@@ -7,7 +7,7 @@ use Rattle.std.proofs.lemmas.Bool.Decides.{nat_tests}
 use Rattle.std.proofs.lemmas.List.{take-append-drop, take_all}
 use Rattle.std.proofs.lemmas.List.Sums.{sum_by-cons}
 use Rattle.std.proofs.lemmas.Str.{chars-append, IsUtf8-take}
-use Rattle.smap_text.specs.Ends.{units_by_first}
+use Rattle.smap_text.specs.Private.Ends.{units_by_first}
 use Rattle.smap_text.specs.Excerpt.{characters_before}
 use Rattle.smap_text.specs.Place.{IsAt, IsInside, IsPast, IsPlace}
 use Rattle.smap_text.specs.declared.place.Place.{Place}

@@ -7,7 +7,7 @@ use Rattle.std.proofs.lemmas.List.{append-nil, append_assoc, length-append, leng
 use Rattle.std.proofs.lemmas.List.Sums.{sum_by_push}
 use Rattle.std.proofs.lemmas.Str.{chars-nil, chars-append, chars_past_char, length-encode, IsUtf8-drop, IsUtf8-take, IsCharBoundary-past_char}
 use lib.Utf8.{encode, encodes, scalar, scalars}
-use Rattle.smap_text.specs.Ends.{bytes_by_first, units_by_first}
+use Rattle.smap_text.specs.Private.Ends.{bytes_by_first, units_by_first}
 use Rattle.smap_text.specs.Units.{units_before, units_in, units_of}
 use Rattle.smap_text.proofs.CharacterLaws.{Spelled, one, two, three, four, spelled}
 

@@ -1,6 +1,6 @@
 //! UTF-16 code units of a text.
 ghost use Rattle.std.specs.Prelude.{◌≡◌};
-ghost use Rattle.smap_text.specs.Ends.{bytes_by_first, units_by_first};
+ghost use Rattle.smap_text.specs.Private.Ends.{bytes_by_first, units_by_first};
 ghost use Rattle.smap_text.specs.Units.{units_in};
 
 /// How many UTF-16 code units a text has: one for each character below U+10000, two for any other.

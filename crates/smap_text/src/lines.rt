@@ -1,7 +1,7 @@
 //! The lines of a text (ECMAScript, line terminator sequences).
 ghost use Rattle.std.specs.Prelude.{◌≡◌, ◌≤◌, ◌-◌, [], length, drop, take, Some, option_map, slice_get, IfSome, MatchOption};
 ghost use Rattle.std.specs.Str.{chars};
-ghost use Rattle.smap_text.specs.Ends.{end_bytes, line_bytes};
+ghost use Rattle.smap_text.specs.Private.Ends.{end_bytes, line_bytes};
 ghost use Rattle.smap_text.specs.Lines.{IsSliceAt, lines_of};
 
 /// The line of this number, from 0, without its line end; `None` where there are fewer. Lines end in LF, CR LF, CR,

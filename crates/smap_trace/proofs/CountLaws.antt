@@ -8,7 +8,7 @@ use Rattle.smap_lines.specs.Lines.{Line, lines_with_ends}
 use Rattle.smap_record.specs.Record.{MapRecord}
 use Rattle.smap_trace.specs.Frame.{FrameParts, is_line}
 use Rattle.smap_trace.specs.FrameOf.{frame_of}
-use Rattle.smap_trace.specs.FrameRewriter.{after_frame, hidden_in, mapped_in, staying_in}
+use Rattle.smap_trace.specs.Private.FrameRewriter.{after_frame, hidden_in, mapped_in, staying_in}
 use Rattle.smap_trace.specs.Rewritten.{Fate, SourceLocation, counts_of, fate, fate_at, fate_of, hidden, is_frame_line, is_hidden, is_hidden_line, is_ignored, is_mapped, is_mapped_line, name_in, named_fate, no_frame, original_of, replaced, stays}
 use Rattle.smap_trace.specs.declared.frame_rewriter.FrameRewriter.{FrameRewriter}
 

@@ -6,7 +6,4 @@ pub mod FrameSeen
 pub mod Table
 pub mod Rewritten
 pub mod Rewriting
--- of private contracts only
-pub mod FrameRewriter
-pub mod RewriterLaws
-pub mod SightSeen
+pub mod Private

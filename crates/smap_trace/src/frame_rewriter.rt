@@ -4,7 +4,7 @@ ghost use Rattle.std.specs.List.{concat};
 ghost use Rattle.smap_io.specs.Device.{TakesFront};
 ghost use Rattle.smap_lines.specs.Gathered.{HandsOn};
 ghost use Rattle.smap_lines.specs.Lines.{end_in};
-ghost use Rattle.smap_trace.specs.SightSeen.{replacement_seen};
+ghost use Rattle.smap_trace.specs.Private.SightSeen.{replacement_seen};
 
 use crate::sight::{Replacement, Sight, look_at};
 use crate::table::Table;
@@ -26,9 +26,9 @@ pub struct FrameRewriter<'t> {
 }
 
 impl LineEditor for FrameRewriter<'_> {
-    ghost use Rattle.smap_trace.specs.FrameRewriter.{after_frame, room_of};
+    ghost use Rattle.smap_trace.specs.Private.FrameRewriter.{after_frame, room_of};
     ghost use Rattle.smap_trace.specs.Rewritten.{rewritten_line};
-    ghost use Rattle.smap_trace.specs.RewriterLaws.{room_after};
+    ghost use Rattle.smap_trace.specs.Private.RewriterLaws.{room_after};
     ghost use Rattle.std.specs.Prelude.{refl};
 
     ghost becomes = { λ rewriter. rewritten_line rewriter.table.now rewriter.hide_ignored };
@@ -74,7 +74,6 @@ fn put_frame<W: ByteSink>(
     ensures put { OnOk result (HandsOn (W.seen output.old).taken (W.seen output.new).taken
         (gathered.old ++ (replacement_seen replacement.now ++ end_in is_ended)) gathered.new) }
     ensures no_failure { OnOk result ((W.seen output.new).failed ≡ (W.seen output.old).failed) }
-
     ensures front { OnErr result (TakesFront (W.seen output.old).taken (W.seen output.new).taken
         (gathered.old ++ (replacement_seen replacement.now ++ end_in is_ended))) }
     ensures failure { OnErr result ((W.seen output.new).failed ≡ true) }

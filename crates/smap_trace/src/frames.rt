@@ -5,7 +5,8 @@ ghost use Rattle.smap_trace.specs.Cuts.{cut_at_call, without_last};
 ghost use Rattle.smap_trace.specs.Frame.{FrameParts, IsFrame, is_blank, is_line};
 ghost use Rattle.smap_trace.specs.FrameOf.{call_frame, frame_after, frame_of, parts_with, location_of};
 ghost use Rattle.smap_trace.specs.FrameOf.{ends_in_digit, plain_frame, sign_frame, unless_async};
-ghost use Rattle.smap_trace.specs.FrameSeen.{parts_seen, location_seen};
+ghost use Rattle.smap_trace.specs.FrameSeen.{parts_seen};
+ghost use Rattle.smap_trace.specs.Private.LocationSeen.{location_seen};
 
 use crate::cuts::{cut_at_call, cut_at_first, cut_at_last, without_last};
 use crate::number::number;
@@ -18,7 +19,8 @@ const MOST_LINE_BYTES: usize = 65536;
 /// of times.
 pub fn frame(line: &[u8]) -> Option<Frame<'_>>
     ensures parts { option_map parts_seen result ≡ frame_of line.now }
-    ensures frame { (parts : FrameParts) → (frame_of line.now ≡ Some parts) ↔ IsFrame line.now parts }
+    ensures frame { (parts : FrameParts) →
+        (frame_of line.now ≡ Some parts) ↔ IsFrame line.now parts }
 {
     if !is_line(line) {
         return None;

@@ -4,7 +4,7 @@ ghost use Rattle.std.specs.List.{list_any};
 ghost use Rattle.smap_record.specs.Sources.{source_of};
 ghost use Rattle.smap_trace.specs.FrameSeen.{parts_seen};
 ghost use Rattle.smap_trace.specs.Rewritten.{fate, is_control, is_ignored, name_in, original_of};
-ghost use Rattle.smap_trace.specs.SightSeen.{original_seen, sight_seen};
+ghost use Rattle.smap_trace.specs.Private.SightSeen.{original_seen, sight_seen};
 
 use crate::frames::frame;
 use crate::parts::Frame;
@@ -99,7 +99,8 @@ fn is_ignored(source: Option<&SourceEntry>) -> bool
 
 // The name of a source, where it has one that a frame can print.
 fn printable_name(source: Option<&SourceEntry>) -> Option<&str>
-    ensures { option_map (λ name. name.now) result ≡ name_in (option_map (λ entry. source_of entry.now) source.entry) }
+    ensures { option_map (λ name. name.now) result
+        ≡ name_in (option_map (λ entry. source_of entry.now) source.entry) }
 {
     let name = source?.name.as_ref()?.text();
     if name.is_empty() || has_control(name.as_bytes()) {

@@ -1,6 +1,6 @@
 use Rattle.std.proofs.Common.{sym, ap, ◌∙◌}
 use Rattle.std.specs.Option.{option_copied}
-use Rattle.smap_index.specs.Walk.{is_overlapping_next}
+use Rattle.smap_index.specs.Private.Walk.{is_overlapping_next}
 use Rattle.smap_index.proofs.OrderLaws.{overlapping_at_state, overlapping_none}
 use Rattle.smap_index.proofs.mark.is_last_overlapping.Goals as goal
 

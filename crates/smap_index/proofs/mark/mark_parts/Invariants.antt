@@ -3,7 +3,7 @@ use Rattle.std.specs.List.{AllByRecursion, position_from}
 use Rattle.std.specs.Option.{option_or}
 use Rattle.smap_index.specs.Faults.{neighbours, is_overlapping, is_part_past_limit, overlap_fault, range_fault}
 use Rattle.smap_index.specs.Marks.{marks}
-use Rattle.smap_index.specs.Walk.{IsTextInOrder}
+use Rattle.smap_index.specs.Private.Walk.{IsTextInOrder}
 use Rattle.smap_index.proofs.PartLaws.{IsFilled}
 use Rattle.smap_index.proofs.mark.mark_parts.Given as goal
 

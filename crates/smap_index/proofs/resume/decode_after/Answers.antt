@@ -1,7 +1,7 @@
 use Rattle.std.proofs.Common.{◌+◌, Some, take, drop, refl, sym, ap, subst, ◌∙◌, arith}
 use Rattle.smap_mappings.specs.State.{IsAfter}
 use Rattle.smap_index.specs.Parts.{placed}
-use Rattle.smap_index.specs.Search.{last_from}
+use Rattle.smap_index.specs.Private.Search.{last_from}
 use Rattle.smap_index.proofs.LastLaws.{goes_on, ends, ends_with_part}
 use Rattle.smap_index.proofs.WalkLaws.{after_next, placed_in_range}
 use Rattle.smap_index.proofs.resume.decode_after.Goals as goal

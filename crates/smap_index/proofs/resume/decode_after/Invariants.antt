@@ -2,7 +2,7 @@ use Rattle.std.proofs.Common.{◌≡◌, ℕ, ◌+◌, ◌≤◌, Some, take, dr
 use Rattle.smap_mappings.specs.State.{IsAfter}
 use Rattle.smap_index.specs.Checkpoint.{mapping_of, state_of}
 use Rattle.smap_index.specs.Parts.{placed}
-use Rattle.smap_index.specs.Search.{last_from, first_past}
+use Rattle.smap_index.specs.Private.Search.{last_from, first_past}
 use Rattle.smap_index.proofs.resume.decode_after.Given as goal
 
 -- what is looked for is the last of those that are left, and where there is none, the last so far; and the first after

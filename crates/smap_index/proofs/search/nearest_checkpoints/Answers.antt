@@ -1,7 +1,7 @@
 use Rattle.std.proofs.Common.{sym, ap, refl, ◌∙◌, arith, None}
 use Rattle.std.proofs.lemmas.Option.{slice_get_past}
 use Rattle.smap_index.specs.Checkpoint.{mapping_of}
-use Rattle.smap_index.specs.Search.{mappings_at, is_up_to}
+use Rattle.smap_index.specs.Private.Search.{mappings_at, is_up_to}
 use Rattle.smap_index.proofs.Halving.{one_more}
 use Rattle.smap_index.proofs.ListLaws.{last_taken}
 use Rattle.smap_index.proofs.SearchLaws.{in_front, ends_front, front_within, read_mapping}

@@ -1,7 +1,7 @@
 use Rattle.std.proofs.Common.{ℕ, ◌-◌, ◌≡◌, ◌+◌, ◌^◌, ◌<◌, ◌≤◌, length, None, take}
 use Rattle.std.specs.List.{last_or, slice_get}
 use Rattle.std.specs.Option.{option_copied}
-use Rattle.smap_index.specs.Search.{mappings_at, front_up_to}
+use Rattle.smap_index.specs.Private.Search.{mappings_at, front_up_to}
 use Rattle.smap_index.proofs.search.nearest_checkpoints.Given as goal
 
 -- the front ends between `low` and `high`, `last` is the last below `low` and `next` the one at `high`, and with each

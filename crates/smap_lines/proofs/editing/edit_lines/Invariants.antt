@@ -1,7 +1,7 @@
 use Rattle.std.proofs.Common.{◌≡◌, ◌-◌, ◌≤◌, ℕ, List, [], false, length}
 use Rattle.smap_io.specs.Device.{Gives}
 use Rattle.smap_lines.specs.Limits.{most_text_bytes}
-use Rattle.smap_lines.specs.Passage.{IsThrough}
+use Rattle.smap_lines.specs.Private.Passage.{IsThrough}
 use Rattle.smap_lines.proofs.editing.edit_lines.Given as goal
 
 abbrev pub invariant-loop-count : goal.invariant-loop-count

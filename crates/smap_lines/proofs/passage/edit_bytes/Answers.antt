@@ -1,6 +1,6 @@
 use Rattle.std.proofs.Common.{arith, true, length, length-append, ◌∷◌, ◌∙◌, ap, refl, []}
 use Rattle.std.proofs.lemmas.Result.{err_from_is_err_and, on_err_weaker, on_ok_weaker}
-use Rattle.smap_lines.specs.OpenLine.{is_kept, line_with}
+use Rattle.smap_lines.specs.Private.OpenLine.{is_kept, line_with}
 use Rattle.smap_lines.proofs.TakingLaws.{on_both}
 use Rattle.smap_lines.proofs.ThroughLaws.{room_at, through_front, through_line, through_line_front, through_more, through_more_front, through_written}
 use Rattle.smap_lines.proofs.passage.edit_bytes.Goals as goal

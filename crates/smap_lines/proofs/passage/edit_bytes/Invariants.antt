@@ -1,5 +1,5 @@
 use Rattle.std.proofs.Common.{◌≡◌, ◌+◌, ◌<◌, ◌≤◌, ◌^◌, ℕ, List, Option, length}
-use Rattle.smap_lines.specs.Passage.{IsThrough}
+use Rattle.smap_lines.specs.Private.Passage.{IsThrough}
 use Rattle.smap_lines.proofs.passage.edit_bytes.Given as goal
 
 abbrev pub invariant-loop-ended : goal.invariant-loop-ended

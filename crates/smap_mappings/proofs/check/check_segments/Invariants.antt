@@ -1,5 +1,5 @@
 use Rattle.std.proofs.Common.{◌-◌, length}
-use Rattle.smap_mappings.specs.Walk.{ChecksUpTo}
+use Rattle.smap_mappings.specs.Private.Walk.{ChecksUpTo}
 use Rattle.smap_mappings.proofs.check.check_segments.Given as goal
 
 -- no segment so far is faulty

@@ -1,5 +1,5 @@
 use Rattle.std.proofs.Common.{◌≡◌, ◌+◌, ◌-◌, length}
-use Rattle.smap_mappings.specs.Reading.{front_at}
+use Rattle.smap_mappings.specs.Private.Reading.{front_at}
 use Rattle.smap_mappings.proofs.spelling.number_end.Given as goal
 
 -- the bytes so far are digits that continue

@@ -4,7 +4,7 @@ use Rattle.std.proofs.Math.Bool.{or-false}
 use Rattle.std.proofs.lemmas.Bool.{cond-true, or_left, or_right}
 use Rattle.smap_mappings.specs.Vlq.{is_too_long, is_too_large, is_negative_zero}
 use Rattle.smap_mappings.specs.Segment.{cuts_of}
-use Rattle.smap_mappings.specs.Spelling.{IsClean}
+use Rattle.smap_mappings.specs.Private.Spelling.{IsClean}
 use Rattle.smap_mappings.specs.declared.vlq.VlqFault.TheVariants.{TooLong, TooLarge, NegativeZero}
 use Rattle.smap_mappings.proofs.CleanNumbers.{NumberAt, number_at_place, any_number, any_more, count_numbers, end_of, digits_at, too_long_at, too_large_at, negative_zero_at, no_fault_at}
 use Rattle.smap_mappings.proofs.spelling.numbers_fault.Goals as goal

@@ -2,7 +2,7 @@ use Rattle.std.proofs.Common.{◌≡◌, ◌+◌, ◌-◌, ◌≤◌, ◌||◌, 
 use Rattle.std.specs.List.{list_any}
 use Rattle.smap_mappings.specs.Vlq.{is_too_long, is_too_large, is_negative_zero}
 use Rattle.smap_mappings.specs.Segment.{cuts_of}
-use Rattle.smap_mappings.specs.Spelling.{IsClean}
+use Rattle.smap_mappings.specs.Private.Spelling.{IsClean}
 use Rattle.smap_mappings.proofs.spelling.numbers_fault.Given as goal
 
 -- no number so far is too long, and it is known whether one is too large, or a negative zero

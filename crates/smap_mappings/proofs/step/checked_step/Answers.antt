@@ -3,7 +3,7 @@ use Rattle.std.specs.Prelude.{ℤ, IfSome}
 use Rattle.std.proofs.lemmas.Bool.{both_ways}
 use Rattle.smap_mappings.specs.Limits.{most_indices}
 use Rattle.smap_mappings.specs.State.{IsOriginAt, IsMappingAt}
-use Rattle.smap_mappings.specs.Step.{fault_from, cursor_name, cursor_origin, mapping_in}
+use Rattle.smap_mappings.specs.Private.Step.{fault_from, cursor_name, cursor_origin, mapping_in}
 use Rattle.smap_mappings.specs.declared.cursor.Cursor.{Cursor}
 use Rattle.smap_mappings.specs.declared.segment.Segment.{Segment}
 use Rattle.smap_mappings.specs.declared.segment.OriginFields.{OriginFields}

@@ -2,9 +2,9 @@ use Rattle.std.proofs.Common.{◌≡◌, ◌<◌, None, length, arith, ap, refl,
 use Rattle.std.proofs.lemmas.Bool.{both_ways}
 use Rattle.smap_mappings.specs.Limits.{most_indices}
 use Rattle.smap_mappings.specs.State.{values_at}
-use Rattle.smap_mappings.specs.Reading.{delta_in}
-use Rattle.smap_mappings.specs.Advance.{values_after, sums_fault, IsAdvanced}
-use Rattle.smap_mappings.specs.Step.{fault_from}
+use Rattle.smap_mappings.specs.Private.Reading.{delta_in}
+use Rattle.smap_mappings.specs.Private.Advance.{values_after, sums_fault, IsAdvanced}
+use Rattle.smap_mappings.specs.Private.Step.{fault_from}
 use Rattle.smap_mappings.proofs.CheckLaws.{no_fault_from}
 use Rattle.smap_mappings.proofs.StepLaws.{steps_to, can_be_read, clean_values}
 use Rattle.smap_mappings.proofs.StraightLaws.{mapping_same, values_from_sums}

@@ -1,5 +1,5 @@
 use Rattle.std.proofs.Common.{◌≡◌, ◌+◌, ◌-◌, ◌≤◌, length}
-use Rattle.smap_mappings.specs.Reading.{segment_at}
+use Rattle.smap_mappings.specs.Private.Reading.{segment_at}
 use Rattle.smap_mappings.proofs.step.segment_end.Given as goal
 
 -- the segment goes on up to here at least

@@ -1,7 +1,7 @@
 use Rattle.std.proofs.Common.{sym, ◌∙◌, ap}
 use Rattle.std.proofs.lemmas.Bool.{both_ways}
 use Rattle.smap_mappings.specs.Faults.{spelling_fault}
-use Rattle.smap_mappings.specs.Reading.{segment_at}
+use Rattle.smap_mappings.specs.Private.Reading.{segment_at}
 use Rattle.smap_mappings.proofs.SegmentLaws.{segment_is_slice}
 use Rattle.smap_mappings.proofs.SpellingFaultLaws.{spelled_known}
 use Rattle.smap_mappings.proofs.step.unread_fault.Goals as goal

@@ -1,6 +1,6 @@
 use Rattle.std.proofs.Common.{◌≡◌, ◌+◌, ap, sym, ◌∙◌, length, Some, None, rules}
 use Rattle.smap_mappings.specs.Canonical.{shortest_spelling}
-use Rattle.smap_mappings.specs.OneMore.{spelled}
+use Rattle.smap_mappings.specs.Private.OneMore.{spelled}
 use Rattle.smap_mappings.proofs.WritingLaws.{fields_are, four_lengths, five_lengths}
 use Rattle.smap_mappings.proofs.text_length.segment_length.Goals as goal
 

@@ -1,7 +1,7 @@
 use Rattle.std.proofs.Common.{◌≡◌, ◌++◌, ℕ, List, ap, sym, ◌∙◌, subst, Some, None, rules}
 use Rattle.std.specs.Prelude.{OnOk}
 use Rattle.smap_mappings.specs.Canonical.{shortest_spelling}
-use Rattle.smap_mappings.specs.OneMore.{spelled}
+use Rattle.smap_mappings.specs.Private.OneMore.{spelled}
 use Rattle.smap_mappings.proofs.WritingLaws.{fields_are, four_written, five_written}
 use Rattle.smap_mappings.proofs.text_writer.write_segment.Goals as goal
 use Rattle.smap_mappings.proofs.text_writer.write_segment.Goals.{In_ok-write_vlq-4}

@@ -1,5 +1,5 @@
 use Rattle.std.proofs.Common.{◌≡◌, ◌+◌}
-use Rattle.smap_mappings.specs.Reading.{front_at}
+use Rattle.smap_mappings.specs.Private.Reading.{front_at}
 use Rattle.smap_mappings.proofs.vlq.fault_past_most_digits.Given as goal
 
 -- the bytes so far are digits that continue

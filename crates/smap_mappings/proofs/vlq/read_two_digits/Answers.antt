@@ -1,6 +1,6 @@
 use Rattle.std.proofs.Common.{◌+◌, ◌*◌, rules, sym, ap, ◌∙◌, FitsSigned, w32}
 use Rattle.std.proofs.lemmas.Int.{to_z-of_z}
-use Rattle.smap_mappings.specs.Reading.{checked_number, number_with_end}
+use Rattle.smap_mappings.specs.Private.Reading.{checked_number, number_with_end}
 use Rattle.smap_mappings.proofs.Numbers.{at_two_digits}
 use Rattle.smap_mappings.proofs.vlq.read_two_digits.Goals as goal
 

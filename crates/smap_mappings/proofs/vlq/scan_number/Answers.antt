@@ -3,7 +3,7 @@ use Rattle.std.proofs.lemmas.Int.{to_z-of_z}
 use Rattle.std.proofs.Math.Nat.{pow-suc}
 use Rattle.std.proofs.lemmas.Result.{err_from_is_err_and}
 use Rattle.smap_mappings.specs.Vlq.{digit_sum, number_at}
-use Rattle.smap_mappings.specs.Reading.{checked_number, number_with_end}
+use Rattle.smap_mappings.specs.Private.Reading.{checked_number, number_with_end}
 use Rattle.smap_mappings.proofs.Numbers.{front_more, front_stops, front_stops_at_none, front_at_the_end, at_bad_digit, at_unended, at_long, scale_below, digit_step, digit_product, digit_sum_more, at_last_digit}
 use Rattle.smap_mappings.proofs.vlq.scan_number.Goals as goal
 use Rattle.smap_mappings.proofs.vlq.scan_number.Goals.{After-from, Then-value-lt32}

@@ -1,6 +1,6 @@
 use Rattle.std.proofs.Common.{◌≡◌, ◌+◌, ◌-◌, ◌^◌, ◌<◌, ◌≤◌, take, drop}
 use Rattle.smap_mappings.specs.Vlq.{digit_sum}
-use Rattle.smap_mappings.specs.Reading.{front_at}
+use Rattle.smap_mappings.specs.Private.Reading.{front_at}
 use Rattle.smap_mappings.proofs.vlq.scan_number.Given as goal
 
 -- the bytes so far are digits that continue, at most seven, and `unsigned` is what they count for

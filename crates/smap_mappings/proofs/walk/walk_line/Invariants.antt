@@ -1,5 +1,5 @@
 use Rattle.std.proofs.Common.{◌-◌, ◌<◌, ◌≤◌, length}
-use Rattle.smap_mappings.specs.Walk.{WalksUpTo}
+use Rattle.smap_mappings.specs.Private.Walk.{WalksUpTo}
 use Rattle.smap_mappings.proofs.walk.walk_line.Given as goal
 
 -- some segments stand before the state, none of which has a fault

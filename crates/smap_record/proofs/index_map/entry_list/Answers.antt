@@ -1,7 +1,7 @@
 use Rattle.std.proofs.Common.{[], ◌∷◌, sym, ap, ◌∙◌}
 use Rattle.std.proofs.lemmas.List.{map-append}
 use Rattle.smap_record.specs.IndexMap.{entry_in}
-use Rattle.smap_record.specs.Seen.{entry_seen, entries_seen}
+use Rattle.smap_record.specs.Private.Seen.{entry_seen, entries_seen}
 use Rattle.smap_record.proofs.EachLaws.{after, one_more, not_one, no_more, none_yet, none_left}
 use Rattle.smap_record.proofs.index_map.entry_list.Goals as goal
 

@@ -1,7 +1,7 @@
 use Rattle.std.proofs.Common.{◌≡◌}
 use Rattle.serde_json.specs.View.{view}
 use Rattle.smap_record.specs.IndexMap.{entry_in}
-use Rattle.smap_record.specs.Seen.{entries_seen}
+use Rattle.smap_record.specs.Private.Seen.{entries_seen}
 use Rattle.smap_record.specs.Json.{list_of}
 use Rattle.smap_record.proofs.EachLaws.{after}
 use Rattle.smap_record.proofs.index_map.entry_list.Given as goal

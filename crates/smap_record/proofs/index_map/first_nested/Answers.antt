@@ -3,7 +3,7 @@ use Rattle.std.specs.Prelude.{position}
 use Rattle.std.proofs.lemmas.Iterator.{YieldsList-from_slice}
 use Rattle.std.proofs.lemmas.Iterator.Search.{position_from_yields_List}
 use Rattle.smap_record.specs.IndexMap.{is_index_map}
-use Rattle.smap_record.specs.Seen.{entry_seen}
+use Rattle.smap_record.specs.Private.Seen.{entry_seen}
 use Rattle.smap_record.proofs.IndexMapLaws.{position-map}
 use Rattle.smap_record.proofs.index_map.first_nested.Goals as goal
 

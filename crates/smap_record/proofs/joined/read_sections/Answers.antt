@@ -5,8 +5,8 @@ use Rattle.std.proofs.lemmas.List.Elements.{All-push}
 use Rattle.std.proofs.lemmas.List.Sums.{sum_by_push}
 use Rattle.std.proofs.lemmas.Result.{err_from_is_err_and}
 use Rattle.smap_record.specs.IndexMap.{sections_after}
-use Rattle.smap_record.specs.MapFile.{IsPartWithin}
-use Rattle.smap_record.specs.Seen.{entry_seen, entries_seen, sections_seen, sources_seen, section_seen}
+use Rattle.smap_record.specs.Private.PartWithin.{IsPartWithin}
+use Rattle.smap_record.specs.Private.Seen.{entry_seen, entries_seen, sections_seen, sources_seen, section_seen}
 use Rattle.smap_record.specs.declared.index_map.Offset.{Offset}
 use Rattle.smap_record.specs.declared.section.SectionSources.{SectionSources}
 use Rattle.smap_record.proofs.EachLaws.{none_left}

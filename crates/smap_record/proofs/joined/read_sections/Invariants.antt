@@ -2,8 +2,8 @@ use Rattle.std.proofs.Common.{◌≡◌, ◌≤◌, ◌+◌, length}
 use Rattle.std.specs.List.{All}
 use Rattle.smap_record.specs.IndexMap.{no_sections, sections_after}
 use Rattle.smap_record.specs.Limits.{most_listed}
-use Rattle.smap_record.specs.MapFile.{IsPartWithin}
-use Rattle.smap_record.specs.Seen.{entries_seen, sections_seen}
+use Rattle.smap_record.specs.Private.PartWithin.{IsPartWithin}
+use Rattle.smap_record.specs.Private.Seen.{entries_seen, sections_seen}
 use Rattle.smap_record.proofs.JoinedLaws.{count_of}
 use Rattle.smap_record.proofs.joined.read_sections.Given as goal
 

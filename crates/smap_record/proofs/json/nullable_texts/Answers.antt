@@ -1,6 +1,6 @@
 use Rattle.std.proofs.Common.{[], ◌∷◌, sym, ap, ◌∙◌, option_map, string_bytes}
 use Rattle.std.proofs.lemmas.List.{map-append}
-use Rattle.smap_record.specs.Seen.{texts_seen}
+use Rattle.smap_record.specs.Private.Seen.{texts_seen}
 use Rattle.smap_record.specs.Json.{text_or_null}
 use Rattle.smap_record.proofs.EachLaws.{after, one_more, not_one, no_more, none_yet, none_left}
 use Rattle.smap_record.proofs.json.nullable_texts.Goals as goal

@@ -1,6 +1,6 @@
 use Rattle.std.proofs.Common.{◌≡◌}
 use Rattle.serde_json.specs.View.{view}
-use Rattle.smap_record.specs.Seen.{texts_seen}
+use Rattle.smap_record.specs.Private.Seen.{texts_seen}
 use Rattle.smap_record.specs.Json.{list_of, text_or_null}
 use Rattle.smap_record.proofs.EachLaws.{after}
 use Rattle.smap_record.proofs.json.nullable_texts.Given as goal

@@ -3,7 +3,7 @@ use Rattle.std.specs.Prelude.{option_copied}
 use Rattle.std.proofs.lemmas.List.{append_assoc, append-nil, drop-drop, length_push, length-map, map-append}
 use Rattle.smap_resolve.specs.SourceName.{name_of, source_name}
 use Rattle.smap_record.specs.Sources.{source_of, sources_with}
-use Rattle.smap_record.specs.Seen.{sources_seen, texts_seen}
+use Rattle.smap_record.specs.Private.Seen.{sources_seen, texts_seen}
 use Rattle.smap_record.specs.declared.entry.SourceEntry.{SourceEntry}
 use Rattle.smap_record.proofs.EachLaws.{none_left}
 use Rattle.smap_record.proofs.EntryLaws.{sources_push, content_at, flag_at, at_place}

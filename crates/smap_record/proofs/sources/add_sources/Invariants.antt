@@ -1,7 +1,7 @@
 use Rattle.std.proofs.Common.{◌≡◌, ◌++◌, drop, length, map}
 use Rattle.std.specs.Prelude.{option_copied}
 use Rattle.smap_record.specs.Sources.{source_of, sources_with}
-use Rattle.smap_record.specs.Seen.{sources_seen, texts_seen}
+use Rattle.smap_record.specs.Private.Seen.{sources_seen, texts_seen}
 use Rattle.smap_record.proofs.sources.add_sources.Given as goal
 
 -- the sources with the texts so far are added, and the contents and flags of the others are to come

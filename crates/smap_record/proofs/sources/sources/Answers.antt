@@ -3,7 +3,7 @@ use Rattle.std.specs.Prelude.{flat_map, option_copied}
 use Rattle.std.proofs.lemmas.Grind.{flat_map-append}
 use Rattle.std.proofs.lemmas.List.{append_assoc, append-nil, map-append}
 use Rattle.smap_record.specs.Sources.{sources_stated}
-use Rattle.smap_record.specs.Seen.{sources_seen}
+use Rattle.smap_record.specs.Private.Seen.{sources_seen}
 use Rattle.smap_record.proofs.EachLaws.{none_left}
 use Rattle.smap_record.proofs.sources.sources.Goals as goal
 

@@ -1,7 +1,7 @@
 use Rattle.std.proofs.Common.{◌≡◌, ◌++◌, map}
 use Rattle.std.specs.Prelude.{flat_map, option_copied}
 use Rattle.smap_record.specs.Sources.{source_of, sources_stated}
-use Rattle.smap_record.specs.Seen.{sources_seen}
+use Rattle.smap_record.specs.Private.Seen.{sources_seen}
 use Rattle.smap_record.proofs.sources.sources.Given as goal
 
 -- the sources of the sections so far are there

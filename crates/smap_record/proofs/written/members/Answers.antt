@@ -2,7 +2,7 @@ use Rattle.std.proofs.Common.{Some, codes, map, string_bytes, refl, ap, ◌∙�
 use Rattle.std.specs.Prelude.{option_copied, option_map}
 use Rattle.serde_json.specs.Data.{string}
 use Rattle.serde_json.specs.View.{members_view}
-use Rattle.smap_record.specs.Seen.{put_where}
+use Rattle.smap_record.specs.Private.Seen.{put_where}
 use Rattle.smap_record.specs.Sources.{source_of}
 use Rattle.smap_record.specs.Written.{contents_value, ignored_value, list_value, text_of_source, value_of_text}
 use Rattle.smap_record.proofs.MemberLaws.{made}

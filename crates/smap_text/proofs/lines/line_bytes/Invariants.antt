@@ -1,5 +1,5 @@
 use Rattle.std.proofs.Common.{◌≡◌, ◌+◌, drop}
-use Rattle.smap_text.specs.Ends.{line_bytes}
+use Rattle.smap_text.specs.Private.Ends.{line_bytes}
 use Rattle.smap_text.proofs.lines.line_bytes.Given as goal
 
 -- no end begins before

@@ -2,7 +2,7 @@ use Rattle.std.proofs.Common.{refl, subst, sym, ◌∙◌}
 use Rattle.std.specs.List.{AllByRecursion}
 use Rattle.std.proofs.lemmas.Bool.{not-false}
 use Rattle.smap_index.specs.Faults.{order_fault, overlap_fault, range_fault}
-use Rattle.smap_index.specs.Walk.{IsTextInOrder}
+use Rattle.smap_index.specs.Private.Walk.{IsTextInOrder}
 use Rattle.smap_index.proofs.RefusalLaws.{at_interval, at_order, at_overlap, at_range, at_none, joined_in_range, seen}
 use Rattle.smap_index.proofs.OrderLaws.{joined_in_order}
 use Rattle.smap_index.proofs.MarkLaws.{index_made}

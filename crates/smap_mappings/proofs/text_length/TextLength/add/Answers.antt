@@ -1,5 +1,5 @@
 use Rattle.std.proofs.Common.{ap, ◌∙◌, length}
-use Rattle.smap_mappings.specs.OneMore.{spelled}
+use Rattle.smap_mappings.specs.Private.OneMore.{spelled}
 use Rattle.smap_mappings.proofs.WritingLaws.{length_more}
 use Rattle.smap_mappings.proofs.text_length.TextLength.add.Goals as goal
 

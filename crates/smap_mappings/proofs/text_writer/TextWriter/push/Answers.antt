@@ -1,5 +1,5 @@
 use Rattle.std.proofs.Common.{◌++◌, ap, ◌∙◌}
-use Rattle.smap_mappings.specs.OneMore.{spelled}
+use Rattle.smap_mappings.specs.Private.OneMore.{spelled}
 use Rattle.smap_mappings.proofs.WritingLaws.{text_more}
 use Rattle.smap_mappings.proofs.text_writer.TextWriter.push.Goals as goal
 

@@ -5,7 +5,7 @@ use Rattle.std.proofs.lemmas.List.{length-map}
 use Rattle.smap_mappings.specs.Within.{IsWithin}
 use Rattle.smap_index.specs.Parts.{joined}
 use Rattle.smap_index.specs.declared.part.Part.{Part}
-use Rattle.smap_record.specs.MapFile.{IsPartWithin}
+use Rattle.smap_record.specs.Private.PartWithin.{IsPartWithin}
 use Rattle.smap_record.specs.Sources.{source_of}
 use Rattle.smap_record.proofs.EntryLaws.{length-all_sources}
 use Rattle.smap_record.proofs.RecordLaws.{unless_is}

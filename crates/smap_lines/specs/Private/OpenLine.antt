@@ -1,4 +1,4 @@
--- Of private contracts only: the line that is not yet ended.
+-- The line that is not yet ended.
 use Rattle.std.specs.Prelude.{◌==◌, ◌||◌, ℕ, Bool, not, true, false, List, [], ◌++◌, length, nat_le, if◌then◌else◌}
 use Rattle.smap_lines.specs.Limits.{most_line_bytes}
 use Rattle.smap_lines.specs.Lines.{Line, line_text}

@@ -1,10 +1,10 @@
--- Of private contracts only: how far the editing of a text has come.
+-- How far the editing of a text has come.
 use Rattle.std.specs.Prelude.{◌≡◌, ◌<◌, ◌≤◌, ◌+◌, ℕ, true, false, List, [], ◌++◌, Option, length, if◌then◌else◌}
 use Rattle.smap_io.specs.Device.{Takes}
 use Rattle.smap_lines.specs.Edited.{after_text, edited}
 use Rattle.smap_lines.specs.Limits.{most_line_bytes}
 use Rattle.smap_lines.specs.Lines.{IsWholeLines, Line, has_line_end, lines_with_ends}
-use Rattle.smap_lines.specs.OpenLine.{OpenState}
+use Rattle.smap_lines.specs.Private.OpenLine.{OpenState}
 
 -- what of an open line was handed on already
 abbrev pub passed : OpenState → (begun : List ℕ) → List ℕ

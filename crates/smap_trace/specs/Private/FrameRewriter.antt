@@ -1,4 +1,4 @@
--- Of private contracts only: the editor that rewrites the frames of a trace, and counts them.
+-- The editor that rewrites the frames of a trace, and counts them.
 use Rattle.std.specs.Prelude.{ℕ, ◌+◌, ◌-◌, ◌^◌}
 use Rattle.smap_lines.specs.Lines.{Line}
 use Rattle.smap_trace.specs.Rewritten.{Fate, fate, hidden, no_frame, replaced, stays}

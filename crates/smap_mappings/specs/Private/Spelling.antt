@@ -1,4 +1,4 @@
--- Of private contracts only: a segment without a bad digit, whose numbers stand one after another.
+-- A segment without a bad digit, whose numbers stand one after another.
 use Rattle.std.specs.Prelude.{◌≡◌, ℕ, List, false}
 use Rattle.smap_mappings.specs.Faults.{has_bad_digit, is_unended}
 

@@ -1,10 +1,10 @@
--- Of private contracts only: a state that goes on after a segment.
+-- A state that goes on after a segment.
 use Rattle.std.specs.Prelude.{◌≡◌, ℕ, Option, None, ◌+ℤ◌}
 use Rattle.smap_mappings.specs.Mappings.{Delta, RunningValues, difference}
 use Rattle.smap_mappings.specs.Accepted.{is_below_zero}
 use Rattle.smap_mappings.specs.Faults.{values_fault}
 use Rattle.smap_mappings.specs.State.{values_at}
-use Rattle.smap_mappings.specs.Reading.{fields_in, delta_in}
+use Rattle.smap_mappings.specs.Private.Reading.{fields_in, delta_in}
 use Rattle.smap_mappings.specs.declared.advance.Sums.{Sums}
 use Rattle.smap_mappings.specs.declared.cursor.Cursor.{Cursor}
 use Rattle.smap_mappings.specs.declared.fault.FaultKind.{FaultKind}

@@ -1,16 +1,27 @@
--- What a walk through the parts finds, and how it counts the segments of a line. Only contracts of private functions
--- cite it.
+-- What a walk through the parts finds, and how it counts the segments of a line.
 use Rattle.std.specs.Prelude.{ℕ, ◌+◌, ◌^◌, ◌<◌, ◌≤◌, Option, Some, None, Bool, false, ◌&&◌, ◌==◌, nat_lt, if◌then◌else◌}
 use Rattle.smap_mappings.specs.Limits.{most_text_bytes}
 use Rattle.smap_mappings.specs.Mappings.{mappings_of}
 use Rattle.smap_mappings.specs.Order.{IsInOrder}
 use Rattle.smap_mappings.specs.declared.mapping.Mapping.{Mapping}
+use Rattle.smap_mappings.specs.declared.mapping.Origin.{Origin}
 use Rattle.smap_mappings.specs.declared.cursor.Cursor.{Cursor}
 use Rattle.smap_index.specs.declared.part.Part.{Part}
 use Rattle.smap_index.specs.declared.checkpoint.Checkpoint.{Checkpoint}
-use Rattle.smap_index.specs.Checkpoint.{kind_of}
+use Rattle.smap_index.specs.declared.checkpoint.Kind.{Kind}
+use Rattle.smap_index.specs.declared.checkpoint.Kind.TheVariants.{Unmapped, Mapped, Named}
 use Rattle.smap_index.specs.Faults.{is_overlapping}
 use Rattle.smap_index.specs.Position.{position_at}
+
+-- what a segment has whose origin has this name
+abbrev pub kind_with : Option ℕ → Kind
+kind_with None = Mapped
+kind_with (Some name) = Named
+
+-- what a segment with this origin has
+abbrev pub kind_of : Option Origin → Kind
+kind_of None = Unmapped
+kind_of (Some origin) = kind_with origin.name
 
 -- the checkpoint of a mapping of this part, which has this number, with the state after its segment: the running
 -- values and what the part adds to them

@@ -1,4 +1,4 @@
--- Of private contracts only: how far a check has come.
+-- How far a check has come.
 use Rattle.std.specs.Prelude.{◌≡◌, ℕ, ◌<◌, ◌≤◌, ◌==◌, List, [], true, length, take}
 use Rattle.std.specs.List.{list_any}
 use Rattle.smap_mappings.specs.Mappings.{deltas_of}
@@ -6,7 +6,7 @@ use Rattle.smap_mappings.specs.Accepted.{are_in_range}
 use Rattle.smap_mappings.specs.Faults.{first_fault}
 use Rattle.smap_mappings.specs.Counts.{new_lines}
 use Rattle.smap_mappings.specs.State.{values_at, IsAfter}
-use Rattle.smap_mappings.specs.Step.{fault_from, IsStep}
+use Rattle.smap_mappings.specs.Private.Step.{fault_from, IsStep}
 use Rattle.smap_mappings.specs.declared.cursor.Cursor.{Cursor}
 use Rattle.smap_mappings.specs.declared.mapping.Mapping.{Mapping}
 use Rattle.smap_mappings.specs.declared.walk.Walk.{Walk}

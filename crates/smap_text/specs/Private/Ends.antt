@@ -1,4 +1,4 @@
--- How the bytes of a text show its lines and its units. Of private contracts only.
+-- How the bytes of a text show its lines and its units.
 use Rattle.std.specs.Prelude.{ℕ, suc, List, [], ◌∷◌, ◌==◌, ◌||◌, ◌&&◌, nat_lt, if◌then◌else◌, slice_index}
 
 -- how many bytes the line end has that begins a text; 0 where none does

@@ -2,7 +2,7 @@
 use Rattle.std.specs.Prelude.{◌≤◌, ◌+◌}
 use Rattle.std.proofs.Common.{arith}
 use Rattle.smap_lines.specs.Lines.{Line}
-use Rattle.smap_trace.specs.FrameRewriter.{after_frame, hidden_in, mapped_in, room_of, staying_in}
+use Rattle.smap_trace.specs.Private.FrameRewriter.{after_frame, hidden_in, mapped_in, room_of, staying_in}
 use Rattle.smap_trace.specs.Rewritten.{Fate, fate, hidden, no_frame, replaced, stays}
 use Rattle.smap_trace.specs.declared.frame_rewriter.FrameRewriter.{FrameRewriter}
 

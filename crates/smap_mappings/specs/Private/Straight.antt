@@ -1,9 +1,9 @@
--- Of private contracts only: a segment that was read in one go, its differences added as they were read.
+-- A segment that was read in one go, its differences added as they were read.
 use Rattle.std.specs.Prelude.{◌≡◌, ℕ, List, Option, Some, None, Bool, true, ◌&&◌, not, nat_lt, ℤ, pos, ◌+ℤ◌}
 use Rattle.smap_mappings.specs.Mappings.{Delta, difference}
 use Rattle.smap_mappings.specs.Accepted.{is_below_zero, is_in_range, are_in_range}
 use Rattle.smap_mappings.specs.State.{values_at}
-use Rattle.smap_mappings.specs.Reading.{IsFieldAt, IsSegmentAt, delta_in}
+use Rattle.smap_mappings.specs.Private.Reading.{IsFieldAt, IsSegmentAt, delta_in}
 use Rattle.smap_mappings.specs.declared.cursor.Cursor.{Cursor}
 use Rattle.smap_mappings.specs.declared.mapping.Mapping.{Mapping}
 use Rattle.smap_mappings.specs.declared.mapping.Origin.{Origin}
@@ -12,6 +12,10 @@ use Rattle.smap_mappings.specs.declared.segment.OriginFields.{OriginFields}
 use Rattle.smap_mappings.specs.declared.straight.Fields.{Fields}
 use Rattle.smap_mappings.specs.declared.straight.Fields.TheVariants.{One, Four, Five}
 use Rattle.smap_mappings.specs.declared.straight.StraightSegment.{StraightSegment}
+
+-- how many digits a segment has at most, which has five numbers
+abbrev pub most_segment_digits : ℕ
+most_segment_digits = 35
 
 -- ---- a running value and a difference
 

@@ -1,4 +1,4 @@
--- Of private contracts only: what one mapping more adds to a canonical text, and what is kept after it.
+-- What one mapping more adds to a canonical text, and what is kept after it.
 use Rattle.std.specs.Prelude.{ℕ, ◌≤◌, List, [], ◌∷◌, ◌++◌, map, Option, Some, None, ℤ, pos, ◌-ℤ◌, unsigned_abs}
 use Rattle.std.specs.List.{AllByRecursion, concat}
 use Rattle.smap_mappings.specs.Limits.{limit}

@@ -1,4 +1,4 @@
--- Of private contracts only: what a step from a state gives, one segment more.
+-- What a step from a state gives, one segment more.
 use Rattle.std.specs.Prelude.{◌≡◌, ℕ, ℤ, ◌+◌, List, [], ◌∷◌, ◌++◌, Option, Some, None, take, drop}
 use Rattle.smap_mappings.specs.Segments.{segments_of}
 use Rattle.smap_mappings.specs.Mappings.{deltas_of}

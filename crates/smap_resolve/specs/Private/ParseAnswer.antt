@@ -1,4 +1,4 @@
--- What `url`'s answer tells of a text; for the contracts of private functions.
+-- What `url`'s answer tells of a text.
 use Rattle.std.specs.Prelude.{Option, None, Some, Result, Ok, Err}
 use Rattle.url.specs.declared.error.ParseError.TheVariants.{Overflow, OutOfMemory}
 use Rattle.url.specs.Parser.{Parsed}

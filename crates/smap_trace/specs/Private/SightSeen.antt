@@ -1,4 +1,4 @@
--- Of private contracts only: what contracts see of a line that was looked at.
+-- What contracts see of a line that was looked at.
 use Rattle.std.specs.Prelude.{ℕ, List, option_map}
 use Rattle.smap_record.specs.Sources.{source_of}
 use Rattle.smap_trace.specs.FrameSeen.{parts_seen}

@@ -1,0 +1,8 @@
+-- What contracts of private functions alone cite.
+pub mod Reading
+pub mod Spelling
+pub mod Advance
+pub mod Step
+pub mod Straight
+pub mod Walk
+pub mod OneMore
