@@ -1,5 +1,5 @@
 -- A table's entries, in the order of their URLs, as the pairs that contracts see.
-use Rattle.std.proofs.Common.{◌≡◌, ℕ, Bool, true, false, cond, List, [], ◌∷◌, ◌++◌, map, Option, Some, None, is_some, option_map, refl, sym, ap, ◌∙◌}
+use Rattle.std.proofs.Common.{◌≡◌, ℕ, Bool, true, false, cond, List, [], ◌∷◌, ◌++◌, length, map, Option, Some, None, is_some, option_map, refl, sym, ap, ◌∙◌}
 use Rattle.std.specs.BTreeMap.{insert_entry, is_at}
 use Rattle.std.specs.Cmp.Lexicographic.{slice_cmp}
 use Rattle.std.specs.Map.{lookup}
@@ -20,6 +20,10 @@ module _ {K V : Type 0} (key : K → List ℕ) (stated : V → MapRecord) where
 
   abbrev pub is_under : List ℕ → K → Bool
   is_under url k = is_at (λ k. slice_cmp nat_cmp url (key k)) k
+
+  pub same_lengths : (entries : List (K × V)) → map (λ k. length (key k)) (map (λ e. e.0) entries) ≡ map (λ pair. length pair.0) (pairs entries)
+  same_lengths [] = refl
+  same_lengths (e ∷ entries) = ap (λ lengths. length (key e.0) ∷ lengths) (same_lengths entries)
 
   picked : (url : List ℕ) (e : K × V) (rest : Option V) (found : Option MapRecord) (t u : Bool) → t ≡ u → option_map stated rest ≡ found →
       option_map stated (cond t (Some e.1) rest) ≡ cond u (Some (stated e.1)) found

@@ -9,7 +9,7 @@ ghost use Rattle.smap_trace.specs.FrameSeen.{parts_seen};
 ghost use Rattle.smap_trace.specs.Private.LocationSeen.{location_seen};
 
 use crate::cuts::{cut_at_call, cut_at_first, cut_at_last, without_last};
-use crate::number::number;
+use crate::numbers::number;
 use crate::parts::Frame;
 
 // How many bytes a line has at most, its LF aside.

@@ -13,7 +13,7 @@
 mod cuts;
 mod frame_rewriter;
 mod frames;
-mod number;
+mod numbers;
 mod outcome;
 mod parts;
 mod refusal;
@@ -22,8 +22,10 @@ mod sight;
 mod table;
 
 pub use frames::frame;
+pub use numbers::number;
 pub use outcome::{RewriteFault, Summary};
 pub use parts::Frame;
 pub use refusal::TableRefusal;
 pub use rewriting::rewrite;
+pub use sight::{Original, find_original, printable_name};
 pub use table::Table;

@@ -12,7 +12,7 @@ use crate::table::Table;
 use smap_record::{Answer, Meter, SourceEntry};
 use std::alloc::Global;
 
-// Where a frame comes from. The line and the column count from 1.
+/// Where a frame comes from. The line and the column count from 1.
 #[derive(Clone, Copy)]
 pub struct Original<'t> {
     pub source: Option<&'t SourceEntry>,
@@ -69,8 +69,8 @@ pub fn look_at<'l, 't>(
     })
 }
 
-// Where a frame comes from, if the table has its map, and that an origin for it.
-fn find_original<'t>(alloc: Global, table: &'t Table, frame: &Frame<'_>) -> Option<Original<'t>>
+/// Where a frame comes from, if the table has its map, and that an origin for it. The call takes no memory.
+pub fn find_original<'t>(alloc: Global, table: &'t Table, frame: &Frame<'_>) -> Option<Original<'t>>
     ensures { option_map original_seen result ≡ original_of (parts_seen frame.now) table.now }
 {
     let map = table.map_for(frame.url)?;
@@ -97,8 +97,8 @@ fn is_ignored(source: Option<&SourceEntry>) -> bool
     }
 }
 
-// The name of a source, where it has one that a frame can print.
-fn printable_name(source: Option<&SourceEntry>) -> Option<&str>
+/// The name of a source, where it has one that a frame can print: it has a byte, and none is a control character of ASCII.
+pub fn printable_name(source: Option<&SourceEntry>) -> Option<&str>
     ensures { option_map (λ name. name.now) result
         ≡ name_in (option_map (λ entry. source_of entry.now) source.entry) }
 {

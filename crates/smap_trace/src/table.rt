@@ -1,12 +1,12 @@
 //! The maps of a trace.
-ghost use Rattle.std.specs.Prelude.{◌≡◌, [], string_bytes, option_map, MatchOption, OnOk, OnErr, IfErr, IsErrAnd};
+ghost use Rattle.std.specs.Prelude.{◌≡◌, [], string_bytes, option_map, MatchOption, OnOk, OnErr, IfErr, IfOk, IsErrAnd, length, map};
 ghost use Rattle.std.specs.Str.{IsUtf8};
 ghost use Rattle.smap_trace.specs.Table.{IsWith, is_bad_url, record_for, url_refusal};
 ghost use Rattle.smap_trace.specs.declared.refusal.TableRefusal.TheVariants.{Memory};
 
 use crate::refusal::TableRefusal;
 use smap_record::MapFile;
-use std::alloc::{AllocFailed, Global};
+use std::alloc::{AllocError, AllocFailed, Global};
 use std::collections::BTreeMap;
 use std::marker::Model;
 
@@ -56,8 +56,15 @@ impl Table {
         }
     }
 
-    // The map under a URL, where there is one.
-    pub(crate) fn map_for(&self, url: &[u8]) -> Option<&MapFile>
+    /// How many bytes the URLs have, one after another in the table's order.
+    pub fn url_lengths(&self, alloc: Global) -> Result<Vec<usize>, AllocError>
+        ensures { IfOk result (λ lengths. lengths.items ≡ map (λ pair. length pair.0) self.now) }
+    {
+        self.maps.keys().map(|url| url.len()).collect(alloc)
+    }
+
+    /// The map under a URL, where there is one.
+    pub fn map_for(&self, url: &[u8]) -> Option<&MapFile>
         ensures { option_map (λ map. map.now.stated) result ≡ record_for url.now self.now }
     {
         self.maps.get(url)

@@ -1,0 +1,310 @@
+-- Where no place begins, and which is the longest of those that do.
+use Rattle.std.proofs.Common.{◌≡◌, ◌==◌, ◌||◌, ◌+◌, ◌-◌, ◌<◌, ◌≤◌, ◌⊎◌, inl, inr, ℕ, zero, suc, Bool, true, false, cond, List, [], ◌∷◌, length, take, drop, get_or, map, max, Option, Some, None, is_some, refl, sym, ap, ◌∙◌, arith, length-drop}
+use Rattle.std.specs.Str.{bytes_eq}
+use Rattle.std.proofs.lemmas.Bool.{cases_lt, cond-true, cond-false, eq-eqb, eqb-true, false_from_ne_true}
+use Rattle.std.proofs.lemmas.Slice.Eq.{bytes_eq-Decides}
+use Rattle.std.proofs.lemmas.List.{drop_all, drop-drop, drop_more, get_or-drop, length-take-le, take_all}
+use Rattle.smap_record.specs.Record.{MapRecord}
+use Rattle.smap_trace.specs.FrameOf.{number_of}
+use Rattle.smap_trace.specs.Table.{record_for}
+use Rattle.smap_places.specs.Finder.{Covers, is_among}
+use Rattle.smap_places.specs.PlaceSeen.{IsNext, NoNext, place_seen}
+use Rattle.smap_places.specs.declared.place.Place.{Place}
+use Rattle.smap_places.specs.Places.{PlaceParts, begun_at, longest_within, may_begin, number_behind, numbers_behind, or_else, place_at, place_with, placed, with_line}
+
+-- ---- numbers
+
+pub no_numbers : numbers_behind [] ≡ None
+unfolding numbers_behind
+no_numbers = refl
+
+-- a text that does not begin with a `:` has none
+no_colon : (byte : ℕ) (rest : List ℕ) → (byte == 58) ≡ false → numbers_behind (byte ∷ rest) ≡ None
+unfolding numbers_behind
+no_colon byte rest other = ap (with_line (byte ∷ rest)) (cond-false (byte == 58) _ None other)
+
+pub none_at : (line : List ℕ) (i : ℕ) → ((get_or line i 0 == 58) ≡ true → ⊥) → numbers_behind (drop i line) ≡ None
+none_at line i other = elim (cases_lt i (length line)) [
+    | inl inside ↦ ap numbers_behind (drop_more line i 0 inside) ∙ no_colon (get_or line i 0) (drop (i + 1) line) (false_from_ne_true _ other)
+    | inr outside ↦ ap numbers_behind (drop_all i line outside) ∙ no_numbers
+  ]
+
+-- ---- a place with a URL of some length
+
+both_none : (t : Bool) → ◌≡◌ {A = Option PlaceParts} (cond t None None) None
+both_none true = refl
+both_none false = refl
+
+module _ (table : List (List ℕ × MapRecord)) (text : List ℕ) where
+  pub without_numbers : (bytes : ℕ) → numbers_behind (drop bytes text) ≡ None → place_with table text bytes ≡ None
+  without_numbers bytes none = ap (λ numbers. cond (is_some (record_for (take bytes text) table)) (placed (take bytes text) bytes numbers) None) none ∙ both_none _
+
+  pub without_url : (bytes : ℕ) → is_some (record_for (take bytes text) table) ≡ false → place_with table text bytes ≡ None
+  without_url bytes none = cond-false _ _ None none
+
+  pub past_end : (bytes : ℕ) → length text ≤ bytes → place_with table text bytes ≡ None
+  past_end bytes past = without_numbers bytes (ap numbers_behind (drop_all bytes text past) ∙ no_numbers)
+
+  -- ---- the longest
+
+  -- the place with a URL of this many bytes, of which there is one
+  abbrev pub exactly : ℕ → Option PlaceParts
+  exactly zero = None
+  exactly (suc bytes) = place_with table text (suc bytes)
+
+  -- none has a longer URL
+  abbrev pub NoLonger : ℕ → Type 0
+  NoLonger most = (bytes : ℕ) → most < bytes → place_with table text bytes ≡ None
+
+  some_or_else : (one other : Option PlaceParts) → is_some one ≡ true → or_else one other ≡ one
+  some_or_else (Some place) other some = refl
+  some_or_else None other some = cc
+
+  longest_is : (n most : ℕ) → NoLonger most → (most ≡ 0) ⊎ (is_some (exactly most) ≡ true) → most ≤ n → longest_within table text n ≡ exactly most
+  longest_is zero zero none some small = refl
+  longest_is zero (suc most) none some small = absurd (omega (arith, small))
+  longest_is (suc n) most none some small = elim (cases_lt most (suc n)) [
+      | inl less ↦ ap (λ o. or_else o (longest_within table text n)) (none (suc n) less) ∙ longest_is n most none some (omega (arith, less))
+      | inr more ↦ at_end n most some (omega (arith, more, small))
+    ]
+    where
+      at_end : (n most : ℕ) → (most ≡ 0) ⊎ (is_some (exactly most) ≡ true) → most ≡ suc n → longest_within table text (suc n) ≡ exactly most
+      at_end n zero some is = absurd (omega (arith, is))
+      at_end n (suc most) (inl zero_is) is = absurd (omega (arith, zero_is))
+      at_end n (suc most) (inr some) is =
+          let same : most ≡ n = omega (arith, is) in
+          ap (λ k. longest_within table text (suc k)) (sym same) ∙ some_or_else (place_with table text (suc most)) (longest_within table text most) some
+
+  fits : (most : ℕ) → (most ≡ 0) ⊎ (is_some (exactly most) ≡ true) → most ≤ length text
+  fits zero some = omega arith
+  fits (suc most) (inl zero_is) = absurd (omega (arith, zero_is))
+  fits (suc most) (inr some) = elim (cases_lt (suc most) (length text)) [
+      | inl less ↦ omega (arith, less)
+      | inr more ↦ absurd (cc (ap is_some (past_end (suc most) more), some))
+    ]
+
+  pub longest : (most : ℕ) → NoLonger most → (most ≡ 0) ⊎ (is_some (exactly most) ≡ true) → place_at table text ≡ exactly most
+  unfolding place_at
+  longest most none some = longest_is (length text) most none some (fits most some)
+
+  -- ---- the lengths of the URLs
+
+  module _ (lengths : List ℕ) (greatest : ℕ) (covers : Covers lengths greatest table) where
+    -- one that is not among them has no place
+    pub other_length : (bytes : ℕ) → is_among lengths bytes ≡ false → place_with table text bytes ≡ None
+    other_length bytes other = elim (cases_lt bytes (length text)) [
+        | inl inside ↦ without_url bytes (false_from_ne_true _ (λ some.
+            cc (ap (λ n. is_among lengths n) (length-take-le bytes text (omega (arith, inside))), (covers (take bytes text) some).0, other)))
+        | inr past ↦ past_end bytes past
+      ]
+
+    -- nor has one that is greater than all
+    pub greater_length : (bytes : ℕ) → greatest < bytes → place_with table text bytes ≡ None
+    greater_length bytes greater = elim (cases_lt bytes (length text)) [
+        | inl inside ↦ without_url bytes (false_from_ne_true _ (λ some.
+            absurd (omega (arith, (covers (take bytes text) some).1, length-take-le bytes text (omega (arith, inside)), greater))))
+        | inr past ↦ past_end bytes past
+      ]
+
+    -- without numbers behind a URL, no place begins
+    none_within : (n : ℕ) → ((bytes : ℕ) → 1 ≤ bytes → bytes ≤ greatest → numbers_behind (drop bytes text) ≡ None) → longest_within table text n ≡ None
+    none_within zero none = refl
+    none_within (suc n) none = elim (cases_lt greatest (suc n)) [
+        | inl greater ↦ ap (λ o. or_else o (longest_within table text n)) (greater_length (suc n) greater) ∙ none_within n none
+        | inr less ↦ ap (λ o. or_else o (longest_within table text n)) (without_numbers (suc n) (none (suc n) (omega arith) less)) ∙ none_within n none
+      ]
+
+    pub none_begins : ((bytes : ℕ) → 1 ≤ bytes → bytes ≤ greatest → numbers_behind (drop bytes text) ≡ None) → place_at table text ≡ None
+    unfolding place_at
+    none_begins none = none_within (length text) none
+
+-- ---- a place that begins in a line
+
+module _ (table : List (List ℕ × MapRecord)) (line : List ℕ) where
+  pub not_begun : (start : ℕ) → place_at table (drop start line) ≡ None → begun_at table line start ≡ None
+  unfolding begun_at
+  not_begun start none = ap (λ o. cond (may_begin line start) o None) none ∙ both_none (may_begin line start)
+
+  pub not_begun_within : (start : ℕ) → may_begin line start ≡ false → begun_at table line start ≡ None
+  unfolding begun_at
+  not_begun_within start off = cond-false (may_begin line start) _ None off
+
+  pub begun : (start : ℕ) → may_begin line start ≡ true → begun_at table line start ≡ place_at table (drop start line)
+  unfolding begun_at
+  begun start on = cond-true (may_begin line start) _ None on
+
+  module _ (lengths : List ℕ) (greatest : ℕ) (covers : Covers lengths greatest table) where
+    -- no place begins before these numbers by more than the greatest length, where none stand before them
+    pub none_before : (start : ℕ) → ((bytes : ℕ) → 1 ≤ bytes → bytes ≤ greatest → numbers_behind (drop (start + bytes) line) ≡ None) → begun_at table line start ≡ None
+    none_before start none =
+        not_begun start (none_begins table (drop start line) lengths greatest covers
+        (λ bytes some few. ap numbers_behind (drop-drop bytes start line) ∙ none bytes some few))
+    -- none begins before the numbers by more than the greatest length, where none stand before them
+    pub none_between : (start numbers low : ℕ) → ((i : ℕ) → start + 1 ≤ i → i < numbers → numbers_behind (drop i line) ≡ None) → low ≡ max (numbers - greatest) start →
+        (i : ℕ) → start ≤ i → i < low → begun_at table line i ≡ None
+    none_between start numbers low none is i least below =
+        none_before i (λ bytes some few. none (i + bytes) (omega (arith, least, some)) (omega (arith, is, least, below, few)))
+
+    -- none begins where no numbers stand behind
+    pub none_behind : (start : ℕ) → ((i : ℕ) → start + 1 ≤ i → numbers_behind (drop i line) ≡ None) → (i : ℕ) → start ≤ i → begun_at table line i ≡ None
+    none_behind start none i least = none_before i (λ bytes some few. none (i + bytes) (omega (arith, least, some)))
+
+  pub none_joined : (from start high : ℕ) → ((i : ℕ) → from ≤ i → i < start → begun_at table line i ≡ None) → ((i : ℕ) → start ≤ i → i < high → begun_at table line i ≡ None) →
+      (i : ℕ) → from ≤ i → i < high → begun_at table line i ≡ None
+  none_joined from start high before behind i least below = elim (cases_lt i start) [
+      | inl early ↦ before i least early
+      | inr late ↦ behind i late below
+    ]
+
+  pub none_on : (from start : ℕ) → ((i : ℕ) → from ≤ i → i < start → begun_at table line i ≡ None) → ((i : ℕ) → start ≤ i → begun_at table line i ≡ None) → NoNext table line from
+  none_on from start before behind i least = elim (cases_lt i start) [
+      | inl early ↦ before i least early
+      | inr late ↦ behind i late
+    ]
+
+  at_end : place_at table [] ≡ None
+  unfolding place_at
+  at_end = refl
+
+  pub none_past : (i : ℕ) → length line ≤ i → begun_at table line i ≡ None
+  none_past i past = not_begun i (ap (λ rest. place_at table rest) (drop_all i line past) ∙ at_end)
+
+  pub next_from : (from low : ℕ) (place : Place) → from ≤ low → ((i : ℕ) → from ≤ i → i < low → begun_at table line i ≡ None) → IsNext table line low place → IsNext table line from place
+  next_from from low place least before is = record {
+    behind = omega (arith, least, is.behind);
+    some = is.some;
+    within = is.within;
+    here = is.here;
+    first = λ i early below. none_joined from low place.start before is.first i early below;
+  }
+
+  pub none_up_to : (low start : ℕ) → ((i : ℕ) → low ≤ i → i < start → begun_at table line i ≡ None) → begun_at table line start ≡ None → (i : ℕ) → low ≤ i → i < start + 1 → begun_at table line i ≡ None
+  none_up_to low start before here i least below = elim (cases_lt i start) [
+      | inl early ↦ before i least early
+      | inr late ↦ let same : i ≡ start = omega (arith, late, below) in ap (λ k. begun_at table line k) same ∙ here
+    ]
+
+  pub place_is_next : (low start : ℕ) (place : Place) → low ≤ start → place.start ≡ start → start < place.end → place.end ≤ length line →
+      ((i : ℕ) → low ≤ i → i < start → begun_at table line i ≡ None) → begun_at table line start ≡ Some (place_seen place) → IsNext table line low place
+  place_is_next low start place least at_start some within before here = record {
+    behind = omega (arith, least, at_start);
+    some = omega (arith, some, at_start);
+    within = within;
+    here = ap (λ k. begun_at table line k) at_start ∙ here;
+    first = λ i early below. before i early (omega (arith, below, at_start));
+  }
+
+-- ---- numbers in a line
+
+pub none_further : (line : List ℕ) (from place further : ℕ) → ((i : ℕ) → from ≤ i → i < place → numbers_behind (drop i line) ≡ None) →
+    ((i : ℕ) → i < further → (get_or (drop place line) i 0 == 58) ≡ true → ⊥) → (i : ℕ) → from ≤ i → i < place + further → numbers_behind (drop i line) ≡ None
+none_further line from place further before none i least below = elim (cases_lt i place) [
+    | inl early ↦ before i least early
+    | inr late ↦
+      let same : place + (i - place) ≡ i = omega (arith, late) in
+      none_at line i (λ is. none (i - place) (omega (arith, late, below)) (ap (λ b. b == 58) (get_or-drop place line (i - place) 0 ∙ ap (λ k. get_or line k 0) same) ∙ is))
+  ]
+
+pub none_to : (line : List ℕ) (from place : ℕ) → ((i : ℕ) → from ≤ i → i < place → numbers_behind (drop i line) ≡ None) → numbers_behind (drop place line) ≡ None →
+    (i : ℕ) → from ≤ i → i < place + 1 → numbers_behind (drop i line) ≡ None
+none_to line from place before here i least below = elim (cases_lt i place) [
+    | inl early ↦ before i least early
+    | inr late ↦ let same : i ≡ place = omega (arith, late, below) in ap (λ k. numbers_behind (drop k line)) same ∙ here
+  ]
+
+pub none_left : (line : List ℕ) (from place : ℕ) → ((i : ℕ) → from ≤ i → i < place → numbers_behind (drop i line) ≡ None) →
+    ((i : ℕ) → i < length (drop place line) → (get_or (drop place line) i 0 == 58) ≡ true → ⊥) → (i : ℕ) → from ≤ i → numbers_behind (drop i line) ≡ None
+none_left line from place before none i least = elim (cases_lt i (length line)) [
+    | inl inside ↦ elim (cases_lt i place) [
+        | inl early ↦ before i least early
+        | inr late ↦ none_further line from place (length line - place) before (λ k below. none k (omega (arith, below, length-drop place line))) i least (omega (arith, inside, late))
+      ]
+    | inr outside ↦ ap numbers_behind (drop_all i line outside) ∙ no_numbers
+  ]
+
+pub none_of : {A : Type 0} (o : Option A) → is_some o ≡ false → o ≡ None
+none_of None off = refl
+none_of (Some x) off = cc
+
+-- ---- the lengths of a table's URLs
+
+head_or : (x n : ℕ) (xs : List ℕ) → (x ≡ n) ⊎ (is_among xs n ≡ true) → is_among (x ∷ xs) n ≡ true
+head_or x n xs (inl same) = ap (λ b. b || is_among xs n) (eq-eqb x n same)
+head_or x n xs (inr among) = ap (λ b. (x == n) || b) among ∙ or_true (x == n)
+  where
+    or_true : (b : Bool) → (b || true) ≡ true
+    or_true true = refl
+    or_true false = refl
+
+pub url_among : (table : List (List ℕ × MapRecord)) (url : List ℕ) → is_some (record_for url table) ≡ true → is_among (map (λ pair. length pair.0) table) (length url) ≡ true
+url_among [] url some = cc
+url_among ((there, stated) ∷ pairs) url some = go (bytes_eq url there) refl (url_among pairs url) some
+  where
+    go : (same : Bool) → bytes_eq url there ≡ same → (is_some (record_for url pairs) ≡ true → is_among (map (λ pair. length pair.0) pairs) (length url) ≡ true) → is_some (cond same (Some stated) (record_for url pairs)) ≡ true → is_among (length there ∷ map (λ pair. length pair.0) pairs) (length url) ≡ true
+    go true same more some = head_or (length there) (length url) _ (inl (ap length (sym ((bytes_eq-Decides url there).0 same))))
+    go false other more some = head_or (length there) (length url) _ (inr (more some))
+
+among_next : (numbers : List ℕ) (i n : ℕ) → i < length numbers → is_among (take (suc i) numbers) n ≡ true → (is_among (take i numbers) n ≡ true) ⊎ (get_or numbers i 0 ≡ n)
+among_next [] i n inside among = absurd (omega (arith, inside))
+among_next (x ∷ numbers) zero n inside among = go (x == n) refl among
+  where
+    go : (same : Bool) → (x == n) ≡ same → (same || false) ≡ true → (is_among [] n ≡ true) ⊎ (x ≡ n)
+    go true same is = inr (eqb-true x n same)
+    go false other is = cc
+among_next (x ∷ numbers) (suc i) n inside among = go (x == n) (λ is. among_next numbers i n (omega (arith, inside)) is) among
+  where
+    go : (same : Bool) → (is_among (take (suc i) numbers) n ≡ true → (is_among (take i numbers) n ≡ true) ⊎ (get_or numbers i 0 ≡ n)) → (same || is_among (take (suc i) numbers) n) ≡ true → ((same || is_among (take i numbers) n) ≡ true) ⊎ (get_or numbers i 0 ≡ n)
+    go true more is = inl refl
+    go false more is = more is
+
+pub among_more : (numbers : List ℕ) (i n : ℕ) → i < length numbers → is_among (take (i + 1) numbers) n ≡ true → (is_among (take i numbers) n ≡ true) ⊎ (get_or numbers i 0 ≡ n)
+among_more numbers i n inside among =
+    let one : suc i ≡ i + 1 = omega arith in
+    among_next numbers i n inside (ap (λ k. is_among (take k numbers) n) one ∙ among)
+
+pub covers_all : (table : List (List ℕ × MapRecord)) (all lengths : List ℕ) (greatest index : ℕ) → all ≡ map (λ pair. length pair.0) table → length all ≤ index →
+    ((n : ℕ) → is_among (take index all) n ≡ true → is_among lengths n ≡ true) → ((n : ℕ) → is_among (take index all) n ≡ true → n ≤ greatest) → Covers lengths greatest table
+covers_all table all lengths greatest index is end among most url some =
+    let here : is_among (take index all) (length url) ≡ true = ap (λ l. is_among l (length url)) (take_all index all end ∙ is) ∙ url_among table url some in
+    (among (length url) here, most (length url) here)
+
+-- ---- a longer one is looked for
+
+module _ (table : List (List ℕ × MapRecord)) (text : List ℕ) where
+  pub exactly_is : (bytes : ℕ) → 0 < bytes → exactly table text bytes ≡ place_with table text bytes
+  exactly_is zero some = absurd (omega (arith, some))
+  exactly_is (suc bytes) some = refl
+
+  module _ (lengths : List ℕ) (i most : ℕ) (inside : i < length lengths)
+      (before : (bytes : ℕ) → is_among (take i lengths) bytes ≡ true → most < bytes → place_with table text bytes ≡ None) where
+    -- one is found
+    pub longer_found : most < get_or lengths i 0 → (bytes : ℕ) → is_among (take (i + 1) lengths) bytes ≡ true → get_or lengths i 0 < bytes → place_with table text bytes ≡ None
+    longer_found more bytes among greater = elim (among_more lengths i bytes inside among) [
+        | inl early ↦ before bytes early (omega (arith, more, greater))
+        | inr here ↦ absurd (omega (arith, here, greater))
+      ]
+
+    -- none is
+    pub none_longer : (get_or lengths i 0 ≤ most) ⊎ (place_with table text (get_or lengths i 0) ≡ None) → (bytes : ℕ) → is_among (take (i + 1) lengths) bytes ≡ true → most < bytes →
+        place_with table text bytes ≡ None
+    none_longer none bytes among greater = elim (among_more lengths i bytes inside among) [
+        | inl early ↦ before bytes early greater
+        | inr here ↦ none_at_length none bytes here greater
+      ]
+      where
+        none_at_length : (get_or lengths i 0 ≤ most) ⊎ (place_with table text (get_or lengths i 0) ≡ None) → (bytes : ℕ) → get_or lengths i 0 ≡ bytes → most < bytes → place_with table text bytes ≡ None
+        none_at_length (inl small) bytes here greater = absurd (omega (arith, small, here, greater))
+        none_at_length (inr none) bytes here greater = ap (λ n. place_with table text n) (sym here) ∙ none
+
+  -- at the end, the longest so far is the longest
+  pub longest_of : (lengths : List ℕ) (greatest index most : ℕ) → Covers lengths greatest table → length lengths ≤ index →
+      ((bytes : ℕ) → is_among (take index lengths) bytes ≡ true → most < bytes → place_with table text bytes ≡ None) →
+      (most ≡ 0) ⊎ (is_some (exactly table text most) ≡ true) → place_at table text ≡ exactly table text most
+  longest_of lengths greatest index most covers end before some =
+      longest table text most
+      (λ bytes greater. go bytes greater (is_among lengths bytes) refl)
+      some
+    where
+      go : (bytes : ℕ) → most < bytes → (among : Bool) → is_among lengths bytes ≡ among → place_with table text bytes ≡ None
+      go bytes greater true among = before bytes (ap (λ l. is_among l bytes) (take_all index lengths end) ∙ among) greater
+      go bytes greater false other = other_length table text lengths greatest covers bytes other

@@ -1,0 +1,14 @@
+-- Of private contracts only: the lengths of a table's URLs.
+use Rattle.std.specs.Prelude.{◌≡◌, ◌≤◌, ◌==◌, ℕ, Bool, true, List, is_some, length}
+use Rattle.std.specs.List.{list_any}
+use Rattle.smap_record.specs.Record.{MapRecord}
+use Rattle.smap_trace.specs.Table.{record_for}
+
+-- a number is among these
+abbrev pub is_among : List ℕ → ℕ → Bool
+is_among numbers n = list_any (λ x. x == n) numbers
+
+-- each URL's length is among these, and at most this one
+abbrev pub Covers : (lengths : List ℕ) → (longest : ℕ) → (table : List (List ℕ × MapRecord)) → Type 0
+Covers lengths longest table =
+    (url : List ℕ) → is_some (record_for url table) ≡ true → (is_among lengths (length url) ≡ true) × (length url ≤ longest)

@@ -1,0 +1,4 @@
+pub mod Places
+pub mod PlaceSeen
+-- of private contracts only
+pub mod Finder

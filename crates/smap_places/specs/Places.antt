@@ -1,0 +1,99 @@
+-- The places in a line, anywhere in it (this project's own): a URL of a table, `:`, a line, `:` and a column, in decimal
+-- without leading zeros, from 1 to 2147483648, and no digit behind them. No place begins behind a byte of a word. Places
+-- are taken from the left; of those that begin at one byte, the one with the longest URL; the next is sought behind it.
+use Rattle.std.specs.Prelude.{ℕ, zero, suc, ◌+◌, ◌-◌, ◌==◌, ◌||◌, Bool, true, not, nat_le, List, [], ◌∷◌, Option, Some, None, is_some, codes, length, take, drop, slice_index, if◌then◌else◌, option_map}
+use Rattle.std.specs.Char.{is_ascii_digit, is_ascii_alphanumeric}
+use Rattle.std.specs.List.{list_any, prefix_len}
+use Rattle.smap_record.specs.Record.{MapRecord}
+use Rattle.smap_trace.specs.FrameOf.{number_of}
+use Rattle.smap_trace.specs.Table.{record_for}
+
+-- ---- the numbers of a place
+
+-- how many digits a text begins with
+abbrev pub digits : List ℕ → ℕ
+digits text = prefix_len is_ascii_digit text
+
+-- the number behind the `:` that a text begins with, whose digits all belong to it; and how many bytes both are
+abbrev pub number_behind : List ℕ → Option (ℕ × ℕ)
+number_behind [] = None
+number_behind (byte ∷ text) = if byte == 58 then option_map (λ n. (n, digits text + 1)) (number_of (take (digits text) text)) else None
+
+abbrev pub with_column : (line size : ℕ) → Option (ℕ × ℕ) → Option (ℕ × ℕ × ℕ)
+with_column line size None = None
+with_column line size (Some (column, more)) = Some (line, column, size + more)
+
+abbrev pub with_line : List ℕ → Option (ℕ × ℕ) → Option (ℕ × ℕ × ℕ)
+with_line text None = None
+with_line text (Some (line, size)) = with_column line size (number_behind (drop size text))
+
+-- the numbers behind a URL: a line, a column, and how many bytes they are with the `:` before each
+unfoldable pub numbers_behind : List ℕ → Option (ℕ × ℕ × ℕ)
+numbers_behind text = with_line text (number_behind text)
+
+-- ---- a place at the beginning of a text
+
+-- a place, and how many bytes it is; the line and the column count from 1
+pub record PlaceParts : Type 0 where
+  pub url : List ℕ
+  pub line : ℕ
+  pub column : ℕ
+  pub size : ℕ
+
+abbrev pub placed : (url : List ℕ) → (bytes : ℕ) → Option (ℕ × ℕ × ℕ) → Option PlaceParts
+placed url bytes None = None
+placed url bytes (Some (line, column, size)) = Some (record { url = url; line = line; column = column; size = bytes + size })
+
+-- the one whose URL is this many bytes
+abbrev pub place_with : List (List ℕ × MapRecord) → (text : List ℕ) → (bytes : ℕ) → Option PlaceParts
+place_with table text bytes =
+    if is_some (record_for (take bytes text) table) then placed (take bytes text) bytes (numbers_behind (drop bytes text)) else None
+
+abbrev pub or_else : Option PlaceParts → Option PlaceParts → Option PlaceParts
+or_else (Some place) other = Some place
+or_else None other = other
+
+-- the one with the longest URL of at most so many bytes
+abbrev pub longest_within : List (List ℕ × MapRecord) → (text : List ℕ) → (bytes : ℕ) → Option PlaceParts
+longest_within table text zero = None
+longest_within table text (suc bytes) = or_else (place_with table text (suc bytes)) (longest_within table text bytes)
+
+-- the one with the longest URL
+unfoldable pub place_at : List (List ℕ × MapRecord) → (text : List ℕ) → Option PlaceParts
+place_at table text = longest_within table text (length text)
+
+-- ---- the places in a line
+
+-- a letter or a digit of ASCII, another byte that words and URLs are made of, or one that is not ASCII
+abbrev pub is_word : ℕ → Bool
+is_word byte = is_ascii_alphanumeric byte || nat_le 128 byte || list_any (λ sign. byte == sign) (codes "_-./\\%~+$:")
+
+-- a place may begin at this byte of a line: it is the first, or stands behind one that is of no word
+abbrev pub may_begin : (line : List ℕ) → (start : ℕ) → Bool
+may_begin line zero = true
+may_begin line (suc before) = not (is_word (slice_index line before))
+
+-- the place that begins at this byte of a line, but for those before it
+unfoldable pub begun_at : List (List ℕ × MapRecord) → (line : List ℕ) → (start : ℕ) → Option PlaceParts
+begun_at table line start = if may_begin line start then place_at table (drop start line) else None
+
+-- a byte of a line that belongs to no place, or a place with its bytes
+pub data Part : Type 0 where
+  other : ℕ → Part
+  found : PlaceParts → (text : List ℕ) → Part
+
+-- a text that begins with this byte: the place there, where there is one, and what stands behind its bytes
+abbrev pub parts_by : (text : List ℕ) → (byte : ℕ) → (behind : ℕ → List Part) → Option PlaceParts → List Part
+parts_by text byte behind None = other byte ∷ behind 0
+parts_by text byte behind (Some place) = found place (take place.size text) ∷ behind (place.size - 1)
+
+-- the parts of the bytes of a line that stand from `start` on, of which the first so many belong to a place before them
+abbrev pub parts_from : List (List ℕ × MapRecord) → (line : List ℕ) → (start within : ℕ) → (rest : List ℕ) → List Part
+parts_from table line start within [] = []
+parts_from table line start (suc within) (byte ∷ rest) = parts_from table line (suc start) within rest
+parts_from table line start zero (byte ∷ rest) =
+    parts_by (byte ∷ rest) byte (λ within. parts_from table line (suc start) within rest) (begun_at table line start)
+
+-- a line, cut into its places and the bytes between them
+unfoldable pub parts_of : List (List ℕ × MapRecord) → (line : List ℕ) → List Part
+parts_of table line = parts_from table line 0 0 line

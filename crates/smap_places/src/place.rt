@@ -1,0 +1,12 @@
+//! A place in a line.
+
+/// A place in a line, lent from it: a URL of a table, `:`, a line, `:` and a column. It stands from byte `start` to byte
+/// `end` of the line, which count from 0. Its line and its column are as printed, from 1.
+#[derive(Clone, Copy)]
+pub struct Place<'l> {
+    pub start: usize,
+    pub end: usize,
+    pub url: &'l [u8],
+    pub line: u32,
+    pub column: u32,
+}
