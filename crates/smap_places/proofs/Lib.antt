@@ -1,2 +1,5 @@
 pub mod Examples
 pub mod PlaceLaws
+pub mod CountLaws
+pub mod PartLaws
+pub mod TakingLaws

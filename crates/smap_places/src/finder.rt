@@ -54,6 +54,13 @@ impl<'t> PlaceFinder<'t> {
         })
     }
 
+    /// The table that it was made over.
+    pub fn table(&self) -> &'t Table
+        ensures { result.now ≡ self.now }
+    {
+        self.table
+    }
+
     /// The first place of a line that begins at byte `from` or behind it. What stands before `from` is asked only for
     /// whether a place may begin there: so the places of a line are found one behind the end of another, from 0. The
     /// line comes without its LF. The call takes no memory.

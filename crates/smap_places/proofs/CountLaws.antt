@@ -1,0 +1,73 @@
+-- How many places a line has, and how many a text.
+use Rattle.std.proofs.Common.{◌≡◌, ◌+◌, ◌-◌, ◌≤◌, ℕ, zero, suc, Bool, true, false, cond, List, [], ◌∷◌, length, filter, min, Option, Some, None, refl, sym, ap, ◌∙◌, arith}
+use mir.Val.{bool_byte}
+use Rattle.std.proofs.lemmas.Bool.{cond-true, cond_both, le-leb, leb-true}
+use Rattle.smap_lines.specs.Edited.{is_short}
+use Rattle.smap_lines.specs.Lines.{Line}
+use Rattle.smap_record.specs.Record.{MapRecord}
+use Rattle.smap_places.specs.PlaceRewriter.{behind_places}
+use Rattle.smap_places.specs.declared.place_rewriter.PlaceRewriter.{PlaceRewriter}
+use Rattle.smap_places.specs.Places.{Part, PlaceParts, begun_at, found, other, parts_by, parts_from, parts_of}
+use Rattle.smap_places.specs.PlacesRewritten.{is_place, is_replaced, places_in, replaced_in}
+
+pub one_more : {A : Type 0} (t : Bool) (x : A) (xs : List A) → length (cond t (x ∷ xs) xs) ≡ cond t 1 0 + length xs
+one_more true x xs = omega arith
+one_more false x xs = omega arith
+
+bit : (t : Bool) → cond t 1 0 ≤ 1
+bit true = omega arith
+bit false = omega arith
+
+few_of : {A : Type 0} (p : A → Bool) (xs : List A) → length (filter p xs) ≤ length xs
+few_of p [] = omega arith
+few_of p (x ∷ xs) = let few = few_of p xs in let more = one_more (p x) x (filter p xs) in let one = bit (p x) in omega (arith, few, more, one)
+
+-- a line has no more parts than bytes
+module _ (table : List (List ℕ × MapRecord)) (line : List ℕ) where
+  by_few : (text : List ℕ) (byte : ℕ) (behind : ℕ → List Part) (n : ℕ) (place : Option PlaceParts) → ((within : ℕ) → length (behind within) ≤ n) → length (parts_by text byte behind place) ≤ n + 1
+  by_few text byte behind n None few = omega (arith, few 0)
+  by_few text byte behind n (Some place) few = omega (arith, few (place.size - 1))
+
+  parts_few : (rest : List ℕ) (start within : ℕ) → length (parts_from table line start within rest) ≤ length rest
+  parts_few [] start within = omega arith
+  parts_few (byte ∷ rest) start (suc within) = let few = parts_few rest (suc start) within in omega (arith, few)
+  parts_few (byte ∷ rest) start zero =
+      let few = by_few (byte ∷ rest) byte (λ within. parts_from table line (suc start) within rest) (length rest) (begun_at table line start) (λ within. parts_few rest (suc start) within) in
+      omega (arith, few)
+
+  parts_of_few : length (parts_of table line) ≤ length line
+  unfolding parts_of
+  parts_of_few = parts_few line 0 0
+
+module _ (table : List (List ℕ × MapRecord)) (line : Line) where
+  pub filtered_few : (p : Part → Bool) → length (filter p (parts_of table line.bytes)) ≤ length line.bytes
+  filtered_few p = omega (arith, few_of p (parts_of table line.bytes), parts_of_few table line.bytes)
+
+  short_few : (p : Part → Bool) → cond (is_short line) (length (filter p (parts_of table line.bytes))) 0 ≤ 65536
+  short_few p = cond_both (is_short line) (length (filter p (parts_of table line.bytes))) 0 (λ n. n ≤ 65536)
+      (λ short. omega (arith, leb-true (length line.bytes) 65536 short, few_of p (parts_of table line.bytes), parts_of_few table line.bytes)) (λ _. omega arith)
+
+  pub places_few : places_in table line ≤ 65536
+  places_few = short_few is_place
+
+  pub replaced_few : replaced_in table line ≤ 65536
+  replaced_few = short_few (is_replaced table)
+
+  places_short : length line.bytes ≤ 65536 → min (places_in table line) 65536 ≡ length (filter is_place (parts_of table line.bytes))
+  places_short short = omega (arith, cond-true (is_short line) (length (filter is_place (parts_of table line.bytes))) 0 (le-leb (length line.bytes) 65536 short), filtered_few is_place, short)
+
+  replaced_short : length line.bytes ≤ 65536 → min (replaced_in table line) 65536 ≡ length (filter (is_replaced table) (parts_of table line.bytes))
+  replaced_short short = omega (arith, cond-true (is_short line) (length (filter (is_replaced table) (parts_of table line.bytes))) 0 (le-leb (length line.bytes) 65536 short), filtered_few (is_replaced table), short)
+
+  pub behind_is : (rewriter : PlaceRewriter) (new : PlaceRewriter) → rewriter.finder ≡ table → length line.bytes ≤ 65536 → new.alloc ≡ rewriter.alloc → new.finder ≡ rewriter.finder →
+      new.places ≡ rewriter.places + length (filter is_place (parts_of table line.bytes)) → new.mapped ≡ rewriter.mapped + length (filter (is_replaced table) (parts_of table line.bytes)) →
+      new ≡ behind_places rewriter line
+  behind_is rewriter new over short alloc finder places mapped =
+      let one : new.places ≡ rewriter.places + min (places_in rewriter.finder line) 65536 = places ∙ ap (λ n. rewriter.places + n) (sym (places_short short)) ∙ ap (λ t. rewriter.places + min (places_in t line) 65536) (sym over) in
+      let two : new.mapped ≡ rewriter.mapped + min (replaced_in rewriter.finder line) 65536 = mapped ∙ ap (λ n. rewriter.mapped + n) (sym (replaced_short short)) ∙ ap (λ t. rewriter.mapped + min (replaced_in t line) 65536) (sym over) in
+      λ i. record { alloc = alloc i; finder = finder i; places = one i; mapped = two i }
+
+-- a `bool` as a number
+pub byte_is : (b : Bool) → bool_byte b ≡ cond b 1 0
+byte_is true = refl
+byte_is false = refl

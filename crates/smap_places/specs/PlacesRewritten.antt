@@ -1,0 +1,84 @@
+-- What a text becomes whose places are rewritten wherever they stand: each of its lines by itself, over a table of the
+-- maps and their URLs (this project's own).
+use Rattle.std.specs.Prelude.{ℕ, ◌==◌, ◌||◌, Bool, false, List, [], ◌∷◌, ◌++◌, Option, Some, None, is_some, if◌then◌else◌, length, filter, unwrap_or}
+use Rattle.std.specs.List.{flat_map, list_any, sum_by}
+use Rattle.smap_lines.specs.Edited.{edited, is_short}
+use Rattle.smap_lines.specs.Lines.{Line, end_in, lines_of}
+use Rattle.smap_record.specs.Record.{MapRecord}
+use Rattle.smap_trace.specs.Frame.{FrameParts}
+use Rattle.smap_trace.specs.Rewritten.{Counts, SourcePlace, frame_text, name_in, original_of}
+use Rattle.smap_places.specs.Places.{Part, PlaceParts, found, other, parts_of}
+
+-- ---- a place
+
+-- a quotation mark or a backslash, which could end the string of a JSON text, or begin an escape in it
+abbrev pub is_quoting : ℕ → Bool
+is_quoting byte = byte == 34 || byte == 92
+
+-- a name that can stand anywhere in a line, also in a string of JSON
+abbrev pub quotable : Option (List ℕ) → Option (List ℕ)
+quotable None = None
+quotable (Some name) = if list_any is_quoting name then None else Some name
+
+-- a place as a frame of nothing else
+abbrev pub bare_frame : PlaceParts → FrameParts
+bare_frame place = record { head = []; url = place.url; line = place.line; column = place.column; tail = [] }
+
+-- what stands in its stead where its original is in a source of this name
+abbrev pub text_named : PlaceParts → SourcePlace → (name : Option (List ℕ)) → Option (List ℕ)
+text_named place original None = None
+text_named place original (Some name) = Some (frame_text (bare_frame place) original name)
+
+abbrev pub text_from : PlaceParts → Option SourcePlace → Option (List ℕ)
+text_from place None = None
+text_from place (Some original) = text_named place original (quotable (name_in original.source))
+
+-- what stands in its stead, if the maps have an original for it, in a source whose name can stand anywhere: the name, `:`,
+-- the line, `:`, the column
+unfoldable pub replacement : PlaceParts → List (List ℕ × MapRecord) → Option (List ℕ)
+replacement place table = text_from place (original_of (bare_frame place) table)
+
+-- ---- a line
+
+-- what becomes of a part of a line
+abbrev pub part_text : List (List ℕ × MapRecord) → Part → List ℕ
+part_text table (other byte) = byte ∷ []
+part_text table (found place text) = unwrap_or (replacement place table) text
+
+abbrev pub parts_text : List (List ℕ × MapRecord) → List Part → List ℕ
+parts_text table parts = flat_map (part_text table) parts
+
+-- a line, with what stands in its places' stead
+abbrev pub placed_line : List (List ℕ × MapRecord) → Line → List ℕ
+placed_line table line = parts_text table (parts_of table line.bytes) ++ end_in line.is_ended
+
+-- a text, rewritten
+abbrev pub placed_text : List ℕ → List (List ℕ × MapRecord) → List ℕ
+placed_text text table = edited (placed_line table) text
+
+-- ---- what is counted
+
+abbrev pub is_place : Part → Bool
+is_place (other byte) = false
+is_place (found place text) = is_some (Some place)
+
+-- the place is replaced
+abbrev pub is_replaced : List (List ℕ × MapRecord) → Part → Bool
+is_replaced table (other byte) = false
+is_replaced table (found place text) = is_some (replacement place table)
+
+-- how many places a line has, and how many of them are replaced; a longer one, which stays, has none
+abbrev pub places_in : List (List ℕ × MapRecord) → Line → ℕ
+places_in table line = if is_short line then length (filter is_place (parts_of table line.bytes)) else 0
+
+abbrev pub replaced_in : List (List ℕ × MapRecord) → Line → ℕ
+replaced_in table line = if is_short line then length (filter (is_replaced table) (parts_of table line.bytes)) else 0
+
+-- the lines of a text, its places in place of frames, those that are replaced, and none that is hidden
+unfoldable pub place_counts : List ℕ → List (List ℕ × MapRecord) → Counts
+place_counts text table = record {
+  lines = length (lines_of text);
+  frames = sum_by (places_in table) (lines_of text);
+  mapped = sum_by (replaced_in table) (lines_of text);
+  hidden = 0;
+}

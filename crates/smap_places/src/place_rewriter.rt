@@ -1,0 +1,109 @@
+//! The places of a text, rewritten line by line.
+ghost use Rattle.std.specs.Prelude.{◌≡◌, ◌<◌, ◌≤◌, ◌++◌, true, codes, is_some, length, map, slice_range, IfOk, OnErr, OnOk};
+ghost use Rattle.std.specs.List.{concat};
+ghost use Rattle.smap_io.specs.Device.{TakesFront};
+ghost use Rattle.smap_lines.specs.Gathered.{HandsOn};
+ghost use Rattle.smap_places.specs.Places.{found};
+ghost use Rattle.smap_places.specs.PlaceSeen.{place_seen};
+ghost use Rattle.smap_places.specs.PlacesRewritten.{part_text, replacement};
+
+use crate::finder::PlaceFinder;
+use crate::place::Place;
+use crate::replacement::find_replacement;
+use itoa::Buffer;
+use smap_io::{ByteSink, DeviceFault};
+use smap_lines::{Gathered, LineEditor};
+use smap_trace::Table;
+use std::alloc::Global;
+
+/// Rewrites the places in the lines of a text, and counts them and those that are replaced.
+#[derive(Drop)]
+pub struct PlaceRewriter<'t> {
+    pub alloc: Global,
+    pub finder: PlaceFinder<'t>,
+    pub places: u64,
+    pub mapped: u64,
+}
+
+impl LineEditor for PlaceRewriter<'_> {
+    ghost use Rattle.smap_places.specs.PlaceRewriter.{behind_places, room_of};
+    ghost use Rattle.smap_places.specs.PlacesRewritten.{placed_line};
+    ghost use Rattle.smap_places.specs.RewriterLaws.{room_behind};
+    ghost use Rattle.std.specs.Prelude.{refl};
+
+    ghost becomes = { λ rewriter. placed_line rewriter.finder };
+
+    ghost behind = { behind_places };
+
+    ghost room = { room_of };
+
+    fn edit<W: ByteSink>(
+        &mut self,
+        line: &[u8],
+        is_ended: bool,
+        gathered: &mut Gathered,
+        output: &mut W,
+    ) -> Result<(), DeviceFault> {
+        let table = self.finder.table();
+        let mut from = 0;
+        while let Some(place) = self.finder.next(line, from) {
+            let is_mapped = put_place(self.alloc, table, line, from, &place, gathered, output)?;
+            self.places += 1;
+            self.mapped += u64::from(is_mapped);
+            from = place.end;
+        }
+        gathered.put_line(&line[from..], is_ended, output)
+    }
+
+    ghost same = { λ rewriter line other. refl };
+
+    ghost room_for_one = { room_behind };
+}
+
+// Puts the bytes of a line from byte `from` on that stand before a place, and what becomes of it; and tells whether it
+// is replaced.
+fn put_place<W: ByteSink>(
+    alloc: Global,
+    table: &Table,
+    line: &[u8],
+    from: usize,
+    place: &Place<'_>,
+    gathered: &mut Gathered,
+    output: &mut W,
+) -> Result<bool, DeviceFault>
+    requires behind { from ≤ place.now.start }
+    requires some { place.now.start < place.now.end }
+    requires within { place.now.end ≤ length line.now }
+    ensures put { OnOk result (HandsOn (W.taken output.old) (W.taken output.new) (gathered.old
+        ++ (slice_range line.now from place.now.start ++ part_text table.now
+            (found (place_seen place.now) (slice_range line.now place.now.start place.now.end)))) gathered.new) }
+    ensures mapped { IfOk result (λ mapped. mapped ≡ is_some (replacement (place_seen place.now) table.now)) }
+    ensures no_failure { OnOk result (W.has_failed output.new ≡ W.has_failed output.old) }
+
+    ensures front { OnErr result (TakesFront (W.taken output.old) (W.taken output.new) (gathered.old
+        ++ (slice_range line.now from place.now.start ++ part_text table.now
+            (found (place_seen place.now) (slice_range line.now place.now.start place.now.end))))) }
+    ensures failure { OnErr result (W.has_failed output.new ≡ true) }
+{
+    let Some(replacement) = find_replacement(alloc, table, place) else {
+        gathered.put(&line[from..place.end], output)?;
+        return Ok(false);
+    };
+    let (mut original_line, mut original_column) = (Buffer::new(), Buffer::new());
+    let pieces = pieces_of(
+        &line[from..place.start],
+        replacement.name.as_bytes(),
+        original_line.format(replacement.original.line).as_bytes(),
+        original_column.format(replacement.original.column).as_bytes(),
+    );
+    gathered.put_all(&pieces, output)?;
+    Ok(true)
+}
+
+// What is put where a place is replaced.
+fn pieces_of<'a>(front: &'a [u8], name: &'a [u8], line: &'a [u8], column: &'a [u8]) -> [&'a [u8]; 6]
+    ensures { concat (map (λ piece. piece.now) result)
+        ≡ front.now ++ (name.now ++ codes ":" ++ line.now ++ codes ":" ++ column.now) }
+{
+    [front, name, b":", line, b":", column]
+}
