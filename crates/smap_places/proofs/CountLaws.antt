@@ -1,14 +1,19 @@
 -- How many places a line has, and how many a text.
-use Rattle.std.proofs.Common.{◌≡◌, ◌+◌, ◌-◌, ◌≤◌, ℕ, zero, suc, Bool, true, false, cond, List, [], ◌∷◌, length, filter, min, Option, Some, None, refl, sym, ap, ◌∙◌, arith}
+use Rattle.std.proofs.Common.{◌≡◌, ◌+◌, ◌-◌, ◌≤◌, ℕ, zero, suc, Bool, true, false, cond, List, [], ◌∷◌, length, filter, min, Option, Some, None, refl, sym, ap, subst, fold, append-nil, ◌∙◌, arith}
 use mir.Val.{bool_byte}
-use Rattle.std.proofs.lemmas.Bool.{cond-true, cond_both, le-leb, leb-true}
-use Rattle.smap_lines.specs.Edited.{is_short}
-use Rattle.smap_lines.specs.Lines.{Line}
+use Rattle.std.specs.List.{sum_by}
+use Rattle.std.proofs.lemmas.List.Sums.{sum_by-cons}
+use Rattle.smap_io.specs.Device.{Gives, Takes}
+use Rattle.smap_lines.specs.Editing.{EditsFront, Streams}
+use Rattle.smap_lines.specs.declared.fault.LineFault.TheVariants.{Memory}
+use Rattle.std.proofs.lemmas.Bool.{cond-false, cond-true, cond_both, le-leb, leb-true}
+use Rattle.smap_lines.specs.Edited.{behind_line, behind_text, edited, is_short}
+use Rattle.smap_lines.specs.Lines.{Line, lines_of}
 use Rattle.smap_record.specs.Record.{MapRecord}
 use Rattle.smap_places.specs.PlaceRewriter.{behind_places}
 use Rattle.smap_places.specs.declared.place_rewriter.PlaceRewriter.{PlaceRewriter}
 use Rattle.smap_places.specs.Places.{Part, PlaceParts, begun_at, found, other, parts_by, parts_from, parts_of}
-use Rattle.smap_places.specs.PlacesRewritten.{is_place, is_replaced, places_in, replaced_in}
+use Rattle.smap_places.specs.PlacesRewritten.{is_place, is_replaced, place_counts, places_in, replaced_in}
 
 pub one_more : {A : Type 0} (t : Bool) (x : A) (xs : List A) → length (cond t (x ∷ xs) xs) ≡ cond t 1 0 + length xs
 one_more true x xs = omega arith
@@ -71,3 +76,70 @@ module _ (table : List (List ℕ × MapRecord)) (line : Line) where
 pub byte_is : (b : Bool) → bool_byte b ≡ cond b 1 0
 byte_is true = refl
 byte_is false = refl
+
+-- ---- the lines of a text
+
+module _ (table : List (List ℕ × MapRecord)) where
+  -- what a line adds
+  abbrev Adds : PlaceRewriter → Line → PlaceRewriter → Type 0
+  Adds rewriter line new =
+      (new.finder ≡ table) × (new.places ≡ rewriter.places + places_in table line) × (new.mapped ≡ rewriter.mapped + replaced_in table line)
+
+  adds : (rewriter : PlaceRewriter) (line : Line) → rewriter.finder ≡ table → Adds rewriter line (behind_line behind_places rewriter line)
+  adds rewriter line over = cond_both (is_short line) (behind_places rewriter line) rewriter (λ new. Adds rewriter line new)
+      (λ short. (
+        over,
+        ap (λ t. rewriter.places + min (places_in t line) 65536) over ∙ omega (arith, places_few table line),
+        ap (λ t. rewriter.mapped + min (replaced_in t line) 65536) over ∙ omega (arith, replaced_few table line),
+      ))
+      (λ long. (
+        over,
+        omega (arith, cond-false (is_short line) (length (filter is_place (parts_of table line.bytes))) 0 long),
+        omega (arith, cond-false (is_short line) (length (filter (is_replaced table) (parts_of table line.bytes))) 0 long),
+      ))
+
+  abbrev Counted : PlaceRewriter → List Line → PlaceRewriter → Type 0
+  Counted rewriter lines new =
+      (new.places ≡ rewriter.places + sum_by (places_in table) lines) × (new.mapped ≡ rewriter.mapped + sum_by (replaced_in table) lines)
+
+  counted_over : (rewriter : PlaceRewriter) (lines : List Line) → rewriter.finder ≡ table → Counted rewriter lines (fold (behind_line behind_places) rewriter lines)
+  counted_over rewriter [] over = (omega arith, omega arith)
+  counted_over rewriter (line ∷ lines) over =
+      let one = adds rewriter line over in
+      let more = counted_over (behind_line behind_places rewriter line) lines one.0 in (
+        omega (arith, one.1, more.0, sum_by-cons (places_in table) line lines),
+        omega (arith, one.2, more.1, sum_by-cons (replaced_in table) line lines),
+      )
+
+  pub counts_are : (rewriter new : PlaceRewriter) (bytes : List ℕ) (lines : ℕ) → rewriter.finder ≡ table → rewriter.places ≡ 0 → rewriter.mapped ≡ 0 →
+      new ≡ behind_text behind_places rewriter bytes → lines ≡ length (lines_of bytes) →
+      record { lines = lines; frames = new.places; mapped = new.mapped; hidden = 0 } ≡ place_counts bytes table
+  unfolding place_counts behind_text
+  counts_are rewriter new bytes lines over no_places none_mapped behind lines_is =
+      let counted = subst (λ n. Counted rewriter (lines_of bytes) n) (sym behind) (counted_over rewriter (lines_of bytes) over) in
+      let places : new.places ≡ sum_by (places_in table) (lines_of bytes) = omega (arith, counted.0, no_places) in
+      let mapped : new.mapped ≡ sum_by (replaced_in table) (lines_of bytes) = omega (arith, counted.1, none_mapped) in
+      λ i. record { lines = lines_is i; frames = places i; mapped = mapped i; hidden = 0 }
+
+-- ---- nothing was read
+
+gives_none : (left : Option (List ℕ)) → Gives left left []
+gives_none None = refl
+gives_none (Some bytes) = refl
+
+takes_none : (taken : Option (List ℕ)) → Takes taken taken []
+takes_none None = refl
+takes_none (Some bytes) = ap Some (sym (append-nil bytes))
+
+pub no_memory : (becomes : Line → List ℕ) (now : Streams) → EditsFront becomes now now Memory
+unfolding edited
+no_memory becomes now = record {
+  bytes = [];
+  written = [];
+  later = [];
+  read = gives_none now.left;
+  taken = takes_none now.taken;
+  front = refl;
+  many = λ e. absurd (cc);
+  whole = λ e. absurd (cc);
+}
