@@ -1,15 +1,19 @@
 -- How a line is cut into its places and the bytes between them, one place after another.
-use Rattle.std.proofs.Common.{◌≡◌, ◌+◌, ◌-◌, ◌<◌, ◌≤◌, ℕ, zero, suc, Bool, true, false, List, [], ◌∷◌, ◌++◌, length, take, drop, get_or, filter, map, Option, Some, None, is_some, refl, sym, ap, ◌∙◌, arith, append_assoc, append-nil, cond, length-drop}
+use Rattle.std.proofs.Common.{◌≡◌, ◌≢◌, ◌+◌, ◌-◌, ◌<◌, ◌≤◌, ℕ, zero, suc, Bool, true, false, List, [], ◌∷◌, ◌++◌, length, take, drop, get_or, filter, map, Option, Some, None, is_some, refl, sym, ap, ◌∙◌, arith, append_assoc, append-nil, cond, length-drop}
 use Rattle.std.specs.Fmt.{decimal}
 use Rattle.std.specs.Prelude.{codes, slice_range, unwrap_or}
 use Rattle.std.proofs.Math.Seq.{drop-length, take-add}
 use Rattle.smap_trace.specs.Rewritten.{SourcePlace, frame_text}
 use Rattle.std.specs.List.{flat_map}
-use Rattle.std.proofs.lemmas.List.{drop-drop, drop_more, take_rest}
+use Rattle.std.proofs.lemmas.List.{drop-drop, drop_more, take-append-drop, take_rest}
+use Rattle.std.proofs.lemmas.Bool.{false_from_ne_true}
+use Rattle.smap_lines.specs.Lines.{Line, end_in, line_text}
+use Rattle.smap_trace.specs.Table.{record_for}
+use Rattle.smap_places.proofs.PlaceLaws.{none_known, not_begun}
 use Rattle.smap_record.specs.Record.{MapRecord}
-use Rattle.smap_places.specs.Places.{Part, PlaceParts, begun_at, found, other, parts_by, parts_from, parts_of}
+use Rattle.smap_places.specs.Places.{Part, PlaceParts, begun_at, found, other, parts_by, parts_from, parts_of, place_at}
 use Rattle.smap_places.specs.PlaceSeen.{IsNext, NoNext, place_seen}
-use Rattle.smap_places.specs.PlacesRewritten.{bare_frame, is_place, is_replaced, part_text, parts_text, replacement}
+use Rattle.smap_places.specs.PlacesRewritten.{bare_frame, is_place, is_replaced, part_text, parts_text, placed_line, replacement}
 use Rattle.smap_places.specs.declared.place.Place.{Place}
 use Rattle.smap_places.proofs.CountLaws.{one_more}
 
@@ -162,3 +166,13 @@ text_replaced table front text place original name is =
     let new : List ℕ = frame_text (bare_frame place) original name in
     let same : unwrap_or (Some new) text ≡ unwrap_or (replacement place table) text = ap (λ o. unwrap_or o text) is in
     ap (λ l. front ++ l) (bare_text place original name) ∙ ap (λ l. front ++ l) same
+
+-- ---- a line without URLs
+
+pub without_urls : (table : List (List ℕ × MapRecord)) (line : Line) → ((url before after : List ℕ) → is_some (record_for url table) ≡ true → line.bytes ≢ before ++ url ++ after) → placed_line table line ≡ line_text line
+without_urls table line none =
+    let unknown : (start : ℕ) → place_at table (drop start line.bytes) ≡ None = λ start. none_known table (drop start line.bytes) (λ bytes.
+    false_from_ne_true _ (λ some. none (take bytes (drop start line.bytes)) (take start line.bytes) (drop bytes (drop start line.bytes)) some
+    (sym (take-append-drop start line.bytes) ∙ ap (λ rest. take start line.bytes ++ rest) (sym (take-append-drop bytes (drop start line.bytes)))
+    ∙ sym (append_assoc (take start line.bytes) (take bytes (drop start line.bytes)) (drop bytes (drop start line.bytes)))))) in
+    ap (λ text. text ++ end_in line.is_ended) (ap (parts_text table) (from_start table line.bytes) ∙ last_text table line.bytes 0 (omega arith) (λ start _. not_begun table line.bytes start (unknown start)))

@@ -308,3 +308,12 @@ module _ (table : List (List ℕ × MapRecord)) (text : List ℕ) where
       go : (bytes : ℕ) → most < bytes → (among : Bool) → is_among lengths bytes ≡ among → place_with table text bytes ≡ None
       go bytes greater true among = before bytes (ap (λ l. is_among l bytes) (take_all index lengths end) ∙ among) greater
       go bytes greater false other = other_length table text lengths greatest covers bytes other
+
+-- where no front of a text is a URL of the table, no place begins it
+pub none_known : (table : List (List ℕ × MapRecord)) (text : List ℕ) → ((bytes : ℕ) → is_some (record_for (take bytes text) table) ≡ false) → place_at table text ≡ None
+unfolding place_at
+none_known table text none = go (length text)
+  where
+    go : (n : ℕ) → longest_within table text n ≡ None
+    go zero = refl
+    go (suc n) = ap (λ o. or_else o (longest_within table text n)) (without_url table text (suc n) (none (suc n))) ∙ go n

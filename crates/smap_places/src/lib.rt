@@ -10,6 +10,7 @@
 #![tactic(auto)]
 
 mod finder;
+pub mod laws;
 mod numbers;
 mod place;
 mod place_rewriter;
