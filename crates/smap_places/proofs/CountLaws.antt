@@ -12,7 +12,7 @@ use Rattle.smap_lines.specs.Lines.{Line, lines_of}
 use Rattle.smap_record.specs.Record.{MapRecord}
 use Rattle.smap_places.specs.PlaceRewriter.{behind_places}
 use Rattle.smap_places.specs.declared.place_rewriter.PlaceRewriter.{PlaceRewriter}
-use Rattle.smap_places.specs.Places.{Part, PlaceParts, begun_at, found, other, parts_by, parts_from, parts_of}
+use Rattle.smap_places.specs.Places.{Part, PlaceParts, begun_at, parts_by, parts_from, parts_of}
 use Rattle.smap_places.specs.PlacesRewritten.{is_place, is_replaced, place_counts, places_in, replaced_in}
 
 pub one_more : {A : Type 0} (t : Bool) (x : A) (xs : List A) → length (cond t (x ∷ xs) xs) ≡ cond t 1 0 + length xs

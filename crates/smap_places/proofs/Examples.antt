@@ -1,5 +1,5 @@
 -- Worked examples of the definitions: each holds by computing both sides.
-use Rattle.std.proofs.Common.{◌≡◌, true, false, [], ◌∷◌, Option, Some, None, refl, codes, map}
+use Rattle.std.proofs.Common.{◌≡◌, true, false, [], ◌∷◌, Some, None, refl, codes, map}
 use Rattle.smap_places.specs.Places.{is_word, numbers_behind}
 
 words : map is_word (codes "aZ9_-./\\%~+$: (\"'=@#,;[]{}<>|&?!*^`") ∷ map is_word (127 ∷ 128 ∷ 255 ∷ []) ∷ []

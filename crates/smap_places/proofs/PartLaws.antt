@@ -1,10 +1,9 @@
 -- How a line is cut into its places and the bytes between them, one place after another.
-use Rattle.std.proofs.Common.{◌≡◌, ◌≢◌, ◌+◌, ◌-◌, ◌<◌, ◌≤◌, ℕ, zero, suc, Bool, true, false, List, [], ◌∷◌, ◌++◌, length, take, drop, get_or, filter, map, Option, Some, None, is_some, refl, sym, ap, ◌∙◌, arith, append_assoc, append-nil, cond, length-drop}
+use Rattle.std.proofs.Common.{◌≡◌, ◌≢◌, ◌+◌, ◌-◌, ◌<◌, ◌≤◌, ℕ, zero, suc, true, List, [], ◌∷◌, ◌++◌, length, take, drop, get_or, filter, map, Some, None, is_some, refl, sym, ap, ◌∙◌, arith, append_assoc, append-nil, cond, length-drop}
 use Rattle.std.specs.Fmt.{decimal}
 use Rattle.std.specs.Prelude.{codes, slice_range, unwrap_or}
 use Rattle.std.proofs.Math.Seq.{drop-length, take-add}
 use Rattle.smap_trace.specs.Rewritten.{SourcePlace, frame_text}
-use Rattle.std.specs.List.{flat_map}
 use Rattle.std.proofs.lemmas.List.{drop-drop, drop_more, take-append-drop, take_rest}
 use Rattle.std.proofs.lemmas.Bool.{false_from_ne_true}
 use Rattle.smap_lines.specs.Lines.{Line, end_in, line_text}

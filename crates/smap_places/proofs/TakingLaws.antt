@@ -3,7 +3,7 @@ use Rattle.std.proofs.Common.{◌≡◌, ◌≤◌, ℕ, Bool, List, [], ◌++�
 use Rattle.std.specs.Io.KnownBytes.{append_known}
 use Rattle.smap_io.specs.Device.{Takes, TakesFront}
 use Rattle.smap_lines.specs.Gathered.{HandsOn}
-use Rattle.smap_lines.specs.Lines.{Line, end_in}
+use Rattle.smap_lines.specs.Lines.{end_in}
 use Rattle.smap_record.specs.Record.{MapRecord}
 use Rattle.smap_places.specs.PlaceSeen.{IsNext, NoNext}
 use Rattle.smap_places.specs.Places.{parts_of}

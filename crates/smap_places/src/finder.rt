@@ -54,8 +54,8 @@ impl<'t> PlaceFinder<'t> {
         })
     }
 
-    /// The table that it was made over.
-    pub fn table(&self) -> &'t Table
+    // The table that it was made over.
+    pub(crate) fn table(&self) -> &'t Table
         ensures { result.now ≡ self.now }
     {
         self.table

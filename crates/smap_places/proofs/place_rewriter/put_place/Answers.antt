@@ -1,4 +1,4 @@
-use Rattle.std.proofs.Common.{◌++◌, arith, subst, sym, ◌∙◌}
+use Rattle.std.proofs.Common.{◌++◌, arith, subst, ◌∙◌}
 use Rattle.std.proofs.lemmas.Result.{err_from_is_err_and}
 use Rattle.smap_io.specs.Device.{TakesFront}
 use Rattle.smap_lines.specs.Gathered.{HandsOn}

@@ -1,4 +1,4 @@
-use Rattle.std.proofs.Common.{arith, ap, length, ◌∙◌}
+use Rattle.std.proofs.Common.{arith, ◌∙◌}
 use Rattle.smap_places.proofs.PlaceLaws.{covers_all}
 use Rattle.smap_places.proofs.finder.PlaceFinder.new.Goals as goal
 

@@ -1,4 +1,4 @@
-use Rattle.std.proofs.Common.{◌≡◌, ◌<◌, ◌≤◌, ℕ, true, take}
+use Rattle.std.proofs.Common.{◌≡◌, ◌≤◌, ℕ, true, take}
 use Rattle.smap_places.specs.Finder.{is_among}
 use Rattle.smap_places.proofs.finder.PlaceFinder.new.Given as goal
 
