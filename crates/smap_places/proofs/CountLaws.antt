@@ -4,13 +4,13 @@ use mir.Val.{bool_byte}
 use Rattle.std.specs.List.{sum_by}
 use Rattle.std.proofs.lemmas.List.Sums.{sum_by-cons}
 use Rattle.smap_io.specs.Device.{Gives, Takes}
-use Rattle.smap_lines.specs.Editing.{EditsFront, Streams}
+use Rattle.smap_lines.specs.Editing.{EditsFront, DevicesSeen}
 use Rattle.smap_lines.specs.declared.fault.LineFault.TheVariants.{Memory}
 use Rattle.std.proofs.lemmas.Bool.{cond-false, cond-true, cond_both, le-leb, leb-true}
-use Rattle.smap_lines.specs.Edited.{behind_line, behind_text, edited, is_short}
-use Rattle.smap_lines.specs.Lines.{Line, lines_of}
+use Rattle.smap_lines.specs.Edited.{after_line, after_text, edited, is_short}
+use Rattle.smap_lines.specs.Lines.{Line, lines_with_ends}
 use Rattle.smap_record.specs.Record.{MapRecord}
-use Rattle.smap_places.specs.PlaceRewriter.{behind_places}
+use Rattle.smap_places.specs.PlaceRewriter.{after_places}
 use Rattle.smap_places.specs.declared.place_rewriter.PlaceRewriter.{PlaceRewriter}
 use Rattle.smap_places.specs.Places.{Part, PlaceParts, begun_at, parts_by, parts_from, parts_of}
 use Rattle.smap_places.specs.PlacesRewritten.{is_place, is_replaced, place_counts, places_in, replaced_in}
@@ -29,9 +29,9 @@ few_of p (x ∷ xs) = let few = few_of p xs in let more = one_more (p x) x (filt
 
 -- a line has no more parts than bytes
 module _ (table : List (List ℕ × MapRecord)) (line : List ℕ) where
-  by_few : (text : List ℕ) (byte : ℕ) (behind : ℕ → List Part) (n : ℕ) (place : Option PlaceParts) → ((within : ℕ) → length (behind within) ≤ n) → length (parts_by text byte behind place) ≤ n + 1
-  by_few text byte behind n None few = omega (arith, few 0)
-  by_few text byte behind n (Some place) few = omega (arith, few (place.size - 1))
+  by_few : (text : List ℕ) (byte : ℕ) (after : ℕ → List Part) (n : ℕ) (place : Option PlaceParts) → ((within : ℕ) → length (after within) ≤ n) → length (parts_by text byte after place) ≤ n + 1
+  by_few text byte after n None few = omega (arith, few 0)
+  by_few text byte after n (Some place) few = omega (arith, few (place.size - 1))
 
   parts_few : (rest : List ℕ) (start within : ℕ) → length (parts_from table line start within rest) ≤ length rest
   parts_few [] start within = omega arith
@@ -64,10 +64,10 @@ module _ (table : List (List ℕ × MapRecord)) (line : Line) where
   replaced_short : length line.bytes ≤ 65536 → min (replaced_in table line) 65536 ≡ length (filter (is_replaced table) (parts_of table line.bytes))
   replaced_short short = omega (arith, cond-true (is_short line) (length (filter (is_replaced table) (parts_of table line.bytes))) 0 (le-leb (length line.bytes) 65536 short), filtered_few (is_replaced table), short)
 
-  pub behind_is : (rewriter : PlaceRewriter) (new : PlaceRewriter) → rewriter.finder ≡ table → length line.bytes ≤ 65536 → new.alloc ≡ rewriter.alloc → new.finder ≡ rewriter.finder →
+  pub after_is : (rewriter : PlaceRewriter) (new : PlaceRewriter) → rewriter.finder ≡ table → length line.bytes ≤ 65536 → new.alloc ≡ rewriter.alloc → new.finder ≡ rewriter.finder →
       new.places ≡ rewriter.places + length (filter is_place (parts_of table line.bytes)) → new.mapped ≡ rewriter.mapped + length (filter (is_replaced table) (parts_of table line.bytes)) →
-      new ≡ behind_places rewriter line
-  behind_is rewriter new over short alloc finder places mapped =
+      new ≡ after_places rewriter line
+  after_is rewriter new over short alloc finder places mapped =
       let one : new.places ≡ rewriter.places + min (places_in rewriter.finder line) 65536 = places ∙ ap (λ n. rewriter.places + n) (sym (places_short short)) ∙ ap (λ t. rewriter.places + min (places_in t line) 65536) (sym over) in
       let two : new.mapped ≡ rewriter.mapped + min (replaced_in rewriter.finder line) 65536 = mapped ∙ ap (λ n. rewriter.mapped + n) (sym (replaced_short short)) ∙ ap (λ t. rewriter.mapped + min (replaced_in t line) 65536) (sym over) in
       λ i. record { alloc = alloc i; finder = finder i; places = one i; mapped = two i }
@@ -85,8 +85,8 @@ module _ (table : List (List ℕ × MapRecord)) where
   Adds rewriter line new =
       (new.finder ≡ table) × (new.places ≡ rewriter.places + places_in table line) × (new.mapped ≡ rewriter.mapped + replaced_in table line)
 
-  adds : (rewriter : PlaceRewriter) (line : Line) → rewriter.finder ≡ table → Adds rewriter line (behind_line behind_places rewriter line)
-  adds rewriter line over = cond_both (is_short line) (behind_places rewriter line) rewriter (λ new. Adds rewriter line new)
+  adds : (rewriter : PlaceRewriter) (line : Line) → rewriter.finder ≡ table → Adds rewriter line (after_line after_places rewriter line)
+  adds rewriter line over = cond_both (is_short line) (after_places rewriter line) rewriter (λ new. Adds rewriter line new)
       (λ short. (
         over,
         ap (λ t. rewriter.places + min (places_in t line) 65536) over ∙ omega (arith, places_few table line),
@@ -102,23 +102,23 @@ module _ (table : List (List ℕ × MapRecord)) where
   Counted rewriter lines new =
       (new.places ≡ rewriter.places + sum_by (places_in table) lines) × (new.mapped ≡ rewriter.mapped + sum_by (replaced_in table) lines)
 
-  counted_over : (rewriter : PlaceRewriter) (lines : List Line) → rewriter.finder ≡ table → Counted rewriter lines (fold (behind_line behind_places) rewriter lines)
+  counted_over : (rewriter : PlaceRewriter) (lines : List Line) → rewriter.finder ≡ table → Counted rewriter lines (fold (after_line after_places) rewriter lines)
   counted_over rewriter [] over = (omega arith, omega arith)
   counted_over rewriter (line ∷ lines) over =
       let one = adds rewriter line over in
-      let more = counted_over (behind_line behind_places rewriter line) lines one.0 in (
+      let more = counted_over (after_line after_places rewriter line) lines one.0 in (
         omega (arith, one.1, more.0, sum_by-cons (places_in table) line lines),
         omega (arith, one.2, more.1, sum_by-cons (replaced_in table) line lines),
       )
 
   pub counts_are : (rewriter new : PlaceRewriter) (bytes : List ℕ) (lines : ℕ) → rewriter.finder ≡ table → rewriter.places ≡ 0 → rewriter.mapped ≡ 0 →
-      new ≡ behind_text behind_places rewriter bytes → lines ≡ length (lines_of bytes) →
+      new ≡ after_text after_places rewriter bytes → lines ≡ length (lines_with_ends bytes) →
       record { lines = lines; frames = new.places; mapped = new.mapped; hidden = 0 } ≡ place_counts bytes table
-  unfolding place_counts behind_text
-  counts_are rewriter new bytes lines over no_places none_mapped behind lines_is =
-      let counted = subst (λ n. Counted rewriter (lines_of bytes) n) (sym behind) (counted_over rewriter (lines_of bytes) over) in
-      let places : new.places ≡ sum_by (places_in table) (lines_of bytes) = omega (arith, counted.0, no_places) in
-      let mapped : new.mapped ≡ sum_by (replaced_in table) (lines_of bytes) = omega (arith, counted.1, none_mapped) in
+  unfolding place_counts after_text
+  counts_are rewriter new bytes lines over no_places none_mapped after lines_is =
+      let counted = subst (λ n. Counted rewriter (lines_with_ends bytes) n) (sym after) (counted_over rewriter (lines_with_ends bytes) over) in
+      let places : new.places ≡ sum_by (places_in table) (lines_with_ends bytes) = omega (arith, counted.0, no_places) in
+      let mapped : new.mapped ≡ sum_by (replaced_in table) (lines_with_ends bytes) = omega (arith, counted.1, none_mapped) in
       λ i. record { lines = lines_is i; frames = places i; mapped = mapped i; hidden = 0 }
 
 -- ---- nothing was read
@@ -131,7 +131,7 @@ takes_none : (taken : Option (List ℕ)) → Takes taken taken []
 takes_none None = refl
 takes_none (Some bytes) = ap Some (sym (append-nil bytes))
 
-pub no_memory : (becomes : Line → List ℕ) (now : Streams) → EditsFront becomes now now Memory
+pub no_memory : (becomes : Line → List ℕ) (now : DevicesSeen) → EditsFront becomes now now Memory
 unfolding edited
 no_memory becomes now = record {
   bytes = [];

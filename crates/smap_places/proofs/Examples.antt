@@ -1,16 +1,16 @@
 -- Worked examples of the definitions: each holds by computing both sides.
 use Rattle.std.proofs.Common.{◌≡◌, true, false, [], ◌∷◌, Some, None, refl, codes, map}
-use Rattle.smap_places.specs.Places.{is_word, numbers_behind}
+use Rattle.smap_places.specs.Places.{is_word, numbers_after}
 
 words : map is_word (codes "aZ9_-./\\%~+$: (\"'=@#,;[]{}<>|&?!*^`") ∷ map is_word (127 ∷ 128 ∷ 255 ∷ []) ∷ []
     ≡ (true ∷ true ∷ true ∷ true ∷ true ∷ true ∷ true ∷ true ∷ true ∷ true ∷ true ∷ true ∷ true ∷ false ∷ false ∷ false ∷ false ∷ false ∷ false ∷ false ∷ false ∷ false ∷ false ∷ false ∷ false ∷ false ∷ false ∷ false ∷ false ∷ false ∷ false ∷ false ∷ false ∷ false ∷ false ∷ []) ∷ (false ∷ true ∷ true ∷ []) ∷ []
 words = refl
 
-numbers : numbers_behind (codes ":1:26x") ≡ Some (1, 26, 5)
-unfolding numbers_behind
+numbers : numbers_after (codes ":1:26x") ≡ Some (1, 26, 5)
+unfolding numbers_after
 numbers = refl
 
-no_numbers : numbers_behind (codes ":01:2") ∷ numbers_behind (codes ":1:2147483649") ∷ numbers_behind (codes ":1") ∷ numbers_behind (codes ":1:x") ∷ numbers_behind (codes "1:1") ∷ []
+no_numbers : numbers_after (codes ":01:2") ∷ numbers_after (codes ":1:2147483649") ∷ numbers_after (codes ":1") ∷ numbers_after (codes ":1:x") ∷ numbers_after (codes "1:1") ∷ []
     ≡ None ∷ None ∷ None ∷ None ∷ None ∷ []
-unfolding numbers_behind
+unfolding numbers_after
 no_numbers = refl

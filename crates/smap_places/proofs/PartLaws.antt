@@ -3,7 +3,7 @@ use Rattle.std.proofs.Common.{◌≡◌, ◌≢◌, ◌+◌, ◌-◌, ◌<◌, �
 use Rattle.std.specs.Fmt.{decimal}
 use Rattle.std.specs.Prelude.{codes, slice_range, unwrap_or}
 use Rattle.std.proofs.Math.Seq.{drop-length, take-add}
-use Rattle.smap_trace.specs.Rewritten.{SourcePlace, frame_text}
+use Rattle.smap_trace.specs.Rewritten.{SourceLocation, frame_text}
 use Rattle.std.proofs.lemmas.List.{drop-drop, drop_more, take-append-drop, take_rest}
 use Rattle.std.proofs.lemmas.Bool.{false_from_ne_true}
 use Rattle.smap_lines.specs.Lines.{Line, end_in, line_text}
@@ -52,7 +52,7 @@ module _ (table : List (List ℕ × MapRecord)) (line : List ℕ) where
       ∙ ap (λ rest. map other (take (suc n) rest) ++ parts_at (start + 1 + n)) (sym (drop_more line start 0 (omega (arith, within))))
       ∙ ap (λ k. map other (take (suc n) (drop start line)) ++ parts_at k) next
 
-  -- a place, and what is behind it
+  -- a place, and what is after it
   pub one_place : (start size : ℕ) (place : PlaceParts) → begun_at table line start ≡ Some place → place.size ≡ size → 0 < size → start + size ≤ length line →
       parts_at start ≡ found place (take size (drop start line)) ∷ parts_at (start + size)
   one_place start zero place here is some within = absurd (omega (arith, some))
@@ -66,10 +66,10 @@ module _ (table : List (List ℕ × MapRecord)) (line : List ℕ) where
       ∙ ap (λ rest. found place (take (suc size) rest) ∷ parts_from table line (suc start) (place.size - 1) (drop (start + 1) line)) (sym (drop_more line start 0 (omega (arith, within))))
       ∙ ap (λ k. found place (take (suc size) (drop start line)) ∷ parts_from table line (suc start) k (drop (start + 1) line)) less
       ∙ ap (λ parts. found place (take (suc size) (drop start line)) ∷ parts)
-        (skipped size (suc start) (drop (start + 1) line) (omega (arith, within, length-drop (start + 1) line))
-        ∙ ap (λ k. parts_from table line (k + size) 0 (drop size (drop (start + 1) line))) one
-        ∙ ap (λ rest. parts_from table line (start + 1 + size) 0 rest) (drop-drop size (start + 1) line)
-        ∙ ap parts_at next)
+      (skipped size (suc start) (drop (start + 1) line) (omega (arith, within, length-drop (start + 1) line))
+      ∙ ap (λ k. parts_from table line (k + size) 0 (drop size (drop (start + 1) line))) one
+      ∙ ap (λ rest. parts_from table line (start + 1 + size) 0 rest) (drop-drop size (start + 1) line)
+      ∙ ap parts_at next)
 
 -- ---- what comes of bytes between places
 
@@ -86,19 +86,19 @@ module _ (table : List (List ℕ × MapRecord)) where
   others_replaced [] parts = refl
   others_replaced (byte ∷ bytes) parts = others_replaced bytes parts
 
--- ---- the next place, and what is behind it
+-- ---- the next place, and what is after it
 
 module _ (table : List (List ℕ × MapRecord)) (line : List ℕ) where
   module _ (from : ℕ) (place : Place) (is : IsNext table line from place) where
     next_parts : parts_at table line from ≡ map other (slice_range line from place.start) ++ found (place_seen place) (slice_range line place.start place.end) ∷ parts_at table line place.end
     next_parts =
-        let front : from + (place.start - from) ≡ place.start = omega (arith, is.behind) in
+        let front : from + (place.start - from) ≡ place.start = omega (arith, is.after) in
         let back : place.start + (place.end - place.start) ≡ place.end = omega (arith, is.some) in
-        others table line (place.start - from) from (omega (arith, is.behind, is.some, is.within)) (λ i least below. is.first i least (omega (arith, below, is.behind)))
+        others table line (place.start - from) from (omega (arith, is.after, is.some, is.within)) (λ i least below. is.first i least (omega (arith, below, is.after)))
         ∙ ap (λ k. map other (slice_range line from place.start) ++ parts_at table line k) front
         ∙ ap (λ parts. map other (slice_range line from place.start) ++ parts)
-          (one_place table line place.start (place.end - place.start) (place_seen place) is.here refl (omega (arith, is.some)) (omega (arith, is.some, is.within))
-          ∙ ap (λ k. found (place_seen place) (slice_range line place.start place.end) ∷ parts_at table line k) back)
+        (one_place table line place.start (place.end - place.start) (place_seen place) is.here refl (omega (arith, is.some)) (omega (arith, is.some, is.within))
+        ∙ ap (λ k. found (place_seen place) (slice_range line place.start place.end) ∷ parts_at table line k) back)
 
     -- the bytes before it, and what becomes of it
     abbrev pub put_text : List ℕ
@@ -148,18 +148,18 @@ module _ (table : List (List ℕ × MapRecord)) (line : List ℕ) where
 -- one that stays is put with the bytes before it
 pub text_stays : (table : List (List ℕ × MapRecord)) (line : List ℕ) (from start end : ℕ) (place : PlaceParts) → from ≤ start → start ≤ end → None ≡ replacement place table →
     slice_range line from end ≡ slice_range line from start ++ part_text table (found place (slice_range line start end))
-text_stays table line from start end place behind some none =
-    let both : end - from ≡ (start - from) + (end - start) = omega (arith, behind, some) in
-    let here : from + (start - from) ≡ start = omega (arith, behind) in
+text_stays table line from start end place after some none =
+    let both : end - from ≡ (start - from) + (end - start) = omega (arith, after, some) in
+    let here : from + (start - from) ≡ start = omega (arith, after) in
     ap (λ n. take n (drop from line)) both ∙ take-add (start - from) (end - start) (drop from line)
     ∙ ap (λ rest. slice_range line from start ++ take (end - start) rest) (drop-drop (start - from) from line ∙ ap (λ k. drop k line) here)
     ∙ ap (λ o. slice_range line from start ++ unwrap_or o (slice_range line start end)) none
 
-bare_text : (place : PlaceParts) (original : SourcePlace) (name : List ℕ) → name ++ codes ":" ++ decimal original.line ++ codes ":" ++ decimal original.column ≡ frame_text (bare_frame place) original name
+bare_text : (place : PlaceParts) (original : SourceLocation) (name : List ℕ) → name ++ codes ":" ++ decimal original.line ++ codes ":" ++ decimal original.column ≡ frame_text (bare_frame place) original name
 bare_text place original name = sym (append-nil (name ++ codes ":" ++ decimal original.line ++ codes ":" ++ decimal original.column))
 
 -- one that is replaced
-pub text_replaced : (table : List (List ℕ × MapRecord)) (front text : List ℕ) (place : PlaceParts) (original : SourcePlace) (name : List ℕ) → Some (frame_text (bare_frame place) original name) ≡ replacement place table →
+pub text_replaced : (table : List (List ℕ × MapRecord)) (front text : List ℕ) (place : PlaceParts) (original : SourceLocation) (name : List ℕ) → Some (frame_text (bare_frame place) original name) ≡ replacement place table →
     front ++ (name ++ codes ":" ++ decimal original.line ++ codes ":" ++ decimal original.column) ≡ front ++ part_text table (found place text)
 text_replaced table front text place original name is =
     let new : List ℕ = frame_text (bare_frame place) original name in

@@ -9,24 +9,24 @@ use Rattle.smap_trace.specs.Table.{record_for}
 use Rattle.smap_places.specs.Finder.{Covers, is_among}
 use Rattle.smap_places.specs.PlaceSeen.{IsNext, NoNext, place_seen}
 use Rattle.smap_places.specs.declared.place.Place.{Place}
-use Rattle.smap_places.specs.Places.{PlaceParts, begun_at, longest_within, may_begin, numbers_behind, or_else, place_at, place_with, placed, with_line}
+use Rattle.smap_places.specs.Places.{PlaceParts, begun_at, longest_within, may_begin, numbers_after, or_else, place_at, place_with, placed, with_line}
 
 -- ---- numbers
 
-pub no_numbers : numbers_behind [] ≡ None
-unfolding numbers_behind
+pub no_numbers : numbers_after [] ≡ None
+unfolding numbers_after
 no_numbers = refl
 
 -- a text that does not begin with a `:` has none
-no_colon : (byte : ℕ) (rest : List ℕ) → (byte == 58) ≡ false → numbers_behind (byte ∷ rest) ≡ None
-unfolding numbers_behind
+no_colon : (byte : ℕ) (rest : List ℕ) → (byte == 58) ≡ false → numbers_after (byte ∷ rest) ≡ None
+unfolding numbers_after
 no_colon byte rest other = ap (with_line (byte ∷ rest)) (cond-false (byte == 58) _ None other)
 
-pub none_at : (line : List ℕ) (i : ℕ) → ((get_or line i 0 == 58) ≡ true → ⊥) → numbers_behind (drop i line) ≡ None
+pub none_at : (line : List ℕ) (i : ℕ) → ((get_or line i 0 == 58) ≡ true → ⊥) → numbers_after (drop i line) ≡ None
 none_at line i other = elim (cases_lt i (length line)) [
-    | inl inside ↦ ap numbers_behind (drop_more line i 0 inside) ∙ no_colon (get_or line i 0) (drop (i + 1) line) (false_from_ne_true _ other)
-    | inr outside ↦ ap numbers_behind (drop_all i line outside) ∙ no_numbers
-  ]
+  | inl inside ↦ ap numbers_after (drop_more line i 0 inside) ∙ no_colon (get_or line i 0) (drop (i + 1) line) (false_from_ne_true _ other)
+  | inr outside ↦ ap numbers_after (drop_all i line outside) ∙ no_numbers
+]
 
 -- ---- a place with a URL of some length
 
@@ -35,14 +35,14 @@ both_none true = refl
 both_none false = refl
 
 module _ (table : List (List ℕ × MapRecord)) (text : List ℕ) where
-  pub without_numbers : (bytes : ℕ) → numbers_behind (drop bytes text) ≡ None → place_with table text bytes ≡ None
+  pub without_numbers : (bytes : ℕ) → numbers_after (drop bytes text) ≡ None → place_with table text bytes ≡ None
   without_numbers bytes none = ap (λ numbers. cond (is_some (record_for (take bytes text) table)) (placed (take bytes text) bytes numbers) None) none ∙ both_none _
 
   pub without_url : (bytes : ℕ) → is_some (record_for (take bytes text) table) ≡ false → place_with table text bytes ≡ None
   without_url bytes none = cond-false _ _ None none
 
   pub past_end : (bytes : ℕ) → length text ≤ bytes → place_with table text bytes ≡ None
-  past_end bytes past = without_numbers bytes (ap numbers_behind (drop_all bytes text past) ∙ no_numbers)
+  past_end bytes past = without_numbers bytes (ap numbers_after (drop_all bytes text past) ∙ no_numbers)
 
   -- ---- the longest
 
@@ -63,9 +63,9 @@ module _ (table : List (List ℕ × MapRecord)) (text : List ℕ) where
   longest_is zero zero none some small = refl
   longest_is zero (suc most) none some small = absurd (omega (arith, small))
   longest_is (suc n) most none some small = elim (cases_lt most (suc n)) [
-      | inl less ↦ ap (λ o. or_else o (longest_within table text n)) (none (suc n) less) ∙ longest_is n most none some (omega (arith, less))
-      | inr more ↦ at_end n most some (omega (arith, more, small))
-    ]
+    | inl less ↦ ap (λ o. or_else o (longest_within table text n)) (none (suc n) less) ∙ longest_is n most none some (omega (arith, less))
+    | inr more ↦ at_end n most some (omega (arith, more, small))
+  ]
     where
       at_end : (n most : ℕ) → (most ≡ 0) ⊎ (is_some (exactly most) ≡ true) → most ≡ suc n → longest_within table text (suc n) ≡ exactly most
       at_end n zero some is = absurd (omega (arith, is))
@@ -78,9 +78,9 @@ module _ (table : List (List ℕ × MapRecord)) (text : List ℕ) where
   fits zero some = omega arith
   fits (suc most) (inl zero_is) = absurd (omega (arith, zero_is))
   fits (suc most) (inr some) = elim (cases_lt (suc most) (length text)) [
-      | inl less ↦ omega (arith, less)
-      | inr more ↦ absurd (cc (ap is_some (past_end (suc most) more), some))
-    ]
+    | inl less ↦ omega (arith, less)
+    | inr more ↦ absurd (cc (ap is_some (past_end (suc most) more), some))
+  ]
 
   pub longest : (most : ℕ) → NoLonger most → (most ≡ 0) ⊎ (is_some (exactly most) ≡ true) → place_at table text ≡ exactly most
   unfolding place_at
@@ -92,28 +92,28 @@ module _ (table : List (List ℕ × MapRecord)) (text : List ℕ) where
     -- one that is not among them has no place
     pub other_length : (bytes : ℕ) → is_among lengths bytes ≡ false → place_with table text bytes ≡ None
     other_length bytes other = elim (cases_lt bytes (length text)) [
-        | inl inside ↦ without_url bytes (false_from_ne_true _ (λ some.
-            cc (ap (λ n. is_among lengths n) (length-take-le bytes text (omega (arith, inside))), (covers (take bytes text) some).0, other)))
-        | inr past ↦ past_end bytes past
-      ]
+      | inl inside ↦ without_url bytes (false_from_ne_true _ (λ some.
+          cc (ap (λ n. is_among lengths n) (length-take-le bytes text (omega (arith, inside))), (covers (take bytes text) some).0, other)))
+      | inr past ↦ past_end bytes past
+    ]
 
     -- nor has one that is greater than all
     pub greater_length : (bytes : ℕ) → greatest < bytes → place_with table text bytes ≡ None
     greater_length bytes greater = elim (cases_lt bytes (length text)) [
-        | inl inside ↦ without_url bytes (false_from_ne_true _ (λ some.
-            absurd (omega (arith, (covers (take bytes text) some).1, length-take-le bytes text (omega (arith, inside)), greater))))
-        | inr past ↦ past_end bytes past
-      ]
+      | inl inside ↦ without_url bytes (false_from_ne_true _ (λ some.
+          absurd (omega (arith, (covers (take bytes text) some).1, length-take-le bytes text (omega (arith, inside)), greater))))
+      | inr past ↦ past_end bytes past
+    ]
 
-    -- without numbers behind a URL, no place begins
-    none_within : (n : ℕ) → ((bytes : ℕ) → 1 ≤ bytes → bytes ≤ greatest → numbers_behind (drop bytes text) ≡ None) → longest_within table text n ≡ None
+    -- without numbers after a URL, no place begins
+    none_within : (n : ℕ) → ((bytes : ℕ) → 1 ≤ bytes → bytes ≤ greatest → numbers_after (drop bytes text) ≡ None) → longest_within table text n ≡ None
     none_within zero none = refl
     none_within (suc n) none = elim (cases_lt greatest (suc n)) [
-        | inl greater ↦ ap (λ o. or_else o (longest_within table text n)) (greater_length (suc n) greater) ∙ none_within n none
-        | inr less ↦ ap (λ o. or_else o (longest_within table text n)) (without_numbers (suc n) (none (suc n) (omega arith) less)) ∙ none_within n none
-      ]
+      | inl greater ↦ ap (λ o. or_else o (longest_within table text n)) (greater_length (suc n) greater) ∙ none_within n none
+      | inr less ↦ ap (λ o. or_else o (longest_within table text n)) (without_numbers (suc n) (none (suc n) (omega arith) less)) ∙ none_within n none
+    ]
 
-    pub none_begins : ((bytes : ℕ) → 1 ≤ bytes → bytes ≤ greatest → numbers_behind (drop bytes text) ≡ None) → place_at table text ≡ None
+    pub none_begins : ((bytes : ℕ) → 1 ≤ bytes → bytes ≤ greatest → numbers_after (drop bytes text) ≡ None) → place_at table text ≡ None
     unfolding place_at
     none_begins none = none_within (length text) none
 
@@ -134,32 +134,33 @@ module _ (table : List (List ℕ × MapRecord)) (line : List ℕ) where
 
   module _ (lengths : List ℕ) (greatest : ℕ) (covers : Covers lengths greatest table) where
     -- no place begins before these numbers by more than the greatest length, where none stand before them
-    pub none_before : (start : ℕ) → ((bytes : ℕ) → 1 ≤ bytes → bytes ≤ greatest → numbers_behind (drop (start + bytes) line) ≡ None) → begun_at table line start ≡ None
+    pub none_before : (start : ℕ) → ((bytes : ℕ) → 1 ≤ bytes → bytes ≤ greatest → numbers_after (drop (start + bytes) line) ≡ None) → begun_at table line start ≡ None
     none_before start none =
         not_begun start (none_begins table (drop start line) lengths greatest covers
-        (λ bytes some few. ap numbers_behind (drop-drop bytes start line) ∙ none bytes some few))
+        (λ bytes some few. ap numbers_after (drop-drop bytes start line) ∙ none bytes some few))
+
     -- none begins before the numbers by more than the greatest length, where none stand before them
-    pub none_between : (start numbers low : ℕ) → ((i : ℕ) → start + 1 ≤ i → i < numbers → numbers_behind (drop i line) ≡ None) → low ≡ max (numbers - greatest) start →
+    pub none_between : (start numbers low : ℕ) → ((i : ℕ) → start + 1 ≤ i → i < numbers → numbers_after (drop i line) ≡ None) → low ≡ max (numbers - greatest) start →
         (i : ℕ) → start ≤ i → i < low → begun_at table line i ≡ None
     none_between start numbers low none is i least below =
         none_before i (λ bytes some few. none (i + bytes) (omega (arith, least, some)) (omega (arith, is, least, below, few)))
 
-    -- none begins where no numbers stand behind
-    pub none_behind : (start : ℕ) → ((i : ℕ) → start + 1 ≤ i → numbers_behind (drop i line) ≡ None) → (i : ℕ) → start ≤ i → begun_at table line i ≡ None
-    none_behind start none i least = none_before i (λ bytes some few. none (i + bytes) (omega (arith, least, some)))
+    -- none begins where no numbers stand after
+    pub none_after : (start : ℕ) → ((i : ℕ) → start + 1 ≤ i → numbers_after (drop i line) ≡ None) → (i : ℕ) → start ≤ i → begun_at table line i ≡ None
+    none_after start none i least = none_before i (λ bytes some few. none (i + bytes) (omega (arith, least, some)))
 
   pub none_joined : (from start high : ℕ) → ((i : ℕ) → from ≤ i → i < start → begun_at table line i ≡ None) → ((i : ℕ) → start ≤ i → i < high → begun_at table line i ≡ None) →
       (i : ℕ) → from ≤ i → i < high → begun_at table line i ≡ None
-  none_joined from start high before behind i least below = elim (cases_lt i start) [
-      | inl early ↦ before i least early
-      | inr late ↦ behind i late below
-    ]
+  none_joined from start high before after i least below = elim (cases_lt i start) [
+    | inl early ↦ before i least early
+    | inr late ↦ after i late below
+  ]
 
   pub none_on : (from start : ℕ) → ((i : ℕ) → from ≤ i → i < start → begun_at table line i ≡ None) → ((i : ℕ) → start ≤ i → begun_at table line i ≡ None) → NoNext table line from
-  none_on from start before behind i least = elim (cases_lt i start) [
-      | inl early ↦ before i least early
-      | inr late ↦ behind i late
-    ]
+  none_on from start before after i least = elim (cases_lt i start) [
+    | inl early ↦ before i least early
+    | inr late ↦ after i late
+  ]
 
   at_end : place_at table [] ≡ None
   unfolding place_at
@@ -170,7 +171,7 @@ module _ (table : List (List ℕ × MapRecord)) (line : List ℕ) where
 
   pub next_from : (from low : ℕ) (place : Place) → from ≤ low → ((i : ℕ) → from ≤ i → i < low → begun_at table line i ≡ None) → IsNext table line low place → IsNext table line from place
   next_from from low place least before is = record {
-    behind = omega (arith, least, is.behind);
+    after = omega (arith, least, is.after);
     some = is.some;
     within = is.within;
     here = is.here;
@@ -179,14 +180,14 @@ module _ (table : List (List ℕ × MapRecord)) (line : List ℕ) where
 
   pub none_up_to : (low start : ℕ) → ((i : ℕ) → low ≤ i → i < start → begun_at table line i ≡ None) → begun_at table line start ≡ None → (i : ℕ) → low ≤ i → i < start + 1 → begun_at table line i ≡ None
   none_up_to low start before here i least below = elim (cases_lt i start) [
-      | inl early ↦ before i least early
-      | inr late ↦ let same : i ≡ start = omega (arith, late, below) in ap (λ k. begun_at table line k) same ∙ here
-    ]
+    | inl early ↦ before i least early
+    | inr late ↦ let same : i ≡ start = omega (arith, late, below) in ap (λ k. begun_at table line k) same ∙ here
+  ]
 
   pub place_is_next : (low start : ℕ) (place : Place) → low ≤ start → place.start ≡ start → start < place.end → place.end ≤ length line →
       ((i : ℕ) → low ≤ i → i < start → begun_at table line i ≡ None) → begun_at table line start ≡ Some (place_seen place) → IsNext table line low place
   place_is_next low start place least at_start some within before here = record {
-    behind = omega (arith, least, at_start);
+    after = omega (arith, least, at_start);
     some = omega (arith, some, at_start);
     within = within;
     here = ap (λ k. begun_at table line k) at_start ∙ here;
@@ -195,31 +196,31 @@ module _ (table : List (List ℕ × MapRecord)) (line : List ℕ) where
 
 -- ---- numbers in a line
 
-pub none_further : (line : List ℕ) (from place further : ℕ) → ((i : ℕ) → from ≤ i → i < place → numbers_behind (drop i line) ≡ None) →
-    ((i : ℕ) → i < further → (get_or (drop place line) i 0 == 58) ≡ true → ⊥) → (i : ℕ) → from ≤ i → i < place + further → numbers_behind (drop i line) ≡ None
+pub none_further : (line : List ℕ) (from place further : ℕ) → ((i : ℕ) → from ≤ i → i < place → numbers_after (drop i line) ≡ None) →
+    ((i : ℕ) → i < further → (get_or (drop place line) i 0 == 58) ≡ true → ⊥) → (i : ℕ) → from ≤ i → i < place + further → numbers_after (drop i line) ≡ None
 none_further line from place further before none i least below = elim (cases_lt i place) [
-    | inl early ↦ before i least early
-    | inr late ↦
+  | inl early ↦ before i least early
+  | inr late ↦
       let same : place + (i - place) ≡ i = omega (arith, late) in
       none_at line i (λ is. none (i - place) (omega (arith, late, below)) (ap (λ b. b == 58) (get_or-drop place line (i - place) 0 ∙ ap (λ k. get_or line k 0) same) ∙ is))
-  ]
+]
 
-pub none_to : (line : List ℕ) (from place : ℕ) → ((i : ℕ) → from ≤ i → i < place → numbers_behind (drop i line) ≡ None) → numbers_behind (drop place line) ≡ None →
-    (i : ℕ) → from ≤ i → i < place + 1 → numbers_behind (drop i line) ≡ None
+pub none_to : (line : List ℕ) (from place : ℕ) → ((i : ℕ) → from ≤ i → i < place → numbers_after (drop i line) ≡ None) → numbers_after (drop place line) ≡ None →
+    (i : ℕ) → from ≤ i → i < place + 1 → numbers_after (drop i line) ≡ None
 none_to line from place before here i least below = elim (cases_lt i place) [
-    | inl early ↦ before i least early
-    | inr late ↦ let same : i ≡ place = omega (arith, late, below) in ap (λ k. numbers_behind (drop k line)) same ∙ here
-  ]
+  | inl early ↦ before i least early
+  | inr late ↦ let same : i ≡ place = omega (arith, late, below) in ap (λ k. numbers_after (drop k line)) same ∙ here
+]
 
-pub none_left : (line : List ℕ) (from place : ℕ) → ((i : ℕ) → from ≤ i → i < place → numbers_behind (drop i line) ≡ None) →
-    ((i : ℕ) → i < length (drop place line) → (get_or (drop place line) i 0 == 58) ≡ true → ⊥) → (i : ℕ) → from ≤ i → numbers_behind (drop i line) ≡ None
+pub none_left : (line : List ℕ) (from place : ℕ) → ((i : ℕ) → from ≤ i → i < place → numbers_after (drop i line) ≡ None) →
+    ((i : ℕ) → i < length (drop place line) → (get_or (drop place line) i 0 == 58) ≡ true → ⊥) → (i : ℕ) → from ≤ i → numbers_after (drop i line) ≡ None
 none_left line from place before none i least = elim (cases_lt i (length line)) [
-    | inl inside ↦ elim (cases_lt i place) [
-        | inl early ↦ before i least early
-        | inr late ↦ none_further line from place (length line - place) before (λ k below. none k (omega (arith, below, length-drop place line))) i least (omega (arith, inside, late))
-      ]
-    | inr outside ↦ ap numbers_behind (drop_all i line outside) ∙ no_numbers
+  | inl inside ↦ elim (cases_lt i place) [
+    | inl early ↦ before i least early
+    | inr late ↦ none_further line from place (length line - place) before (λ k below. none k (omega (arith, below, length-drop place line))) i least (omega (arith, inside, late))
   ]
+  | inr outside ↦ ap numbers_after (drop_all i line outside) ∙ no_numbers
+]
 
 pub none_of : {A : Type 0} (o : Option A) → is_some o ≡ false → o ≡ None
 none_of None off = refl
@@ -279,17 +280,17 @@ module _ (table : List (List ℕ × MapRecord)) (text : List ℕ) where
     -- one is found
     pub longer_found : most < get_or lengths i 0 → (bytes : ℕ) → is_among (take (i + 1) lengths) bytes ≡ true → get_or lengths i 0 < bytes → place_with table text bytes ≡ None
     longer_found more bytes among greater = elim (among_more lengths i bytes inside among) [
-        | inl early ↦ before bytes early (omega (arith, more, greater))
-        | inr here ↦ absurd (omega (arith, here, greater))
-      ]
+      | inl early ↦ before bytes early (omega (arith, more, greater))
+      | inr here ↦ absurd (omega (arith, here, greater))
+    ]
 
     -- none is
     pub none_longer : (get_or lengths i 0 ≤ most) ⊎ (place_with table text (get_or lengths i 0) ≡ None) → (bytes : ℕ) → is_among (take (i + 1) lengths) bytes ≡ true → most < bytes →
         place_with table text bytes ≡ None
     none_longer none bytes among greater = elim (among_more lengths i bytes inside among) [
-        | inl early ↦ before bytes early greater
-        | inr here ↦ none_at_length none bytes here greater
-      ]
+      | inl early ↦ before bytes early greater
+      | inr here ↦ none_at_length none bytes here greater
+    ]
       where
         none_at_length : (get_or lengths i 0 ≤ most) ⊎ (place_with table text (get_or lengths i 0) ≡ None) → (bytes : ℕ) → get_or lengths i 0 ≡ bytes → most < bytes → place_with table text bytes ≡ None
         none_at_length (inl small) bytes here greater = absurd (omega (arith, small, here, greater))

@@ -19,7 +19,7 @@ takes_both : (old mid new : Option (List ℕ)) (first second : List ℕ) → Tak
 takes_both None mid new first second p q = q ∙ ap (λ o. append_known o second) p
 takes_both (Some bytes) mid new first second p q = q ∙ ap (λ o. append_known o second) p ∙ ap Some (append_assoc bytes first second)
 
--- bytes that are handed on behind others
+-- bytes that are handed on after others
 on_both : (old mid new : Option (List ℕ)) (before between first second after : List ℕ) → HandsOn old mid (before ++ first) between → HandsOn mid new (between ++ second) after →
     HandsOn old new (before ++ (first ++ second)) after
 on_both old mid new before between first second after one two = (
@@ -29,7 +29,7 @@ on_both old mid new before between first second after one two = (
       ∙ ap (λ l. one.0 ++ l) two.2 ∙ sym (append_assoc one.0 two.0 after),
 )
 
--- bytes of which a front is taken behind others, and more that are not
+-- bytes of which a front is taken after others, and more that are not
 on_front : (old mid new : Option (List ℕ)) (before between first second more : List ℕ) → HandsOn old mid (before ++ first) between → TakesFront mid new (between ++ second) →
     TakesFront old new (before ++ ((first ++ second) ++ more))
 on_front old mid new before between first second more one two = (
@@ -53,8 +53,8 @@ module _ (table : List (List ℕ × MapRecord)) (line : List ℕ) (first : Optio
 
   module _ (from : ℕ) (now : Option (List ℕ)) (waiting : List ℕ) (is : IsPut from now waiting) (new : Option (List ℕ)) where
     module _ (place : Place) (next : IsNext table line from place) where
-      rest_behind : parts_text table (parts_of table line) ≡ (is.done ++ put_text table line from place next) ++ parts_text table (parts_at table line place.end)
-      rest_behind =
+      rest_after : parts_text table (parts_of table line) ≡ (is.done ++ put_text table line from place next) ++ parts_text table (parts_at table line place.end)
+      rest_after =
           is.rest ∙ ap (λ text. is.done ++ text) (next_text table line from place next)
           ∙ sym (append_assoc is.done (put_text table line from place next) (parts_text table (parts_at table line place.end)))
 
@@ -62,7 +62,7 @@ module _ (table : List (List ℕ × MapRecord)) (line : List ℕ) (first : Optio
       place_put after put = record {
         done = is.done ++ put_text table line from place next;
         handed_on = on_both first now new before waiting is.done (put_text table line from place next) after is.handed_on put;
-        rest = rest_behind;
+        rest = rest_after;
       }
 
       pub place_front : (is_ended : Bool) → TakesFront now new (waiting ++ put_text table line from place next) →
@@ -70,7 +70,7 @@ module _ (table : List (List ℕ × MapRecord)) (line : List ℕ) (first : Optio
       place_front is_ended took =
           let more : List ℕ = parts_text table (parts_at table line place.end) ++ end_in is_ended in
           let whole : (is.done ++ put_text table line from place next) ++ more ≡ parts_text table (parts_of table line) ++ end_in is_ended =
-          sym (append_assoc (is.done ++ put_text table line from place next) (parts_text table (parts_at table line place.end)) (end_in is_ended)) ∙ ap (λ l. l ++ end_in is_ended) (sym rest_behind) in
+          sym (append_assoc (is.done ++ put_text table line from place next) (parts_text table (parts_at table line place.end)) (end_in is_ended)) ∙ ap (λ l. l ++ end_in is_ended) (sym rest_after) in
           subst (λ l. TakesFront first new (before ++ l)) whole
           (on_front first now new before waiting is.done (put_text table line from place next) more is.handed_on took)
 

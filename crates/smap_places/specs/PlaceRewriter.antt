@@ -3,7 +3,7 @@ use Rattle.std.specs.Prelude.{ℕ, ◌+◌, ◌-◌, ◌*◌, ◌/◌, ◌^◌, 
 use Rattle.smap_lines.specs.Limits.{most_line_bytes}
 use Rattle.smap_lines.specs.Lines.{Line}
 use Rattle.smap_trace.specs.Rewritten.{frame_text}
-use Rattle.smap_trace.specs.SightSeen.{original_seen}
+use Rattle.smap_trace.specs.Private.SightSeen.{original_seen}
 use Rattle.smap_places.specs.Places.{PlaceParts}
 use Rattle.smap_places.specs.PlacesRewritten.{bare_frame, places_in, replaced_in}
 use Rattle.smap_places.specs.declared.replacement.Replacement.{Replacement}
@@ -13,9 +13,9 @@ use Rattle.smap_places.specs.declared.place_rewriter.PlaceRewriter.{PlaceRewrite
 abbrev pub replacement_seen : PlaceParts → Replacement → List ℕ
 replacement_seen place replacement = frame_text (bare_frame place) (original_seen replacement.original) replacement.name.now
 
--- the editor behind a line, which has no more places than bytes
-abbrev pub behind_places : PlaceRewriter → Line → PlaceRewriter
-behind_places rewriter line = record rewriter {
+-- the editor after a line, which has no more places than bytes
+abbrev pub after_places : PlaceRewriter → Line → PlaceRewriter
+after_places rewriter line = record rewriter {
   places = rewriter.places + min (places_in rewriter.finder line) most_line_bytes;
   mapped = rewriter.mapped + min (replaced_in rewriter.finder line) most_line_bytes;
 }

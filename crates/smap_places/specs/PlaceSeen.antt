@@ -8,9 +8,9 @@ use Rattle.smap_places.specs.declared.place.Place.{Place}
 abbrev pub place_seen : Place → PlaceParts
 place_seen place = record { url = place.url.now; line = place.line; column = place.column; size = place.end - place.start }
 
--- it is the first of a line's places that begin at byte `from` or behind it
+-- it is the first of a line's places that begin at byte `from` or after it
 pub record IsNext (table : List (List ℕ × MapRecord)) (line : List ℕ) (from : ℕ) (place : Place) : Type 0 where
-  pub behind : from ≤ place.start
+  pub after : from ≤ place.start
   pub some : place.start < place.end
   pub within : place.end ≤ length line
   pub here : begun_at table line place.start ≡ Some (place_seen place)

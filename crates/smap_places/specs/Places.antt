@@ -1,11 +1,11 @@
 -- The places in a line, anywhere in it (this project's own): a URL of a table, `:`, a line, `:` and a column, in decimal
--- without leading zeros, from 1 to 2147483648, and no digit behind them. No place begins behind a byte of a word. Places
--- are taken from the left; of those that begin at one byte, the one with the longest URL; the next is sought behind it.
+-- without leading zeros, from 1 to 2147483648, and no digit after them. No place begins after a byte of a word. Places
+-- are taken from the left; of those that begin at one byte, the one with the longest URL; the next is sought after it.
 use Rattle.std.specs.Prelude.{ℕ, zero, suc, ◌+◌, ◌-◌, ◌==◌, ◌||◌, Bool, true, not, nat_le, List, [], ◌∷◌, Option, Some, None, is_some, codes, length, take, drop, slice_index, if◌then◌else◌, option_map}
 use Rattle.std.specs.Char.{is_ascii_digit, is_ascii_alphanumeric}
 use Rattle.std.specs.List.{list_any, prefix_len}
 use Rattle.smap_record.specs.Record.{MapRecord}
-use Rattle.smap_trace.specs.FrameOf.{number_of}
+use Rattle.smap_trace.specs.FrameOf.{decimal_number}
 use Rattle.smap_trace.specs.Table.{record_for}
 
 -- ---- the numbers of a place
@@ -14,10 +14,10 @@ use Rattle.smap_trace.specs.Table.{record_for}
 abbrev pub digits : List ℕ → ℕ
 digits text = prefix_len is_ascii_digit text
 
--- the number behind the `:` that a text begins with, whose digits all belong to it; and how many bytes both are
-abbrev pub number_behind : List ℕ → Option (ℕ × ℕ)
-number_behind [] = None
-number_behind (byte ∷ text) = if byte == 58 then option_map (λ n. (n, digits text + 1)) (number_of (take (digits text) text)) else None
+-- the number after the `:` that a text begins with, whose digits all belong to it; and how many bytes both are
+abbrev pub number_after : List ℕ → Option (ℕ × ℕ)
+number_after [] = None
+number_after (byte ∷ text) = if byte == 58 then option_map (λ n. (n, digits text + 1)) (decimal_number (take (digits text) text)) else None
 
 abbrev pub with_column : (line size : ℕ) → Option (ℕ × ℕ) → Option (ℕ × ℕ × ℕ)
 with_column line size None = None
@@ -25,11 +25,11 @@ with_column line size (Some (column, more)) = Some (line, column, size + more)
 
 abbrev pub with_line : List ℕ → Option (ℕ × ℕ) → Option (ℕ × ℕ × ℕ)
 with_line text None = None
-with_line text (Some (line, size)) = with_column line size (number_behind (drop size text))
+with_line text (Some (line, size)) = with_column line size (number_after (drop size text))
 
--- the numbers behind a URL: a line, a column, and how many bytes they are with the `:` before each
-unfoldable pub numbers_behind : List ℕ → Option (ℕ × ℕ × ℕ)
-numbers_behind text = with_line text (number_behind text)
+-- the numbers after a URL: a line, a column, and how many bytes they are with the `:` before each
+unfoldable pub numbers_after : List ℕ → Option (ℕ × ℕ × ℕ)
+numbers_after text = with_line text (number_after text)
 
 -- ---- a place at the beginning of a text
 
@@ -47,7 +47,7 @@ placed url bytes (Some (line, column, size)) = Some (record { url = url; line = 
 -- the one whose URL is this many bytes
 abbrev pub place_with : List (List ℕ × MapRecord) → (text : List ℕ) → (bytes : ℕ) → Option PlaceParts
 place_with table text bytes =
-    if is_some (record_for (take bytes text) table) then placed (take bytes text) bytes (numbers_behind (drop bytes text)) else None
+    if is_some (record_for (take bytes text) table) then placed (take bytes text) bytes (numbers_after (drop bytes text)) else None
 
 abbrev pub or_else : Option PlaceParts → Option PlaceParts → Option PlaceParts
 or_else (Some place) other = Some place
@@ -68,7 +68,7 @@ place_at table text = longest_within table text (length text)
 abbrev pub is_word : ℕ → Bool
 is_word byte = is_ascii_alphanumeric byte || nat_le 128 byte || list_any (λ sign. byte == sign) (codes "_-./\\%~+$:")
 
--- a place may begin at this byte of a line: it is the first, or stands behind one that is of no word
+-- a place may begin at this byte of a line: it is the first, or stands after one that is of no word
 abbrev pub may_begin : (line : List ℕ) → (start : ℕ) → Bool
 may_begin line zero = true
 may_begin line (suc before) = not (is_word (slice_index line before))
@@ -82,10 +82,10 @@ pub data Part : Type 0 where
   other : ℕ → Part
   found : PlaceParts → (text : List ℕ) → Part
 
--- a text that begins with this byte: the place there, where there is one, and what stands behind its bytes
-abbrev pub parts_by : (text : List ℕ) → (byte : ℕ) → (behind : ℕ → List Part) → Option PlaceParts → List Part
-parts_by text byte behind None = other byte ∷ behind 0
-parts_by text byte behind (Some place) = found place (take place.size text) ∷ behind (place.size - 1)
+-- a text that begins with this byte: the place there, where there is one, and what stands after its bytes
+abbrev pub parts_by : (text : List ℕ) → (byte : ℕ) → (after : ℕ → List Part) → Option PlaceParts → List Part
+parts_by text byte after None = other byte ∷ after 0
+parts_by text byte after (Some place) = found place (take place.size text) ∷ after (place.size - 1)
 
 -- the parts of the bytes of a line that stand from `start` on, of which the first so many belong to a place before them
 abbrev pub parts_from : List (List ℕ × MapRecord) → (line : List ℕ) → (start within : ℕ) → (rest : List ℕ) → List Part

@@ -3,10 +3,10 @@
 use Rattle.std.specs.Prelude.{ℕ, ◌==◌, ◌||◌, Bool, false, List, [], ◌∷◌, ◌++◌, Option, Some, None, is_some, if◌then◌else◌, length, filter, unwrap_or}
 use Rattle.std.specs.List.{flat_map, list_any, sum_by}
 use Rattle.smap_lines.specs.Edited.{edited, is_short}
-use Rattle.smap_lines.specs.Lines.{Line, end_in, lines_of}
+use Rattle.smap_lines.specs.Lines.{Line, end_in, lines_with_ends}
 use Rattle.smap_record.specs.Record.{MapRecord}
 use Rattle.smap_trace.specs.Frame.{FrameParts}
-use Rattle.smap_trace.specs.Rewritten.{Counts, SourcePlace, frame_text, name_in, original_of}
+use Rattle.smap_trace.specs.Rewritten.{Counts, SourceLocation, frame_text, name_in, original_of}
 use Rattle.smap_places.specs.Places.{Part, PlaceParts, found, other, parts_of}
 
 -- ---- a place
@@ -25,18 +25,18 @@ abbrev pub bare_frame : PlaceParts → FrameParts
 bare_frame place = record { head = []; url = place.url; line = place.line; column = place.column; tail = [] }
 
 -- what stands in its stead where its original is in a source of this name
-abbrev pub text_named : PlaceParts → SourcePlace → (name : Option (List ℕ)) → Option (List ℕ)
+abbrev pub text_named : PlaceParts → SourceLocation → (name : Option (List ℕ)) → Option (List ℕ)
 text_named place original None = None
 text_named place original (Some name) = Some (frame_text (bare_frame place) original name)
 
-abbrev pub text_from : PlaceParts → Option SourcePlace → Option (List ℕ)
-text_from place None = None
-text_from place (Some original) = text_named place original (quotable (name_in original.source))
+abbrev pub text_of_original : PlaceParts → Option SourceLocation → Option (List ℕ)
+text_of_original place None = None
+text_of_original place (Some original) = text_named place original (quotable (name_in original.source))
 
 -- what stands in its stead, if the maps have an original for it, in a source whose name can stand anywhere: the name, `:`,
 -- the line, `:`, the column
 unfoldable pub replacement : PlaceParts → List (List ℕ × MapRecord) → Option (List ℕ)
-replacement place table = text_from place (original_of (bare_frame place) table)
+replacement place table = text_of_original place (original_of (bare_frame place) table)
 
 -- ---- a line
 
@@ -77,8 +77,8 @@ replaced_in table line = if is_short line then length (filter (is_replaced table
 -- the lines of a text, its places in place of frames, those that are replaced, and none that is hidden
 unfoldable pub place_counts : List ℕ → List (List ℕ × MapRecord) → Counts
 place_counts text table = record {
-  lines = length (lines_of text);
-  frames = sum_by (places_in table) (lines_of text);
-  mapped = sum_by (replaced_in table) (lines_of text);
+  lines = length (lines_with_ends text);
+  frames = sum_by (places_in table) (lines_with_ends text);
+  mapped = sum_by (replaced_in table) (lines_with_ends text);
   hidden = 0;
 }

@@ -4,7 +4,7 @@ ghost use Rattle.std.specs.List.{list_any};
 ghost use Rattle.smap_places.specs.Places.{begun_at, is_word, may_begin, place_at, place_with};
 ghost use Rattle.smap_places.specs.PlaceSeen.{IsNext, NoNext, place_seen};
 
-use crate::numbers::{find_numbers, numbers_behind};
+use crate::numbers::{find_numbers, numbers_after};
 use crate::place::Place;
 use smap_trace::Table;
 use std::alloc::{AllocError, Global};
@@ -61,8 +61,8 @@ impl<'t> PlaceFinder<'t> {
         self.table
     }
 
-    /// The first place of a line that begins at byte `from` or behind it. What stands before `from` is asked only for
-    /// whether a place may begin there: so the places of a line are found one behind the end of another, from 0. The
+    /// The first place of a line that begins at byte `from` or after it. What stands before `from` is asked only for
+    /// whether a place may begin there: so the places of a line are found one after the end of another, from 0. The
     /// line comes without its LF. The call takes no memory.
     pub fn next<'l>(&self, line: &'l [u8], from: usize) -> Option<Place<'l>>
         requires { from ≤ length line.now }
@@ -132,7 +132,7 @@ impl<'t> PlaceFinder<'t> {
             return None;
         }
         let (url, rest) = text.split_at(bytes);
-        let (line, column, size) = numbers_behind(rest)?;
+        let (line, column, size) = numbers_after(rest)?;
         self.table.map_for(url)?;
         Some(Place {
             start,
@@ -155,7 +155,7 @@ fn may_begin(line: &[u8], start: usize) -> bool
     }
 }
 
-// Whether no place begins behind a byte.
+// Whether no place begins after a byte.
 fn is_word(byte: u8) -> bool
     ensures { result ≡ is_word byte }
 {

@@ -1,33 +1,33 @@
 //! The numbers of a place.
 ghost use Rattle.std.specs.Prelude.{◌≡◌, ◌<◌, ◌≤◌, ℕ, IfSome, IsNone, Some, None, is_some, true, length, drop, option_map};
-ghost use Rattle.smap_places.specs.Places.{digits, number_behind, numbers_behind};
+ghost use Rattle.smap_places.specs.Places.{digits, number_after, numbers_after};
 
 use memchr::memchr;
 use smap_trace::number;
 
-/// The line and the column behind a URL, and how many bytes they are with the `:` before each.
-#[tactic(auto, unfolding(crate::specs::Places::numbers_behind))]
-pub fn numbers_behind(text: &[u8]) -> Option<(u32, u32, usize)>
-    ensures numbers { result ≡ numbers_behind text.now }
+/// The line and the column after a URL, and how many bytes they are with the `:` before each.
+#[tactic(auto, unfolding(crate::specs::Places::numbers_after))]
+pub fn numbers_after(text: &[u8]) -> Option<(u32, u32, usize)>
+    ensures numbers { result ≡ numbers_after text.now }
     ensures within { IfSome result (λ numbers. numbers.2 ≤ length text.now) }
 {
-    let (line, size) = number_behind(text)?;
-    let (column, more) = number_behind(&text[size..])?;
+    let (line, size) = number_after(text)?;
+    let (column, more) = number_after(&text[size..])?;
     Some((line, column, size + more))
 }
 
-/// Where at `from` or behind it numbers begin, as they stand behind a URL.
+/// Where at `from` or after it numbers begin, as they stand after a URL.
 pub fn find_numbers(line: &[u8], from: usize) -> Option<usize>
     requires { from ≤ length line.now }
     ensures low { IfSome result (λ place. (from ≤ place) × (place < length line.now)) }
     ensures first { IfSome result (λ place. (i : ℕ) → from ≤ i → i < place →
-        numbers_behind (drop i line.now) ≡ None) }
-    ensures none { IsNone result → (i : ℕ) → from ≤ i → numbers_behind (drop i line.now) ≡ None }
+        numbers_after (drop i line.now) ≡ None) }
+    ensures none { IsNone result → (i : ℕ) → from ≤ i → numbers_after (drop i line.now) ≡ None }
 {
     let mut place = from;
     while let Some(further) = memchr(b':', &line[place..]) {
         place += further;
-        if numbers_behind(&line[place..]).is_some() {
+        if numbers_after(&line[place..]).is_some() {
             return Some(place);
         }
         place += 1;
@@ -35,9 +35,9 @@ pub fn find_numbers(line: &[u8], from: usize) -> Option<usize>
     None
 }
 
-// The number behind the `:` that a text begins with, and how many bytes both are.
-fn number_behind(text: &[u8]) -> Option<(u32, usize)>
-    ensures number { result ≡ number_behind text.now }
+// The number after the `:` that a text begins with, and how many bytes both are.
+fn number_after(text: &[u8]) -> Option<(u32, usize)>
+    ensures number { result ≡ number_after text.now }
     ensures within { IfSome result (λ number. number.1 ≤ length text.now) }
 {
     let (first, rest) = text.split_first()?;
@@ -53,7 +53,5 @@ fn digits(text: &[u8]) -> usize
     ensures count { result ≡ digits text.now }
     ensures within { result ≤ length text.now }
 {
-    text.iter()
-        .take_while(|byte| byte.is_ascii_digit())
-        .count()
+    text.iter().take_while(|byte| byte.is_ascii_digit()).count()
 }

@@ -26,14 +26,14 @@ pub struct PlaceRewriter<'t> {
 }
 
 impl LineEditor for PlaceRewriter<'_> {
-    ghost use Rattle.smap_places.specs.PlaceRewriter.{behind_places, room_of};
+    ghost use Rattle.smap_places.specs.PlaceRewriter.{after_places, room_of};
     ghost use Rattle.smap_places.specs.PlacesRewritten.{placed_line};
-    ghost use Rattle.smap_places.specs.RewriterLaws.{room_behind};
+    ghost use Rattle.smap_places.specs.RewriterLaws.{room_after};
     ghost use Rattle.std.specs.Prelude.{refl};
 
     ghost becomes = { λ rewriter. placed_line rewriter.finder };
 
-    ghost behind = { behind_places };
+    ghost step = { after_places };
 
     ghost room = { room_of };
 
@@ -57,7 +57,7 @@ impl LineEditor for PlaceRewriter<'_> {
 
     ghost same = { λ rewriter line other. refl };
 
-    ghost room_for_one = { room_behind };
+    ghost room_for_one = { room_after };
 }
 
 // Puts the bytes of a line from byte `from` on that stand before a place, and what becomes of it; and tells whether it
@@ -71,19 +71,19 @@ fn put_place<W: ByteSink>(
     gathered: &mut Gathered,
     output: &mut W,
 ) -> Result<bool, DeviceFault>
-    requires behind { from ≤ place.now.start }
+    requires after { from ≤ place.now.start }
     requires some { place.now.start < place.now.end }
     requires within { place.now.end ≤ length line.now }
-    ensures put { OnOk result (HandsOn (W.taken output.old) (W.taken output.new) (gathered.old
+    ensures put { OnOk result (HandsOn (W.seen output.old).taken (W.seen output.new).taken (gathered.old
         ++ (slice_range line.now from place.now.start ++ part_text table.now
-            (found (place_seen place.now) (slice_range line.now place.now.start place.now.end)))) gathered.new) }
+        (found (place_seen place.now) (slice_range line.now place.now.start place.now.end)))) gathered.new) }
     ensures mapped { IfOk result (λ mapped. mapped ≡ is_some (replacement (place_seen place.now) table.now)) }
-    ensures no_failure { OnOk result (W.has_failed output.new ≡ W.has_failed output.old) }
+    ensures no_failure { OnOk result ((W.seen output.new).failed ≡ (W.seen output.old).failed) }
 
-    ensures front { OnErr result (TakesFront (W.taken output.old) (W.taken output.new) (gathered.old
+    ensures front { OnErr result (TakesFront (W.seen output.old).taken (W.seen output.new).taken (gathered.old
         ++ (slice_range line.now from place.now.start ++ part_text table.now
-            (found (place_seen place.now) (slice_range line.now place.now.start place.now.end))))) }
-    ensures failure { OnErr result (W.has_failed output.new ≡ true) }
+        (found (place_seen place.now) (slice_range line.now place.now.start place.now.end))))) }
+    ensures failure { OnErr result ((W.seen output.new).failed ≡ true) }
 {
     let Some(replacement) = find_replacement(alloc, table, place) else {
         gathered.put(&line[from..place.end], output)?;
@@ -94,7 +94,9 @@ fn put_place<W: ByteSink>(
         &line[from..place.start],
         replacement.name.as_bytes(),
         original_line.format(replacement.original.line).as_bytes(),
-        original_column.format(replacement.original.column).as_bytes(),
+        original_column
+            .format(replacement.original.column)
+            .as_bytes(),
     );
     gathered.put_all(&pieces, output)?;
     Ok(true)

@@ -18,7 +18,11 @@ pub struct Replacement<'t> {
 
 /// What stands in a place's stead, where the maps have an original for it in a source whose name can stand anywhere.
 #[tactic(auto, unfolding(crate::specs::PlacesRewritten::replacement))]
-pub fn find_replacement<'t>(alloc: Global, table: &'t Table, place: &Place<'_>) -> Option<Replacement<'t>>
+pub fn find_replacement<'t>(
+    alloc: Global,
+    table: &'t Table,
+    place: &Place<'_>,
+) -> Option<Replacement<'t>>
     ensures { option_map (replacement_seen (place_seen place.now)) result
         ≡ replacement (place_seen place.now) table.now }
 {

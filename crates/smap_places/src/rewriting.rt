@@ -1,5 +1,6 @@
 //! Rewriting the places of a text.
 ghost use Rattle.std.specs.Prelude.{◌≡◌, false, IfErr, IfOk};
+ghost use Rattle.smap_lines.specs.Editing.{devices_seen};
 ghost use Rattle.smap_trace.specs.Rewriting.{is_read_fault, is_write_fault};
 ghost use Rattle.smap_trace.specs.declared.outcome.RewriteFault.TheVariants.{Memory};
 ghost use Rattle.smap_places.specs.PlacesRewriting.{RewritesPlaces, RewritesPlacesFront};
@@ -24,16 +25,16 @@ pub fn rewrite_places<R: ByteSource, W: ByteSink>(
     output: &mut W,
     table: &Table,
 ) -> Result<Summary, RewriteFault>
-    requires input_works { R.has_failed input.old ≡ false }
-    requires output_works { W.has_failed output.old ≡ false }
+    requires input_works { (R.seen input.old).failed ≡ false }
+    requires output_works { (W.seen output.old).failed ≡ false }
     ensures rewrites { IfOk result (λ summary. RewritesPlaces
-        (record { left = R.left input.old; taken = W.taken output.old })
-        (record { left = R.left input.new; taken = W.taken output.new }) table.now summary) }
+        (devices_seen (R.seen input.old) (W.seen output.old))
+        (devices_seen (R.seen input.new) (W.seen output.new)) table.now summary) }
     ensures front { IfErr result (λ fault. RewritesPlacesFront
-        (record { left = R.left input.old; taken = W.taken output.old })
-        (record { left = R.left input.new; taken = W.taken output.new }) table.now fault) }
-    ensures input_failure { R.has_failed input.new ≡ is_read_fault result }
-    ensures output_failure { W.has_failed output.new ≡ is_write_fault result }
+        (devices_seen (R.seen input.old) (W.seen output.old))
+        (devices_seen (R.seen input.new) (W.seen output.new)) table.now fault) }
+    ensures input_failure { (R.seen input.new).failed ≡ is_read_fault result }
+    ensures output_failure { (W.seen output.new).failed ≡ is_write_fault result }
     ensures memory_input { IfErr result (λ fault. fault ≡ Memory → input.new ≡ input.old) }
     ensures memory_output { IfErr result (λ fault. fault ≡ Memory → output.new ≡ output.old) }
 {

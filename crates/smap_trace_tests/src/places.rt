@@ -44,7 +44,7 @@ const ROWS: &[(&str, &str)] = &[
     ("/u:1:1", "1 1 1|c.ts:1:1"),
     ("/u:1:1\r\n\n/u:1:2", "3 2 2|c.ts:1:1\r\n\nc.ts:1:2"),
     ("", "0 0 0|"),
-    // A place inside a longer URL, or behind another byte of a word.
+    // A place inside a longer URL, or after another byte of a word.
     ("file:///abs/app.js:1:1", "1 0 0|file:///abs/app.js:1:1"),
     ("(/abs/app.js:1:1)", "1 1 1|(b.ts:1:1)"),
     (
@@ -63,7 +63,7 @@ const ROWS: &[(&str, &str)] = &[
         "\t/u:1:1,/u:1:1;/u:1:1#/u:1:1&/u:1:1?/u:1:1!/u:1:1*/u:1:1\u{7f}/u:1:1",
         "1 9 9|\tc.ts:1:1,c.ts:1:1;c.ts:1:1#c.ts:1:1&c.ts:1:1?c.ts:1:1!c.ts:1:1*c.ts:1:1\u{7f}c.ts:1:1",
     ),
-    // The longest of two URLs, and the shorter one where the longer has no numbers behind it.
+    // The longest of two URLs, and the shorter one where the longer has no numbers after it.
     ("/u:1:1:1:6", "1 1 1|d.ts:1:2"),
     ("/u:1:1:1", "1 1 1|c.ts:1:1:1"),
     // The one that begins first, though another ends before it.
@@ -79,7 +79,7 @@ const ROWS: &[(&str, &str)] = &[
     ("/u:1:01", "1 0 0|/u:1:01"),
     ("/u:0:1 /u:1:0", "1 0 0|/u:0:1 /u:1:0"),
     ("/u:1 /u:1: /u::1 /u:+1:1", "1 0 0|/u:1 /u:1: /u::1 /u:+1:1"),
-    // A place that begins inside the one before, or right behind it.
+    // A place that begins inside the one before, or right after it.
     ("/x /u:1:1", "1 1 0|/x /u:1:1"),
     ("/u:1:1/u:1:6", "1 1 1|c.ts:1:1/u:1:6"),
     (": ::1:1", "1 1 1|: h.ts:1:1"),

@@ -1,12 +1,12 @@
 use Rattle.std.proofs.Common.{◌≡◌, ◌-◌, ◌<◌, ◌≤◌, ℕ, None, length, drop}
-use Rattle.smap_places.specs.Places.{numbers_behind}
+use Rattle.smap_places.specs.Places.{numbers_after}
 use Rattle.smap_places.proofs.numbers.find_numbers.Given as goal
 
 abbrev pub invariant-loop-further : goal.invariant-loop-further
 invariant-loop-further l = record {
   low : l.fn.from ≤ l.place;
   within : l.place ≤ length l.line;
-  none : (i : ℕ) → l.fn.from ≤ i → i < l.place → numbers_behind (drop i l.line) ≡ None;
+  none : (i : ℕ) → l.fn.from ≤ i → i < l.place → numbers_after (drop i l.line) ≡ None;
 }
 
 abbrev pub decreases-loop-further : goal.decreases-loop-further

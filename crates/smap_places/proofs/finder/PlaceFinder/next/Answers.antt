@@ -1,13 +1,13 @@
 use Rattle.std.proofs.Common.{arith, refl, subst}
 use Rattle.smap_places.specs.Finder.{Covers}
-use Rattle.smap_places.proofs.PlaceLaws.{next_from, none_behind, none_between, none_joined, none_on, none_past}
+use Rattle.smap_places.proofs.PlaceLaws.{next_from, none_after, none_between, none_joined, none_on, none_past}
 use Rattle.smap_places.proofs.finder.PlaceFinder.next.Goals as goal
 
 pub returns-in_err-numbers : goal.returns-in_err-numbers
 returns-in_err-numbers c =
     let covers = subst (λ t. Covers c.self.inside.lengths.items c.self.inside.longest t) c.self.view_is c.self.invariant in
     rw c.from_residual.ensures (none_on c.args.self.now c.args.line.now c.args.from c.loop-start.start c.loop-start.invariant.none
-    (none_behind c.args.self.now c.args.line.now c.self.inside.lengths.items c.self.inside.longest covers c.loop-start.start (c.in_err-numbers.ensures.none refl)))
+    (none_after c.args.self.now c.args.line.now c.self.inside.lengths.items c.self.inside.longest covers c.loop-start.start (c.in_err-numbers.ensures.none refl)))
 
 pub returns-in-Some : goal.returns-in-Some
 returns-in-Some c =

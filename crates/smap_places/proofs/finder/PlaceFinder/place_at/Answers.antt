@@ -10,27 +10,27 @@ loop-bytes-preserved c =
     let lengths = c.deref-bytes-items.result.now in
     elim c.if-bytes-most.branch [
       | then-bytes-most+in-Some w ↦
-        let value = w.in-Some.ensures.place ∙ sym (exactly_is c.args.self.now text _ (omega (arith, w.if-bytes-most.true))) in
-        rw (w.found-is, w.most-is) (record {
-          value = value;
-          some = inr (sym (ap is_some value));
-          longest = longer_found c.args.self.now text lengths c.loop-bytes.bytes-index c.loop-bytes.most c.loop-bytes-test.true c.loop-bytes.invariant.longest w.if-bytes-most.true;
-          here = w.in-Some.ensures.here;
-        })
+          let value = w.in-Some.ensures.place ∙ sym (exactly_is c.args.self.now text _ (omega (arith, w.if-bytes-most.true))) in
+          rw (w.found-is, w.most-is) (record {
+            value = value;
+            some = inr (sym (ap is_some value));
+            longest = longer_found c.args.self.now text lengths c.loop-bytes.bytes-index c.loop-bytes.most c.loop-bytes-test.true c.loop-bytes.invariant.longest w.if-bytes-most.true;
+            here = w.in-Some.ensures.here;
+          })
       | then-bytes-most+in_default w ↦
-        rw (w.found-is, w.most-is) (record {
-          value = c.loop-bytes.invariant.value;
-          some = c.loop-bytes.invariant.some;
-          longest = none_longer c.args.self.now text lengths c.loop-bytes.bytes-index c.loop-bytes.most c.loop-bytes-test.true c.loop-bytes.invariant.longest (inr (sym w.in_default.ensures.place));
-          here = c.loop-bytes.invariant.here;
-        })
+          rw (w.found-is, w.most-is) (record {
+            value = c.loop-bytes.invariant.value;
+            some = c.loop-bytes.invariant.some;
+            longest = none_longer c.args.self.now text lengths c.loop-bytes.bytes-index c.loop-bytes.most c.loop-bytes-test.true c.loop-bytes.invariant.longest (inr (sym w.in_default.ensures.place));
+            here = c.loop-bytes.invariant.here;
+          })
       | else-bytes-most w ↦
-        rw (w.found-is, w.most-is) (record {
-          value = c.loop-bytes.invariant.value;
-          some = c.loop-bytes.invariant.some;
-          longest = none_longer c.args.self.now text lengths c.loop-bytes.bytes-index c.loop-bytes.most c.loop-bytes-test.true c.loop-bytes.invariant.longest (inl w.if-bytes-most.false);
-          here = c.loop-bytes.invariant.here;
-        })
+          rw (w.found-is, w.most-is) (record {
+            value = c.loop-bytes.invariant.value;
+            some = c.loop-bytes.invariant.some;
+            longest = none_longer c.args.self.now text lengths c.loop-bytes.bytes-index c.loop-bytes.most c.loop-bytes-test.true c.loop-bytes.invariant.longest (inl w.if-bytes-most.false);
+            here = c.loop-bytes.invariant.here;
+          })
     ]
 
 pub returns-clause-place : goal.returns-clause-place

@@ -3,7 +3,7 @@ use Rattle.std.proofs.lemmas.List.{take_rest}
 use Rattle.std.proofs.lemmas.Result.{err_from_is_err_and, on_err_weaker, on_ok_weaker}
 use Rattle.smap_places.specs.PlaceSeen.{IsNext, NoNext, place_seen}
 use Rattle.smap_places.specs.PlacesRewritten.{is_place, is_replaced, replacement}
-use Rattle.smap_places.proofs.CountLaws.{behind_is, byte_is, filtered_few}
+use Rattle.smap_places.proofs.CountLaws.{after_is, byte_is, filtered_few}
 use Rattle.smap_places.proofs.PartLaws.{from_start, last_found, last_replaced, next_found, next_replaced}
 use Rattle.smap_places.proofs.TakingLaws.{line_front, line_put, nothing_put, place_front, place_put}
 use Rattle.smap_places.proofs.place_rewriter.PlaceRewriterLineEditor.edit.Goals as goal
@@ -11,7 +11,7 @@ use Rattle.smap_places.proofs.place_rewriter.PlaceRewriterLineEditor.edit.Goals 
 pub loop-place-init : goal.loop-place-init
 loop-place-init g c = record {
   within = omega arith;
-  put = nothing_put c.args.self.now.finder c.args.line.now (g.W.ByteSink.taken c.args.output.now) c.args.gathered.now;
+  put = nothing_put c.args.self.now.finder c.args.line.now (g.W.ByteSink.seen c.args.output.now).taken c.args.gathered.now;
   works = refl;
   places = ap (λ parts. c.args.self.now.places + length (filter is_place parts)) (sym (from_start c.args.self.now.finder c.args.line.now));
   mapped = ap (λ parts. c.args.self.now.mapped + length (filter (is_replaced c.args.self.now.finder) parts)) (sym (from_start c.args.self.now.finder c.args.line.now));
@@ -24,21 +24,34 @@ returns-in_err-is_mapped-clause-front g c =
     let next = subst (λ t. IsNext t c.args.line.now c.loop-place.from c.in-Some.place) c.loop-place.invariant.finder c.in-Some.ensures in
     let front = rw c.table-table.ensures at c.in_err-is_mapped.ensures.front in
     let p = err_from_is_err_and c.from_residual.result c.from_residual.ensures.1 in
-    rw p.1 (place_front c.args.self.now.finder c.args.line.now (g.W.ByteSink.taken c.args.output.now) c.args.gathered.now c.loop-place.from _ _ c.loop-place.invariant.put _ c.in-Some.place next c.args.is_ended front)
+    rw p.1 (place_front c.args.self.now.finder c.args.line.now (g.W.ByteSink.seen c.args.output.now).taken c.args.gathered.now c.loop-place.from _ _ c.loop-place.invariant.put _ c.in-Some.place next c.args.is_ended front)
 
 pub overflow_add-self : goal.overflow_add-self
 overflow_add-self g c =
     let next = subst (λ t. IsNext t c.args.line.now c.loop-place.from c.in-Some.place) c.loop-place.invariant.finder c.in-Some.ensures in
-    omega (arith, c.requires.room, c.requires.short, c.loop-place.invariant.places, next_found c.args.self.now.finder c.args.line.now c.loop-place.from c.in-Some.place next,
-    filtered_few c.args.self.now.finder (record { bytes = c.args.line.now; is_ended = c.args.is_ended }) is_place)
+    omega (
+      arith,
+      c.requires.room,
+      c.requires.short,
+      c.loop-place.invariant.places,
+      next_found c.args.self.now.finder c.args.line.now c.loop-place.from c.in-Some.place next,
+      filtered_few c.args.self.now.finder (record { bytes = c.args.line.now; is_ended = c.args.is_ended }) is_place,
+    )
 
 pub overflow_add-self-in-Some : goal.overflow_add-self-in-Some
 overflow_add-self-in-Some g c =
     let next = subst (λ t. IsNext t c.args.line.now c.loop-place.from c.in-Some.place) c.loop-place.invariant.finder c.in-Some.ensures in
     let one : ◌≡◌ {A = ℕ} c.from.result (cond (is_some (replacement (place_seen c.in-Some.place) c.args.self.now.finder)) 1 0) =
     c.from.ensures ∙ byte_is c.in_ok-is_mapped.is_mapped ∙ ap (λ b. cond b 1 0) (rw c.table-table.ensures at c.in_ok-is_mapped.ensures.mapped) in
-    omega (arith, one, c.requires.room, c.requires.short, c.loop-place.invariant.mapped, next_replaced c.args.self.now.finder c.args.line.now c.loop-place.from c.in-Some.place next,
-    filtered_few c.args.self.now.finder (record { bytes = c.args.line.now; is_ended = c.args.is_ended }) (is_replaced c.args.self.now.finder))
+    omega (
+      arith,
+      one,
+      c.requires.room,
+      c.requires.short,
+      c.loop-place.invariant.mapped,
+      next_replaced c.args.self.now.finder c.args.line.now c.loop-place.from c.in-Some.place next,
+      filtered_few c.args.self.now.finder (record { bytes = c.args.line.now; is_ended = c.args.is_ended }) (is_replaced c.args.self.now.finder),
+    )
 
 pub loop-place-preserved : goal.loop-place-preserved
 loop-place-preserved g c =
@@ -48,7 +61,7 @@ loop-place-preserved g c =
     c.from.ensures ∙ byte_is c.in_ok-is_mapped.is_mapped ∙ ap (λ b. cond b 1 0) (rw c.table-table.ensures at c.in_ok-is_mapped.ensures.mapped) in
     record {
       within = next.within;
-      put = place_put c.args.self.now.finder c.args.line.now (g.W.ByteSink.taken c.args.output.now) c.args.gathered.now c.loop-place.from _ _ c.loop-place.invariant.put _ c.in-Some.place next _ put;
+      put = place_put c.args.self.now.finder c.args.line.now (g.W.ByteSink.seen c.args.output.now).taken c.args.gathered.now c.loop-place.from _ _ c.loop-place.invariant.put _ c.in-Some.place next _ put;
       works = c.in_ok-is_mapped.ensures.no_failure ∙ c.loop-place.invariant.works;
       places = omega (arith, c.loop-place.invariant.places, next_found c.args.self.now.finder c.args.line.now c.loop-place.from c.in-Some.place next);
       mapped = omega (arith, one, c.loop-place.invariant.mapped, next_replaced c.args.self.now.finder c.args.line.now c.loop-place.from c.in-Some.place next);
@@ -59,13 +72,13 @@ loop-place-preserved g c =
 pub returns-clause-put : goal.returns-clause-put
 returns-clause-put g c =
     let none = subst (λ t. NoNext t c.args.line.now c.loop-place.from) c.loop-place.invariant.finder c.in_default.ensures in
-    on_ok_weaker c.put_line.result (λ put. line_put c.args.self.now.finder c.args.line.now (g.W.ByteSink.taken c.args.output.now) c.args.gathered.now c.loop-place.from _ _ c.loop-place.invariant.put _ c.loop-place.invariant.within none c.args.is_ended _ put)
+    on_ok_weaker c.put_line.result (λ put. line_put c.args.self.now.finder c.args.line.now (g.W.ByteSink.seen c.args.output.now).taken c.args.gathered.now c.loop-place.from _ _ c.loop-place.invariant.put _ c.loop-place.invariant.within none c.args.is_ended _ put)
     (rw (take_rest c.args.line.now c.loop-place.from) at c.put_line.ensures.put)
 
-pub returns-clause-behind : goal.returns-clause-behind
-returns-clause-behind g c =
+pub returns-clause-after : goal.returns-clause-after
+returns-clause-after g c =
     let none = subst (λ t. NoNext t c.args.line.now c.loop-place.from) c.loop-place.invariant.finder c.in_default.ensures in
-    let is = behind_is c.args.self.now.finder (record { bytes = c.args.line.now; is_ended = c.args.is_ended }) c.args.self.now c.loop-place.self refl c.requires.short c.loop-place.invariant.alloc c.loop-place.invariant.finder
+    let is = after_is c.args.self.now.finder (record { bytes = c.args.line.now; is_ended = c.args.is_ended }) c.args.self.now c.loop-place.self refl c.requires.short c.loop-place.invariant.alloc c.loop-place.invariant.finder
     (omega (arith, c.loop-place.invariant.places, last_found c.args.self.now.finder c.args.line.now c.loop-place.from c.loop-place.invariant.within none))
     (omega (arith, c.loop-place.invariant.mapped, last_replaced c.args.self.now.finder c.args.line.now c.loop-place.from c.loop-place.invariant.within none)) in
     on_ok_weaker c.put_line.result (λ _. is) c.put_line.ensures.put
@@ -73,5 +86,5 @@ returns-clause-behind g c =
 pub returns-clause-front : goal.returns-clause-front
 returns-clause-front g c =
     let none = subst (λ t. NoNext t c.args.line.now c.loop-place.from) c.loop-place.invariant.finder c.in_default.ensures in
-    on_err_weaker c.put_line.result (λ took. line_front c.args.self.now.finder c.args.line.now (g.W.ByteSink.taken c.args.output.now) c.args.gathered.now c.loop-place.from _ _ c.loop-place.invariant.put _ c.loop-place.invariant.within none c.args.is_ended took)
+    on_err_weaker c.put_line.result (λ took. line_front c.args.self.now.finder c.args.line.now (g.W.ByteSink.seen c.args.output.now).taken c.args.gathered.now c.loop-place.from _ _ c.loop-place.invariant.put _ c.loop-place.invariant.within none c.args.is_ended took)
     (rw (take_rest c.args.line.now c.loop-place.from) at c.put_line.ensures.front)

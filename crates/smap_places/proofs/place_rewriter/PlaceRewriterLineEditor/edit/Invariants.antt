@@ -9,8 +9,8 @@ use Rattle.smap_places.proofs.place_rewriter.PlaceRewriterLineEditor.edit.Given 
 abbrev pub invariant-loop-place : goal.invariant-loop-place
 invariant-loop-place g l = record {
   within : l.from ≤ length l.line;
-  put : IsPut l.initial.self.finder l.line (g.W.ByteSink.taken l.initial.output) l.initial.gathered l.from (g.W.ByteSink.taken l.output) l.gathered;
-  works : g.W.ByteSink.has_failed l.output ≡ g.W.ByteSink.has_failed l.initial.output;
+  put : IsPut l.initial.self.finder l.line (g.W.ByteSink.seen l.initial.output).taken l.initial.gathered l.from (g.W.ByteSink.seen l.output).taken l.gathered;
+  works : (g.W.ByteSink.seen l.output).failed ≡ (g.W.ByteSink.seen l.initial.output).failed;
   places : l.self.places + length (filter is_place (parts_at l.initial.self.finder l.line l.from)) ≡ l.initial.self.places + length (filter is_place (parts_of l.initial.self.finder l.line));
   mapped : l.self.mapped + length (filter (is_replaced l.initial.self.finder) (parts_at l.initial.self.finder l.line l.from))
       ≡ l.initial.self.mapped + length (filter (is_replaced l.initial.self.finder) (parts_of l.initial.self.finder l.line));
