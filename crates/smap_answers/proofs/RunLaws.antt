@@ -44,18 +44,3 @@ raw_input before after bytes line column gives short whole_read = go before (raw
         → (input : List ℕ) × IfSome o (λ all. all ≡ input) × (raw_result bytes line column ≡ raw_result input line column)
     go None same = (bytes, tt, refl)
     go (Some all) same = (all, refl, sym same)
-
--- ---- `rewrite`
-
--- where it tells an answer, standard output works
-pub rewritten_works : (base : Option Parts) (k : ℕ) (hide : Bool) (words : List (List ℕ × Loaded)) (before after : DevicesSeen) (telling : Telling)
-    → RewriteTells base k hide words before after telling → before.output.failed ≡ false → telling.status ≡ 0 → after.output.failed ≡ false
-rewritten_works base k hide words before after telling (Err refused, gathers, tells) works done = ap (λ (work : DevicesSeen). work.output.failed) tells.1 ∙ works
-rewritten_works base k hide words before after telling (Ok maps, gathers, tells) works done = go tells.result tells.output_failed (ap (λ (t : Telling). t.status) (sym tells.told) ∙ done)
-  where
-    go : (result : Result Summary RewriteFault) → after.output.failed ≡ is_write_fault result → (rewrite_telling result).status ≡ 0 → after.output.failed ≡ false
-    go (Ok summary) failed done = failed
-    go (Err Read) failed done = cc
-    go (Err Write) failed done = cc
-    go (Err TooMuch) failed done = cc
-    go (Err Memory) failed done = cc

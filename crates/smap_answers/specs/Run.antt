@@ -13,9 +13,9 @@ use Rattle.smap_answers.specs.Show.{show_result}
 use Rattle.smap_io.specs.Device.{SinkSeen}
 use Rattle.smap_answers.specs.Streams.{Streams, Ends, sinks_seen}
 use Rattle.smap_lines.specs.Editing.{DevicesSeen, devices_seen}
-use Rattle.smap_answers.specs.Trace.{RewriteTells, url_in_argument}
+use Rattle.smap_answers.specs.Trace.{IsTextRewritten, IsTraceRewritten, RewriteTells, url_in_argument}
 use Rattle.smap_command.specs.declared.command.Command.{Command}
-use Rattle.smap_command.specs.declared.command.Command.TheVariants.{Raw, Check, Show, Lookup, Rewrite, Compose}
+use Rattle.smap_command.specs.declared.command.Command.TheVariants.{Raw, Check, Show, Lookup, Rewrite, RewriteAnywhere, Compose}
 use Rattle.smap_answers.specs.declared.load.Loaded.{Loaded}
 
 -- ---- `raw`
@@ -61,7 +61,9 @@ Tells (Show path base) files =
 Tells (Lookup path line column base interval after) files =
     TellsAside (OfFirst files (λ file. TellsMap file base interval (IsLine (lookup_text after line column))))
 Tells (Rewrite maps base interval hide_ignored) files =
-    RewriteTells base interval hide_ignored (zip (map url_in_argument maps.items) files)
+    RewriteTells base interval (IsTraceRewritten hide_ignored) (zip (map url_in_argument maps.items) files)
+Tells (RewriteAnywhere maps base interval) files =
+    RewriteTells base interval IsTextRewritten (zip (map url_in_argument maps.items) files)
 Tells (Compose outer source inner base) files =
     TellsAside (OfBoth files (λ first second. TellsComposed first source second base))
 

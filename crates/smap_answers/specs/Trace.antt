@@ -1,5 +1,5 @@
--- What `rewrite` does: it reads the map of each of its arguments and puts it into a table, argument by argument, and rewrites the
--- trace on standard input over that table.
+-- What `rewrite` does: it reads the map of each of its arguments and puts it into a table, argument by argument, and
+-- rewrites the text on standard input over that table: the frames of a trace, or the places anywhere in it.
 use Rattle.std.specs.Prelude.{◌≡◌, ℕ, ◌⊎◌, Bool, List, [], ◌∷◌, Option, Some, None, Result, Ok, Err, String, codes, string_bytes}
 use Rattle.url.specs.Parser.{Parsed, parse_url}
 use Rattle.url.specs.Parts.{Parts}
@@ -7,6 +7,7 @@ use Rattle.smap_record.specs.Record.{MapRecord}
 use Rattle.smap_record.specs.declared.refusal.MapRefusal.{MapRefusal}
 use Rattle.smap_record.specs.declared.refusal.MapRefusal.TheVariants.{Url}
 use Rattle.smap_lines.specs.Editing.{DevicesSeen}
+use Rattle.smap_places.specs.PlacesRewriting.{RewritesPlaces, RewritesPlacesFront}
 use Rattle.smap_trace.specs.Rewriting.{Rewrites, RewritesFront, is_read_fault, is_write_fault}
 use Rattle.smap_trace.specs.Table.{IsWith, url_refusal}
 use Rattle.smap_trace.specs.declared.outcome.RewriteFault.{RewriteFault}
@@ -106,31 +107,40 @@ gathered (Err failure) = Err (failure_telling failure)
 
 -- ---- the trace
 
--- the trace is rewritten to its end, or up to a fault, with the frames of ignored sources hidden or not
-abbrev pub IsRewritten : Maps → (hide : Bool) → (before after : DevicesSeen) → Result Summary RewriteFault → Type 0
-IsRewritten maps hide before after (Ok summary) = Rewrites before after maps hide summary
-IsRewritten maps hide before after (Err fault) = RewritesFront before after maps hide fault
+-- how a text on standard input is rewritten over some maps: what is done to the streams, and what it ends with
+abbrev pub Rewriting : Type 0
+Rewriting = Maps → (before after : DevicesSeen) → Result Summary RewriteFault → Type 0
+
+-- the frames of a trace, to its end or up to a fault, with those of ignored sources hidden or not
+abbrev pub IsTraceRewritten : (hide : Bool) → Rewriting
+IsTraceRewritten hide maps before after (Ok summary) = Rewrites before after maps hide summary
+IsTraceRewritten hide maps before after (Err fault) = RewritesFront before after maps hide fault
+
+-- the places anywhere in a text, to its end or up to a fault
+abbrev pub IsTextRewritten : Rewriting
+IsTextRewritten maps before after (Ok summary) = RewritesPlaces before after maps summary
+IsTextRewritten maps before after (Err fault) = RewritesPlacesFront before after maps fault
 
 -- what is told then: nothing is added to a trace
 abbrev pub rewrite_telling : Result Summary RewriteFault → Telling
 rewrite_telling (Ok summary) = answer []
 rewrite_telling (Err fault) = fault_telling fault
 
--- rewriting the trace on standard input over these maps tells this; where memory was wanting, neither stream was asked
-pub record TraceTells (maps : Maps) (hide : Bool) (before after : DevicesSeen) (telling : Telling) : Type 0 where
+-- rewriting the text on standard input over these maps tells this; where memory was wanting, neither stream was asked
+pub record TextTells (IsRewritten : Rewriting) (maps : Maps) (before after : DevicesSeen) (telling : Telling) : Type 0 where
   pub result : Result Summary RewriteFault
-  pub rewritten : IsRewritten maps hide before after result
+  pub rewritten : IsRewritten maps before after result
   pub input_failed : after.input.failed ≡ is_read_fault result
   pub output_failed : after.output.failed ≡ is_write_fault result
   pub untouched : result ≡ Err fault.Memory → after ≡ before
   pub told : telling ≡ rewrite_telling result
 
 -- where a file or its URL is refused, this is told, and standard input and output stay as they are
-abbrev pub GatheredTells : Result Maps Telling → (hide : Bool) → (before after : DevicesSeen) → Telling → Type 0
-GatheredTells (Err refused) hide before after telling = (telling ≡ refused) × (after ≡ before)
-GatheredTells (Ok maps) hide before after telling = TraceTells maps hide before after telling
+abbrev pub GatheredTells : Result Maps Telling → Rewriting → (before after : DevicesSeen) → Telling → Type 0
+GatheredTells (Err refused) IsRewritten before after telling = (telling ≡ refused) × (after ≡ before)
+GatheredTells (Ok maps) IsRewritten before after telling = TextTells IsRewritten maps before after telling
 
--- what `rewrite` tells, by its base, its interval, whether it hides, and its files, each with its URL
-abbrev pub RewriteTells : Option Parts → (k : ℕ) → (hide : Bool) → List (List ℕ × Loaded) → (before after : DevicesSeen) → Telling → Type 0
-RewriteTells base k hide files before after telling =
-    (gathered : Result Maps Telling) × Gathers base k [] files gathered × GatheredTells gathered hide before after telling
+-- what `rewrite` tells, by its base, its interval, how it rewrites, and its files, each with its URL
+abbrev pub RewriteTells : Option Parts → (k : ℕ) → Rewriting → List (List ℕ × Loaded) → (before after : DevicesSeen) → Telling → Type 0
+RewriteTells base k IsRewritten files before after telling =
+    (gathered : Result Maps Telling) × Gathers base k [] files gathered × GatheredTells gathered IsRewritten before after telling

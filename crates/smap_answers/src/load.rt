@@ -33,7 +33,9 @@ pub fn load_files(rt: &HostRuntime, command: &Command) -> Result<Vec<Loaded>, Fa
         Command::Check { path, .. } | Command::Show { path, .. } | Command::Lookup { path, .. } => {
             load_next(rt, &mut files, path)?;
         }
-        Command::Rewrite { maps, .. } => load_maps(rt, &mut files, maps)?,
+        Command::Rewrite { maps, .. } | Command::RewriteAnywhere { maps, .. } => {
+            load_maps(rt, &mut files, maps)?;
+        }
         Command::Compose { outer, inner, .. } => {
             load_next(rt, &mut files, outer)?;
             load_next(rt, &mut files, inner)?;

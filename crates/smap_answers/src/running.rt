@@ -15,7 +15,7 @@ use crate::outcome::{Failure, Reply};
 use crate::raw::answer_raw;
 use crate::show::answer_show;
 use crate::telling::tell;
-use crate::trace::answer_rewrite;
+use crate::trace::{answer_anywhere, answer_rewrite};
 use smap_command::Command;
 use smap_io::{ByteSink, ByteSource};
 use std::alloc::Global;
@@ -99,6 +99,19 @@ fn answer<R: ByteSource, W: ByteSink>(
             base.as_ref(),
             *interval,
             *hide_ignored,
+            input,
+            output,
+        ),
+        Command::RewriteAnywhere {
+            maps,
+            base,
+            interval,
+        } => answer_anywhere(
+            alloc,
+            maps,
+            files,
+            base.as_ref(),
+            *interval,
             input,
             output,
         ),

@@ -3,15 +3,16 @@ ghost use Rattle.std.specs.Prelude.{◌≡◌, [], false, map, option_copied, zi
 ghost use Rattle.smap_answers.specs.Outcome.{OrMemory, failure_telling, telling_of};
 ghost use Rattle.smap_lines.specs.Editing.{devices_seen};
 ghost use Rattle.smap_answers.specs.Trace.{Gathers, IsBaseUsed, IsReadAs, IsReadRefusal, PutsMap};
-ghost use Rattle.smap_answers.specs.Trace.{RewriteTells, TraceTells, gathered, put_seen, url_in_argument, url_refusal_result};
+ghost use Rattle.smap_answers.specs.Trace.{IsTextRewritten, IsTraceRewritten, RewriteTells, gathered, put_seen, rewrite_telling, url_in_argument, url_refusal_result};
 
 use crate::lines;
 use crate::load::Loaded;
 use crate::map::read_map;
 use crate::outcome::{Failure, Reply};
 use smap_io::{ByteSink, ByteSource};
+use smap_places::rewrite_places;
 use smap_record::{MapFile, Url};
-use smap_trace::{Table, TableRefusal, rewrite};
+use smap_trace::{RewriteFault, Summary, Table, TableRefusal, rewrite};
 use std::alloc::{AllocError, Global};
 use url::ParseError;
 
@@ -20,7 +21,7 @@ use url::ParseError;
 /// each argument, in their order, and devices that have not failed.
 pub fn answer_rewrite<R: ByteSource, W: ByteSink>(
     alloc: Global,
-    words: &[(String, String)],
+    arguments: &[(String, String)],
     files: &[Loaded],
     base: Option<&Url>,
     interval: u32,
@@ -30,32 +31,43 @@ pub fn answer_rewrite<R: ByteSource, W: ByteSink>(
 ) -> Result<Reply, Failure>
     requires input_works { (R.seen input.old).failed ≡ false }
     requires output_works { (W.seen output.old).failed ≡ false }
-    ensures { RewriteTells (option_copied base.entry) interval hide_ignored
-        (zip (map url_in_argument words.now) files.now)
+    ensures { RewriteTells (option_copied base.entry) interval (IsTraceRewritten hide_ignored)
+        (zip (map url_in_argument arguments.now) files.now)
         (devices_seen (R.seen input.old) (W.seen output.old))
         (devices_seen (R.seen input.new) (W.seen output.new))
         (telling_of result) }
 {
-    let table = table_of(alloc, words, files, base, interval)?;
-    rewrite_over(alloc, &table, hide_ignored, input, output)
+    let table = table_of(alloc, arguments, files, base, interval)?;
+    rewritten(rewrite(alloc, input, output, &table, hide_ignored))
 }
 
-// Rewrites the trace on standard input over these maps.
-fn rewrite_over<R: ByteSource, W: ByteSink>(
+/// The same, of the places of the text on standard input, wherever they stand in its lines.
+pub fn answer_anywhere<R: ByteSource, W: ByteSink>(
     alloc: Global,
-    table: &Table,
-    hide_ignored: bool,
+    arguments: &[(String, String)],
+    files: &[Loaded],
+    base: Option<&Url>,
+    interval: u32,
     input: &mut R,
     output: &mut W,
 ) -> Result<Reply, Failure>
     requires input_works { (R.seen input.old).failed ≡ false }
     requires output_works { (W.seen output.old).failed ≡ false }
-    ensures { TraceTells table.now hide_ignored
+    ensures { RewriteTells (option_copied base.entry) interval IsTextRewritten
+        (zip (map url_in_argument arguments.now) files.now)
         (devices_seen (R.seen input.old) (W.seen output.old))
         (devices_seen (R.seen input.new) (W.seen output.new))
         (telling_of result) }
 {
-    match rewrite(alloc, input, output, table, hide_ignored) {
+    let table = table_of(alloc, arguments, files, base, interval)?;
+    rewritten(rewrite_places(alloc, input, output, &table))
+}
+
+// What rewriting a text comes to.
+fn rewritten(end: Result<Summary, RewriteFault>) -> Result<Reply, Failure>
+    ensures { telling_of result ≡ rewrite_telling end }
+{
+    match end {
         Ok(_) => Ok(Reply::Rewritten),
         Err(fault) => Err(Failure::Fault(fault)),
     }
@@ -64,16 +76,16 @@ fn rewrite_over<R: ByteSource, W: ByteSink>(
 // The maps of these files, each under the URL of its argument; or the first refusal.
 fn table_of(
     alloc: Global,
-    words: &[(String, String)],
+    arguments: &[(String, String)],
     files: &[Loaded],
     base: Option<&Url>,
     interval: u32,
 ) -> Result<Table, Failure>
     ensures { Gathers (option_copied base.entry) interval []
-        (zip (map url_in_argument words.now) files.now) (gathered result) }
+        (zip (map url_in_argument arguments.now) files.now) (gathered result) }
 {
     let mut table = Table::new(alloc);
-    for ((url, _), file) in words.iter().zip(files) {
+    for ((url, _), file) in arguments.iter().zip(files) {
         add_map(alloc, &mut table, url, file, base, interval)?;
     }
     Ok(table)

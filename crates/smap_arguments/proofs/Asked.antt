@@ -19,7 +19,7 @@ use Rattle.clap.specs.declared.builder.value_parser.ValueParser.{ValueParser}
 use Rattle.clap.specs.declared.builder.value_parser.ValueParser.TheVariants as parser
 use Rattle.clap.specs.declared.error.Error.{Error}
 use Rattle.clap.specs.declared.error.kind.ErrorKind.TheVariants.{DisplayHelp, DisplayVersion, OutOfMemory}
-use Rattle.smap_arguments.specs.CommandLine.{after_rule, base_rule, check, compose, hide_rule, interval_number, interval_rule, lookup, named, number, raw, rewrite, show, smap, source_number}
+use Rattle.smap_arguments.specs.CommandLine.{after_rule, anywhere_rule, base_rule, check, compose, hide_rule, interval_number, interval_rule, lookup, named, number, raw, rewrite, show, smap, source_number}
 use Rattle.smap_arguments.specs.declared.usage.Usage.{Usage}
 use Rattle.smap_arguments.specs.declared.usage.Usage.TheVariants.{Help, Words, Memory}
 use Rattle.smap_arguments.specs.Arguments.{HasArguments, HasCommand, HasValue, HasValues, IsNamedRefusal, IsUsageOf, IsRefusalOf, SubcommandTells}
@@ -125,7 +125,8 @@ at_argument id = cond (bytes_eq id (codes "SOURCE")) source_number
     (cond (bytes_eq id (codes "K")) interval_number
     (cond (bytes_eq id (codes "after")) parser.Bool
     (cond (bytes_eq id (codes "hide-ignored")) parser.Bool
-    (cond (bytes_eq id (codes "LINE") || bytes_eq id (codes "COLUMN")) number parser.String))))
+    (cond (bytes_eq id (codes "anywhere")) parser.Bool
+    (cond (bytes_eq id (codes "LINE") || bytes_eq id (codes "COLUMN")) number parser.String)))))
 
 base_plain : (i : ℕ) → IsPlain at_argument (with_index i (filled base_rule))
 base_plain i = option at_argument i (codes "URL") (codes "base")
@@ -138,6 +139,9 @@ after_plain i = flag at_argument i (codes "after") (codes "after") refl
 
 hide_plain : (i : ℕ) → IsPlain at_argument (with_index i (filled hide_rule))
 hide_plain i = flag at_argument i (codes "hide-ignored") (codes "hide-ignored") refl
+
+anywhere_plain : (i : ℕ) → IsPlain at_argument (with_index i (filled anywhere_rule))
+anywhere_plain i = flag at_argument i (codes "anywhere") (codes "anywhere") refl
 
 help_plain : IsPlain at_argument (filled help_rule)
 help_plain = help at_argument refl
@@ -152,7 +156,7 @@ lookup_plain = (
 )
 
 rewrite_plain : Each (IsPlain at_argument) (built_leaf rewrite.top).rules
-rewrite_plain = (more_values at_argument 1 (codes "URL=FILE"), (base_plain 2, (interval_plain 2, (hide_plain 2, (help_plain, tt)))))
+rewrite_plain = (more_values at_argument 1 (codes "URL=FILE"), (base_plain 2, (interval_plain 2, (hide_plain 2, (anywhere_plain 2, (help_plain, tt))))))
 
 check_plain : Each (IsPlain at_argument) (built_leaf check.top).rules
 check_plain = (value at_argument 1 (codes "PATH"), (base_plain 2, (interval_plain 2, (help_plain, tt))))

@@ -1,6 +1,7 @@
 -- What the arguments of the command line ask for.
 use Rattle.std.specs.Prelude.{◌≡◌, ◌≢◌, ◌≤◌, ◌+◌, ◌++◌, ◌==◌, ◌⊎◌, ◌∷◌, ℕ, Bool, false, true, codes, List, []}
 use Rattle.std.specs.Prelude.{None, Ok, Option, Some, String, find, if◌then◌else◌, map, not, unwrap_or, ⊤}
+use Rattle.std.specs.declared.alloc.Global.{Global}
 use Rattle.std.specs.List.{AllZip, list_any}
 use Rattle.std.specs.Option.{IsSome}
 use Rattle.std.specs.Str.Parse.{digits_value, without_leading_plus}
@@ -19,7 +20,7 @@ use Rattle.clap.specs.declared.builder.value_parser.ValueParser.TheVariants as p
 use Rattle.clap.specs.declared.error.kind.ErrorKind.{ErrorKind}
 use Rattle.clap.specs.declared.error.kind.ErrorKind.TheVariants.{DisplayHelp, DisplayVersion, OutOfMemory}
 use Rattle.smap_command.specs.declared.command.Command.{Command}
-use Rattle.smap_command.specs.declared.command.Command.TheVariants.{Raw, Check, Show, Lookup, Rewrite, Compose}
+use Rattle.smap_command.specs.declared.command.Command.TheVariants.{Raw, Check, Show, Lookup, Rewrite, RewriteAnywhere, Compose}
 use Rattle.smap_arguments.specs.CommandLine.{named, smap}
 use Rattle.smap_arguments.specs.declared.usage.Usage.{Usage}
 use Rattle.smap_arguments.specs.declared.usage.Usage.TheVariants.{Help, Words, Memory}
@@ -31,6 +32,7 @@ HasPosition (Check path base interval) = ⊤
 HasPosition (Show path base) = ⊤
 HasPosition (Lookup path line column base interval after) = (line ≤ limit) × (column ≤ limit)
 HasPosition (Rewrite maps base interval hide_ignored) = ⊤
+HasPosition (RewriteAnywhere maps base interval) = ⊤
 HasPosition (Compose outer source inner base) = ⊤
 
 -- the same, and checkpoints may stand at its interval
@@ -119,6 +121,7 @@ name_of (Check path base interval) = codes "check"
 name_of (Show path base) = codes "show"
 name_of (Lookup path line column base interval after) = codes "lookup"
 name_of (Rewrite maps base interval hide_ignored) = codes "rewrite"
+name_of (RewriteAnywhere maps base interval) = codes "rewrite"
 name_of (Compose outer source inner base) = codes "compose"
 
 -- what clap reads for the arguments of a command asks for it, with lines and columns counted from 1
@@ -132,7 +135,9 @@ RowsAskFor rows (Lookup path line column base interval after) = GivesText rows (
     × GivesNumber rows (codes "LINE") (line + 1) × GivesNumber rows (codes "COLUMN") (column + 1) × GivesBase rows base
     × GivesInterval rows interval × GivesFlag rows (codes "after") after
 RowsAskFor rows (Rewrite maps base interval hide_ignored) = GivesPairs rows maps.items × GivesBase rows base × GivesInterval rows interval
-    × GivesFlag rows (codes "hide-ignored") hide_ignored
+    × GivesFlag rows (codes "hide-ignored") hide_ignored × GivesFlag rows (codes "anywhere") false
+RowsAskFor rows (RewriteAnywhere maps base interval) = GivesPairs rows maps.items × GivesBase rows base × GivesInterval rows interval
+    × GivesFlag rows (codes "hide-ignored") false × GivesFlag rows (codes "anywhere") true
 RowsAskFor rows (Compose outer source inner base) = GivesText rows (codes "OUTER") (string_bytes outer)
     × GivesNumber rows (codes "SOURCE") source × GivesText rows (codes "INNER") (string_bytes inner) × GivesBase rows base
 
@@ -188,6 +193,10 @@ bad_base_line = codes "usage: bad base URL" ++ 10 ∷ []
 abbrev pub no_pair_line : (word : Text) → Text
 no_pair_line word = codes "usage: no URL=FILE: " ++ shown word ++ 10 ∷ []
 
+-- `rewrite` has both of its flags
+abbrev pub both_flags_line : Text
+both_flags_line = codes "usage: --hide-ignored with --anywhere" ++ 10 ∷ []
+
 -- it is told that the base is no URL
 abbrev pub TellsBadBase : List Row → Text → Type 0
 TellsBadBase rows text = (text ≡ bad_base_line) × ((base : Text) × GivesText rows (codes "URL") base)
@@ -200,11 +209,20 @@ TellsNoPair words text = (word : Text) × (first_without words ≡ Some word) ×
 abbrev pub TellsBadPair : List Row → Text → Type 0
 TellsBadPair rows text = (words : List Text) × (all_of (codes "URL=FILE") rows ≡ Some words) × TellsNoPair words text
 
--- the arguments are told that clap takes, but the command of this name does not: its base, or an argument of `rewrite`, whose base
--- is not refused
+-- it is told that both flags are given, of arguments that are pairs
+abbrev pub TellsBothFlags : List Row → Text → Type 0
+TellsBothFlags rows text = (text ≡ both_flags_line) × ((pairs : List (String Global × String Global)) × GivesPairs rows pairs)
+    × GivesFlag rows (codes "hide-ignored") true × GivesFlag rows (codes "anywhere") true
+
+-- what `rewrite` refuses after its base: an argument, and then its flags
+abbrev pub TellsRewrite : List Row → Text → Type 0
+TellsRewrite rows text = TellsBadPair rows text ⊎ TellsBothFlags rows text
+
+-- the arguments are told that clap takes, but the command of this name does not: its base or, where that is not refused,
+-- what else `rewrite` refuses
 abbrev pub TellsRefusal : (name : Text) → List Row → Text → Type 0
 TellsRefusal name rows text = TellsBadBase rows text
-    ⊎ ((base : Option Parts) × (name ≡ codes "rewrite") × GivesBase rows base × TellsBadPair rows text)
+    ⊎ ((base : Option Parts) × (name ≡ codes "rewrite") × GivesBase rows base × TellsRewrite rows text)
 
 -- where clap finds no fault, this alone may be told, or memory ran out
 abbrev pub IsNamedRefusal : (Text → Type 0) → Usage → Type 0
@@ -218,7 +236,7 @@ SubcommandTells subcommand text =
     (name : Text) × (rows : List Row) × (subcommand ≡ Some (name, rows)) × TellsRefusal name rows text
 
 -- clap finds a request for help or for the version, or another fault in the arguments; or it finds none, and what is told is
--- that the base is no URL or an argument no pair; or memory ran out
+-- that the base is no URL, an argument no pair, or that two flags exclude each other; or memory ran out
 abbrev pub IsRefusalOf : List Text → Usage → Type 0
 IsRefusalOf words (Help text) = (kind : ErrorKind) × IsAmong kind (fault_of smap words) × IsRequest kind
 IsRefusalOf words (Words text) =

@@ -54,6 +54,10 @@ after_rule = record (new_rule (codes "after")) { long = Some (codes "after"); ac
 abbrev pub hide_rule : Rule
 hide_rule = record (new_rule (codes "hide-ignored")) { long = Some (codes "hide-ignored"); action = Some SetTrue }
 
+-- the flag that rewrites places anywhere in a text
+abbrev pub anywhere_rule : Rule
+anywhere_rule = record (new_rule (codes "anywhere")) { long = Some (codes "anywhere"); action = Some SetTrue }
+
 -- clap's argument is the one described, and does not hold in subcommands too
 abbrev pub IsLocalArgument : Rule → ClapArgument → Type 0
 IsLocalArgument rule argument = (rule_of argument ≡ rule) × (argument.global ≡ false)
@@ -69,7 +73,7 @@ lookup = with_rules (codes "lookup") (text_rule (codes "PATH") ∷ number_rule n
     ∷ number_rule number (codes "COLUMN") ∷ base_rule ∷ interval_rule ∷ after_rule ∷ [])
 
 abbrev pub rewrite : App
-rewrite = with_rules (codes "rewrite") (pairs_rule ∷ base_rule ∷ interval_rule ∷ hide_rule ∷ [])
+rewrite = with_rules (codes "rewrite") (pairs_rule ∷ base_rule ∷ interval_rule ∷ hide_rule ∷ anywhere_rule ∷ [])
 
 abbrev pub check : App
 check = with_rules (codes "check") (text_rule (codes "PATH") ∷ base_rule ∷ interval_rule ∷ [])

@@ -7,10 +7,10 @@ ghost use Rattle.smap_arguments.specs.Arguments.{ArePairs, GivesBase, GivesFlag,
 ghost use Rattle.smap_arguments.specs.Arguments.{GivesText, HasArguments, HasCommand, HasValue, HasValueIfGiven};
 ghost use Rattle.smap_arguments.specs.Arguments.{IsInRange, IsNamedRefusal, IsPair};
 ghost use Rattle.smap_arguments.specs.Arguments.{NamedAsksFor, SubcommandAsksFor, SubcommandTells, TellsBadBase};
-ghost use Rattle.smap_arguments.specs.Arguments.{TellsBadPair, TellsNoPair, TellsRefusal};
+ghost use Rattle.smap_arguments.specs.Arguments.{TellsBadPair, TellsNoPair, TellsRefusal, TellsRewrite};
 ghost use Rattle.clap.specs.declared.builder.value_parser.ValueParser.TheVariants as parser;
 
-use crate::mistakes::{BAD_BASE, no_pair_line};
+use crate::mistakes::{BAD_BASE, BOTH_FLAGS, no_pair_line};
 use crate::usage::Usage;
 use clap::ArgMatches;
 use smap_command::{Command, USUAL_INTERVAL};
@@ -53,12 +53,7 @@ fn named_command(
             interval: interval_in(matches),
             after: flag_in(matches, "after"),
         }),
-        "rewrite" => Ok(Command::Rewrite {
-            maps: maps_in(alloc, matches)?,
-            base,
-            interval: interval_in(matches),
-            hide_ignored: flag_in(matches, "hide-ignored"),
-        }),
+        "rewrite" => rewrite_in(alloc, matches, base),
         "check" => Ok(Command::Check {
             path: text_in(alloc, matches, "PATH")?,
             base,
@@ -146,6 +141,35 @@ fn base_in(alloc: Global, matches: &ArgMatches<'_>) -> Result<Option<Url>, Usage
         Ok(url) => Ok(Some(url)),
         Err(ParseError::OutOfMemory) => Err(Usage::Memory),
         Err(_) => Err(Usage::Words(String::from_str(alloc, BAD_BASE)?)),
+    }
+}
+
+// What `rewrite` is asked. Its flags exclude each other.
+fn rewrite_in(alloc: Global, matches: &ArgMatches<'_>, base: Option<Url>) -> Result<Command, Usage>
+    requires pairs { HasValue parser.String (rows_of (found_of matches.now)) (codes "URL=FILE") }
+    requires interval { HasValueIfGiven interval_number (rows_of (found_of matches.now)) (codes "K") }
+    requires hide { HasValueIfGiven parser.Bool (rows_of (found_of matches.now)) (codes "hide-ignored") }
+    requires anywhere { HasValueIfGiven parser.Bool (rows_of (found_of matches.now)) (codes "anywhere") }
+    requires given { GivesBase (rows_of (found_of matches.now)) base }
+    ensures asked { IfOk result (NamedAsksFor (codes "rewrite") (rows_of (found_of matches.now))) }
+    ensures in_range { IfOk result IsInRange }
+    ensures refused { IfErr result (IsNamedRefusal (TellsRewrite (rows_of (found_of matches.now)))) }
+{
+    let (maps, interval) = (maps_in(alloc, matches)?, interval_in(matches));
+    let hide_ignored = flag_in(matches, "hide-ignored");
+    match (flag_in(matches, "anywhere"), hide_ignored) {
+        (false, hide_ignored) => Ok(Command::Rewrite {
+            maps,
+            base,
+            interval,
+            hide_ignored,
+        }),
+        (true, false) => Ok(Command::RewriteAnywhere {
+            maps,
+            base,
+            interval,
+        }),
+        (true, true) => Err(Usage::Words(String::from_str(alloc, BOTH_FLAGS)?)),
     }
 }
 

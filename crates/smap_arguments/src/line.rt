@@ -1,7 +1,7 @@
 //! The command line as clap gets it, with the texts of its help.
 ghost use Rattle.std.specs.Prelude.{◌≡◌, All, IfOk, codes, false, map};
 ghost use Rattle.clap.specs.Words.{app_of, rule_of};
-ghost use Rattle.smap_arguments.specs.CommandLine.{IsLocalArgument, IsLocalCommand, after_rule, base_rule, check, compose};
+ghost use Rattle.smap_arguments.specs.CommandLine.{IsLocalArgument, IsLocalCommand, after_rule, anywhere_rule, base_rule, check, compose};
 ghost use Rattle.smap_arguments.specs.CommandLine.{hide_rule, interval_rule, lookup, number, number_rule, pairs_rule, raw, rewrite};
 ghost use Rattle.smap_arguments.specs.CommandLine.{show, smap, source_number, text_rule, with_rules};
 
@@ -44,7 +44,8 @@ there is none, against the map's own.
 
 Answer: the trace, line by line. In a frame of V8, Firefox or Safari whose URL has a map, the place becomes
 the original one; the rest of the line stays, and so does each other line, byte for byte. With --hide-ignored
-the lines of frames from sources that a map says to pass over are left out.
+the lines of frames from sources that a map says to pass over are left out. With --anywhere each place
+URL:LINE:COLUMN whose URL has a map becomes the original one, wherever it stands in a line.
 
 Example:
   smap rewrite https://example.test/receipt.min.js=examples/receipt.min.js.map < examples/receipt.trace";
@@ -115,6 +116,8 @@ const AFTER_HELP: &str =
 const HIDE_HELP: &str =
     "Leave out the frames from sources that a map says to pass over (its `ignoreList`)";
 
+const ANYWHERE_HELP: &str = "Rewrite every URL:LINE:COLUMN anywhere in a line, not frames alone";
+
 /// The command line of `smap`. Its lifetime is the caller's, since clap keeps its texts and the arguments under one.
 pub fn command_line<'a>(alloc: Global) -> Result<Command<'a>, AllocError>
     ensures { IfOk result (λ command. app_of command ≡ smap) }
@@ -160,6 +163,7 @@ fn rewrite_command<'a>(alloc: Global) -> Result<Command<'a>, AllocError>
         base_url(alloc),
         interval(alloc),
         hide_ignored(alloc),
+        anywhere(alloc),
     ]?;
     described(alloc, "rewrite", REWRITE_ABOUT, REWRITE_NOTES, arguments)
 }
@@ -301,4 +305,14 @@ fn hide_ignored<'a>(alloc: Global) -> Arg<'a>
         .long("hide-ignored")
         .action(ArgAction::SetTrue)
         .help(HIDE_HELP)
+}
+
+// The flag that rewrites places anywhere in a text.
+fn anywhere<'a>(alloc: Global) -> Arg<'a>
+    ensures { IsLocalArgument anywhere_rule result }
+{
+    Arg::new(alloc, "anywhere")
+        .long("anywhere")
+        .action(ArgAction::SetTrue)
+        .help(ANYWHERE_HELP)
 }

@@ -8,6 +8,9 @@ use std::alloc::{AllocError, Global};
 /// Standard error: the base is no URL.
 pub const BAD_BASE: &str = "usage: bad base URL\n";
 
+/// `rewrite` has both of its flags.
+pub const BOTH_FLAGS: &str = "usage: --hide-ignored with --anywhere\n";
+
 /// Standard error: an argument of `rewrite` without `=`.
 pub fn no_pair_line(alloc: Global, word: &str) -> Result<String, AllocError>
     ensures { IfOk result (λ text. string_bytes text ≡ no_pair_line word.now) }

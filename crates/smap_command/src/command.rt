@@ -43,6 +43,13 @@ pub enum Command {
         interval: u32,
         hide_ignored: bool,
     },
+    /// Rewrites the places of the text on standard input, wherever they stand in its lines, over maps as `Rewrite` has
+    /// them.
+    RewriteAnywhere {
+        maps: Vec<(String, String)>,
+        base: Option<Url>,
+        interval: u32,
+    },
     /// Composes the source map in the file at the path `outer` with that of its source of this number, from 0, in the
     /// file at the path `inner`. The sources of both are resolved against the base.
     Compose {
