@@ -21,6 +21,18 @@ pub struct Bound {
 }
 
 impl Bound {
+    // The bound at a position, which this side of it reaches.
+    #[inline(always)]
+    pub fn new(line: u32, column: u32, side: Side) -> Bound
+        ensures { result ≡ record { position = record { line = line; column = column }; side = side } }
+    {
+        let position = Position {
+            line: line as u64,
+            column: column as u64,
+        };
+        Bound { position, side }
+    }
+
     // Whether the mapping stands up to the bound.
     #[inline(always)]
     pub fn reaches(&self, mapping: &Mapping) -> bool

@@ -28,7 +28,6 @@ use crate::joined::{JoinedMappings, joined};
 use crate::mark::mark_parts;
 use crate::order::first_out_of_order;
 use crate::part::Part;
-use crate::position::Position;
 use crate::refusal::{BuildRefusal, EncodeAllRefusal};
 use crate::resume::decode_after;
 use crate::search::nearest_checkpoints;
@@ -112,13 +111,7 @@ impl Index {
         ensures onward { (meter.old.comparisons ≤ meter.new.comparisons)
             × (meter.old.segments ≤ meter.new.segments) }
     {
-        let through = Bound {
-            position: Position {
-                line: line as u64,
-                column: column as u64,
-            },
-            side: Side::Through,
-        };
+        let through = Bound::new(line, column, Side::Through);
         let nearest = nearest_checkpoints(&self.checkpoints, &through, meter);
         match nearest.last {
             Some(checkpoint) if checkpoint.line == line => {
@@ -143,13 +136,7 @@ impl Index {
         ensures onward { (meter.old.comparisons ≤ meter.new.comparisons)
             × (meter.old.segments ≤ meter.new.segments) }
     {
-        let before = Bound {
-            position: Position {
-                line: line as u64,
-                column: column as u64,
-            },
-            side: Side::Before,
-        };
+        let before = Bound::new(line, column, Side::Before);
         match self.first_past(&before, meter) {
             Some(mapping) if mapping.line == line => answer_of(&mapping),
             Some(_) => Answer::Nothing,
