@@ -24,7 +24,8 @@ impl Bound {
     // The bound at a position, which this side of it reaches.
     #[inline(always)]
     pub fn new(line: u32, column: u32, side: Side) -> Bound
-        ensures { result ≡ record { position = record { line = line; column = column }; side = side } }
+        ensures { result
+            ≡ record { position = record { line = line; column = column }; side = side } }
     {
         let position = Position {
             line: line as u64,

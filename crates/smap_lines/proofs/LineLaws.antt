@@ -1,7 +1,7 @@
 -- The lines of a text, one after another; and a text cut after a line, whose lines are those of its parts.
 use Rattle.std.proofs.Common.{◌≡◌, ◌==◌, ◌+◌, ◌<◌, ◌≤◌, ◌||◌, ℕ, suc, Bool, true, false, cond, List, [], ◌∷◌, ◌++◌, length, length-append, length-take, get_or, get_or-take, take, drop, refl, sym, ap, ◌∙◌, arith, ⊎_elim, inl, inr, append-nil, fold}
 use Rattle.std.proofs.Math.Bool.{or-true}
-use Rattle.std.specs.List.{flat_map, list_any}
+use Rattle.std.specs.List.{flat_map}
 use Rattle.std.proofs.lemmas.Bool.{cond-false, cond_both, eqb-true, false_from_ne_true, or_from, or_parts}
 use Rattle.std.proofs.lemmas.Grind.{flat_map-append}
 use Rattle.std.proofs.lemmas.List.{drop_more, take-append-drop}

@@ -1,10 +1,10 @@
 -- What an open line comes to: as it is where it is too long, and edited otherwise.
-use Rattle.std.proofs.Common.{◌≡◌, ℕ, Bool, true, false, List, [], ◌∷◌, ◌++◌, Option, refl, sym, ap, ◌∙◌, subst}
+use Rattle.std.proofs.Common.{◌≡◌, ℕ, true, false, List, [], ◌∷◌, ◌++◌, Option, sym, ap, ◌∙◌, subst}
 use Rattle.std.proofs.lemmas.Bool.{cond-false, cond-true}
 use Rattle.smap_io.specs.Device.{TakesFront}
 use Rattle.smap_lines.specs.Gathered.{HandsOn}
 use Rattle.smap_lines.specs.Lines.{Line}
-use Rattle.smap_lines.specs.Private.OpenLine.{OpenState, ended_text, is_kept, line_with}
+use Rattle.smap_lines.specs.Private.OpenLine.{OpenState, ended_text, is_kept}
 use Rattle.smap_lines.proofs.TakingLaws.{front_of_both, put_both, put_then_front}
 
 module _ (becomes : Line → List ℕ) (state : OpenState) (bytes : List ℕ) where

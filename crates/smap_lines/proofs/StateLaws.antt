@@ -1,15 +1,14 @@
 -- What an open line comes to, by its state: what is passed of it and what its end brings are what becomes of it.
-use Rattle.std.proofs.Common.{◌≡◌, ◌+◌, ◌<◌, ◌≤◌, ◌⊎◌, ℕ, Bool, true, false, cond, List, [], ◌∷◌, ◌++◌, Option, length, length-append, refl, sym, ap, ◌∙◌, arith, subst, inl, inr, append_assoc, append-nil}
-use Rattle.std.specs.Prelude.{nat_le, not, ◌==◌, ◌||◌}
+use Rattle.std.proofs.Common.{◌≡◌, ◌<◌, ◌≤◌, ◌⊎◌, ℕ, Bool, true, false, cond, List, [], ◌∷◌, ◌++◌, length, length-append, refl, sym, ap, ◌∙◌, arith, subst, inl, inr, append_assoc, append-nil}
+use Rattle.std.specs.Prelude.{nat_le, not, ◌==◌}
 use Rattle.std.proofs.lemmas.Bool.{cond-false, cond-true, eqb-true, or_from}
 use Rattle.std.proofs.lemmas.Bool.Decides.{nat_tests}
-use Rattle.std.proofs.lemmas.List.{nil_from_length}
 use Rattle.smap_lines.specs.Edited.{after_line, after_text, edited, edited_line, is_short}
 use Rattle.smap_lines.specs.Limits.{most_line_bytes}
-use Rattle.smap_lines.specs.Lines.{IsWholeLines, Line, has_line_end, line_text, lines_with_ends}
-use Rattle.smap_lines.specs.Private.OpenLine.{OpenState, after_ended, after_last, continued, continued_text, ended_text, has_last, is_kept, last_text, line_with, nothing_open}
-use Rattle.smap_lines.specs.Private.Passage.{IsOpen, IsThrough, Now, passed}
-use Rattle.smap_lines.proofs.LineLaws.{after_both, after_ended_line, after_last_line, after_none, edited_both, edited_ended, edited_last, edited_none, ended, first_line, last, lines_of_both, no_end_in_both, only_line}
+use Rattle.smap_lines.specs.Lines.{Line, has_line_end, lines_with_ends}
+use Rattle.smap_lines.specs.Private.OpenLine.{OpenState, after_ended, after_last, continued, continued_text, ended_text, has_last, last_text}
+use Rattle.smap_lines.specs.Private.Passage.{IsOpen, passed}
+use Rattle.smap_lines.proofs.LineLaws.{after_last_line, after_none, edited_both, edited_ended, edited_last, edited_none, ended, last, no_end_in_both, only_line}
 
 -- ---- an open line, by its state
 

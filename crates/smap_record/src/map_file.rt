@@ -200,7 +200,8 @@ impl MapFile {
     pub fn mappings<'a>(&'a self, alloc: Global) -> JoinedMappings<'a>
         ensures list { result ≡ joined self.now.stated.parts }
         ensures ordered { IsInOrder (joined self.now.stated.parts) }
-        ensures within { All (IsWithin (length self.now.stated.sources) (length self.now.stated.names))
+        ensures within { All
+            (IsWithin (length self.now.stated.sources) (length self.now.stated.names))
             (joined self.now.stated.parts) }
     {
         self.index.mappings(alloc)
@@ -210,7 +211,8 @@ impl MapFile {
     pub fn decode_all(&self, alloc: Global) -> Result<Vec<Mapping>, AllocError>
         ensures list { IfOk result (λ list. list.items ≡ joined self.now.stated.parts) }
         ensures ordered { IsInOrder (joined self.now.stated.parts) }
-        ensures within { All (IsWithin (length self.now.stated.sources) (length self.now.stated.names))
+        ensures within { All
+            (IsWithin (length self.now.stated.sources) (length self.now.stated.names))
             (joined self.now.stated.parts) }
     {
         self.index.decode_all(alloc)

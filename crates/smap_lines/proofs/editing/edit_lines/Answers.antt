@@ -1,4 +1,4 @@
-use Rattle.std.proofs.Common.{◌≡◌, ◌+◌, ◌≤◌, ◌<◌, ◌∙◌, ◌++◌, ℕ, [], arith, ap, cond, sym, refl, take, length, length-append, length-take, append-nil}
+use Rattle.std.proofs.Common.{◌∙◌, ◌++◌, [], arith, ap, cond, refl, take, length-append, length-take, append-nil}
 use Rattle.smap_lines.proofs.EditingLaws.{byte_few, byte_is, gives_both, gives_none, read_fails, too_much, write_fails}
 use Rattle.smap_lines.proofs.LineLaws.{few_lines}
 use Rattle.smap_lines.proofs.ThroughLaws.{through_after, through_counted, through_end, through_end_front, through_few, through_last_front, through_read, through_start}
