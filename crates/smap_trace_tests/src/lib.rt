@@ -1,5 +1,5 @@
-//! The tests of stack traces: of frames and tables, and of `rewrite` through `run`. There is nothing here
-//! to call.
+//! The tests of stack traces: of frames and tables, of `rewrite` through `run`, and of places anywhere in a text. There
+//! is nothing here to call.
 #![tactic(auto)]
 
 #[cfg(test)]
@@ -12,6 +12,8 @@ mod endless_traces;
 mod failing_traces;
 #[cfg(test)]
 mod node_traces;
+#[cfg(test)]
+mod places;
 #[cfg(test)]
 mod rewriting;
 #[cfg(test)]

@@ -5,7 +5,7 @@ use smap_io::{MemorySink, MemorySource};
 use smap_places::{PlaceFinder, rewrite_places};
 use smap_record::{MapFile, Url};
 use smap_trace::{RewriteFault, Summary, Table, rewrite};
-use smap_vectors::{halves, rows_of, trace_maps, trace_rows};
+use smap_vectors::{halves, printed_map, printed_rows, rows_of, trace_maps, trace_rows};
 use std::alloc::{AllocError, Global};
 use std::test::Fail;
 
@@ -222,5 +222,40 @@ fn frames_are_replaced_alike(rt: HostRuntime) -> Result<(), Fail> {
         }
     }
     assert!(rt; replaced > 100, "of {replaced} frames");
+    Ok(())
+}
+
+// The character that a sign of the rows stands for.
+fn meant(sign: char) -> char {
+    match sign {
+        '␊' => '\n',
+        '␍' => '\r',
+        '␉' => '\t',
+        '¦' => '|',
+        _ => sign,
+    }
+}
+
+// A text of the rows, with what its signs stand for.
+fn plain(alloc: Global, text: &str) -> Result<String, AllocError> {
+    text.chars().map(meant).collect(alloc)
+}
+
+#[test]
+fn what_node_prints_is_rewritten(rt: HostRuntime) -> Result<(), Fail> {
+    let mut table = Table::new(rt.alloc());
+    let (url, map) = halves(printed_map());
+    add_map(rt.alloc(), &mut table, url, map)?;
+    for row in rows_of(printed_rows(), 15)?.lines() {
+        let (kind, row) = halves(row);
+        let (counts, row) = halves(row);
+        let (text, wanted) = halves(row);
+        let text = plain(rt.alloc(), text)?;
+        let wanted = plain(rt.alloc(), wanted)?;
+        let wanted = [counts, "|", &wanted].concat(rt.alloc())?;
+        for most in &[8_192, 7, 1] {
+            assert_same(&rt, kind, &placed(rt.alloc(), &table, text.as_bytes(), *most)?, &wanted);
+        }
+    }
     Ok(())
 }

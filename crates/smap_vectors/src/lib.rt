@@ -9,6 +9,7 @@
 #![tactic(auto)]
 
 mod answers;
+mod anywhere;
 mod composed_maps;
 mod composing;
 mod encodings;
@@ -32,5 +33,5 @@ pub use rows::{caret_text, halves, rows_of};
 pub use tables::{
     answered_texts, composed_rows, encoded_texts, example_text, excerpt_rows, hidden_trace_rows,
     index_map_rows, lookup_after_rows, lookup_rows, mappings_rows, name_rows, place_rows,
-    refused_texts, trace_maps, trace_rows, written_rows,
+    printed_map, printed_rows, refused_texts, trace_maps, trace_rows, written_rows,
 };

@@ -1,6 +1,7 @@
 //! The tables, each as one text. A caller sees no more of one than that it is a text, so no proof of a test reads a
 //! table of many thousand bytes.
 use crate::answers::ANSWERS;
+use crate::anywhere::{PRINTED, PRINTED_MAP};
 use crate::composed_maps::COMPOSED_MAPS;
 use crate::encodings::ENCODINGS;
 use crate::example_map::EXAMPLE_MAP;
@@ -92,4 +93,15 @@ pub fn trace_rows() -> &'static str {
 /// Of the same traces, in order, with the frames of ignored sources hidden: counts, and what the trace becomes.
 pub fn hidden_trace_rows() -> &'static str {
     HIDDEN_TRACES
+}
+
+/// The URL of a program whose errors were printed, and its map.
+pub fn printed_map() -> &'static str {
+    PRINTED_MAP
+}
+
+/// Kinds of errors; how many lines the text of each has, how many places, and how many mapped ones; the text; and what
+/// it becomes where its places are rewritten.
+pub fn printed_rows() -> &'static str {
+    PRINTED
 }

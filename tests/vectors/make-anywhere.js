@@ -1,0 +1,122 @@
+#!/usr/bin/env node
+// Writes the vectors for places anywhere in a text: what node 20 prints for errors of many kinds that
+// examples/receipt.min.js throws, each in a process of its own, and that text with its places rewritten.
+//
+//   node make-anywhere.js     writes src/anywhere.rt of smap_vectors and prints the counts
+//
+// Nothing here is made from smap's own code or output: the places are those of a regular expression, and node's own
+// reader of source maps, the class SourceMap of node:module, looks them up.
+'use strict';
+
+const fs = require('fs');
+const path = require('path');
+const { SourceMap } = require('module');
+const { spawnSync } = require('child_process');
+
+const ROOT = path.join(__dirname, '..', '..');
+const URL_OF = 'https://example.test/receipt.min.js';
+const BUNDLE = path.join(ROOT, 'examples', 'receipt.min.js');
+
+function insist(holds, what) {
+  if (!holds) throw new Error(what);
+}
+
+// ---------------------------------------------------------------------------------------------
+// What node prints. The bundle catches its error; here its handler is another one.
+// ---------------------------------------------------------------------------------------------
+
+const RUN = `
+  Promise.prototype.catch = function () { return this.then(undefined, (error) => setTimeout(() => seen(error), 1)); };
+  vm.runInThisContext(require('fs').readFileSync(process.env.BUNDLE, 'utf8'), { filename: '${URL_OF}' });
+`;
+const NAMED = `
+  const { map } = Array.prototype;
+  Array.prototype.map = function (call, self) {
+    Object.defineProperty(call, 'name', { value: 'save (draft)' });
+    return map.call(this, call, self);
+  };
+`;
+const EVALUATING = `
+  Number.prototype.replace = function () { return this + ''; };
+  globalThis.String = eval;
+`;
+
+// A kind, and the program that meets the error; it is run in a worker where that is said.
+const KINDS = [
+  ['an error', 'function seen(error) { console.error(error); }'],
+  ['a cause', "function seen(error) { console.error(new Error('no receipt', { cause: error })); }"],
+  ['a cause of a cause', "function seen(cause) { console.error(new Error('a', { cause: new Error('b', { cause }) })); }"],
+  ['many errors', "function seen(error) { console.error(new AggregateError([error, error], 'all failed')); }"],
+  ['a code', "function seen(error) { console.error(Object.assign(error, { code: 'E_PRICE' })); }"],
+  ['a rejection that nobody handles', 'function seen(error) { Promise.reject(error); }'],
+  ['one that nobody catches', 'function seen(error) { throw error; }'],
+  ['one with a code that nobody catches', "function seen(error) { throw Object.assign(error, { code: 'E_PRICE' }); }"],
+  ['one that nobody catches in a worker', 'function seen(error) { throw error; }', true],
+  ['an evaluated text', `${EVALUATING} function seen(error) { console.error(error); }`],
+  ['a computed name', `${NAMED} function seen(error) { console.error(error); }`],
+  ['an error in an object', "function seen(error) { console.error({ level: 'error', error }); }"],
+  ['an error in a list in an object', 'function seen(error) { console.error({ errors: [error] }); }'],
+  ['a line of a logger', "function seen({ message, stack }) { console.error(JSON.stringify({ level: 50, time: 1700000000000, err: { message, stack } })); }"],
+  ['a line of a logger behind a time', "function seen({ stack }) { console.error('12:34:56.789 web-1  | ' + JSON.stringify(stack)); }"],
+];
+
+function printed([kind, program, isWorker]) {
+  const whole = program + RUN;
+  const text = isWorker ? `new (require('worker_threads').Worker)(${JSON.stringify(`const vm = require('vm');${whole}`)}, { eval: true })` : whole;
+  const { stderr } = spawnSync(process.execPath, ['-e', text], { encoding: 'utf8', env: { ...process.env, BUNDLE, NO_COLOR: '1' } });
+  insist(stderr.includes(URL_OF), `${kind} prints no place: ${stderr}`);
+  return stderr;
+}
+
+// ---------------------------------------------------------------------------------------------
+// The text, rewritten.
+// ---------------------------------------------------------------------------------------------
+
+const { sourcesContent, ...map } = JSON.parse(fs.readFileSync(`${BUNDLE}.map`, 'utf8'));
+const read = new SourceMap(map);
+const PLACE = new RegExp(`(?<![\\w\\-./\\\\%~+$:\\u0080-\\uffff])${URL_OF.replace(/[.]/g, '\\.')}:([1-9]\\d{0,9}):([1-9]\\d{0,9})(?!\\d)`, 'g');
+
+const total = { lines: 0, places: 0, mapped: 0 };
+
+function rewritten(text) {
+  const summary = { lines: text.match(/[^\n]*\n|[^\n]+$/g).length, places: 0, mapped: 0 };
+  const written = text.replace(PLACE, (place, line, column) => {
+    summary.places += 1;
+    const entry = read.findEntry(line - 1, column - 1);
+    if (entry.generatedLine !== line - 1 || entry.originalSource === undefined) return place;
+    summary.mapped += 1;
+    return `${new URL(entry.originalSource, URL_OF).href}:${entry.originalLine + 1}:${entry.originalColumn + 1}`;
+  });
+  for (const key of Object.keys(total)) total[key] += summary[key];
+  return [Object.values(summary).join(' '), text, written];
+}
+
+// ---------------------------------------------------------------------------------------------
+// The file of rows.
+// ---------------------------------------------------------------------------------------------
+
+// Signs for the characters that a field of a row can't hold.
+const SIGNS = { '\n': '␊', '\r': '␍', '\t': '␉', '|': '¦' };
+
+function field(text) {
+  insist(!/"##|[␊␍␉¦]/.test(text), 'a text that is no field');
+  return text.replace(/[\n\r\t|]/g, (character) => SIGNS[character]);
+}
+
+const rows = KINDS.map((kind) => `${[kind[0], ...rewritten(printed(kind))].map(field).join('|')}\n`);
+
+fs.writeFileSync(
+  path.join(ROOT, 'crates', 'smap_vectors', 'src', 'anywhere.rt'),
+  `//! What node printed for errors of many kinds, with its places rewritten. Written by \`tests/vectors/make-anywhere.js\`.
+//! In a text ␊ stands for LF, ␍ for CR, ␉ for a tab and ¦ for |.
+
+/// The URL of what ran, and its map.
+pub const PRINTED_MAP: &str = r##"${URL_OF}|${JSON.stringify(map)}"##;
+
+/// A kind of error; how many lines the text has, how many places, and how many of these are mapped; the text; and what it
+/// becomes.
+pub const PRINTED: &str = r##"
+${rows.join('')}"##;
+`,
+);
+console.log(`${rows.length} texts, ${total.lines} lines, ${total.places} places, ${total.mapped} mapped`);
