@@ -14,7 +14,7 @@ _smap() {
     case $command in
     '') options='--help --version' ;;
     lookup) options='--after --base --interval --help' ;;
-    rewrite) options='--base --interval --hide-ignored --help' ;;
+    rewrite) options='--anywhere --base --interval --hide-ignored --help' ;;
     check) options='--base --interval --help' ;;
     show | compose) options='--base --help' ;;
     raw) options='--interval --help' ;;

@@ -14,4 +14,5 @@ complete -c smap -n '__fish_seen_subcommand_from lookup rewrite check show compo
 complete -c smap -n '__fish_seen_subcommand_from lookup rewrite check show compose' -l base -x -d 'URL against which the names of sources are resolved'
 complete -c smap -n '__fish_seen_subcommand_from lookup rewrite check raw' -l interval -x -a '1 4 16 64 256 1024 4096' -d 'A checkpoint at every K-th segment of a line'
 complete -c smap -n '__fish_seen_subcommand_from lookup' -l after -d 'The first mapping at or after the position'
+complete -c smap -n '__fish_seen_subcommand_from rewrite' -l anywhere -d 'Rewrite places anywhere in a line'
 complete -c smap -n '__fish_seen_subcommand_from rewrite' -l hide-ignored -d 'Leave out the frames of ignored sources'

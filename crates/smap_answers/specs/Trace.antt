@@ -107,17 +107,14 @@ gathered (Err failure) = Err (failure_telling failure)
 
 -- ---- the trace
 
--- how a text on standard input is rewritten over some maps: what is done to the streams, and what it ends with
-abbrev pub Rewriting : Type 0
-Rewriting = Maps → (before after : DevicesSeen) → Result Summary RewriteFault → Type 0
-
--- the frames of a trace, to its end or up to a fault, with those of ignored sources hidden or not
-abbrev pub IsTraceRewritten : (hide : Bool) → Rewriting
+-- the frames of a trace are rewritten over these maps to its end, or up to a fault, with those of ignored sources hidden
+-- or not
+abbrev pub IsTraceRewritten : (hide : Bool) → Maps → (before after : DevicesSeen) → Result Summary RewriteFault → Type 0
 IsTraceRewritten hide maps before after (Ok summary) = Rewrites before after maps hide summary
 IsTraceRewritten hide maps before after (Err fault) = RewritesFront before after maps hide fault
 
--- the places anywhere in a text, to its end or up to a fault
-abbrev pub IsTextRewritten : Rewriting
+-- the places anywhere in a text are
+abbrev pub IsTextRewritten : Maps → (before after : DevicesSeen) → Result Summary RewriteFault → Type 0
 IsTextRewritten maps before after (Ok summary) = RewritesPlaces before after maps summary
 IsTextRewritten maps before after (Err fault) = RewritesPlacesFront before after maps fault
 
@@ -127,7 +124,7 @@ rewrite_telling (Ok summary) = answer []
 rewrite_telling (Err fault) = fault_telling fault
 
 -- rewriting the text on standard input over these maps tells this; where memory was wanting, neither stream was asked
-pub record TextTells (IsRewritten : Rewriting) (maps : Maps) (before after : DevicesSeen) (telling : Telling) : Type 0 where
+pub record TextTells (IsRewritten : Maps → (before after : DevicesSeen) → Result Summary RewriteFault → Type 0) (maps : Maps) (before after : DevicesSeen) (telling : Telling) : Type 0 where
   pub result : Result Summary RewriteFault
   pub rewritten : IsRewritten maps before after result
   pub input_failed : after.input.failed ≡ is_read_fault result
@@ -136,11 +133,13 @@ pub record TextTells (IsRewritten : Rewriting) (maps : Maps) (before after : Dev
   pub told : telling ≡ rewrite_telling result
 
 -- where a file or its URL is refused, this is told, and standard input and output stay as they are
-abbrev pub GatheredTells : Result Maps Telling → Rewriting → (before after : DevicesSeen) → Telling → Type 0
+abbrev pub GatheredTells : Result Maps Telling → (IsRewritten : Maps → (before after : DevicesSeen) → Result Summary RewriteFault → Type 0)
+    → (before after : DevicesSeen) → Telling → Type 0
 GatheredTells (Err refused) IsRewritten before after telling = (telling ≡ refused) × (after ≡ before)
 GatheredTells (Ok maps) IsRewritten before after telling = TextTells IsRewritten maps before after telling
 
 -- what `rewrite` tells, by its base, its interval, how it rewrites, and its files, each with its URL
-abbrev pub RewriteTells : Option Parts → (k : ℕ) → Rewriting → List (List ℕ × Loaded) → (before after : DevicesSeen) → Telling → Type 0
+abbrev pub RewriteTells : Option Parts → (k : ℕ) → (IsRewritten : Maps → (before after : DevicesSeen) → Result Summary RewriteFault → Type 0)
+    → List (List ℕ × Loaded) → (before after : DevicesSeen) → Telling → Type 0
 RewriteTells base k IsRewritten files before after telling =
     (gathered : Result Maps Telling) × Gathers base k [] files gathered × GatheredTells gathered IsRewritten before after telling
