@@ -63,6 +63,20 @@ fn read(alloc: Global, words: &[&str]) -> Result<String, AllocError> {
             Ok(told)
         }
         Ok(
+            Command::RewriteAnywhere {
+                maps,
+                base,
+                interval,
+            },
+        ) => {
+            let base = base_text(&base);
+            let mut told = format!(in alloc; "anywhere{base} every {interval}")?;
+            for (url, path) in maps {
+                told = format!(in alloc; "{told} [{url}][{path}]")?;
+            }
+            Ok(told)
+        }
+        Ok(
             Command::Compose {
                 outer,
                 source,
@@ -93,7 +107,7 @@ fn read_usage(alloc: Global, usage: &Usage) -> Result<String, AllocError> {
 }
 
 // Arguments, and the command that they give, with lines and columns from 0.
-const COMMANDS: [(&[&str], &str); 45] = [
+const COMMANDS: [(&[&str], &str); 47] = [
     (&["smap", "raw", "1", "6"], "raw 0 5 every 64"),
     (&["smap", "raw", "1", "1"], "raw 0 0 every 64"),
     (&["./smap", "raw", "007", "+2"], "raw 6 1 every 64"),
@@ -281,6 +295,22 @@ const COMMANDS: [(&[&str], &str); 45] = [
         "rewritehttps://ex.test/ every 7 hiding [u][1.map] [v][2.map]",
     ),
     (
+        &["smap", "rewrite", "u=1.map", "--anywhere", "v=2.map"],
+        "anywhere every 64 [u][1.map] [v][2.map]",
+    ),
+    (
+        &[
+            "smap",
+            "rewrite",
+            "--anywhere",
+            "--base=https://ex.test/",
+            "--interval",
+            "7",
+            "u=1.map",
+        ],
+        "anywherehttps://ex.test/ every 7 [u][1.map]",
+    ),
+    (
         &["smap", "rewrite", "--", "--hide-ignored=x"],
         "rewrite every 64 [--hide-ignored][x]",
     ),
@@ -296,7 +326,7 @@ fn reads_commands(rt: HostRuntime) -> Result<(), Fail> {
 }
 
 // Arguments that are no command, and how the text for them begins.
-const MISTAKES: [(&[&str], &str); 64] = [
+const MISTAKES: [(&[&str], &str); 67] = [
     (
         &["smap", "rewrite", "u=1.map", "--hide-ignored=true"],
         "error: unexpected value 'true' for '--hide-ignored' found; no more were expected\n",
@@ -314,6 +344,26 @@ const MISTAKES: [(&[&str], &str); 64] = [
     (
         &["smap", "rewrite", "--hide-ignored"],
         "error: the following required arguments were not provided:\n",
+    ),
+    (
+        &["smap", "rewrite", "--hide-ignored", "--anywhere", "u=1.map"],
+        "usage: --hide-ignored with --anywhere\n",
+    ),
+    (
+        &["smap", "rewrite", "--hide-ignored", "--anywhere", "u"],
+        "usage: no URL=FILE: u\n",
+    ),
+    (
+        &[
+            "smap",
+            "rewrite",
+            "--anywhere",
+            "--base",
+            "nope",
+            "--hide-ignored",
+            "u=1.map",
+        ],
+        "usage: bad base URL\n",
     ),
     (
         &["smap", "lookup", "--hide-ignored", "r.map", "1", "1"],

@@ -78,3 +78,15 @@ pub fn rewrite(
         hide_ignored,
     }
 }
+
+/// `rewrite --anywhere` over maps: pairs of a URL and a path.
+pub fn rewrite_anywhere(maps: Vec<(String, String)>, base: Option<Url>, interval: u32) -> Command
+    ensures paths { paths_of result ≡ map path_in maps.items }
+    ensures interval { HasInterval result }
+{
+    Command::RewriteAnywhere {
+        maps,
+        base,
+        interval: in_range(interval),
+    }
+}

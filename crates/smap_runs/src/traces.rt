@@ -9,10 +9,10 @@ use smap_answers::Loaded;
 use smap_record::Url;
 use std::alloc::{AllocError, Global};
 
-/// A word of the command and the file that it names: the URL, the path, and the map in the file.
+/// An argument of the command and the file that it names: the URL, the path, and the map in the file.
 pub type Word = (&'static str, &'static str, &'static str);
 
-/// The words as the command has them, and their files.
+/// The arguments as the command has them, and their files.
 pub fn named(
     alloc: Global,
     table: &[Word],
@@ -60,4 +60,17 @@ pub fn run_hiding(
     let (maps, files) = named(alloc, table)?;
     let command = commands::rewrite(maps, None, interval, true);
     run_over(alloc, &command, &files, trace, devices)
+}
+
+/// What `rewrite --anywhere` leaves of a text.
+pub fn run_anywhere(
+    alloc: Global,
+    table: &[Word],
+    text: &[u8],
+    interval: u32,
+    devices: Devices,
+) -> Result<String, AllocError> {
+    let (maps, files) = named(alloc, table)?;
+    let command = commands::rewrite_anywhere(maps, None, interval);
+    run_over(alloc, &command, &files, text, devices)
 }

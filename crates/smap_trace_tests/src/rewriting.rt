@@ -1,7 +1,7 @@
 //! `rewrite` over maps and traces in memory.
 use crate::same::assert_same;
 use smap_record::Url;
-use smap_runs::{ALL_SOUND, Device, Devices, Word, run_hiding, run_rewrite};
+use smap_runs::{ALL_SOUND, Device, Devices, Word, run_anywhere, run_hiding, run_rewrite};
 use smap_vectors::INTERVALS;
 use std::alloc::Global;
 use std::test::Fail;
@@ -120,6 +120,36 @@ fn frames_are_hidden(rt: HostRuntime) -> Result<(), Fail> {
             let bytes = trace.as_bytes();
             let left = run_hiding(rt.alloc(), words, bytes, *interval, ALL_SOUND)?;
             assert_same(&rt, trace, &left, wanted);
+        }
+    }
+    Ok(())
+}
+
+// A map or none, a text, and what it leaves where its places are rewritten anywhere in it.
+const ANYWHERE: [(&[Word], &str, &str); 3] = [
+    (
+        APP,
+        "12:34 web-1 | at f (https://ex.test/app.js:1:6) {\n{\"at\":\"https://ex.test/app.js:1:6\"}\r\n",
+        "0|12:34 web-1 | at f (https://ex.test/a.ts:1:2) {\n{\"at\":\"https://ex.test/a.ts:1:2\"}\r\n|",
+    ),
+    (
+        &[("app.js", "app.map", "{}")],
+        "app.js:1:6",
+        "1||refused: app.map: M4 Version\n",
+    ),
+    (
+        &[("", "app.map", r#"{"version":3,"sources":[],"mappings":""}"#)],
+        "app.js:1:6",
+        "2||usage: A1 BadUrl: =app.map\n",
+    ),
+];
+
+#[test]
+fn places_are_rewritten_anywhere(rt: HostRuntime) -> Result<(), Fail> {
+    for (words, text, wanted) in ANYWHERE {
+        for interval in INTERVALS {
+            let left = run_anywhere(rt.alloc(), words, text.as_bytes(), *interval, ALL_SOUND)?;
+            assert_same(&rt, text, &left, wanted);
         }
     }
     Ok(())
