@@ -111,7 +111,8 @@ fs.writeFileSync(
 //! In a text ␊ stands for LF, ␍ for CR, ␉ for a tab and ¦ for |.
 
 /// The URL of what ran, and its map.
-pub const PRINTED_MAP: &str = r##"${URL_OF}|${JSON.stringify(map)}"##;
+pub const PRINTED_MAP: &str =
+    r##"${URL_OF}|${JSON.stringify(map)}"##;
 
 /// A kind of error; how many lines the text has, how many places, and how many of these are mapped; the text; and what it
 /// becomes.

@@ -10,7 +10,7 @@ use Rattle.std.proofs.lemmas.Bool.{cond-false, cond-true, cond_both, le-leb, leb
 use Rattle.smap_lines.specs.Edited.{after_line, after_text, edited, is_short}
 use Rattle.smap_lines.specs.Lines.{Line, lines_with_ends}
 use Rattle.smap_record.specs.Record.{MapRecord}
-use Rattle.smap_places.specs.PlaceRewriter.{after_places}
+use Rattle.smap_places.specs.Private.PlaceRewriter.{after_places}
 use Rattle.smap_places.specs.declared.place_rewriter.PlaceRewriter.{PlaceRewriter}
 use Rattle.smap_places.specs.Places.{Part, PlaceParts, begun_at, parts_by, parts_from, parts_of}
 use Rattle.smap_places.specs.PlacesRewritten.{is_place, is_replaced, place_counts, places_in, replaced_in}

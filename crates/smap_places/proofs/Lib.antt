@@ -3,3 +3,4 @@ pub mod PlaceLaws
 pub mod CountLaws
 pub mod PartLaws
 pub mod TakingLaws
+pub mod PrintedLaws

@@ -6,7 +6,7 @@ use Rattle.std.proofs.lemmas.Slice.Eq.{bytes_eq-Decides}
 use Rattle.std.proofs.lemmas.List.{drop_all, drop-drop, drop_more, get_or-drop, length-take-le, take_all}
 use Rattle.smap_record.specs.Record.{MapRecord}
 use Rattle.smap_trace.specs.Table.{record_for}
-use Rattle.smap_places.specs.Finder.{Covers, is_among}
+use Rattle.smap_places.specs.Private.Finder.{Covers, is_among}
 use Rattle.smap_places.specs.PlaceSeen.{IsNext, NoNext, place_seen}
 use Rattle.smap_places.specs.declared.place.Place.{Place}
 use Rattle.smap_places.specs.Places.{PlaceParts, begun_at, longest_within, may_begin, numbers_after, or_else, place_at, place_with, placed, with_line}

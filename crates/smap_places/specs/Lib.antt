@@ -1,8 +1,6 @@
 pub mod Places
+pub mod Printed
 pub mod PlaceSeen
 pub mod PlacesRewritten
 pub mod PlacesRewriting
--- of private contracts only
-pub mod Finder
-pub mod PlaceRewriter
-pub mod RewriterLaws
+pub mod Private

@@ -22,7 +22,7 @@ pub struct PlaceFinder<'t> {
 impl<'t> Model for PlaceFinder<'t> {
     ghost use Rattle.std.specs.Prelude.{ℕ, List};
     ghost use Rattle.smap_record.specs.Record.{MapRecord};
-    ghost use Rattle.smap_places.specs.Finder.{Covers};
+    ghost use Rattle.smap_places.specs.Private.Finder.{Covers};
 
     ghost Value = { List (List ℕ × MapRecord) };
 
@@ -66,7 +66,8 @@ impl<'t> PlaceFinder<'t> {
     /// line comes without its LF. The call takes no memory.
     pub fn next<'l>(&self, line: &'l [u8], from: usize) -> Option<Place<'l>>
         requires { from ≤ length line.now }
-        ensures { MatchOption result (NoNext self.now line.now from) (IsNext self.now line.now from) }
+        ensures { MatchOption result
+            (NoNext self.now line.now from) (IsNext self.now line.now from) }
     {
         let mut start = from;
         while start < line.len() {
@@ -123,7 +124,8 @@ impl<'t> PlaceFinder<'t> {
     fn place_with<'l>(&self, line: &'l [u8], start: usize, bytes: usize) -> Option<Place<'l>>
         requires start { start ≤ length line.now }
         requires some { 0 < bytes }
-        ensures place { option_map place_seen result ≡ place_with self.now (drop start line.now) bytes }
+        ensures place { option_map place_seen result
+            ≡ place_with self.now (drop start line.now) bytes }
         ensures here { IfSome result (λ place.
             (place.start ≡ start) × (start < place.end) × (place.end ≤ length line.now)) }
     {

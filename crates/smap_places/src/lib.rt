@@ -1,6 +1,6 @@
 //! Places of a generated program wherever they stand in a text, as `URL:line:column`, and not only in the frames of a
-//! stack trace: one whose URL has a map and whose place has an original gets it in its stead, and every other byte stays.
-//! Lines and columns count from 1.
+//! stack trace: one whose URL has a map and whose place has an original gets it in its stead, and every other byte
+//! stays. Lines and columns count from 1.
 //!
 //! ```text
 //! let mut table = Table::new(alloc);

@@ -1,7 +1,7 @@
 //! A place in a line.
 
-/// A place in a line, lent from it: a URL of a table, `:`, a line, `:` and a column. It stands from byte `start` to byte
-/// `end` of the line, which count from 0. Its line and its column are as printed, from 1.
+/// A place in a line, lent from it: a URL of a table, `:`, a line, `:` and a column. It stands from byte `start` of the
+/// line, which count from 0, to before byte `end`. Its line and its column are as printed, from 1.
 #[derive(Clone, Copy)]
 pub struct Place<'l> {
     pub start: usize,

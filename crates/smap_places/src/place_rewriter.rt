@@ -26,9 +26,9 @@ pub struct PlaceRewriter<'t> {
 }
 
 impl LineEditor for PlaceRewriter<'_> {
-    ghost use Rattle.smap_places.specs.PlaceRewriter.{after_places, room_of};
+    ghost use Rattle.smap_places.specs.Private.PlaceRewriter.{after_places, room_of};
     ghost use Rattle.smap_places.specs.PlacesRewritten.{placed_line};
-    ghost use Rattle.smap_places.specs.RewriterLaws.{room_after};
+    ghost use Rattle.smap_places.specs.Private.RewriterLaws.{room_after};
     ghost use Rattle.std.specs.Prelude.{refl};
 
     ghost becomes = { λ rewriter. placed_line rewriter.finder };
@@ -77,7 +77,8 @@ fn put_place<W: ByteSink>(
     ensures put { OnOk result (HandsOn (W.seen output.old).taken (W.seen output.new).taken (gathered.old
         ++ (slice_range line.now from place.now.start ++ part_text table.now
         (found (place_seen place.now) (slice_range line.now place.now.start place.now.end)))) gathered.new) }
-    ensures mapped { IfOk result (λ mapped. mapped ≡ is_some (replacement (place_seen place.now) table.now)) }
+    ensures mapped { IfOk result (λ mapped.
+        mapped ≡ is_some (replacement (place_seen place.now) table.now)) }
     ensures no_failure { OnOk result ((W.seen output.new).failed ≡ (W.seen output.old).failed) }
 
     ensures front { OnErr result (TakesFront (W.seen output.old).taken (W.seen output.new).taken (gathered.old

@@ -2,7 +2,7 @@
 ghost use Rattle.std.specs.Prelude.{◌≡◌, option_map};
 ghost use Rattle.std.specs.List.{list_any};
 ghost use Rattle.smap_places.specs.PlaceSeen.{place_seen};
-ghost use Rattle.smap_places.specs.PlaceRewriter.{replacement_seen};
+ghost use Rattle.smap_places.specs.Private.PlaceRewriter.{replacement_seen};
 ghost use Rattle.smap_places.specs.PlacesRewritten.{is_quoting, replacement};
 
 use crate::place::Place;

@@ -12,8 +12,8 @@ use smap_lines::{LineFault, edit_lines};
 use smap_trace::{RewriteFault, Summary, Table};
 use std::alloc::Global;
 
-/// Rewrites a text while it is read: a place, wherever it stands in a line, that has an original gets it in its stead, and
-/// every other byte stays. The summary counts places as frames; none is hidden. The caller gives devices that have not
+/// Rewrites a text while it is read: a place, wherever it stands in a line, that has an original gets it in its stead,
+/// and every other byte stays. The summary counts places as frames; none is hidden. The caller gives devices that have not
 /// failed. The output is not flushed.
 ///
 /// What became of each line that was read was written before more is read. The first failure ends it. What was written

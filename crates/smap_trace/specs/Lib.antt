@@ -6,4 +6,5 @@ pub mod FrameSeen
 pub mod Table
 pub mod Rewritten
 pub mod Rewriting
+pub mod SightSeen
 pub mod Private

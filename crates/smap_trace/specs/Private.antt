@@ -2,4 +2,3 @@
 pub mod LocationSeen
 pub mod FrameRewriter
 pub mod RewriterLaws
-pub mod SightSeen

@@ -4,7 +4,7 @@ ghost use Rattle.std.specs.List.{concat};
 ghost use Rattle.smap_io.specs.Device.{TakesFront};
 ghost use Rattle.smap_lines.specs.Gathered.{HandsOn};
 ghost use Rattle.smap_lines.specs.Lines.{end_in};
-ghost use Rattle.smap_trace.specs.Private.SightSeen.{replacement_seen};
+ghost use Rattle.smap_trace.specs.SightSeen.{replacement_seen};
 
 use crate::sight::{Replacement, Sight, look_at};
 use crate::table::Table;

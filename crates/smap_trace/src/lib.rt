@@ -13,6 +13,7 @@
 mod cuts;
 mod frame_rewriter;
 mod frames;
+pub mod laws;
 mod numbers;
 mod outcome;
 mod parts;

@@ -4,7 +4,7 @@ ghost use Rattle.std.specs.List.{list_any};
 ghost use Rattle.smap_record.specs.Sources.{source_of};
 ghost use Rattle.smap_trace.specs.FrameSeen.{parts_seen};
 ghost use Rattle.smap_trace.specs.Rewritten.{fate, is_control, is_ignored, name_in, original_of};
-ghost use Rattle.smap_trace.specs.Private.SightSeen.{original_seen, sight_seen};
+ghost use Rattle.smap_trace.specs.SightSeen.{original_seen, sight_seen};
 
 use crate::frames::frame;
 use crate::parts::Frame;

@@ -110,7 +110,8 @@ fn table_of_rows(alloc: Global) -> Result<Table, Fail> {
     let mut table = Table::new(alloc);
     for (url, source, mappings) in MAPS {
         let map = format!(in alloc;
-            "{{\"version\":3,\"sources\":[\"{source}\"],\"mappings\":\"{mappings}\"}}")?;
+            "{{\"version\":3,\"sources\":[\"{source}\"],\"mappings\":\"{mappings}\"}}"
+        )?;
         add_map(alloc, &mut table, url, &map)?;
     }
     Ok(table)
@@ -143,8 +144,9 @@ fn ended_text(
     }
 }
 
-// A text with its places rewritten, over devices that move at most so many bytes a call.
+// A text with its places rewritten, over devices that move at most so many bytes a call, and one at least.
 fn placed(alloc: Global, table: &Table, text: &[u8], most: usize) -> Result<String, Fail> {
+    let most = most.max(1);
     let mut input = MemorySource::new(text.to_vec(alloc)?, most, 0);
     let mut output = MemorySink::new(Vec::with_capacity(alloc, 100_000)?, most, 0);
     let outcome = rewrite_places(alloc, &mut input, &mut output, table);
@@ -164,7 +166,12 @@ fn places_are_rewritten(rt: HostRuntime) -> Result<(), Fail> {
     let table = table_of_rows(rt.alloc())?;
     for (text, wanted) in ROWS {
         for most in &[8_192, 7, 1] {
-            assert_same(&rt, text, &placed(rt.alloc(), &table, text.as_bytes(), *most)?, wanted);
+            assert_same(
+                &rt,
+                text,
+                &placed(rt.alloc(), &table, text.as_bytes(), *most)?,
+                wanted,
+            );
         }
     }
     Ok(())
@@ -194,11 +201,19 @@ fn the_next_place_is_found(rt: HostRuntime) -> Result<(), Fail> {
     let finder = PlaceFinder::new(rt.alloc(), &table)?;
     let line = b"at /u:3:14, /x /u:5:9";
     let first = finder.next(line, 0).ok_or("there is no first place")?;
-    assert_eq!(rt; (first.start, first.end, first.line, first.column), (3, 10, 3, 14));
+    assert_eq!(rt;
+        (first.start, first.end, first.line, first.column),
+        (3, 10, 3, 14)
+    );
     assert_eq!(rt; first.url, b"/u".as_slice());
     assert!(rt; first.end <= line.len());
-    let second = finder.next(line, first.end).ok_or("there is no second place")?;
-    assert_eq!(rt; (second.start, second.end, second.line, second.column), (12, 21, 5, 9));
+    let second = finder
+        .next(line, first.end)
+        .ok_or("there is no second place")?;
+    assert_eq!(rt;
+        (second.start, second.end, second.line, second.column),
+        (12, 21, 5, 9)
+    );
     assert_eq!(rt; second.url, b"/x /u".as_slice());
     assert!(rt; finder.next(line, 21).is_none());
     // From inside the second place on, there is another.
@@ -216,7 +231,12 @@ fn frames_are_replaced_alike(rt: HostRuntime) -> Result<(), Fail> {
         for line in trace.split('␊') {
             let frame = framed(rt.alloc(), &table, line.as_bytes())?;
             if frame.starts_with("1 1 1|") {
-                assert_same(&rt, line, &placed(rt.alloc(), &table, line.as_bytes(), 8_192)?, &frame);
+                assert_same(
+                    &rt,
+                    line,
+                    &placed(rt.alloc(), &table, line.as_bytes(), 8_192)?,
+                    &frame,
+                );
                 replaced = replaced.saturating_add(1);
             }
         }
@@ -254,7 +274,12 @@ fn what_node_prints_is_rewritten(rt: HostRuntime) -> Result<(), Fail> {
         let wanted = plain(rt.alloc(), wanted)?;
         let wanted = [counts, "|", &wanted].concat(rt.alloc())?;
         for most in &[8_192, 7, 1] {
-            assert_same(&rt, kind, &placed(rt.alloc(), &table, text.as_bytes(), *most)?, &wanted);
+            assert_same(
+                &rt,
+                kind,
+                &placed(rt.alloc(), &table, text.as_bytes(), *most)?,
+                &wanted,
+            );
         }
     }
     Ok(())

@@ -2,7 +2,7 @@ use Rattle.std.proofs.Common.{◌++◌, arith, subst, ◌∙◌}
 use Rattle.std.proofs.lemmas.Result.{err_from_is_err_and}
 use Rattle.smap_io.specs.Device.{TakesFront}
 use Rattle.smap_lines.specs.Gathered.{HandsOn}
-use Rattle.smap_trace.specs.Private.SightSeen.{original_seen}
+use Rattle.smap_trace.specs.SightSeen.{original_seen}
 use Rattle.smap_places.specs.PlaceSeen.{place_seen}
 use Rattle.smap_places.proofs.PartLaws.{text_replaced, text_stays}
 use Rattle.smap_places.proofs.place_rewriter.put_place.Goals as goal

@@ -1,5 +1,5 @@
 use Rattle.std.proofs.Common.{arith, refl, subst}
-use Rattle.smap_places.specs.Finder.{Covers}
+use Rattle.smap_places.specs.Private.Finder.{Covers}
 use Rattle.smap_places.proofs.PlaceLaws.{next_from, none_after, none_between, none_joined, none_on, none_past}
 use Rattle.smap_places.proofs.finder.PlaceFinder.next.Goals as goal
 

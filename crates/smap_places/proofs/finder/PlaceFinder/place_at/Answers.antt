@@ -1,5 +1,5 @@
 use Rattle.std.proofs.Common.{arith, ap, drop, inl, inr, is_some, subst, sym, ◌∙◌}
-use Rattle.smap_places.specs.Finder.{Covers}
+use Rattle.smap_places.specs.Private.Finder.{Covers}
 use Rattle.smap_places.proofs.PlaceLaws.{exactly_is, longer_found, longest_of, none_longer}
 use Rattle.smap_places.proofs.finder.PlaceFinder.place_at.Goals as goal
 use Rattle.smap_places.proofs.finder.PlaceFinder.place_at.Goals.{then-bytes-most+in-Some, then-bytes-most+in_default, else-bytes-most}

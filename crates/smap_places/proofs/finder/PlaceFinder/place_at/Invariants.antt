@@ -1,5 +1,5 @@
 use Rattle.std.proofs.Common.{◌≡◌, ◌<◌, ◌≤◌, ◌⊎◌, ℕ, true, IfSome, None, is_some, length, take, drop, option_map}
-use Rattle.smap_places.specs.Finder.{is_among}
+use Rattle.smap_places.specs.Private.Finder.{is_among}
 use Rattle.smap_places.specs.Places.{place_with}
 use Rattle.smap_places.specs.PlaceSeen.{place_seen}
 use Rattle.smap_places.proofs.PlaceLaws.{exactly}

@@ -3,7 +3,7 @@ use Rattle.std.specs.Prelude.{ℕ, ◌+◌, ◌-◌, ◌*◌, ◌/◌, ◌^◌, 
 use Rattle.smap_lines.specs.Limits.{most_line_bytes}
 use Rattle.smap_lines.specs.Lines.{Line}
 use Rattle.smap_trace.specs.Rewritten.{frame_text}
-use Rattle.smap_trace.specs.Private.SightSeen.{original_seen}
+use Rattle.smap_trace.specs.SightSeen.{original_seen}
 use Rattle.smap_places.specs.Places.{PlaceParts}
 use Rattle.smap_places.specs.PlacesRewritten.{bare_frame, places_in, replaced_in}
 use Rattle.smap_places.specs.declared.replacement.Replacement.{Replacement}
