@@ -13,7 +13,7 @@ _smap() {
     local options='--help'
     case $command in
     '') options='--help --version' ;;
-    lookup) options='--after --base --interval --help' ;;
+    lookup | positions) options='--after --base --interval --json --help' ;;
     rewrite) options='--anywhere --base --interval --hide-ignored --help' ;;
     check) options='--base --interval --help' ;;
     show | compose) options='--base --help' ;;
@@ -27,7 +27,7 @@ _smap() {
     elif [[ $word == -* ]]; then
         mapfile -t COMPREPLY < <(compgen -W "$options" -- "$word")
     elif [[ -z $command || $command == help ]]; then
-        mapfile -t COMPREPLY < <(compgen -W 'lookup rewrite check show compose raw help' -- "$word")
+        mapfile -t COMPREPLY < <(compgen -W 'lookup positions rewrite check show compose raw help' -- "$word")
     elif [[ $command != raw ]]; then
         # The last `=` of a word of `rewrite` stands before the path, and by default it parts words here.
         compopt -o filenames

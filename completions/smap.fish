@@ -2,6 +2,7 @@
 
 complete -c smap -f
 complete -c smap -n __fish_use_subcommand -a lookup -d 'Look a generated position up in a source map file'
+complete -c smap -n __fish_use_subcommand -a positions -d 'Answer the positions on standard input from a source map file'
 complete -c smap -n __fish_use_subcommand -a rewrite -d 'Rewrite the stack trace on standard input'
 complete -c smap -n __fish_use_subcommand -a check -d 'Check a source map file and print its counts'
 complete -c smap -n __fish_use_subcommand -a show -d 'Write a source map file as one regular map'
@@ -10,9 +11,10 @@ complete -c smap -n __fish_use_subcommand -a raw -d 'Look a position up in the b
 complete -c smap -n __fish_use_subcommand -a help -d 'Print help'
 complete -c smap -n __fish_use_subcommand -s V -l version -d 'Print the version'
 complete -c smap -s h -l help -d 'Print help'
-complete -c smap -n '__fish_seen_subcommand_from lookup rewrite check show compose' -F
-complete -c smap -n '__fish_seen_subcommand_from lookup rewrite check show compose' -l base -x -d 'URL against which the names of sources are resolved'
-complete -c smap -n '__fish_seen_subcommand_from lookup rewrite check raw' -l interval -x -a '1 4 16 64 256 1024 4096' -d 'A checkpoint at every K-th segment of a line'
-complete -c smap -n '__fish_seen_subcommand_from lookup' -l after -d 'The first mapping at or after the position'
+complete -c smap -n '__fish_seen_subcommand_from lookup positions rewrite check show compose' -F
+complete -c smap -n '__fish_seen_subcommand_from lookup positions rewrite check show compose' -l base -x -d 'URL against which the names of sources are resolved'
+complete -c smap -n '__fish_seen_subcommand_from lookup positions rewrite check raw' -l interval -x -a '1 4 16 64 256 1024 4096' -d 'A checkpoint at every K-th segment of a line'
+complete -c smap -n '__fish_seen_subcommand_from lookup positions' -l after -d 'The first mapping at or after the position'
+complete -c smap -n '__fish_seen_subcommand_from lookup positions' -l json -d 'Answer in JSON'
 complete -c smap -n '__fish_seen_subcommand_from rewrite' -l anywhere -d 'Rewrite places anywhere in a line'
 complete -c smap -n '__fish_seen_subcommand_from rewrite' -l hide-ignored -d 'Leave out the frames of ignored sources'

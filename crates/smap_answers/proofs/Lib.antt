@@ -1,4 +1,5 @@
 mod LoadLaws
+mod PositionsLaws
 mod RawLaws
 mod RunLaws
 mod ShownLaws

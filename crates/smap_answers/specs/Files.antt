@@ -4,7 +4,7 @@ use Rattle.std.specs.List.{Contains}
 use Rattle.smap_answers.specs.Lines.{file_failed_line}
 use Rattle.smap_answers.specs.Outcome.{Telling, failure, out_of_memory}
 use Rattle.smap_command.specs.declared.command.Command.{Command}
-use Rattle.smap_command.specs.declared.command.Command.TheVariants.{Raw, Check, Show, Lookup, Rewrite, RewriteAnywhere, Compose}
+use Rattle.smap_command.specs.declared.command.Command.TheVariants.{Raw, Check, Show, Lookup, Positions, Rewrite, RewriteAnywhere, Compose}
 use Rattle.smap_answers.specs.declared.load.Loaded.{Loaded}
 
 -- the path in an argument of `rewrite`, which is a URL and a path
@@ -16,7 +16,8 @@ abbrev pub paths_of : Command → List (List ℕ)
 paths_of (Raw line column interval) = []
 paths_of (Check path base interval) = string_bytes path ∷ []
 paths_of (Show path base) = string_bytes path ∷ []
-paths_of (Lookup path line column base interval after) = string_bytes path ∷ []
+paths_of (Lookup path line column base interval after json) = string_bytes path ∷ []
+paths_of (Positions path base interval after json) = string_bytes path ∷ []
 paths_of (Rewrite maps base interval hide_ignored) = map path_in maps.items
 paths_of (RewriteAnywhere maps base interval) = map path_in maps.items
 paths_of (Compose outer source inner base) = string_bytes outer ∷ string_bytes inner ∷ []

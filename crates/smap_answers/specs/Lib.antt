@@ -8,6 +8,7 @@ pub mod Check
 pub mod Show
 pub mod Lookup
 pub mod Files
+pub mod Positions
 pub mod Compose
 pub mod Trace
 pub mod Run

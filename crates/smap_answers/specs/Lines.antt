@@ -1,10 +1,11 @@
 -- The lines that the program prints, and the texts that they are made of.
-use Rattle.std.specs.Prelude.{ℕ, ◌+◌, codes, Bool, if◌then◌else◌, Option, None, Some, List, [], ◌∷◌, ◌++◌}
+use Rattle.std.specs.Prelude.{ℕ, ◌+◌, codes, Option, None, Some, List, [], ◌∷◌, ◌++◌}
 use Rattle.std.specs.Fmt.{decimal}
 use Rattle.smap_mappings.specs.declared.fault.Fault.{Fault}
 use Rattle.smap_mappings.specs.declared.fault.FaultKind.{FaultKind}
 use Rattle.smap_mappings.specs.declared.fault.FaultKind.TheVariants.{BadDigit, Unended, TooLong, TooLarge, NegativeZero, FieldCount, Negative, PastLimit, ColumnFalls, SourceIndex, NameIndex}
 use Rattle.smap_command.specs.Shown.{shown}
+pub use Rattle.smap_positions.specs.Lines.{line_from, none_line, unmapped_line}
 use Rattle.smap_answers.specs.declared.lines.MapCounts.{MapCounts}
 
 -- the pieces one after the other
@@ -13,18 +14,7 @@ text_from [] = []
 text_from (piece ∷ []) = piece
 text_from (piece ∷ next ∷ pieces) = piece ++ text_from (next ∷ pieces)
 
--- the pieces one after the other, and an LF
-abbrev pub line_from : List (List ℕ) → List ℕ
-line_from [] = 10 ∷ []
-line_from (piece ∷ pieces) = piece ++ line_from pieces
-
 -- ---- standard output
-
-abbrev pub none_line : List ℕ
-none_line = line_from (codes "none" ∷ [])
-
-abbrev pub unmapped_line : List ℕ
-unmapped_line = line_from (codes "unmapped" ∷ [])
 
 abbrev pub name_pieces : (name : Option ℕ) → List (List ℕ)
 name_pieces None = []
@@ -37,21 +27,6 @@ found_line source line column name = line_from (
     ∷ codes " line " ∷ decimal (line + 1)
     ∷ codes " column " ∷ decimal (column + 1)
     ∷ name_pieces name)
-
--- what prints of a name
-abbrev pub name_suffix : Option (List ℕ) → List ℕ
-name_suffix None = []
-name_suffix (Some name) = codes " name " ++ shown name
-
--- what prints of whether a source is ignored
-abbrev pub ignored_text : Bool → List ℕ
-ignored_text ignored = if ignored then codes " ignored" else []
-
--- a place in a source that prints like this; its line and column count from 0, and print from 1
-abbrev pub place_line : (source : List ℕ) (line column : ℕ) (name : Option (List ℕ)) (ignored : Bool) → List ℕ
-place_line source line column name ignored = line_from (
-    source ∷ codes ":" ∷ decimal (line + 1) ∷ codes ":" ∷ decimal (column + 1)
-    ∷ name_suffix name ∷ ignored_text ignored ∷ [])
 
 -- how many sections, sources and names a map has
 abbrev pub lists_text : MapCounts → List ℕ
@@ -141,6 +116,14 @@ trace_unwritten_line = line_from (codes "device: X2 Write" ∷ [])
 
 abbrev pub trace_too_long_line : List ℕ
 trace_too_long_line = line_from (codes "refused: X3 TooMuch" ∷ [])
+
+-- a line of standard input is no position; its number, from 1
+abbrev pub bad_position_refused_line : (number : ℕ) → List ℕ
+bad_position_refused_line number = line_from (codes "refused: P1 BadPosition " ∷ decimal number ∷ [])
+
+-- a line of standard input is longer than a position is
+abbrev pub long_position_line : List ℕ
+long_position_line = line_from (codes "refused: P2 LongLine" ∷ [])
 
 -- why two maps are not composed
 abbrev pub no_source_line : List ℕ

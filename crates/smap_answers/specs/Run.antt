@@ -1,13 +1,14 @@
 -- What a run of the program does to its streams, and the status with which it ends.
-use Rattle.std.specs.Prelude.{◌≡◌, ℕ, Bool, true, false, List, [], ◌∷◌, map, zip, IfSome}
+use Rattle.std.specs.Prelude.{◌≡◌, ℕ, Bool, true, false, List, [], ◌∷◌, Option, map, zip, IfSome}
 pub use Rattle.smap_command.specs.Interval.{HasInterval}
 use Rattle.smap_command.specs.Limits.{usual_interval}
 use Rattle.smap_answers.specs.Check.{check_line}
 use Rattle.smap_answers.specs.Compose.{TellsComposed}
 use Rattle.smap_answers.specs.Lines.{input_failed_line}
-use Rattle.smap_answers.specs.Lookup.{lookup_text}
+use Rattle.smap_answers.specs.Lookup.{lookup_print}
 use Rattle.smap_answers.specs.Map.{IsLine, IsResult, TellsMap}
 use Rattle.smap_answers.specs.Outcome.{OrMemory, Telling, failure}
+use Rattle.smap_answers.specs.Positions.{PositionsTells}
 use Rattle.smap_answers.specs.Raw.{raw_result}
 use Rattle.smap_answers.specs.Show.{show_result}
 use Rattle.smap_io.specs.Device.{SinkSeen}
@@ -15,8 +16,9 @@ use Rattle.smap_answers.specs.Streams.{Streams, Ends, sinks_seen}
 use Rattle.smap_lines.specs.Editing.{DevicesSeen, devices_seen}
 use Rattle.smap_answers.specs.Trace.{IsTextRewritten, IsTraceRewritten, RewriteTells, url_in_argument}
 use Rattle.smap_command.specs.declared.command.Command.{Command}
-use Rattle.smap_command.specs.declared.command.Command.TheVariants.{Raw, Check, Show, Lookup, Rewrite, RewriteAnywhere, Compose}
+use Rattle.smap_command.specs.declared.command.Command.TheVariants.{Raw, Check, Show, Lookup, Positions, Rewrite, RewriteAnywhere, Compose}
 use Rattle.smap_answers.specs.declared.load.Loaded.{Loaded}
+use Rattle.url.specs.Parts.{Parts}
 
 -- ---- `raw`
 
@@ -49,6 +51,11 @@ abbrev pub OfBoth : List Loaded → (Loaded → Loaded → Telling → Type 0) �
 OfBoth [] Tells telling = ⊥
 OfBoth (first ∷ files) Tells telling = OfFirst files (Tells first) telling
 
+-- `positions` reads standard input and writes standard output over the first file, and there is one
+abbrev pub PositionsOfFirst : List Loaded → Option Parts → (k : ℕ) → (from json : Bool) → (before after : DevicesSeen) → Telling → Type 0
+PositionsOfFirst [] base k from json before after telling = ⊥
+PositionsOfFirst (first ∷ files) base k from json before after telling = PositionsTells first base k from json before after telling
+
 -- ---- all commands
 
 -- what a command over the files of its paths tells, and what it does to standard input and output before it tells it
@@ -58,8 +65,9 @@ Tells (Check path base interval) files =
     TellsAside (OfFirst files (λ file. TellsMap file base interval (IsLine (check_line interval))))
 Tells (Show path base) files =
     TellsAside (OfFirst files (λ file. TellsMap file base usual_interval (IsResult show_result)))
-Tells (Lookup path line column base interval after) files =
-    TellsAside (OfFirst files (λ file. TellsMap file base interval (IsLine (lookup_text after line column))))
+Tells (Lookup path line column base interval after json) files =
+    TellsAside (OfFirst files (λ file. TellsMap file base interval (IsLine (lookup_print after json line column))))
+Tells (Positions path base interval after json) files = PositionsOfFirst files base interval after json
 Tells (Rewrite maps base interval hide_ignored) files =
     RewriteTells base interval (IsTraceRewritten hide_ignored) (zip (map url_in_argument maps.items) files)
 Tells (RewriteAnywhere maps base interval) files =

@@ -3,7 +3,7 @@
 //!
 //! ```text
 //! let interval = USUAL_INTERVAL;
-//! let command = Command::Lookup { path, line: 0, column: 5, base: None, interval, after: false };
+//! let command = Command::Lookup { path, line: 0, column: 5, base: None, interval, after: false, json: false };
 //! let files = load_files(&rt, &command)?;
 //! let status = run(rt.alloc(), &command, &files, &mut input, &mut output, &mut errors);
 //! ```
@@ -17,6 +17,7 @@ mod load;
 mod lookup;
 mod map;
 mod outcome;
+mod positions;
 mod raw;
 mod refusal;
 mod running;

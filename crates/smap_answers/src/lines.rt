@@ -1,21 +1,16 @@
 //! The lines that the program prints, each with its LF, and the texts that they are made of.
 ghost use Rattle.std.specs.Prelude.{◌≡◌, ◌+◌, option_map, string_bytes, IfOk};
 ghost use Rattle.smap_answers.specs.Lines.{counts_line, fault_text, file_failed_line, found_line};
-ghost use Rattle.smap_answers.specs.Lines.{ignored_text, kind_text, lists_text, map_refused_line};
-ghost use Rattle.smap_answers.specs.Lines.{mappings_text, name_suffix, place_line, refused_line};
+ghost use Rattle.smap_answers.specs.Lines.{bad_position_refused_line, kind_text, lists_text, map_refused_line};
+ghost use Rattle.smap_answers.specs.Lines.{mappings_text, refused_line};
 ghost use Rattle.smap_answers.specs.Lines.{bad_url_line, twice_line};
 ghost use Rattle.smap_answers.specs.Trace.{argument_text};
 ghost use Rattle.smap_command.specs.Shown.{shown};
 
 use smap_command::shown;
 use smap_mappings::{Fault, FaultKind};
+use smap_positions::from_one;
 use std::alloc::{AllocError, Global};
-
-/// Standard output: no mapping stands at the position or before it on its line.
-pub const NONE: &str = "none\n";
-
-/// Standard output: the position is of generated code without an original.
-pub const UNMAPPED: &str = "unmapped\n";
 
 /// Standard error: the input is longer than a mappings text may be.
 pub const TEXT_TOO_LONG: &str = "refused: TextTooLong\n";
@@ -44,6 +39,9 @@ pub const TRACE_UNWRITTEN: &str = "device: X2 Write\n";
 /// Standard error: the trace is longer than one may be.
 pub const TRACE_TOO_LONG: &str = "refused: X3 TooMuch\n";
 
+/// Standard error: a line of standard input is longer than a position is.
+pub const LONG_POSITION: &str = "refused: P2 LongLine\n";
+
 /// Standard error: standard input failed.
 pub const INPUT_FAILED: &str = "device: read standard input\n";
 
@@ -71,46 +69,6 @@ pub fn found_line(
         }
         None => format!(in alloc; "source {source} line {line} column {column}\n"),
     }
-}
-
-/// Standard output: where a place stands in a source that prints as `source`. The line and the column
-/// count from 0 here, and from 1 in the text.
-pub fn place_line(
-    alloc: Global,
-    source: &str,
-    line: u32,
-    column: u32,
-    name: Option<&str>,
-    ignored: bool,
-) -> Result<String, AllocError>
-    ensures { IfOk result (λ text. string_bytes text
-        ≡ place_line source.now line column (option_map (λ name. name.now) name.entry) ignored) }
-{
-    let (line, column) = place_from_one(line, column);
-    let name = name_suffix(alloc, name)?;
-    let ignored = ignored_text(ignored);
-    format!(in alloc; "{source}:{line}:{column}{name}{ignored}\n")
-}
-
-// What prints of a name.
-fn name_suffix(alloc: Global, name: Option<&str>) -> Result<String, AllocError>
-    ensures { IfOk result (λ text. string_bytes text ≡ name_suffix
-        (option_map (λ name. name.now) name.entry)) }
-{
-    match name {
-        Some(name) => {
-            let name = shown(alloc, name)?;
-            format!(in alloc; " name {name}")
-        }
-        None => Ok(String::new(alloc)),
-    }
-}
-
-// What prints of whether a source is ignored.
-fn ignored_text(ignored: bool) -> &'static str
-    ensures { result.now ≡ ignored_text ignored }
-{
-    if ignored { " ignored" } else { "" }
 }
 
 /// How much a map holds.
@@ -202,6 +160,13 @@ fn shown_argument(alloc: Global, url: &str, path: &str) -> Result<String, AllocE
     format!(in alloc; "{url}={path}")
 }
 
+/// Standard error: the line of this number, from 1, is no position.
+pub fn bad_position_line(alloc: Global, number: u64) -> Result<String, AllocError>
+    ensures { IfOk result (λ text. string_bytes text ≡ bad_position_refused_line number) }
+{
+    format!(in alloc; "refused: P1 BadPosition {number}\n")
+}
+
 /// Standard error: a mappings text that is refused, with the text of its first fault.
 pub fn refused_line(alloc: Global, fault: Fault) -> Result<String, AllocError>
     ensures { IfOk result (λ text. string_bytes text ≡ refused_line fault) }
@@ -243,11 +208,4 @@ fn place_from_one(line: u32, column: u32) -> (u64, u64)
     ensures column { result.1 ≡ column + 1 }
 {
     (from_one(line), from_one(column))
-}
-
-// A number that counts from 0, counted from 1.
-fn from_one(number: u32) -> u64
-    ensures { result ≡ number + 1 }
-{
-    u64::from(number) + 1
 }

@@ -30,7 +30,10 @@ pub fn load_files(rt: &HostRuntime, command: &Command) -> Result<Vec<Loaded>, Fa
     let mut files = Vec::new(rt.alloc());
     match command {
         Command::Raw { .. } => {}
-        Command::Check { path, .. } | Command::Show { path, .. } | Command::Lookup { path, .. } => {
+        Command::Check { path, .. }
+        | Command::Show { path, .. }
+        | Command::Lookup { path, .. }
+        | Command::Positions { path, .. } => {
             load_next(rt, &mut files, path)?;
         }
         Command::Rewrite { maps, .. } | Command::RewriteAnywhere { maps, .. } => {

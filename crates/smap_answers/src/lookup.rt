@@ -1,22 +1,18 @@
 //! Looking a position up in a map file.
-ghost use Rattle.std.specs.Prelude.{◌≡◌, option_and_then, option_map, slice_get, string_bytes, option_copied, IfOk};
-ghost use Rattle.smap_record.specs.Sources.{source_of};
-ghost use Rattle.smap_answers.specs.Lookup.{is_ignored, lookup_answer, lookup_text, origin_line, origin_text};
-ghost use Rattle.smap_answers.specs.Lookup.{source_excerpt, source_text};
+ghost use Rattle.std.specs.Prelude.{◌≡◌, string_bytes, option_copied, IfOk};
+ghost use Rattle.smap_answers.specs.Lookup.{lookup_print};
 ghost use Rattle.smap_answers.specs.Map.{IsLine, TellsMap};
 ghost use Rattle.smap_answers.specs.Outcome.{OrMemory, telling_of};
 
-use crate::lines;
 use crate::load::Loaded;
 use crate::map::read_map;
 use crate::outcome::{Failure, Reply};
-use smap_command::shown;
-use smap_record::{Answer, MapFile, Meter, Origin, SourceEntry, Url};
-use smap_text::excerpt;
+use smap_positions::{lookup_as_json, lookup_text};
+use smap_record::{MapFile, Url};
 use std::alloc::{AllocError, Global};
 
 /// Looks up a generated line and column, both from 0, in the map that the file is, over checkpoints at this interval: at
-/// the position or before it or, with `after`, at it or after it.
+/// the position or before it or, with `after`, at it or after it; as text or, with `json`, as a JSON object.
 pub fn answer_lookup(
     alloc: Global,
     file: &Loaded,
@@ -25,127 +21,31 @@ pub fn answer_lookup(
     line: u32,
     column: u32,
     after: bool,
+    json: bool,
 ) -> Result<Reply, Failure>
     ensures { OrMemory
         (TellsMap file.now (option_copied base.entry) interval
-        (IsLine (lookup_text after line column))) (telling_of result) }
+        (IsLine (lookup_print after json line column))) (telling_of result) }
 {
     let map = read_map(alloc, file, base, interval)?;
-    Ok(Reply::Text(lookup_text(alloc, &map, line, column, after)?))
+    let text = lookup_print(alloc, &map, line, column, after, json)?;
+    Ok(Reply::Text(text))
 }
 
-// The text for what a map answers for a position.
-fn lookup_text(
+// What is printed for what a map answers for a position.
+fn lookup_print(
     alloc: Global,
     map: &MapFile,
     line: u32,
     column: u32,
     after: bool,
+    json: bool,
 ) -> Result<String, AllocError>
-    ensures { IfOk result (λ text. string_bytes text ≡ lookup_text after line column map.now.stated) }
+    ensures { IfOk result (λ text. string_bytes text ≡ lookup_print after json line column map.now.stated) }
 {
-    match lookup_answer(alloc, map, line, column, after) {
-        Answer::Nothing => String::from_str(alloc, lines::NONE),
-        Answer::Unmapped { .. } => String::from_str(alloc, lines::UNMAPPED),
-        Answer::Found { origin, .. } => origin_text(alloc, map, &origin),
-    }
-}
-
-// What a map answers for a position, at it or before it or, with `after`, at it or after it.
-fn lookup_answer(alloc: Global, map: &MapFile, line: u32, column: u32, after: bool) -> Answer
-    ensures { result ≡ lookup_answer after line column map.now.stated }
-{
-    let mut meter = Meter::new(alloc);
-    if after {
-        map.look_up_from(line, column, &mut meter)
+    if json {
+        lookup_as_json(alloc, map, line, column, after)
     } else {
-        map.look_up(line, column, &mut meter)
-    }
-}
-
-// The line for a place in a source, and the excerpt that shows it.
-fn origin_text(alloc: Global, map: &MapFile, origin: &Origin) -> Result<String, AllocError>
-    ensures { IfOk result (λ text. string_bytes text ≡ origin_text map.now.stated origin.now) }
-{
-    let mut text = origin_line(alloc, map, origin)?;
-    let excerpt = source_excerpt(alloc, map.source(origin.source), origin)?;
-    if let Some(excerpt) = excerpt {
-        text.push_str(&excerpt)?;
-        text.push('\n')?;
-    }
-    Ok(text)
-}
-
-// The excerpt of the source's content that shows a place, where there is one.
-fn source_excerpt(
-    alloc: Global,
-    entry: Option<&SourceEntry>,
-    origin: &Origin,
-) -> Result<Option<String>, AllocError>
-    ensures { IfOk result (λ text. option_map string_bytes text
-        ≡ source_excerpt (option_map (λ entry. source_of entry.now) entry.entry) origin.now) }
-{
-    match entry {
-        Some(
-            SourceEntry {
-                content: Some(content),
-                ..
-            },
-        ) => excerpt(alloc, content, origin.line, origin.column),
-        _ => Ok(None),
-    }
-}
-
-// The line for a place in a source.
-fn origin_line(alloc: Global, map: &MapFile, origin: &Origin) -> Result<String, AllocError>
-    ensures { IfOk result (λ text. string_bytes text ≡ origin_line map.now.stated origin.now) }
-{
-    let entry = map.source(origin.source);
-    let source = source_text(alloc, entry, origin.source)?;
-    let name = name_at(map, origin.name);
-    lines::place_line(
-        alloc,
-        &source,
-        origin.line,
-        origin.column,
-        name,
-        is_ignored(entry),
-    )
-}
-
-// How a source of this index prints. The map's contract says that an origin's indices name a source and a name that there are, so `None` never comes.
-fn source_text(alloc: Global, entry: Option<&SourceEntry>, index: u32) -> Result<String, AllocError>
-    ensures { IfOk result (λ text. string_bytes text
-        ≡ source_text (option_map (λ entry. source_of entry.now) entry.entry) index) }
-{
-    match entry {
-        Some(
-            SourceEntry {
-                name: Some(name),
-                ..
-            },
-        ) => shown(alloc, name.text()),
-        _ => format!(in alloc; "[{index}]"),
-    }
-}
-
-// Whether the map says to ignore a source.
-fn is_ignored(entry: Option<&SourceEntry>) -> bool
-    ensures { result ≡ is_ignored (option_map (λ entry. source_of entry.now) entry.entry) }
-{
-    match entry {
-        Some(entry) => entry.ignored,
-        None => false,
-    }
-}
-
-// The name at an index, where there is one.
-fn name_at(map: &MapFile, index: Option<u32>) -> Option<&str>
-    ensures { option_map (λ name. name.now) result
-        ≡ option_and_then (slice_get map.now.stated.names) index }
-{
-    match index {
-        Some(index) => map.name(index),
-        None => None,
+        lookup_text(alloc, map, line, column, after)
     }
 }

@@ -23,7 +23,7 @@ pub enum Reply {
     Text(String),
     /// The map that was asked for, with an LF.
     Map(Vec<u8>),
-    /// The trace is rewritten, and standard output has it already: nothing is added.
+    /// The trace is rewritten or the positions are answered, and standard output has that already: nothing is added.
     Rewritten,
 }
 
@@ -40,7 +40,7 @@ pub enum Failure {
     Unreadable(String),
     /// Standard input failed: status 3.
     InputFailure,
-    /// The trace is rewritten up to this fault: status 1 for a trace that is too long, and 3 for the others.
+    /// The trace is rewritten or the positions are answered up to this fault: status 1 for an input that is too long, and 3 for the others.
     Fault(RewriteFault),
     /// Memory ran out: status 3.
     Memory,

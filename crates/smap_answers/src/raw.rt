@@ -21,6 +21,7 @@ use smap_index::laws::one_text_is_its_mappings;
 use smap_index::{Answer, BuildRefusal, Index, Part};
 use smap_io::{ByteSource, ReadFailure, read_all};
 use smap_mappings::{MOST_BYTES, MOST_INDICES, Meter, PackedText, TextRefusal};
+use smap_positions::{NONE, UNMAPPED};
 use std::alloc::{AllocError, Global};
 
 /// Looks up a generated line and column, both from 0, in the mappings text on standard input, over checkpoints at this
@@ -162,8 +163,8 @@ fn answer_line(alloc: Global, answer: &Answer) -> Result<String, AllocError>
     ensures { IfOk result (λ text. string_bytes text ≡ answer_line answer.now) }
 {
     match answer {
-        Answer::Nothing => String::from_str(alloc, lines::NONE),
-        Answer::Unmapped { .. } => String::from_str(alloc, lines::UNMAPPED),
+        Answer::Nothing => String::from_str(alloc, NONE),
+        Answer::Unmapped { .. } => String::from_str(alloc, UNMAPPED),
         Answer::Found { origin, .. } => {
             lines::found_line(
                 alloc,

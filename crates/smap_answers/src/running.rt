@@ -12,6 +12,7 @@ use crate::compose::answer_compose;
 use crate::load::Loaded;
 use crate::lookup::answer_lookup;
 use crate::outcome::{Failure, Reply};
+use crate::positions::answer_input;
 use crate::raw::answer_raw;
 use crate::show::answer_show;
 use crate::telling::tell;
@@ -77,6 +78,7 @@ fn answer<R: ByteSource, W: ByteSink>(
             base,
             interval,
             after,
+            json,
             ..
         } => answer_lookup(
             alloc,
@@ -86,6 +88,23 @@ fn answer<R: ByteSource, W: ByteSink>(
             *line,
             *column,
             *after,
+            *json,
+        ),
+        Command::Positions {
+            base,
+            interval,
+            after,
+            json,
+            ..
+        } => answer_input(
+            alloc,
+            &files[0],
+            base.as_ref(),
+            *interval,
+            *after,
+            *json,
+            input,
+            output,
         ),
         Command::Rewrite {
             maps,

@@ -19,7 +19,7 @@ use Rattle.clap.specs.declared.builder.value_parser.ValueParser.{ValueParser}
 use Rattle.clap.specs.declared.builder.value_parser.ValueParser.TheVariants as parser
 use Rattle.clap.specs.declared.error.Error.{Error}
 use Rattle.clap.specs.declared.error.kind.ErrorKind.TheVariants.{DisplayHelp, DisplayVersion, OutOfMemory}
-use Rattle.smap_arguments.specs.CommandLine.{after_rule, anywhere_rule, base_rule, check, compose, hide_rule, interval_number, interval_rule, lookup, named, number, raw, rewrite, show, smap, source_number}
+use Rattle.smap_arguments.specs.CommandLine.{after_rule, anywhere_rule, base_rule, check, compose, hide_rule, interval_number, interval_rule, json_rule, lookup, named, number, positions, raw, rewrite, show, smap, source_number}
 use Rattle.smap_arguments.specs.declared.usage.Usage.{Usage}
 use Rattle.smap_arguments.specs.declared.usage.Usage.TheVariants.{Help, Words, Memory}
 use Rattle.smap_arguments.specs.Arguments.{HasArguments, HasCommand, HasValue, HasValues, IsNamedRefusal, IsUsageOf, IsRefusalOf, SubcommandTells}
@@ -124,9 +124,10 @@ abbrev at_argument : Text → ValueParser
 at_argument id = cond (bytes_eq id (codes "SOURCE")) source_number
     (cond (bytes_eq id (codes "K")) interval_number
     (cond (bytes_eq id (codes "after")) parser.Bool
-    (cond (bytes_eq id (codes "hide-ignored")) parser.Bool
     (cond (bytes_eq id (codes "anywhere")) parser.Bool
-    (cond (bytes_eq id (codes "LINE") || bytes_eq id (codes "COLUMN")) number parser.String)))))
+    (cond (bytes_eq id (codes "json")) parser.Bool
+    (cond (bytes_eq id (codes "hide-ignored")) parser.Bool
+    (cond (bytes_eq id (codes "LINE") || bytes_eq id (codes "COLUMN")) number parser.String))))))
 
 base_plain : (i : ℕ) → IsPlain at_argument (with_index i (filled base_rule))
 base_plain i = option at_argument i (codes "URL") (codes "base")
@@ -136,6 +137,9 @@ interval_plain i = option at_argument i (codes "K") (codes "interval")
 
 after_plain : (i : ℕ) → IsPlain at_argument (with_index i (filled after_rule))
 after_plain i = flag at_argument i (codes "after") (codes "after") refl
+
+json_plain : (i : ℕ) → IsPlain at_argument (with_index i (filled json_rule))
+json_plain i = flag at_argument i (codes "json") (codes "json") refl
 
 hide_plain : (i : ℕ) → IsPlain at_argument (with_index i (filled hide_rule))
 hide_plain i = flag at_argument i (codes "hide-ignored") (codes "hide-ignored") refl
@@ -151,9 +155,12 @@ lookup_plain = (
   value at_argument 1 (codes "PATH"),
   (
     value at_argument 2 (codes "LINE"),
-    (value at_argument 3 (codes "COLUMN"), (base_plain 4, (interval_plain 4, (after_plain 4, (help_plain, tt))))),
+    (value at_argument 3 (codes "COLUMN"), (base_plain 4, (interval_plain 4, (after_plain 4, (json_plain 4, (help_plain, tt)))))),
   ),
 )
+
+positions_plain : Each (IsPlain at_argument) (built_leaf positions.top).rules
+positions_plain = (value at_argument 1 (codes "MAP"), (base_plain 2, (interval_plain 2, (after_plain 2, (json_plain 2, (help_plain, tt))))))
 
 rewrite_plain : Each (IsPlain at_argument) (built_leaf rewrite.top).rules
 rewrite_plain = (more_values at_argument 1 (codes "URL=FILE"), (base_plain 2, (interval_plain 2, (hide_plain 2, (anywhere_plain 2, (help_plain, tt))))))
@@ -184,16 +191,19 @@ each_gives : (word : Text) → bytes_eq word (codes "help") ≡ false → Each (
 each_gives word no_help = (
   λ answers. level_gives at_argument (built_leaf lookup.top) lookup_plain,
   (
-    λ answers. level_gives at_argument (built_leaf rewrite.top) rewrite_plain,
+    λ answers. level_gives at_argument (built_leaf positions.top) positions_plain,
     (
-      λ answers. level_gives at_argument (built_leaf check.top) check_plain,
+      λ answers. level_gives at_argument (built_leaf rewrite.top) rewrite_plain,
       (
-        λ answers. level_gives at_argument (built_leaf show.top) show_plain,
+        λ answers. level_gives at_argument (built_leaf check.top) check_plain,
         (
-          λ answers. level_gives at_argument (built_leaf compose.top) compose_plain,
+          λ answers. level_gives at_argument (built_leaf show.top) show_plain,
           (
-            λ answers. level_gives at_argument (built_leaf raw.top) raw_plain,
-            (λ answers. absurd (is_no_help (bytes_eq (codes "help") word) refl answers), tt),
+            λ answers. level_gives at_argument (built_leaf compose.top) compose_plain,
+            (
+              λ answers. level_gives at_argument (built_leaf raw.top) raw_plain,
+              (λ answers. absurd (is_no_help (bytes_eq (codes "help") word) refl answers), tt),
+            ),
           ),
         ),
       ),

@@ -20,7 +20,7 @@ use Rattle.clap.specs.declared.builder.value_parser.ValueParser.TheVariants as p
 use Rattle.clap.specs.declared.error.kind.ErrorKind.{ErrorKind}
 use Rattle.clap.specs.declared.error.kind.ErrorKind.TheVariants.{DisplayHelp, DisplayVersion, OutOfMemory}
 use Rattle.smap_command.specs.declared.command.Command.{Command}
-use Rattle.smap_command.specs.declared.command.Command.TheVariants.{Raw, Check, Show, Lookup, Rewrite, RewriteAnywhere, Compose}
+use Rattle.smap_command.specs.declared.command.Command.TheVariants.{Raw, Check, Show, Lookup, Positions, Rewrite, RewriteAnywhere, Compose}
 use Rattle.smap_arguments.specs.CommandLine.{named, smap}
 use Rattle.smap_arguments.specs.declared.usage.Usage.{Usage}
 use Rattle.smap_arguments.specs.declared.usage.Usage.TheVariants.{Help, Words, Memory}
@@ -30,7 +30,8 @@ abbrev pub HasPosition : Command → Type 0
 HasPosition (Raw line column interval) = (line ≤ limit) × (column ≤ limit)
 HasPosition (Check path base interval) = ⊤
 HasPosition (Show path base) = ⊤
-HasPosition (Lookup path line column base interval after) = (line ≤ limit) × (column ≤ limit)
+HasPosition (Lookup path line column base interval after json) = (line ≤ limit) × (column ≤ limit)
+HasPosition (Positions path base interval after json) = ⊤
 HasPosition (Rewrite maps base interval hide_ignored) = ⊤
 HasPosition (RewriteAnywhere maps base interval) = ⊤
 HasPosition (Compose outer source inner base) = ⊤
@@ -119,7 +120,8 @@ abbrev pub name_of : Command → Text
 name_of (Raw line column interval) = codes "raw"
 name_of (Check path base interval) = codes "check"
 name_of (Show path base) = codes "show"
-name_of (Lookup path line column base interval after) = codes "lookup"
+name_of (Lookup path line column base interval after json) = codes "lookup"
+name_of (Positions path base interval after json) = codes "positions"
 name_of (Rewrite maps base interval hide_ignored) = codes "rewrite"
 name_of (RewriteAnywhere maps base interval) = codes "rewrite"
 name_of (Compose outer source inner base) = codes "compose"
@@ -131,9 +133,11 @@ RowsAskFor rows (Raw line column interval) = GivesNumber rows (codes "LINE") (li
 RowsAskFor rows (Check path base interval) =
     GivesText rows (codes "PATH") (string_bytes path) × GivesBase rows base × GivesInterval rows interval
 RowsAskFor rows (Show path base) = GivesText rows (codes "PATH") (string_bytes path) × GivesBase rows base
-RowsAskFor rows (Lookup path line column base interval after) = GivesText rows (codes "PATH") (string_bytes path)
+RowsAskFor rows (Lookup path line column base interval after json) = GivesText rows (codes "PATH") (string_bytes path)
     × GivesNumber rows (codes "LINE") (line + 1) × GivesNumber rows (codes "COLUMN") (column + 1) × GivesBase rows base
-    × GivesInterval rows interval × GivesFlag rows (codes "after") after
+    × GivesInterval rows interval × GivesFlag rows (codes "after") after × GivesFlag rows (codes "json") json
+RowsAskFor rows (Positions path base interval after json) = GivesText rows (codes "MAP") (string_bytes path) × GivesBase rows base
+    × GivesInterval rows interval × GivesFlag rows (codes "after") after × GivesFlag rows (codes "json") json
 RowsAskFor rows (Rewrite maps base interval hide_ignored) = GivesPairs rows maps.items × GivesBase rows base × GivesInterval rows interval
     × GivesFlag rows (codes "hide-ignored") hide_ignored × GivesFlag rows (codes "anywhere") false
 RowsAskFor rows (RewriteAnywhere maps base interval) = GivesPairs rows maps.items × GivesBase rows base × GivesInterval rows interval

@@ -50,6 +50,10 @@ interval_rule = record (new_rule (codes "K")) { long = Some (codes "interval"); 
 abbrev pub after_rule : Rule
 after_rule = record (new_rule (codes "after")) { long = Some (codes "after"); action = Some SetTrue }
 
+-- the flag that answers in JSON
+abbrev pub json_rule : Rule
+json_rule = record (new_rule (codes "json")) { long = Some (codes "json"); action = Some SetTrue }
+
 -- the flag that hides the frames of ignored sources
 abbrev pub hide_rule : Rule
 hide_rule = record (new_rule (codes "hide-ignored")) { long = Some (codes "hide-ignored"); action = Some SetTrue }
@@ -70,7 +74,10 @@ with_rules name rules = fold with_rule (new_app name) rules
 
 abbrev pub lookup : App
 lookup = with_rules (codes "lookup") (text_rule (codes "PATH") ∷ number_rule number (codes "LINE")
-    ∷ number_rule number (codes "COLUMN") ∷ base_rule ∷ interval_rule ∷ after_rule ∷ [])
+    ∷ number_rule number (codes "COLUMN") ∷ base_rule ∷ interval_rule ∷ after_rule ∷ json_rule ∷ [])
+
+abbrev pub positions : App
+positions = with_rules (codes "positions") (text_rule (codes "MAP") ∷ base_rule ∷ interval_rule ∷ after_rule ∷ json_rule ∷ [])
 
 abbrev pub rewrite : App
 rewrite = with_rules (codes "rewrite") (pairs_rule ∷ base_rule ∷ interval_rule ∷ hide_rule ∷ anywhere_rule ∷ [])
@@ -92,7 +99,7 @@ raw = with_rules (codes "raw") (number_rule number (codes "LINE") ∷ number_rul
 abbrev pub smap : App
 smap = fold (λ above command. with_subcommand above command.top)
     (on_top (λ shape. record shape { subcommand_required = true; has_version = true }) (new_app (codes "smap")))
-    (lookup ∷ rewrite ∷ check ∷ show ∷ compose ∷ raw ∷ [])
+    (lookup ∷ positions ∷ rewrite ∷ check ∷ show ∷ compose ∷ raw ∷ [])
 
 -- clap's command is the one described, and no argument of it holds in subcommands too
 abbrev pub IsLocalCommand : App → ClapCommand → Type 0

@@ -51,7 +51,15 @@ fn named_command(
             column: position_number_in(matches, "COLUMN"),
             base,
             interval: interval_in(matches),
-            after: flag_in(matches, "after"),
+            after: after_in(matches),
+            json: json_in(matches),
+        }),
+        "positions" => Ok(Command::Positions {
+            path: text_in(alloc, matches, "MAP")?,
+            base,
+            interval: interval_in(matches),
+            after: after_in(matches),
+            json: json_in(matches),
         }),
         "rewrite" => rewrite_in(alloc, matches, base),
         "check" => Ok(Command::Check {
@@ -119,6 +127,22 @@ fn interval_in(matches: &ArgMatches<'_>) -> u32
         Some(interval) => interval,
         None => USUAL_INTERVAL,
     }
+}
+
+// Whether the flag is given that looks up in the other direction.
+fn after_in(matches: &ArgMatches<'_>) -> bool
+    requires { HasValueIfGiven parser.Bool (rows_of (found_of matches.now)) (codes "after") }
+    ensures { GivesFlag (rows_of (found_of matches.now)) (codes "after") result }
+{
+    flag_in(matches, "after")
+}
+
+// Whether the flag is given that answers in JSON.
+fn json_in(matches: &ArgMatches<'_>) -> bool
+    requires { HasValueIfGiven parser.Bool (rows_of (found_of matches.now)) (codes "json") }
+    ensures { GivesFlag (rows_of (found_of matches.now)) (codes "json") result }
+{
+    flag_in(matches, "json")
 }
 
 // Whether a flag is given.

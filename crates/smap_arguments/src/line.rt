@@ -2,7 +2,7 @@
 ghost use Rattle.std.specs.Prelude.{◌≡◌, All, IfOk, codes, false, map};
 ghost use Rattle.clap.specs.Words.{app_of, rule_of};
 ghost use Rattle.smap_arguments.specs.CommandLine.{IsLocalArgument, IsLocalCommand, after_rule, anywhere_rule, base_rule, check, compose};
-ghost use Rattle.smap_arguments.specs.CommandLine.{hide_rule, interval_rule, lookup, number, number_rule, pairs_rule, raw, rewrite};
+ghost use Rattle.smap_arguments.specs.CommandLine.{hide_rule, interval_rule, json_rule, lookup, number, number_rule, pairs_rule, positions, raw, rewrite};
 ghost use Rattle.smap_arguments.specs.CommandLine.{show, smap, source_number, text_rule, with_rules};
 
 use clap::{Arg, ArgAction, Command, value_parser};
@@ -31,9 +31,26 @@ The last mapping at the position or before it answers or, with --after, the firs
 
 Where the map holds the text of the source, its line follows, and a caret under the position.
 
+With --json the answer is one JSON object, on one line.
+
 Columns are UTF-16 code units. LINE and COLUMN count from 1, as V8 prints them in a stack trace.
 
 Example: smap lookup examples/preset-react.js.map 65 80";
+
+const POSITIONS_ABOUT: &str = "Answers the positions on standard input from a source map file";
+
+const POSITIONS_NOTES: &str = "\
+Each line of standard input is a position: LINE and COLUMN of the generated file, from 1, without signs or
+leading zeros, and between them blanks or one `:` alone.
+
+Answer: for each line one line, in their order, while they come: the first that `smap lookup` prints for it,
+or `bad position`. With --json each is a JSON object.
+
+The last mapping at a position or before it answers or, with --after, the first at it or after it.
+
+Status 1 where a line was no position; standard error then names the first.
+
+Example: printf '65:80\\n66 1\\n' | smap positions examples/preset-react.js.map";
 
 const REWRITE_ABOUT: &str = "Rewrites the stack trace on standard input over source map files";
 
@@ -113,6 +130,8 @@ smaller K answers look-ups faster and takes more memory; their answers are the s
 const AFTER_HELP: &str =
     "Answer by the first mapping on the line at the position or after it, not the last before";
 
+const JSON_HELP: &str = "Answer in JSON: one compact object a line";
+
 const HIDE_HELP: &str =
     "Leave out the frames from sources that a map says to pass over (its `ignoreList`)";
 
@@ -124,6 +143,7 @@ pub fn command_line<'a>(alloc: Global) -> Result<Command<'a>, AllocError>
 {
     let commands = vec![in alloc;
         lookup_command(alloc)?,
+        positions_command(alloc)?,
         rewrite_command(alloc)?,
         check_command(alloc)?,
         show_command(alloc)?,
@@ -150,8 +170,23 @@ fn lookup_command<'a>(alloc: Global) -> Result<Command<'a>, AllocError>
         base_url(alloc),
         interval(alloc),
         after(alloc),
+        json(alloc),
     ]?;
     described(alloc, "lookup", LOOKUP_ABOUT, LOOKUP_NOTES, arguments)
+}
+
+// The arguments of `positions`.
+fn positions_command<'a>(alloc: Global) -> Result<Command<'a>, AllocError>
+    ensures { IfOk result (IsLocalCommand positions) }
+{
+    let arguments = vec![in alloc;
+        text(alloc, "MAP", PATH_HELP),
+        base_url(alloc),
+        interval(alloc),
+        after(alloc),
+        json(alloc),
+    ]?;
+    described(alloc, "positions", POSITIONS_ABOUT, POSITIONS_NOTES, arguments)
 }
 
 // The arguments of `rewrite`.
@@ -295,6 +330,16 @@ fn after<'a>(alloc: Global) -> Arg<'a>
         .long("after")
         .action(ArgAction::SetTrue)
         .help(AFTER_HELP)
+}
+
+// The flag that answers in JSON.
+fn json<'a>(alloc: Global) -> Arg<'a>
+    ensures { IsLocalArgument json_rule result }
+{
+    Arg::new(alloc, "json")
+        .long("json")
+        .action(ArgAction::SetTrue)
+        .help(JSON_HELP)
 }
 
 // The flag that hides the frames of ignored sources.

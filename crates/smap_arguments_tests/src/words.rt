@@ -40,11 +40,25 @@ fn read(alloc: Global, words: &[&str]) -> Result<String, AllocError> {
                 base,
                 interval,
                 after,
+                json,
             },
         ) => {
             let base = base_text(&base);
-            let after = if after { " after" } else { "" };
-            format!(in alloc; "lookup {path} {line} {column}{base} every {interval}{after}")
+            let flags = flags_text(after, json);
+            format!(in alloc; "lookup {path} {line} {column}{base} every {interval}{flags}")
+        }
+        Ok(
+            Command::Positions {
+                path,
+                base,
+                interval,
+                after,
+                json,
+            },
+        ) => {
+            let base = base_text(&base);
+            let flags = flags_text(after, json);
+            format!(in alloc; "positions {path}{base} every {interval}{flags}")
         }
         Ok(
             Command::Rewrite {
@@ -91,6 +105,16 @@ fn read(alloc: Global, words: &[&str]) -> Result<String, AllocError> {
     }
 }
 
+// The flags of a look-up.
+fn flags_text(after: bool, json: bool) -> &'static str {
+    match (after, json) {
+        (false, false) => "",
+        (true, false) => " after",
+        (false, true) => " in JSON",
+        (true, true) => " after in JSON",
+    }
+}
+
 fn base_text(base: &Option<Url>) -> &str {
     match base {
         Some(url) => url.as_str(),
@@ -107,7 +131,7 @@ fn read_usage(alloc: Global, usage: &Usage) -> Result<String, AllocError> {
 }
 
 // Arguments, and the command that they give, with lines and columns from 0.
-const COMMANDS: [(&[&str], &str); 47] = [
+const COMMANDS: [(&[&str], &str); 51] = [
     (&["smap", "raw", "1", "6"], "raw 0 5 every 64"),
     (&["smap", "raw", "1", "1"], "raw 0 0 every 64"),
     (&["./smap", "raw", "007", "+2"], "raw 6 1 every 64"),
@@ -256,6 +280,19 @@ const COMMANDS: [(&[&str], &str); 47] = [
         "lookup r.map 2 3 every 64 after",
     ),
     (
+        &["smap", "lookup", "--json", "r.map", "3", "4"],
+        "lookup r.map 2 3 every 64 in JSON",
+    ),
+    (&["smap", "positions", "r.map"], "positions r.map every 64"),
+    (
+        &["smap", "positions", "--", "-x"],
+        "positions -x every 64",
+    ),
+    (
+        &["smap", "positions", "--json", "--interval=2", "--base", "file:///x", "r.map", "--after"],
+        "positions r.mapfile:///x every 2 after in JSON",
+    ),
+    (
         &["smap", "lookup", "--", "--after", "3", "4"],
         "lookup --after 2 3 every 64",
     ),
@@ -326,7 +363,7 @@ fn reads_commands(rt: HostRuntime) -> Result<(), Fail> {
 }
 
 // Arguments that are no command, and how the text for them begins.
-const MISTAKES: [(&[&str], &str); 67] = [
+const MISTAKES: [(&[&str], &str); 71] = [
     (
         &["smap", "rewrite", "u=1.map", "--hide-ignored=true"],
         "error: unexpected value 'true' for '--hide-ignored' found; no more were expected\n",
@@ -461,6 +498,22 @@ const MISTAKES: [(&[&str], &str); 67] = [
     (
         &["smap", "show", "--base", "nope", "r.map"],
         "usage: bad base URL\n",
+    ),
+    (
+        &["smap", "positions"],
+        "error: the following required arguments were not provided:\n  <MAP>\n",
+    ),
+    (
+        &["smap", "positions", "a.map", "1", "1"],
+        "error: unexpected argument '1' found\n",
+    ),
+    (
+        &["smap", "positions", "--base", "nope", "r.map"],
+        "usage: bad base URL\n",
+    ),
+    (
+        &["smap", "check", "--json", "--json", "r.map"],
+        "error: unexpected argument '--json' found\n",
     ),
     (
         &["smap", "lookup"],
@@ -640,6 +693,9 @@ fn refuses_words(rt: HostRuntime) -> Result<(), Fail> {
 
 const LOOKUP_EXAMPLE: &str = "Example: smap lookup examples/preset-react.js.map 65 80\n";
 
+const POSITIONS_EXAMPLE: &str =
+    "Example: printf '65:80\\n66 1\\n' | smap positions examples/preset-react.js.map\n";
+
 const CHECK_EXAMPLE: &str = "Example: smap check examples/preset-react.js.map\n";
 
 const SHOW_EXAMPLE: &str = "Example: smap show examples/bundle.js.map > joined.js.map\n";
@@ -653,7 +709,7 @@ const COMPOSE_EXAMPLE: &str =
 const RAW_EXAMPLE: &str = "Example: printf 'AAAA,CAAC;AACA' | smap raw 1 6\n";
 
 // Requests for help, the usage that they show, and how the text ends.
-const REQUESTS: [(&[&str], &str, &str); 19] = [
+const REQUESTS: [(&[&str], &str, &str); 21] = [
     (&["out/program", "--help"], "smap <COMMAND>", LOOKUP_EXAMPLE),
     (&["smap", "-h"], "smap <COMMAND>", LOOKUP_EXAMPLE),
     (&["smap", "help"], "smap <COMMAND>", LOOKUP_EXAMPLE),
@@ -716,6 +772,16 @@ const REQUESTS: [(&[&str], &str, &str); 19] = [
         &["smap", "lookup", "a.map", "1", "6", "-h"],
         "smap lookup [OPTIONS] <PATH> <LINE> <COLUMN>",
         LOOKUP_EXAMPLE,
+    ),
+    (
+        &["smap", "help", "positions"],
+        "smap positions [OPTIONS] <MAP>",
+        POSITIONS_EXAMPLE,
+    ),
+    (
+        &["smap", "positions", "a.map", "--help"],
+        "smap positions [OPTIONS] <MAP>",
+        POSITIONS_EXAMPLE,
     ),
     (
         &["smap", "help", "rewrite"],

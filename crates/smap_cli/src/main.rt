@@ -1,6 +1,6 @@
 //! `smap` answers questions about source maps from the command line: `smap lookup app.js.map 1 6` looks up line 1,
-//! column 6 of the generated file in its map file, `smap rewrite URL=app.js.map` rewrites the stack trace on its
-//! standard input, `smap check app.js.map` counts what a map file holds, `smap show app.js.map` writes it as one
+//! column 6 of the generated file in its map file, `smap positions app.js.map` does so for each line of its standard input,
+//! `smap rewrite URL=app.js.map` rewrites the stack trace on its standard input, `smap check app.js.map` counts what a map file holds, `smap show app.js.map` writes it as one
 //! regular map, `smap compose bundle.js.map 0 app.js.map` composes two map files, and `smap raw 1 6` looks a position
 //! up in the bare mappings text on its standard input.
 #![tactic(auto)]

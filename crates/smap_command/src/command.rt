@@ -25,7 +25,7 @@ pub enum Command {
     },
     /// Looks up a generated line and column in the source map in the file at this path: the last mapping at the
     /// position or before it answers or, with `after`, the first at it or after it. Its sources are resolved against
-    /// the base.
+    /// the base. With `json` the answer is a JSON object.
     Lookup {
         path: String,
         line: u32,
@@ -33,6 +33,16 @@ pub enum Command {
         base: Option<Url>,
         interval: u32,
         after: bool,
+        json: bool,
+    },
+    /// Answers the positions on the lines of standard input from the source map in the file at this path, each by a line,
+    /// as a look-up does. With `json` each line is a JSON object.
+    Positions {
+        path: String,
+        base: Option<Url>,
+        interval: u32,
+        after: bool,
+        json: bool,
     },
     /// Rewrites the stack trace on standard input over maps: pairs of the URL that frames name and of the path of the
     /// map's file. A map's sources are resolved against the base or, where there is none, against the map's URL, where

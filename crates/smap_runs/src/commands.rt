@@ -4,7 +4,7 @@ ghost use Rattle.smap_index.specs.Faults.{is_interval};
 ghost use Rattle.smap_answers.specs.Files.{path_in, paths_of};
 ghost use Rattle.smap_answers.specs.Run.{HasInterval};
 
-use smap_answers::Command;
+use smap_answers::{Command, USUAL_INTERVAL};
 use smap_index::MOST_INTERVAL;
 use smap_record::Url;
 
@@ -58,6 +58,37 @@ pub fn lookup(
         base,
         interval: in_range(interval),
         after,
+        json: false,
+    }
+}
+
+/// `lookup --json` in the file at this path, at a line and a column that count from 1.
+pub fn lookup_as_json(path: String, line: u32, column: u32) -> Command
+    ensures paths { paths_of result ≡ string_bytes path ∷ [] }
+    ensures interval { HasInterval result }
+{
+    Command::Lookup {
+        path,
+        line: line.saturating_sub(1),
+        column: column.saturating_sub(1),
+        base: None,
+        interval: USUAL_INTERVAL,
+        after: false,
+        json: true,
+    }
+}
+
+/// `positions` in the file at this path.
+pub fn positions(path: String, interval: u32, after: bool, json: bool) -> Command
+    ensures paths { paths_of result ≡ string_bytes path ∷ [] }
+    ensures interval { HasInterval result }
+{
+    Command::Positions {
+        path,
+        base: None,
+        interval: in_range(interval),
+        after,
+        json,
     }
 }
 

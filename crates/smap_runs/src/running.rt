@@ -136,6 +136,49 @@ pub fn run_lookup_after(
     run_on_file(alloc, &command, "m.map", map.as_bytes(), devices)
 }
 
+/// What `lookup --json` leaves in a map at `m.map`. The line and the column count from 1.
+pub fn run_lookup_as_json(
+    alloc: Global,
+    map: &str,
+    line: u32,
+    column: u32,
+    devices: Devices,
+) -> Result<String, AllocError> {
+    let command = commands::lookup_as_json(String::from_str(alloc, "m.map")?, line, column);
+    run_on_file(alloc, &command, "m.map", map.as_bytes(), devices)
+}
+
+/// How `positions` is asked to answer.
+#[derive(Clone, Copy)]
+pub enum Asked {
+    /// As text.
+    Text,
+    /// As text, with `--after`.
+    TextAfter,
+    /// With `--json`.
+    Json,
+}
+
+/// What `positions` leaves of this input over a map at `m.map`.
+pub fn run_positions(
+    alloc: Global,
+    map: &str,
+    input: &[u8],
+    asked: Asked,
+    interval: u32,
+    devices: Devices,
+) -> Result<String, AllocError> {
+    let (after, json) = match asked {
+        Asked::Text => (false, false),
+        Asked::TextAfter => (true, false),
+        Asked::Json => (false, true),
+    };
+    let path = String::from_str(alloc, "m.map")?;
+    let command = commands::positions(path, interval, after, json);
+    let file = loaded(alloc, "m.map", map.as_bytes())?;
+    run_over(alloc, &command, &[file], input, devices)
+}
+
 /// What `show` leaves of a map at `m.map`.
 pub fn run_show(alloc: Global, map: &str, devices: Devices) -> Result<String, AllocError> {
     run_show_at(alloc, None, map, devices)

@@ -8,7 +8,7 @@ pub returns-in_err-load_next-in-Check-clause-unread : goal.returns-in_err-load_n
 returns-in_err-load_next-in-Check-clause-unread c =
     let p = err_from_is_err_and c.from_residual-in_err-load_next-in-Check.result c.from_residual-in_err-load_next-in-Check.ensures.1 in
     let paths_is : paths_of c.args.command.now ≡ string_bytes c.in-Check.path ∷ [] =
-    ⊎_elim (λ check. ap paths_of check.2) (⊎_elim (λ show. ap paths_of show.1) (λ lookup. ap paths_of lookup.5)) c.in-Check.is in
+    ⊎_elim (λ check. ap paths_of check.2) (⊎_elim (λ show. ap paths_of show.1) (⊎_elim (λ lookup. ap paths_of lookup.6) (λ positions. ap paths_of positions.4))) c.in-Check.is in
     rw (p.1, p.2, paths_is) (_, first_of _ [], rw c.deref-in-Check.ensures at c.in_err-load_next-in-Check.ensures.unread)
 
 pub returns-in_err-load_maps-in-Rewrite-clause-unread : goal.returns-in_err-load_maps-in-Rewrite-clause-unread

@@ -1,0 +1,57 @@
+#!/usr/bin/env node
+// Answers positions line by line with @jridgewell/trace-mapping, as `smap positions` does.
+//
+//   node answer-positions.js text|json URL MAP < POSITIONS
+'use strict';
+
+const fs = require('fs');
+const { TraceMap, traceSegment } = require('@jridgewell/trace-mapping');
+
+const [how, url, file] = process.argv.slice(2);
+const text = fs.readFileSync(file, 'utf8');
+const map = new TraceMap(text, url);
+const ignored = new Set(JSON.parse(text).ignoreList ?? []);
+
+function asText(segment) {
+  if (segment === null) return 'none';
+  if (segment.length === 1) return 'unmapped';
+  const name = segment.length === 5 ? ` name ${map.names[segment[4]]}` : '';
+  const end = ignored.has(segment[1]) ? ' ignored' : '';
+  return `${map.resolvedSources[segment[1]]}:${segment[2] + 1}:${segment[3] + 1}${name}${end}`;
+}
+
+function asJson(segment, line, column) {
+  if (segment === null) return JSON.stringify({ answer: 'none', column, line });
+  const generatedColumn = segment[0] + 1;
+  if (segment.length === 1) return JSON.stringify({ answer: 'unmapped', column, generatedColumn, line });
+  return JSON.stringify({
+    answer: 'found',
+    column,
+    generatedColumn,
+    ignored: ignored.has(segment[1]),
+    line,
+    name: segment.length === 5 ? map.names[segment[4]] : null,
+    originalColumn: segment[3] + 1,
+    originalLine: segment[2] + 1,
+    source: map.resolvedSources[segment[1]],
+    sourceIndex: segment[1],
+  });
+}
+
+const answer = how === 'json' ? asJson : asText;
+const MOST_PENDING = 65536;
+let pending = '';
+const positions = fs.readFileSync(0, 'utf8');
+for (let begin = 0; begin < positions.length;) {
+  const end = positions.indexOf('\n', begin);
+  const blank = positions.indexOf(' ', begin);
+  const line = Number(positions.slice(begin, blank));
+  const column = Number(positions.slice(blank + 1, end));
+  pending += `${answer(traceSegment(map, line - 1, column - 1), line, column)}\n`;
+  if (pending.length > MOST_PENDING) {
+    fs.writeSync(1, pending);
+    pending = '';
+  }
+  begin = end + 1;
+}
+fs.writeSync(1, pending);

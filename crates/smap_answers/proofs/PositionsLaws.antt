@@ -1,0 +1,55 @@
+-- What `positions` tells, by what answering them came to.
+use Rattle.std.proofs.Common.{◌≡◌, ◌⊎◌, ℕ, Bool, true, false, List, [], ◌++◌, Option, Result, Ok, Err, refl, sym, ap, ◌∙◌, inl, inr, append-nil}
+use Rattle.smap_io.specs.Device.{SinkSeen, SourceSeen}
+use Rattle.smap_lines.specs.Edited.{edited}
+use Rattle.smap_lines.specs.Editing.{DevicesSeen, EditsFront, devices_seen}
+use Rattle.smap_lines.specs.declared.fault.LineFault.{LineFault}
+use Rattle.smap_lines.specs.declared.fault.LineFault.TheVariants.{Read, Write, TooMuch, Memory}
+use Rattle.smap_positions.specs.Answering.{Answers, is_write_fault}
+use Rattle.smap_positions.specs.Positions.{answered_line}
+use Rattle.smap_positions.specs.declared.answering.Summary.{Summary}
+use Rattle.smap_record.specs.Record.{MapRecord}
+use Rattle.smap_record.specs.declared.refusal.MapRefusal.{MapRefusal}
+use Rattle.smap_answers.specs.Files.{path_of}
+use Rattle.smap_answers.specs.Map.{IsFoundRefusal, map_in}
+use Rattle.smap_answers.specs.Outcome.{OrMemory, Telling}
+use Rattle.smap_answers.specs.Positions.{AnsweredTells, PositionsTells, positions_telling}
+use Rattle.smap_answers.specs.declared.load.Loaded.{Loaded}
+use Rattle.url.specs.Parts.{Parts}
+
+-- all of it was written, but not flushed
+pub written_front : (before : DevicesSeen) (input : SourceSeen) (mid after : SinkSeen) (stated : MapRecord) (from json : Bool) (summary : Summary) →
+    Answers before (devices_seen input mid) stated from json summary → after.taken ≡ mid.taken → EditsFront (answered_line stated from json) before (devices_seen input after) Write
+written_front before input mid after stated from json summary answers kept = record {
+  bytes = answers.bytes;
+  written = edited (answered_line stated from json) answers.bytes;
+  later = [];
+  read = answers.edits.read;
+  taken = kept ∙ answers.edits.written;
+  front = sym (append-nil (edited (answered_line stated from json) answers.bytes));
+  many = λ e. absurd (cc);
+  whole = λ e. absurd (cc);
+}
+
+-- an answer is told where standard output works
+pub answered_works : (stated : MapRecord) (from json : Bool) (before after : DevicesSeen) (telling : Telling) → AnsweredTells stated from json before after telling →
+    telling.status ≡ 0 → after.output.failed ≡ false
+answered_works stated from json before after telling tells done = go tells.result tells.output_failed tells.told
+  where
+    go : (result : Result Summary LineFault) → after.output.failed ≡ is_write_fault result → OrMemory (λ told. told ≡ positions_telling result) telling → after.output.failed ≡ false
+    go (Ok summary) failed told = failed
+    go (Err Read) failed told = failed
+    go (Err Write) failed (inl none) = let bad : ◌≡◌ {A = ℕ} 0 3 = sym done ∙ ap (λ (t : Telling). t.status) none in cc
+    go (Err Write) failed (inr told) = let bad : ◌≡◌ {A = ℕ} 0 3 = sym done ∙ ap (λ (t : Telling). t.status) told in cc
+    go (Err TooMuch) failed told = failed
+    go (Err Memory) failed told = failed
+
+refused_status : (path : List ℕ) (found : Result MapRecord MapRefusal) (telling : Telling) → OrMemory (IsFoundRefusal path found) telling → telling.status ≡ 0 → ⊥
+refused_status path found telling (inl none) done = let bad : ◌≡◌ {A = ℕ} 0 3 = sym done ∙ ap (λ (t : Telling). t.status) none in cc
+refused_status path (Err refused) telling (inr told) done = let bad : ◌≡◌ {A = ℕ} 0 1 = sym done ∙ ap (λ (t : Telling). t.status) told in cc
+refused_status path (Ok stated) telling (inr told) done = let bad : ◌≡◌ {A = ℕ} 0 1 = sym done ∙ ap (λ (t : Telling). t.status) told in cc
+
+pub positions_work : (file : Loaded) (base : Option Parts) (k : ℕ) (from json : Bool) (before after : DevicesSeen) (telling : Telling) → PositionsTells file base k from json before after telling →
+    telling.status ≡ 0 → after.output.failed ≡ false
+positions_work file base k from json before after telling (inl refused) done = absurd (refused_status (path_of file) (map_in file base k) telling refused.1 done)
+positions_work file base k from json before after telling (inr answered) done = answered_works answered.0 from json before after telling answered.2 done

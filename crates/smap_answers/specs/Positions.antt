@@ -1,0 +1,64 @@
+-- What `positions` tells.
+use Rattle.std.specs.Prelude.{◌≡◌, ℕ, ◌==◌, ◌⊎◌, Bool, true, Option, Some, None, Result, Ok, Err, [], if◌then◌else◌}
+use Rattle.smap_lines.specs.Editing.{DevicesSeen, EditsFront}
+use Rattle.smap_lines.specs.declared.fault.LineFault.{LineFault}
+use Rattle.smap_lines.specs.declared.fault.LineFault.TheVariants.{Read, Write, TooMuch, Memory}
+use Rattle.smap_record.specs.Record.{MapRecord}
+use Rattle.smap_positions.specs.Answering.{Answers, is_read_fault, is_write_fault}
+use Rattle.smap_positions.specs.Positions.{answered_line}
+use Rattle.smap_positions.specs.declared.answering.Summary.{Summary}
+use Rattle.smap_trace.specs.declared.outcome.RewriteFault.{RewriteFault}
+use Rattle.smap_trace.specs.declared.outcome.RewriteFault.TheVariants as faults
+use Rattle.smap_answers.specs.Files.{path_of}
+use Rattle.smap_answers.specs.Lines.{bad_position_refused_line, long_position_line}
+use Rattle.smap_answers.specs.Map.{IsFoundRefusal, map_in}
+use Rattle.smap_answers.specs.Outcome.{OrMemory, Telling, answer, fault_telling, refusal}
+use Rattle.smap_answers.specs.declared.load.Loaded.{Loaded}
+use Rattle.url.specs.Parts.{Parts}
+
+-- ---- what is told
+
+-- nothing is added where each line is a position; else the first that is none is named
+abbrev pub bad_telling : (first_bad : Option ℕ) → Telling
+bad_telling None = answer []
+bad_telling (Some number) = refusal (bad_position_refused_line number)
+
+-- of what was answered to its end: a line that is too long was not
+abbrev pub summary_telling : Summary → Telling
+summary_telling summary = if summary.answered == summary.lines then bad_telling summary.first_bad else refusal long_position_line
+
+-- the same failure of a trace
+abbrev pub trace_fault : LineFault → RewriteFault
+trace_fault Read = faults.Read
+trace_fault Write = faults.Write
+trace_fault TooMuch = faults.TooMuch
+trace_fault Memory = faults.Memory
+
+abbrev pub positions_telling : Result Summary LineFault → Telling
+positions_telling (Ok summary) = summary_telling summary
+positions_telling (Err fault) = fault_telling (trace_fault fault)
+
+-- ---- the positions
+
+-- the positions are answered to their end, or up to a fault
+abbrev pub IsAnswered : MapRecord → (from json : Bool) → (before after : DevicesSeen) → Result Summary LineFault → Type 0
+IsAnswered stated from json before after (Ok summary) = Answers before after stated from json summary
+IsAnswered stated from json before after (Err fault) = EditsFront (answered_line stated from json) before after fault
+
+-- answering the positions on standard input from this map tells this; a refusal of them comes after their answers, which are
+-- flushed
+pub record AnsweredTells (stated : MapRecord) (from json : Bool) (before after : DevicesSeen) (telling : Telling) : Type 0 where
+  pub result : Result Summary LineFault
+  pub answered : IsAnswered stated from json before after result
+  pub input_failed : after.input.failed ≡ is_read_fault result
+  pub output_failed : after.output.failed ≡ is_write_fault result
+  pub flushed : telling.status ≡ 1 → (result ≡ Err TooMuch) ⊎ (after.output.flushed ≡ true)
+  pub untouched : result ≡ Err Memory → after ≡ before
+  pub told : OrMemory (λ told. told ≡ positions_telling result) telling
+
+-- what `positions` tells over a map's file: that the file is refused, or memory ran out, and then standard input and output
+-- stay as they are; or what the answers come to
+abbrev pub PositionsTells : Loaded → Option Parts → (k : ℕ) → (from json : Bool) → (before after : DevicesSeen) → Telling → Type 0
+PositionsTells file base k from json before after telling =
+    ((after ≡ before) × OrMemory (IsFoundRefusal (path_of file) (map_in file base k)) telling)
+    ⊎ ((stated : MapRecord) × (map_in file base k ≡ Ok stated) × AnsweredTells stated from json before after telling)

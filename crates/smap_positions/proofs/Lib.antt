@@ -1,0 +1,6 @@
+mod PutLaws
+mod EscapeLaws
+mod PositionLaws
+mod JsonLaws
+mod CountLaws
+mod TextLaws

@@ -1,0 +1,9 @@
+use Rattle.smap_positions.specs.Private.JsonPieces.{found_front}
+use Rattle.smap_positions.proofs.PutLaws.{put_as}
+use Rattle.smap_positions.proofs.json_lines.put_found_front.Goals as goal
+
+pub returns : goal.returns
+unfolding found_front
+returns g c =
+    let is = rw (c.as_bytes.ensures.value, c.format.ensures.text, c.as_bytes-2.ensures.value, c.format-2.ensures.text, c.from_one.ensures, c.bool_text.ensures, c.as_bytes-3.ensures.value, c.format-3.ensures.text) at c.front_pieces-pieces.ensures in
+    put_as _ _ _ _ c.put_all.result is c.put_all.ensures

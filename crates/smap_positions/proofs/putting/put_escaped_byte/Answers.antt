@@ -1,0 +1,16 @@
+use Rattle.std.proofs.Common.{◌∷◌, [], ◌∙◌}
+use Rattle.std.proofs.lemmas.Bool.{le-ltb, lt-ltb}
+use Rattle.smap_positions.proofs.EscapeLaws.{escaped_number, escaped_plain, escaped_short}
+use Rattle.smap_positions.proofs.PutLaws.{put_as}
+use Rattle.smap_positions.proofs.putting.put_escaped_byte.Goals as goal
+
+pub returns-in-Some : goal.returns-in-Some
+returns-in-Some g c = put_as _ _ _ _ c.put.result (escaped_short c.args.byte c.in-Some.letter c.in-Some.ensures) c.put.ensures
+
+pub returns-in-None : goal.returns-in-None
+returns-in-None g c =
+    let number = escaped_number c.args.byte c.in-None.ensures (lt-ltb _ _ c.if-byte-lt32.true) in
+    put_as _ _ _ _ c.put-in-None.result ((λ i. 92 ∷ 117 ∷ 48 ∷ 48 ∷ c.hex_digit.ensures i ∷ c.hex_digit-in-None.ensures i ∷ []) ∙ number) c.put-in-None.ensures
+
+pub returns-in-None-2 : goal.returns-in-None-2
+returns-in-None-2 g c = put_as _ _ _ _ c.put-in-None-2.result (escaped_plain c.args.byte c.in-None.ensures (le-ltb _ _ c.if-byte-lt32.false)) c.put-in-None-2.ensures

@@ -1,0 +1,116 @@
+//! The positions of a text, answered line by line.
+ghost use Rattle.std.specs.Prelude.{None, Some};
+ghost use Rattle.smap_positions.specs.Positions.{position_line};
+ghost use Rattle.smap_positions.specs.Private.Putting.{IsPut, output_seen};
+
+use crate::json_lines::{put_answer_json, put_bad_position};
+use crate::lines::BAD_POSITION;
+use crate::lookup::lookup_answer;
+use crate::position::Position;
+use crate::putting::put;
+use crate::reading::read_position;
+use crate::text_lines::put_answer_line;
+use smap_io::{ByteSink, DeviceFault};
+use smap_lines::{Gathered, LineEditor};
+use smap_record::MapFile;
+use std::alloc::Global;
+
+/// Answers the lines of a text of positions, counts them, and keeps the number of the first that is no position.
+#[derive(Drop)]
+pub struct PositionAnswerer<'m> {
+    pub alloc: Global,
+    pub map: &'m MapFile,
+    pub after: bool,
+    pub json: bool,
+    pub lines: u64,
+    pub first_bad: Option<u64>,
+}
+
+impl LineEditor for PositionAnswerer<'_> {
+    ghost use Rattle.smap_positions.specs.Private.Answerer.{after_position, room_of};
+    ghost use Rattle.smap_positions.specs.Private.AnswererLaws.{room_after};
+    ghost use Rattle.smap_positions.specs.Positions.{answered_line};
+    ghost use Rattle.std.specs.Prelude.{refl};
+
+    ghost becomes = { λ answerer. answered_line answerer.map.now.stated answerer.after answerer.json };
+
+    ghost step = { after_position };
+
+    ghost room = { room_of };
+
+    fn edit<W: ByteSink>(
+        &mut self,
+        line: &[u8],
+        _is_ended: bool,
+        gathered: &mut Gathered,
+        output: &mut W,
+    ) -> Result<(), DeviceFault> {
+        let position = read_position(line);
+        self.lines += 1;
+        if position.is_none() && self.first_bad.is_none() {
+            self.first_bad = Some(self.lines);
+        }
+        self.put_line(position, gathered, output)
+    }
+
+    ghost same = { λ answerer line other. refl };
+
+    ghost room_for_one = { room_after };
+}
+
+impl PositionAnswerer<'_> {
+    // Puts the line for a position, and for what is none.
+    fn put_line<W: ByteSink>(
+        &self,
+        position: Option<Position>,
+        gathered: &mut Gathered,
+        output: &mut W,
+    ) -> Result<(), DeviceFault>
+        ensures { IsPut (output_seen (W.seen output.old) gathered.old)
+            (output_seen (W.seen output.new) gathered.new)
+            (position_line self.now.after self.now.json self.now.map.now.stated position) result }
+    {
+        match position {
+            Some(position) => self.put_answer(position, gathered, output),
+            None => self.put_bad(gathered, output),
+        }
+    }
+
+    // Puts the line for what is no position.
+    fn put_bad<W: ByteSink>(
+        &self,
+        gathered: &mut Gathered,
+        output: &mut W,
+    ) -> Result<(), DeviceFault>
+        ensures { IsPut (output_seen (W.seen output.old) gathered.old)
+            (output_seen (W.seen output.new) gathered.new)
+            (position_line self.now.after self.now.json self.now.map.now.stated None) result }
+    {
+        if self.json {
+            put_bad_position(gathered, output)
+        } else {
+            put(BAD_POSITION.as_bytes(), gathered, output)
+        }
+    }
+
+    // Puts the line for a position.
+    fn put_answer<W: ByteSink>(
+        &self,
+        position: Position,
+        gathered: &mut Gathered,
+        output: &mut W,
+    ) -> Result<(), DeviceFault>
+        ensures { IsPut (output_seen (W.seen output.old) gathered.old)
+            (output_seen (W.seen output.new) gathered.new)
+            (position_line self.now.after self.now.json self.now.map.now.stated (Some position)) result }
+    {
+        let line = position.line.saturating_sub(1);
+        let column = position.column.saturating_sub(1);
+        let answer = lookup_answer(self.alloc, self.map, line, column, self.after);
+        if self.json {
+            put_answer_json(self.map, position, &answer, gathered, output)
+        } else {
+            put_answer_line(self.map, &answer, gathered, output)
+        }
+    }
+}
