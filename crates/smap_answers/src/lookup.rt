@@ -41,7 +41,8 @@ fn lookup_print(
     after: bool,
     json: bool,
 ) -> Result<String, AllocError>
-    ensures { IfOk result (λ text. string_bytes text ≡ lookup_print after json line column map.now.stated) }
+    ensures { IfOk result (λ text. string_bytes text ≡ lookup_print after json line column
+        map.now.stated) }
 {
     if json {
         lookup_as_json(alloc, map, line, column, after)

@@ -94,7 +94,8 @@ fn long_line(alloc: Global) -> Failure
 
 // The line of this number is no position.
 fn bad_position(alloc: Global, number: u64) -> Failure
-    ensures { OrMemory (λ told. told ≡ refusal (bad_position_refused_line number)) (failure_telling result) }
+    ensures { OrMemory (λ told. told ≡ refusal (bad_position_refused_line number))
+        (failure_telling result) }
 {
     match lines::bad_position_line(alloc, number) {
         Ok(line) => Failure::Refusal(line),

@@ -125,15 +125,7 @@ fn answer<R: ByteSource, W: ByteSink>(
             maps,
             base,
             interval,
-        } => answer_anywhere(
-            alloc,
-            maps,
-            files,
-            base.as_ref(),
-            *interval,
-            input,
-            output,
-        ),
+        } => answer_anywhere(alloc, maps, files, base.as_ref(), *interval, input, output),
         Command::Compose { source, base, .. } => {
             answer_compose(alloc, &files[0], *source, &files[1], base.as_ref())
         }

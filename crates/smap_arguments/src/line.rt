@@ -186,7 +186,13 @@ fn positions_command<'a>(alloc: Global) -> Result<Command<'a>, AllocError>
         after(alloc),
         json(alloc),
     ]?;
-    described(alloc, "positions", POSITIONS_ABOUT, POSITIONS_NOTES, arguments)
+    described(
+        alloc,
+        "positions",
+        POSITIONS_ABOUT,
+        POSITIONS_NOTES,
+        arguments,
+    )
 }
 
 // The arguments of `rewrite`.

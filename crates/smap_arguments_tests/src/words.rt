@@ -284,12 +284,18 @@ const COMMANDS: [(&[&str], &str); 51] = [
         "lookup r.map 2 3 every 64 in JSON",
     ),
     (&["smap", "positions", "r.map"], "positions r.map every 64"),
+    (&["smap", "positions", "--", "-x"], "positions -x every 64"),
     (
-        &["smap", "positions", "--", "-x"],
-        "positions -x every 64",
-    ),
-    (
-        &["smap", "positions", "--json", "--interval=2", "--base", "file:///x", "r.map", "--after"],
+        &[
+            "smap",
+            "positions",
+            "--json",
+            "--interval=2",
+            "--base",
+            "file:///x",
+            "r.map",
+            "--after",
+        ],
         "positions r.mapfile:///x every 2 after in JSON",
     ),
     (

@@ -22,10 +22,7 @@ const TEXTS: &[(&str, &str)] = &[
     ("1 2147483648", "0|q\"?.ts:2:3 name none ignored\n|"),
     ("2 1\n", "0|none\n|"),
     ("2147483648 2147483648\n", "0|none\n|"),
-    (
-        " 2 1\n1:1\n\t1 2 \n",
-        "0|none\na.ts:1:1\nunmapped\n|",
-    ),
+    (" 2 1\n1:1\n\t1 2 \n", "0|none\na.ts:1:1\nunmapped\n|"),
     ("\n", "1|bad position\n|refused: P1 BadPosition 1\n"),
     ("x", "1|bad position\n|refused: P1 BadPosition 1\n"),
     (
@@ -117,11 +114,7 @@ fn a_look_up_answers_in_json_with_its_excerpt(rt: HostRuntime) -> Result<(), Fai
             5,
             "0|{\"answer\":\"found\",\"column\":5,\"excerpt\":[\"let a;\",\"    ^\"],\"generatedColumn\":5,\"ignored\":false,\"line\":1,\"name\":null,\"originalColumn\":5,\"originalLine\":1,\"source\":\"a.ts\",\"sourceIndex\":0}\n|",
         ),
-        (
-            2,
-            1,
-            "0|{\"answer\":\"none\",\"column\":1,\"line\":2}\n|",
-        ),
+        (2, 1, "0|{\"answer\":\"none\",\"column\":1,\"line\":2}\n|"),
     ];
     for (line, column, wanted) in rows {
         let left = run_lookup_as_json(rt.alloc(), SHOWN, line, column, ALL_SOUND)?;
@@ -132,13 +125,23 @@ fn a_look_up_answers_in_json_with_its_excerpt(rt: HostRuntime) -> Result<(), Fai
 
 #[test]
 fn a_longer_line_is_not_answered(rt: HostRuntime) -> Result<(), Fail> {
-    for (blanks, wanted) in [(65_533, "a.ts:1:1\na.ts:1:1\n"), (65_534, "refused: P2 LongLine\n")] {
+    for (blanks, wanted) in [
+        (65_533, "a.ts:1:1\na.ts:1:1\n"),
+        (65_534, "refused: P2 LongLine\n"),
+    ] {
         let mut input = String::new(rt.alloc());
         for _ in 0..blanks {
             input.push(' ')?;
         }
         input.push_str("1 1\n1 1\n")?;
-        let left = run_positions(rt.alloc(), MAP, input.as_bytes(), Asked::Text, 64, ALL_SOUND)?;
+        let left = run_positions(
+            rt.alloc(),
+            MAP,
+            input.as_bytes(),
+            Asked::Text,
+            64,
+            ALL_SOUND,
+        )?;
         assert!(rt; left.contains(wanted));
         assert!(rt; left.contains("a.ts:1:1\n|"));
     }

@@ -102,7 +102,8 @@ impl PositionAnswerer<'_> {
     ) -> Result<(), DeviceFault>
         ensures { IsPut (output_seen (W.seen output.old) gathered.old)
             (output_seen (W.seen output.new) gathered.new)
-            (position_line self.now.after self.now.json self.now.map.now.stated (Some position)) result }
+            (position_line self.now.after self.now.json self.now.map.now.stated (Some position))
+            result }
     {
         let line = position.line.saturating_sub(1);
         let column = position.column.saturating_sub(1);

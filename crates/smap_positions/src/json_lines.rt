@@ -89,7 +89,8 @@ fn put_none<W: ByteSink>(
 // What that is joined of.
 fn none_pieces<'a>(column: &'a [u8], line: &'a [u8]) -> [&'a [u8]; 5]
     ensures { concat (map (λ piece. piece.now) result)
-        ≡ codes "{\"answer\":\"none\",\"column\":" ++ (column.now ++ (codes ",\"line\":" ++ (line.now ++ codes "}"))) }
+        ≡ codes "{\"answer\":\"none\",\"column\":" ++
+        (column.now ++ (codes ",\"line\":" ++ (line.now ++ codes "}"))) }
 {
     [
         b"{\"answer\":\"none\",\"column\":",
@@ -108,7 +109,8 @@ fn put_unmapped<W: ByteSink>(
     output: &mut W,
 ) -> Result<(), DeviceFault>
     ensures { IsPut (output_seen (W.seen output.old) gathered.old)
-        (output_seen (W.seen output.new) gathered.new) (unmapped_text position generated_column) result }
+        (output_seen (W.seen output.new) gathered.new) (unmapped_text position generated_column)
+        result }
 {
     let (mut column, mut generated, mut line) = (Buffer::new(), Buffer::new(), Buffer::new());
     let pieces = unmapped_pieces(
@@ -122,7 +124,8 @@ fn put_unmapped<W: ByteSink>(
 // What that is joined of.
 fn unmapped_pieces<'a>(column: &'a [u8], generated: &'a [u8], line: &'a [u8]) -> [&'a [u8]; 7]
     ensures { concat (map (λ piece. piece.now) result)
-        ≡ codes "{\"answer\":\"unmapped\",\"column\":" ++ (column.now ++ (codes ",\"generatedColumn\":"
+        ≡ codes "{\"answer\":\"unmapped\",\"column\":" ++
+        (column.now ++ (codes ",\"generatedColumn\":"
         ++ (generated.now ++ (codes ",\"line\":" ++ (line.now ++ codes "}"))))) }
 {
     [
@@ -149,7 +152,8 @@ fn put_found<W: ByteSink>(
     ensures { IsPut (output_seen (W.seen output.old) gathered.old)
         (output_seen (W.seen output.new) gathered.new)
         (found_text position generated_column origin.now
-        (option_map (λ entry. source_of entry.now) entry.entry) (option_map (λ name. name.now) name.entry)) result }
+        (option_map (λ entry. source_of entry.now) entry.entry)
+        (option_map (λ name. name.now) name.entry)) result }
 {
     put_found_front(
         position,
@@ -276,7 +280,8 @@ fn put_found_end<W: ByteSink>(
 
 // What that is joined of.
 fn end_pieces(index: &[u8]) -> [&[u8]; 3]
-    ensures { concat (map (λ piece. piece.now) result) ≡ codes ",\"sourceIndex\":" ++ (index.now ++ codes "}") }
+    ensures { concat (map (λ piece. piece.now) result) ≡ codes ",\"sourceIndex\":" ++
+        (index.now ++ codes "}") }
 {
     [b",\"sourceIndex\":", index, b"}"]
 }

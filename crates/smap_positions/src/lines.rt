@@ -35,7 +35,8 @@ pub fn place_line(
 
 // What prints of a name.
 fn name_suffix(alloc: Global, name: Option<&str>) -> Result<String, AllocError>
-    ensures { IfOk result (λ text. string_bytes text ≡ name_suffix (option_map (λ name. name.now) name.entry)) }
+    ensures { IfOk result (λ text. string_bytes text ≡ name_suffix
+        (option_map (λ name. name.now) name.entry)) }
 {
     match name {
         Some(name) => {

@@ -40,7 +40,8 @@ fn answer_text(
     answer: &Answer,
 ) -> Result<String, AllocError>
     ensures { IfOk result (λ text. string_bytes text
-        ≡ compact_text (answer_value shown_excerpt map.now.stated (record { line = line; column = column }) answer.now)) }
+        ≡ compact_text (answer_value shown_excerpt map.now.stated
+        (record { line = line; column = column }) answer.now)) }
 {
     match answer {
         Answer::Nothing => none_text(alloc, line, column),
@@ -57,7 +58,8 @@ fn answer_text(
 // That no mapping answers.
 #[tactic(auto, unfolding(crate::specs::Private::JsonPieces::none_text))]
 fn none_text(alloc: Global, line: u64, column: u64) -> Result<String, AllocError>
-    ensures { IfOk result (λ text. string_bytes text ≡ none_text (record { line = line; column = column })) }
+    ensures { IfOk result (λ text. string_bytes text ≡ none_text
+        (record { line = line; column = column })) }
 {
     format!(in alloc; "{{\"answer\":\"none\",\"column\":{column},\"line\":{line}}}")
 }
@@ -88,9 +90,11 @@ fn found_text(
     generated_column: u32,
     origin: &Origin,
 ) -> Result<String, AllocError>
-    ensures { let source = slice_get map.now.stated.sources origin.now.source in IfOk result (λ text. string_bytes text
+    ensures { let source = slice_get map.now.stated.sources origin.now.source in IfOk result
+        (λ text. string_bytes text
         ≡ json_front column generated_column (source_excerpt source origin.now)
-        ++ json_tail line origin.now source (option_and_then (slice_get map.now.stated.names) origin.now.name)) }
+        ++ json_tail line origin.now source
+        (option_and_then (slice_get map.now.stated.names) origin.now.name)) }
 {
     let entry = map.source(origin.source);
     let excerpt = source_excerpt(alloc, entry, origin)?;
@@ -109,7 +113,8 @@ fn tail_text(
     name: Option<&str>,
 ) -> Result<String, AllocError>
     ensures { IfOk result (λ text. string_bytes text ≡ json_tail line origin.now
-        (option_map (λ entry. source_of entry.now) entry.entry) (option_map (λ name. name.now) name.entry)) }
+        (option_map (λ entry. source_of entry.now) entry.entry)
+        (option_map (λ name. name.now) name.entry)) }
 {
     let ignored = is_ignored(entry);
     let name = json_text(alloc, name)?;
@@ -141,7 +146,8 @@ fn excerpt_front(
     generated_column: u32,
     excerpt: &str,
 ) -> Result<String, AllocError>
-    ensures { IfOk result (λ text. string_bytes text ≡ json_front column generated_column (Some excerpt.now)) }
+    ensures { IfOk result (λ text. string_bytes text ≡ json_front column generated_column
+        (Some excerpt.now)) }
 {
     let generated = from_one(generated_column);
     let excerpt = excerpt_text(alloc, excerpt)?;

@@ -17,7 +17,8 @@ use smap_trace::number;
 #[tactic(auto, unfolding(crate::specs::PositionOf::position_of))]
 pub fn read_position(line: &[u8]) -> Option<Position>
     ensures position { result ≡ position_of line.now }
-    ensures form { (position : Position) → (position_of line.now ≡ Some position) ↔ IsPosition line.now position }
+    ensures form { (position : Position) → (position_of line.now ≡ Some position) ↔ IsPosition
+        line.now position }
 {
     numbers_are_read_as_printed();
     let text = &line[blanks(line)..];

@@ -119,7 +119,8 @@ fn put_place<W: ByteSink>(
 
 // What a line and a column are joined of.
 fn place_pieces<'a>(line: &'a [u8], column: &'a [u8]) -> [&'a [u8]; 4]
-    ensures { concat (map (λ piece. piece.now) result) ≡ codes ":" ++ (line.now ++ (codes ":" ++ column.now)) }
+    ensures { concat (map (λ piece. piece.now) result) ≡ codes ":" ++
+        (line.now ++ (codes ":" ++ column.now)) }
 {
     [b":", line, b":", column]
 }
