@@ -1,7 +1,7 @@
 //! `positions` and `lookup --json` over maps in memory.
 use crate::same::assert_same;
 use smap_runs::{ALL_SOUND, Asked, run_lookup_as_json, run_positions};
-use smap_vectors::INTERVALS;
+use smap_vectors::{INTERVALS, example_text, halves, lookup_after_rows, lookup_rows, rows_of};
 use std::alloc::Global;
 use std::process::Abort;
 use std::test::Fail;
@@ -101,6 +101,30 @@ fn assert_all(
         }
     }
     Ok(())
+}
+
+// Rows of a line, a column and a place, asked for in one run: each gets its place.
+fn assert_rows(alloc: Global, rt: &impl Abort, rows: &str, asked: Asked) -> Result<(), Fail> {
+    let mut input = String::new(alloc);
+    let mut wanted = String::from_str(alloc, "0|")?;
+    for row in rows_of(rows, 63)?.lines() {
+        let (line, rest) = halves(row);
+        let (column, rest) = halves(rest);
+        let (place, _) = halves(rest);
+        input.push_str(&format!(in alloc; "{line}:{column}\n")?)?;
+        wanted.push_str(&format!(in alloc; "{place}\n")?)?;
+    }
+    wanted.push('|')?;
+    let bytes = input.as_bytes();
+    let left = run_positions(alloc, example_text(), bytes, asked, 64, ALL_SOUND)?;
+    assert_same(rt, "the example", &left, &wanted);
+    Ok(())
+}
+
+#[test]
+fn places_of_the_example_are_found_in_one_run(rt: HostRuntime) -> Result<(), Fail> {
+    assert_rows(rt.alloc(), &rt, lookup_rows(), Asked::Text)?;
+    assert_rows(rt.alloc(), &rt, lookup_after_rows(), Asked::TextAfter)
 }
 
 const SHOWN: &str =
