@@ -12,7 +12,7 @@ use Rattle.smap_mappings.proofs.ShortestLaws.{shortest_is_ascii}
 use Rattle.smap_mappings.proofs.BeforeLaws.{unmapped, mapped, by_fields, last-push, origin_given, origin_kept, name_given, name_kept}
 use Rattle.smap_mappings.specs.Limits.{most_text_bytes}
 use Rattle.smap_mappings.specs.Canonical.{column_before, origin_before, name_before, name_fields, origin_fields, fields_after, separators, shortest_spelling, segment_bytes, canonical_after, canonical_text}
-use Rattle.smap_mappings.specs.Writing.{last_values_of, AreInRange, AreLastOf, IsLengthOf, IsWritten}
+use Rattle.smap_mappings.specs.Writing.{last_values_of, AreInRange, AreLastOf, MeasuredText, WrittenText, IsLengthOf, IsWritten}
 use Rattle.smap_mappings.specs.Private.OneMore.{name_fields_from, origin_fields_from, fields_from, spelled, bytes_from, last_origin_after, last_name_after, last_values_after}
 use Rattle.smap_mappings.specs.Private.Reading
 use Rattle.smap_mappings.specs.Private.Reading.{fields_in}
@@ -20,8 +20,6 @@ use Rattle.smap_mappings.specs.declared.segment.Segment.{Segment}
 use Rattle.smap_mappings.specs.declared.segment.OriginFields.{OriginFields}
 use Rattle.smap_mappings.specs.declared.mapping.Mapping.{Mapping}
 use Rattle.smap_mappings.specs.declared.mapping.Origin.{Origin}
-use Rattle.smap_mappings.specs.declared.text_length.TextLength.{TextLength}
-use Rattle.smap_mappings.specs.declared.text_writer.TextWriter.{TextWriter}
 
 -- ---- what is kept
 
@@ -78,7 +76,7 @@ canonical_more list m = canonical-push [] list m
 
 -- ---- from nothing, and mapping after mapping
 
-pub length_more : (list : List Mapping) (found after : TextLength) (m : Mapping) (gap cell : ℕ) → IsLengthOf list found → gap ≡ length (separators found.last.mapping m) → cell ≡ length (spelled (fields_from found.last m))
+pub length_more : (list : List Mapping) (found after : MeasuredText) (m : Mapping) (gap cell : ℕ) → IsLengthOf list found → gap ≡ length (separators found.last.mapping m) → cell ≡ length (spelled (fields_from found.last m))
     → after.bytes ≡ min (found.bytes + (gap + cell)) (most_text_bytes + 1) → after.last ≡ last_values_after found.last m → AreInRange after.last → IsLengthOf (list ++ m ∷ []) after
 length_more list found after m gap cell is gap_is cell_is bytes_is last_is in_range =
     let added = ap length (canonical_more list m) ∙ length-append (canonical_text list) (bytes_from (last_values_of list) m) in
@@ -88,21 +86,21 @@ length_more list found after m gap cell is gap_is cell_is bytes_is last_is in_ra
       bytes = omega (arith, added, more, is.bytes);
     }
 
-pub text_more : (list : List Mapping) (writer after : TextWriter) (m : Mapping) (gap : List ℕ) → IsWritten list writer → gap ≡ writer.bytes.items ++ separators writer.last.mapping m → after.bytes.items ≡ gap ++ spelled (fields_from writer.last m)
+pub text_more : (list : List Mapping) (writer after : WrittenText) (m : Mapping) (gap : List ℕ) → IsWritten list writer → gap ≡ writer.bytes ++ separators writer.last.mapping m → after.bytes ≡ gap ++ spelled (fields_from writer.last m)
     → after.last ≡ last_values_after writer.last m → AreInRange after.last → IsWritten (list ++ m ∷ []) after
 text_more list writer after m gap is gap_is bytes_is last_is in_range = record {
   last = record { are = last_is ∙ ap (λ last. last_values_after last m) is.last.are ∙ sym (last_values-push list m); in_range = in_range };
   bytes =
       bytes_is ∙ ap (λ front. front ++ spelled (fields_from writer.last m)) gap_is
-      ∙ append_assoc writer.bytes.items (separators writer.last.mapping m) (spelled (fields_from writer.last m))
+      ∙ append_assoc writer.bytes (separators writer.last.mapping m) (spelled (fields_from writer.last m))
       ∙ (λ i. is.bytes i ++ bytes_from (is.last.are i) m) ∙ sym (canonical_more list m);
 }
 
-pub length_start : (found : TextLength) → AreLastOf [] found.last → found.bytes ≡ 0 → IsLengthOf [] found
+pub length_start : (found : MeasuredText) → AreLastOf [] found.last → found.bytes ≡ 0 → IsLengthOf [] found
 unfolding canonical_text
 length_start found last bytes = record { last = last; bytes = omega arith }
 
-pub text_start : (writer : TextWriter) → AreLastOf [] writer.last → writer.bytes.items ≡ [] → IsWritten [] writer
+pub text_start : (writer : WrittenText) → AreLastOf [] writer.last → writer.bytes ≡ [] → IsWritten [] writer
 unfolding canonical_text
 text_start writer last bytes = record { last = last; bytes = bytes }
 

@@ -12,6 +12,7 @@ use crate::limits::MOST_BYTES;
 use crate::mapping::Mapping;
 use crate::segment::Segment;
 use crate::vlq::spelling_length;
+use std::marker::Model;
 
 /// How many bytes the canonical text of the mappings so far has (ECMA-426, Mappings structure). It is counted up to
 /// 67,108,865, one more than a text may have, and stays there.
@@ -19,6 +20,16 @@ use crate::vlq::spelling_length;
 pub struct TextLength {
     last: LastValues,
     bytes: u64,
+}
+
+impl Model for TextLength {
+    ghost use Rattle.smap_mappings.specs.Writing.{MeasuredText};
+
+    ghost Value = { MeasuredText };
+
+    ghost view = { λ t. record { last = t.last; bytes = t.bytes } };
+
+    ghost inverse = { λ t. record { last = t.last; bytes = t.bytes } };
 }
 
 impl TextLength {

@@ -16,6 +16,7 @@ use crate::mapping::Mapping;
 use crate::segment::Segment;
 use crate::vlq::write_vlq;
 use std::alloc::{AllocError, Global};
+use std::marker::Model;
 
 /// Writes the canonical text of mappings that are given one by one (ECMA-426, Mappings structure), into room that is
 /// made once.
@@ -23,6 +24,14 @@ use std::alloc::{AllocError, Global};
 pub struct TextWriter {
     last: LastValues,
     bytes: Vec<u8>,
+}
+
+impl Model for TextWriter {
+    ghost use Rattle.smap_mappings.specs.Writing.{WrittenText};
+
+    ghost Value = { WrittenText };
+
+    ghost view = { λ t. record { last = t.last; bytes = t.bytes.items } };
 }
 
 impl TextWriter {
