@@ -4,9 +4,9 @@ use Rattle.std.proofs.Common.{◌≡◌, ℕ, ◌<◌, true, false, List, [], �
 use Rattle.std.specs.List.{find, last_or}
 use Rattle.std.proofs.lemmas.Bool.{cond-true, cond-false, cases_Bool, eqb-true, eq-eqb, ne_eqb, leb-true, le-leb, and_parts, and_from, and_left, both_ways, not-true, not_from_false, false_from_ne_true}
 use Rattle.smap_mappings.specs.Order.{IsAtOrBefore, IsInOrder}
+use Rattle.smap_mappings.specs.Range.{position_at}
 use Rattle.smap_mappings.specs.declared.mapping.Mapping.{Mapping}
 use Rattle.smap_index.specs.Answer.{is_on_line_at_or_before, is_on_line_at_or_after, answer_of, answer_of_last, answer_at_or_before, answer_at_or_after}
-use Rattle.smap_index.specs.Position.{position_at}
 use Rattle.smap_index.specs.Private.Search.{is_up_to, front_up_to, last_up_to, first_past}
 use Rattle.smap_index.specs.declared.answer.Answer.TheVariants.{Nothing}
 use Rattle.smap_index.specs.declared.bound.Bound.{Bound}

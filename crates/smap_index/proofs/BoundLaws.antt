@@ -2,8 +2,9 @@
 use Rattle.std.proofs.Common.{◌≡◌, ◌<◌, ◌≤◌, true, false, arith, ⊎_elim, inl}
 use Rattle.std.proofs.lemmas.Bool.{cases_lt, both_ways, not-true, not_from_false}
 use Rattle.smap_mappings.specs.Order.{IsAtOrBefore}
+use Rattle.smap_mappings.specs.Range.{at_position}
 use Rattle.smap_mappings.specs.declared.mapping.Mapping.{Mapping}
-use Rattle.smap_index.specs.Private.Search.{at_position, is_on_side, is_up_to}
+use Rattle.smap_index.specs.Private.Search.{is_on_side, is_up_to}
 use Rattle.smap_index.specs.declared.bound.Bound.{Bound}
 use Rattle.smap_index.specs.declared.bound.Side.{Side}
 use Rattle.smap_index.specs.declared.bound.Side.TheVariants.{Before, Through}

@@ -3,8 +3,7 @@
 ghost use Rattle.std.specs.Prelude.{◌≡◌};
 ghost use Rattle.smap_index.specs.Private.Search.{is_up_to};
 
-use crate::position::Position;
-use smap_mappings::Mapping;
+use smap_mappings::{Mapping, Position};
 
 // Which mappings stand up to a bound: those before its position, or those at it too.
 #[derive(Clone, Copy)]

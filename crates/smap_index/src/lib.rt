@@ -25,7 +25,6 @@ mod mark;
 mod order;
 mod part;
 mod placed;
-mod position;
 mod refusal;
 mod resume;
 mod search;

@@ -7,8 +7,7 @@ ghost use Rattle.smap_index.specs.Private.Walk.{position_of};
 ghost use Rattle.smap_mappings.specs.Range.{is_number_past_limit, is_name_past_limit, is_origin_past_limit, is_mapping_past_limit};
 
 use crate::part::Part;
-use crate::position::Position;
-use smap_mappings::{Cursor, LIMIT, Mapping, Origin};
+use smap_mappings::{Cursor, LIMIT, Mapping, Origin, Position};
 
 // The sum, if it is not past the limit.
 fn sum_in_range(base: u32, n: u32) -> Option<u32>

@@ -7,10 +7,11 @@ ghost use Rattle.smap_mappings.specs.Within.{IsWithin};
 ghost use Rattle.smap_mappings.specs.Canonical.{canonical_text};
 ghost use Rattle.smap_mappings.specs.Exact.{IsExactOr};
 ghost use Rattle.smap_mappings.specs.Encode.{encode_fault, list_fault, mapping_fault};
-ghost use Rattle.smap_mappings.specs.Range.{is_mapping_past_limit, stands_before};
+ghost use Rattle.smap_mappings.specs.Range.{is_mapping_past_limit};
 
 use crate::limits::LIMIT;
 use crate::mapping::Mapping;
+use crate::position::Position;
 use crate::text_length::TextLength;
 use crate::text_writer::TextWriter;
 use std::alloc::{AllocError, Global};
@@ -68,7 +69,7 @@ fn mapping_fault(i: u64, earlier: &Option<Mapping>, mapping: &Mapping) -> Option
     ensures { result ≡ mapping_fault i earlier.now mapping.now }
 {
     if let Some(earlier) = earlier
-        && stands_before(mapping, earlier)
+        && position_of(mapping).is_before(&position_of(earlier))
     {
         return Some(EncodeRefusal::NotSorted(i));
     }
@@ -79,10 +80,13 @@ fn mapping_fault(i: u64, earlier: &Option<Mapping>, mapping: &Mapping) -> Option
 }
 
 #[inline(always)]
-fn stands_before(a: &Mapping, b: &Mapping) -> bool
-    ensures { result ≡ stands_before a.now b.now }
+fn position_of(mapping: &Mapping) -> Position
+    ensures { result ≡ record { line = mapping.now.line; column = mapping.now.column } }
 {
-    a.line < b.line || (a.line == b.line && a.column < b.column)
+    Position {
+        line: mapping.line as u64,
+        column: mapping.column as u64,
+    }
 }
 
 // Whether a number of the mapping is past the limit.

@@ -1,19 +1,13 @@
 -- What the search over a table in order finds on either side of a bound, and so the walk after a checkpoint.
 use Rattle.std.specs.Prelude.{ℕ, List, Option, None, Bool, not, map, take, slice_get}
 use Rattle.std.specs.List.{last_or, prefix_len}
-use Rattle.smap_mappings.specs.Range.{stands_before}
+use Rattle.smap_mappings.specs.Range.{at_position, stands_before}
 use Rattle.smap_mappings.specs.declared.mapping.Mapping.{Mapping}
 use Rattle.smap_index.specs.declared.bound.Bound.{Bound}
 use Rattle.smap_index.specs.declared.bound.Side.{Side}
 use Rattle.smap_index.specs.declared.bound.Side.TheVariants.{Before, Through}
 use Rattle.smap_index.specs.declared.checkpoint.Checkpoint.{Checkpoint}
 use Rattle.smap_index.specs.Checkpoint.{mapping_of}
-use Rattle.smap_index.specs.Position.{position_at}
-use Rattle.smap_index.specs.declared.position.Position.{Position}
-
--- a position, as what stands there
-abbrev pub at_position : Position → Mapping
-at_position position = position_at position.line position.column
 
 -- the mappings of these checkpoints
 abbrev pub mappings_at : List Checkpoint → List Mapping

@@ -3,6 +3,7 @@ use Rattle.std.specs.Prelude.{ℕ, ◌+◌, ◌^◌, ◌<◌, ◌≤◌, Option,
 use Rattle.smap_mappings.specs.Limits.{most_text_bytes}
 use Rattle.smap_mappings.specs.Mappings.{mappings_of}
 use Rattle.smap_mappings.specs.Order.{IsInOrder}
+use Rattle.smap_mappings.specs.Range.{position_at}
 use Rattle.smap_mappings.specs.declared.mapping.Mapping.{Mapping}
 use Rattle.smap_mappings.specs.declared.mapping.Origin.{Origin}
 use Rattle.smap_mappings.specs.declared.cursor.Cursor.{Cursor}
@@ -11,7 +12,6 @@ use Rattle.smap_index.specs.declared.checkpoint.Checkpoint.{Checkpoint}
 use Rattle.smap_index.specs.declared.checkpoint.Kind.{Kind}
 use Rattle.smap_index.specs.declared.checkpoint.Kind.TheVariants.{Unmapped, Mapped, Named}
 use Rattle.smap_index.specs.Faults.{is_overlapping}
-use Rattle.smap_index.specs.Position.{position_at}
 
 -- what a segment has whose origin has this name
 abbrev pub kind_with : Option ℕ → Kind
