@@ -1,0 +1,32 @@
+-- A handle while it lends what it holds: it ends with the last value that stood there.
+use Rattle.std.specs.Prelude.{List, ℕ, Some}
+use Rattle.std.specs.Borrow.{Lends, MutBor, Fml}
+use Rattle.smap_record.specs.MapFile.{Map}
+use Rattle.smap_record.specs.Record.{MapRecord}
+use Rattle.smap_record.specs.contracts.map_file.MapFile as map_file
+use Rattle.smap_trace.specs.contracts.table.Table as trace_table
+use Rattle.smap_c.specs.contracts.bytes.Bytes as handed
+use Rattle.smap_c.specs.declared.handles.MapHandle.{MapHandle}
+use Rattle.smap_c.specs.contracts.handles.MapHandle as map_handle
+use Rattle.smap_c.specs.declared.handles.TableHandle.{TableHandle}
+use Rattle.smap_c.specs.contracts.handles.TableHandle as table_handle
+use Rattle.smap_c.specs.declared.handles.BytesHandle.{BytesHandle}
+use Rattle.smap_c.specs.contracts.handles.BytesHandle as bytes_handle
+
+abbrev pub with_map : MapHandle → Map → MapHandle
+with_map handle held = record handle { held = Some held }
+
+abbrev pub LendsMap : MutBor MapHandle → MutBor Map → Fml
+LendsMap handle lent = Lends map_handle.the_row map_file.the_row handle lent (with_map handle.now)
+
+abbrev pub with_table : TableHandle → List (List ℕ × MapRecord) → TableHandle
+with_table handle held = record handle { held = Some held }
+
+abbrev pub LendsTable : MutBor TableHandle → MutBor (List (List ℕ × MapRecord)) → Fml
+LendsTable handle lent = Lends table_handle.the_row trace_table.the_row handle lent (with_table handle.now)
+
+abbrev pub with_bytes : BytesHandle → List ℕ → BytesHandle
+with_bytes handle held = record handle { held = Some held }
+
+abbrev pub LendsBytes : MutBor BytesHandle → MutBor (List ℕ) → Fml
+LendsBytes handle lent = Lends bytes_handle.the_row handed.the_row handle lent (with_bytes handle.now)

@@ -1,0 +1,11 @@
+pub mod Counts
+pub mod Lending
+pub mod Look
+pub mod Many
+pub mod Owned
+pub mod Read
+pub mod Refusal
+pub mod Tables
+pub mod Texts
+pub mod Trace
+pub mod Written

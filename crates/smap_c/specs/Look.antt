@@ -1,0 +1,21 @@
+-- An answer as numbers.
+use Rattle.std.specs.Prelude.{ℕ, Option, None, Some}
+use Rattle.smap_index.specs.declared.answer.Answer.{Answer}
+use Rattle.smap_index.specs.declared.answer.Answer.TheVariants as answers
+use Rattle.smap_c.specs.declared.look_up.Found.{Found}
+
+-- whether there is a number, and the number
+abbrev pub flag_of : Option ℕ → ℕ
+flag_of None = 0
+flag_of (Some number) = 1
+
+abbrev pub number_or_0 : Option ℕ → ℕ
+number_or_0 None = 0
+number_or_0 (Some number) = number
+
+-- its kind, the generated column, and the origin with its name
+abbrev pub answer_numbers : Answer → Found
+answer_numbers answers.Nothing = record { kind = 0; generated_column = 0; source = 0; line = 0; column = 0; named = 0; name = 0 }
+answer_numbers (answers.Unmapped column) = record { kind = 1; generated_column = column; source = 0; line = 0; column = 0; named = 0; name = 0 }
+answer_numbers (answers.Found column origin) =
+    record { kind = 2; generated_column = column; source = origin.source; line = origin.line; column = origin.column; named = flag_of origin.name; name = number_or_0 origin.name }

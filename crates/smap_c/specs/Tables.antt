@@ -1,0 +1,26 @@
+-- What adding a map to a table comes to.
+use Rattle.std.specs.Prelude.{◌≡◌, ◌⊎◌, ℕ, List, Option, IsUtf8, IsSomeAnd}
+use Rattle.smap_record.specs.MapFile.{Map}
+use Rattle.smap_record.specs.Record.{MapRecord}
+use Rattle.smap_trace.specs.Table.{IsWith, url_refusal}
+use Rattle.smap_trace.specs.declared.refusal.TableRefusal.{TableRefusal}
+use Rattle.smap_trace.specs.declared.refusal.TableRefusal.TheVariants.{BadUrl, Twice, Memory}
+
+abbrev pub Maps : Type 0
+Maps = List (List ℕ × MapRecord)
+
+-- the table has one more map, under this URL
+abbrev pub IsAdded : (old : Option Maps) → (url : List ℕ) → Option Map → (new : Option Maps) → Type 0
+IsAdded old url map new = IsSomeAnd old (λ before. IsSomeAnd map (λ put. IsSomeAnd new (λ after. IsWith before url put.stated after)))
+
+-- the number of a refusal
+abbrev pub table_number : TableRefusal → ℕ
+table_number BadUrl = 1
+table_number Twice = 2
+table_number Memory = 3
+
+-- why the table takes no map under this URL: it is not UTF-8, or it is refused
+abbrev pub IsNotAdded : Option Maps → (url : List ℕ) → ℕ → Type 0
+IsNotAdded table url number =
+    ((number ≡ 0) × (IsUtf8 url → ⊥))
+    ⊎ IsSomeAnd table (λ maps. IsSomeAnd (url_refusal maps url) (λ refusal. number ≡ table_number refusal))

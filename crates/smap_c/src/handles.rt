@@ -1,0 +1,85 @@
+//! What C holds: handles, each a pointer that owns a map, a table or bytes.
+ghost use Rattle.std.specs.Prelude.{◌≡◌, List, ℕ, Option, Some, IfErr, IfOk};
+ghost use Rattle.std.specs.Coded.{coded_option};
+ghost use Rattle.smap_record.specs.MapFile.{Map};
+ghost use Rattle.smap_record.specs.Record.{MapRecord};
+ghost use Rattle.smap_record.specs.contracts.map_file.MapFile as map_file;
+ghost use Rattle.smap_trace.specs.contracts.table.Table as trace_table;
+ghost use Rattle.smap_c.specs.contracts.bytes.Bytes as handed;
+ghost use Rattle.smap_c.specs.Owned.{owns_held};
+
+mod lending;
+mod making;
+
+use crate::bytes::Bytes;
+use crate::loose::Loose;
+use smap_record::MapFile;
+use smap_trace::Table;
+use std::alloc::Global;
+use std::marker::Model;
+
+/// A handle of a map, or an empty one.
+#[repr(C)]
+#[derive(Drop)]
+pub struct MapHandle {
+    at: *mut u8,
+    pub ghost held: { Option Map } by { coded_option map_file.the_row.coded },
+}
+
+impl Model for MapHandle {
+    ghost also_owns = { λ handle. owns_held map_file.the_row handle.at handle.held };
+}
+
+impl MapHandle {
+    // The handle of this map.
+    fn of(loose: Loose<MapFile, Global>) -> MapHandle
+        ensures { result.held ≡ Some loose.value }
+    {
+        let Loose { at, alloc: _ } = loose;
+        MapHandle { at: at as *mut u8 }
+    }
+}
+
+/// A handle of the maps of a trace, or an empty one.
+#[repr(C)]
+#[derive(Drop)]
+pub struct TableHandle {
+    at: *mut u8,
+    pub ghost held: { Option (List (List ℕ × MapRecord)) } by { coded_option trace_table.the_row.coded },
+}
+
+impl Model for TableHandle {
+    ghost also_owns = { λ handle. owns_held trace_table.the_row handle.at handle.held };
+}
+
+impl TableHandle {
+    // The handle of this table.
+    fn of(loose: Loose<Table, Global>) -> TableHandle
+        ensures { result.held ≡ Some loose.value }
+    {
+        let Loose { at, alloc: _ } = loose;
+        TableHandle { at: at as *mut u8 }
+    }
+}
+
+/// A handle of bytes that were handed out, or an empty one.
+#[repr(C)]
+#[derive(Drop)]
+pub struct BytesHandle {
+    at: *mut u8,
+    pub ghost held: { Option (List ℕ) } by { coded_option handed.the_row.coded },
+}
+
+impl Model for BytesHandle {
+    ghost also_owns = { λ handle. owns_held handed.the_row handle.at handle.held };
+}
+
+impl BytesHandle {
+    // The handle of these bytes.
+    fn of(loose: Loose<Bytes, Global>) -> BytesHandle
+        ensures { result.held ≡ Some loose.value }
+    {
+        let Loose { at, alloc: _ } = loose;
+        BytesHandle { at: at as *mut u8 }
+    }
+}

@@ -1,0 +1,80 @@
+//! A handle lends what it holds, and gives it up. All that follows a pointer of C's stands here.
+ghost use Rattle.std.specs.Prelude.{◌≡◌, None, Some, IsSome};
+ghost use Rattle.std.specs.Borrow.{sem};
+ghost use Rattle.smap_c.specs.Lending.{LendsBytes, LendsMap, LendsTable};
+
+use super::{BytesHandle, MapHandle, TableHandle};
+use crate::bytes::Bytes;
+use crate::loose::Loose;
+use smap_record::MapFile;
+use smap_trace::Table;
+use std::alloc::Global;
+
+impl MapHandle {
+    /// What the handle holds, which is not empty.
+    pub(crate) fn lend(&mut self) -> &mut MapFile
+        requires { IsSome self.old.held }
+        ensures* writes_back { sem 𝓛 (LendsMap self.entry result) }
+        ensures value { Some result.now ≡ self.old.held }
+    {
+        unsafe { &mut *(self.at as *mut MapFile) }
+    }
+
+    // Takes out what the handle holds, and leaves it empty.
+    pub(super) fn take(&mut self, alloc: Global) -> Loose<MapFile, Global>
+        requires { IsSome self.old.held }
+        ensures taken { Some result.value ≡ self.old.held }
+        ensures emptied { self.new.held ≡ None }
+    {
+        Loose {
+            at: self.at as *mut MapFile,
+            alloc,
+        }
+    }
+}
+
+impl TableHandle {
+    /// What the handle holds, which is not empty.
+    pub(crate) fn lend(&mut self) -> &mut Table
+        requires { IsSome self.old.held }
+        ensures* writes_back { sem 𝓛 (LendsTable self.entry result) }
+        ensures value { Some result.now ≡ self.old.held }
+    {
+        unsafe { &mut *(self.at as *mut Table) }
+    }
+
+    // Takes out what the handle holds, and leaves it empty.
+    pub(super) fn take(&mut self, alloc: Global) -> Loose<Table, Global>
+        requires { IsSome self.old.held }
+        ensures taken { Some result.value ≡ self.old.held }
+        ensures emptied { self.new.held ≡ None }
+    {
+        Loose {
+            at: self.at as *mut Table,
+            alloc,
+        }
+    }
+}
+
+impl BytesHandle {
+    /// What the handle holds, which is not empty.
+    pub(crate) fn lend(&mut self) -> &mut Bytes
+        requires { IsSome self.old.held }
+        ensures* writes_back { sem 𝓛 (LendsBytes self.entry result) }
+        ensures value { Some result.now ≡ self.old.held }
+    {
+        unsafe { &mut *(self.at as *mut Bytes) }
+    }
+
+    // Takes out what the handle holds, and leaves it empty.
+    pub(super) fn take(&mut self, alloc: Global) -> Loose<Bytes, Global>
+        requires { IsSome self.old.held }
+        ensures taken { Some result.value ≡ self.old.held }
+        ensures emptied { self.new.held ≡ None }
+    {
+        Loose {
+            at: self.at as *mut Bytes,
+            alloc,
+        }
+    }
+}

@@ -1,0 +1,63 @@
+//! Making handles, and emptying them.
+ghost use Rattle.std.specs.Prelude.{◌≡◌, None, Some, IsSome, IfErr, IfOk};
+
+use super::{BytesHandle, MapHandle, TableHandle};
+use crate::bytes::Bytes;
+use crate::loose::Loose;
+use smap_record::MapFile;
+use smap_trace::Table;
+use std::alloc::{AllocFailed, Global};
+
+impl MapHandle {
+    pub(crate) fn new(alloc: Global, map: MapFile) -> Result<MapHandle, AllocFailed<MapFile>>
+        ensures made { IfOk result (λ handle. handle.held ≡ Some map) }
+        ensures back { IfErr result (λ failed. failed.value ≡ map) }
+    {
+        Ok(MapHandle::of(Loose::of(Box::new(alloc, map)?)))
+    }
+
+    /// Takes out what the handle holds, and frees its room.
+    pub(crate) fn empty(&mut self, alloc: Global) -> MapFile
+        requires { IsSome self.old.held }
+        ensures taken { Some result ≡ self.old.held }
+        ensures emptied { self.new.held ≡ None }
+    {
+        Box::into_inner(self.take(alloc).into_box())
+    }
+}
+
+impl TableHandle {
+    pub(crate) fn new(alloc: Global, table: Table) -> Result<TableHandle, AllocFailed<Table>>
+        ensures made { IfOk result (λ handle. handle.held ≡ Some table) }
+        ensures back { IfErr result (λ failed. failed.value ≡ table) }
+    {
+        Ok(TableHandle::of(Loose::of(Box::new(alloc, table)?)))
+    }
+
+    /// Takes out what the handle holds, and frees its room.
+    pub(crate) fn empty(&mut self, alloc: Global) -> Table
+        requires { IsSome self.old.held }
+        ensures taken { Some result ≡ self.old.held }
+        ensures emptied { self.new.held ≡ None }
+    {
+        Box::into_inner(self.take(alloc).into_box())
+    }
+}
+
+impl BytesHandle {
+    pub(crate) fn new(alloc: Global, bytes: Bytes) -> Result<BytesHandle, AllocFailed<Bytes>>
+        ensures made { IfOk result (λ handle. handle.held ≡ Some bytes) }
+        ensures back { IfErr result (λ failed. failed.value ≡ bytes) }
+    {
+        Ok(BytesHandle::of(Loose::of(Box::new(alloc, bytes)?)))
+    }
+
+    /// Takes out what the handle holds, and frees its room.
+    pub(crate) fn empty(&mut self, alloc: Global) -> Bytes
+        requires { IsSome self.old.held }
+        ensures taken { Some result ≡ self.old.held }
+        ensures emptied { self.new.held ≡ None }
+    {
+        Box::into_inner(self.take(alloc).into_box())
+    }
+}

@@ -1,0 +1,85 @@
+//! Reading a map, and letting it go.
+ghost use Rattle.std.specs.Prelude.{◌≡◌, ◌≢◌, ◌⊎◌, None, IsSome, IsSomeAnd, IfErr, IfOk, option_map};
+ghost use Rattle.smap_c.specs.Read.{IsReadAs, IsRefusedAs, NamesBase, NamesNoBase};
+ghost use Rattle.smap_c.specs.declared.read.BaseFault.TheVariants.{Memory};
+
+use crate::handles::MapHandle;
+use crate::refusal::{Refusal, numbered, numbers_of};
+use crate::status::{DONE, NO_MEMORY, REFUSED};
+use smap_record::{MapFile, MapRefusal, Url};
+use std::alloc::Global;
+use url::ParseError;
+
+/// Reads the bytes of a map file (ECMA-426, Source map format) that stands at the base, a URL in UTF-8, or none where it
+/// has no bytes. Its index has a checkpoint at the segments of number 0, `interval`, 2 `interval` and so on of each line;
+/// the interval is 1 to 4096. Where the map is refused, `refusal` says why, and where it is not read `map` stays.
+#[unsafe(no_mangle)]
+pub extern "C" fn smap_map_read(
+    alloc: Global,
+    bytes: &[u8],
+    base: &[u8],
+    interval: u32,
+    map: &mut MapHandle,
+    refusal: &mut Refusal,
+) -> u32
+    ensures read { result ≡ 0 → IsSomeAnd map.new.held (IsReadAs bytes.now base.now interval) }
+    ensures refused { result ≡ 1 → IsRefusedAs bytes.now base.now interval refusal.new }
+    ensures stays { result ≢ 0 → map.new.held ≡ map.old.held }
+    ensures status { (result ≡ 0) ⊎ (result ≡ 1) ⊎ (result ≡ 3) }
+{
+    let base = match base_named(alloc, base) {
+        Ok(base) => base,
+        Err(BaseFault::NoUrl) => {
+            *refusal = numbered(0, 0);
+            return REFUSED;
+        }
+        Err(BaseFault::Memory) => return NO_MEMORY,
+    };
+    match MapFile::read(alloc, bytes, base.as_ref(), interval) {
+        Ok(file) => match MapHandle::new(alloc, file) {
+            Ok(handle) => {
+                *map = handle;
+                DONE
+            }
+            Err(_) => NO_MEMORY,
+        },
+        Err(MapRefusal::Memory) => NO_MEMORY,
+        Err(refused) => {
+            *refusal = numbers_of(refused);
+            REFUSED
+        }
+    }
+}
+
+// Why there is no base.
+enum BaseFault {
+    NoUrl,
+    Memory,
+}
+
+// The base that these bytes name.
+fn base_named(alloc: Global, base: &[u8]) -> Result<Option<Url>, BaseFault>
+    ensures named { IfOk result (NamesBase base.now) }
+    ensures refused { IfErr result (λ fault. (fault ≡ Memory) ⊎ NamesNoBase base.now) }
+{
+    if base.is_empty() {
+        return Ok(None);
+    }
+    let Ok(text) = str::from_utf8(base) else {
+        return Err(BaseFault::NoUrl);
+    };
+    match Url::parse(alloc, text) {
+        Ok(url) => Ok(Some(url)),
+        Err(ParseError::OutOfMemory) => Err(BaseFault::Memory),
+        Err(_) => Err(BaseFault::NoUrl),
+    }
+}
+
+/// Frees a map, and leaves its handle empty.
+#[unsafe(no_mangle)]
+pub extern "C" fn smap_map_free(alloc: Global, map: &mut MapHandle)
+    requires { IsSome map.old.held }
+    ensures { map.new.held ≡ None }
+{
+    map.empty(alloc);
+}

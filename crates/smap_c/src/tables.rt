@@ -1,0 +1,92 @@
+//! The maps of a trace.
+ghost use Rattle.std.specs.Prelude.{◌≡◌, ◌≢◌, ◌⊎◌, [], None, Some, IsSome, IfSome, IfOk, IfErr, IsUtf8, string_bytes};
+ghost use Rattle.smap_c.specs.Tables.{IsAdded, IsNotAdded};
+
+use crate::handles::{MapHandle, TableHandle};
+use crate::status::{DONE, NO_MEMORY, REFUSED};
+use smap_record::MapFile;
+use smap_trace::{Table, TableRefusal};
+use std::alloc::Global;
+
+/// Makes a table without maps.
+#[unsafe(no_mangle)]
+pub extern "C" fn smap_table_new(alloc: Global, table: &mut TableHandle) -> u32
+    ensures made { result ≡ 0 → table.new.held ≡ Some [] }
+    ensures stays { result ≢ 0 → table.new.held ≡ table.old.held }
+    ensures status { (result ≡ 0) ⊎ (result ≡ 3) }
+{
+    match TableHandle::new(alloc, Table::new(alloc)) {
+        Ok(handle) => {
+            *table = handle;
+            DONE
+        }
+        Err(_failed) => NO_MEMORY,
+    }
+}
+
+/// Puts a map into a table, under its URL, which frames name as it stands here, in UTF-8. The table takes the map over,
+/// and its handle is empty then. Where the map is refused, both stay, and `refusal` is 1 or 2, that of A1 or A2, or 0
+/// where the URL is not UTF-8. Where there is not enough memory, the table stays, and the map is freed.
+#[unsafe(no_mangle)]
+pub extern "C" fn smap_table_add(
+    alloc: Global,
+    table: &mut TableHandle,
+    url: &[u8],
+    map: &mut MapHandle,
+    refusal: &mut u32,
+) -> u32
+    requires table { IsSome table.old.held }
+    requires map { IsSome map.old.held }
+    ensures added { result ≡ 0 → IsAdded table.old.held url.now map.old.held table.new.held }
+    ensures taken { result ≢ 1 → map.new.held ≡ None }
+    ensures refused { result ≡ 1 → IsNotAdded table.old.held url.now refusal.new }
+    ensures back { result ≡ 1 → map.new.held ≡ map.old.held }
+    ensures stays { result ≢ 0 → table.new.held ≡ table.old.held }
+    ensures status { (result ≡ 0) ⊎ (result ≡ 1) ⊎ (result ≡ 3) }
+{
+    let Ok(text) = str::from_utf8(url) else {
+        *refusal = 0;
+        return REFUSED;
+    };
+    let file = map.empty(alloc);
+    let Ok(owned) = String::from_str(alloc, text) else {
+        return NO_MEMORY;
+    };
+    match table.lend().add(owned, file) {
+        Ok(()) => DONE,
+        Err((TableRefusal::BadUrl, _url, file)) => give_back(alloc, file, map, 1, refusal),
+        Err((TableRefusal::Twice, _url, file)) => give_back(alloc, file, map, 2, refusal),
+        Err((TableRefusal::Memory, _url, _file)) => NO_MEMORY,
+    }
+}
+
+// Puts a map that was refused back into its handle, with the number of the refusal.
+fn give_back(
+    alloc: Global,
+    file: MapFile,
+    map: &mut MapHandle,
+    number: u32,
+    refusal: &mut u32,
+) -> u32
+    ensures back { result ≡ 1 → (map.new.held ≡ Some file) × (refusal.new ≡ number) }
+    ensures lost { result ≡ 3 → map.new.held ≡ map.old.held }
+    ensures status { (result ≡ 1) ⊎ (result ≡ 3) }
+{
+    match MapHandle::new(alloc, file) {
+        Ok(handle) => {
+            *map = handle;
+            *refusal = number;
+            REFUSED
+        }
+        Err(_failed) => NO_MEMORY,
+    }
+}
+
+/// Frees a table with its maps, and leaves its handle empty.
+#[unsafe(no_mangle)]
+pub extern "C" fn smap_table_free(alloc: Global, table: &mut TableHandle)
+    requires { IsSome table.old.held }
+    ensures { table.new.held ≡ None }
+{
+    table.empty(alloc);
+}

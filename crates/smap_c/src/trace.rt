@@ -1,0 +1,126 @@
+//! A trace in memory, and its rewriting.
+ghost use Rattle.std.specs.Prelude.{◌≡◌, ◌≢◌, ◌<◌, ◌⊎◌, Some, true, false, IfSome, IsSome, length};
+ghost use Rattle.smap_lines.specs.Limits.{most_text_bytes};
+ghost use Rattle.smap_trace.specs.Rewritten.{counts_of, rewritten};
+ghost use Rattle.smap_c.specs.Trace.{counts_seen};
+
+use crate::handles::{BytesHandle, TableHandle};
+use crate::status::{NO_MEMORY, REFUSED};
+use crate::written::hand_out;
+use smap_io::{ByteSink, ByteSource, DeviceFault};
+use smap_trace::{RewriteFault, rewrite};
+use std::alloc::Global;
+
+/// What was in a trace that was rewritten.
+#[repr(C)]
+#[derive(Clone, Copy)]
+pub struct TraceCounts {
+    pub lines: u64,
+    /// How many of them were frames.
+    pub frames: u64,
+    /// How many frames were replaced.
+    pub mapped: u64,
+    /// How many frames were hidden.
+    pub hidden: u64,
+}
+
+// The bytes of a trace that are left to read.
+#[derive(Drop)]
+struct Input<'a> {
+    left: &'a [u8],
+}
+
+impl<'a> ByteSource for Input<'a> {
+    ghost left = { λ input. Some input.left.now };
+
+    ghost has_failed = { λ _. false };
+
+    fn read(&mut self, room: &mut [u8]) -> Result<usize, DeviceFault> {
+        let count = room.len().min(self.left.len());
+        room[..count].copy_from_slice(&self.left[..count]);
+        self.left = &self.left[count..];
+        Ok(count)
+    }
+
+    fn failed(&self) -> bool {
+        false
+    }
+}
+
+// The bytes that were written. A write fails where memory runs out.
+#[derive(Drop)]
+struct Output {
+    bytes: Vec<u8>,
+    failed: bool,
+    flushed: bool,
+}
+
+impl ByteSink for Output {
+    ghost taken = { λ output. Some output.bytes.items };
+
+    ghost has_failed = { λ output. output.failed };
+
+    ghost is_flushed = { λ output. output.flushed };
+
+    fn write(&mut self, bytes: &[u8]) -> Result<usize, DeviceFault> {
+        self.flushed = false;
+        match self.bytes.extend_from_slice(bytes) {
+            Ok(()) => Ok(bytes.len()),
+            Err(_) => {
+                self.failed = true;
+                Err(DeviceFault)
+            }
+        }
+    }
+
+    fn flush(&mut self) -> Result<(), DeviceFault> {
+        self.flushed = true;
+        Ok(())
+    }
+
+    fn failed(&self) -> bool {
+        self.failed
+    }
+}
+
+/// Rewrites a trace: a frame whose URL is in the table and whose place has an original gets it in its place, and every
+/// other byte stays. With `hide_ignored` the lines of frames whose original is in an ignored source are dropped. A trace
+/// of more than 1,073,741,824 bytes is refused.
+#[unsafe(no_mangle)]
+pub extern "C" fn smap_rewrite(
+    alloc: Global,
+    table: &mut TableHandle,
+    trace: &[u8],
+    hide_ignored: bool,
+    bytes: &mut BytesHandle,
+    counts: &mut TraceCounts,
+) -> u32
+    requires { IsSome table.old.held }
+    ensures text { IfSome table.old.held (λ maps.
+        result ≡ 0 → bytes.new.held ≡ Some (rewritten trace.now maps hide_ignored)) }
+    ensures counts { IfSome table.old.held (λ maps.
+        result ≡ 0 → counts_seen counts.new ≡ counts_of trace.now maps hide_ignored) }
+    ensures refused { result ≡ 1 → most_text_bytes < length trace.now }
+    ensures stays { (table.new.held ≡ table.old.held) × (result ≢ 0 → bytes.new.held ≡ bytes.old.held) }
+    ensures status { (result ≡ 0) ⊎ (result ≡ 1) ⊎ (result ≡ 3) }
+{
+    let mut input = Input { left: trace };
+    let mut output = Output {
+        bytes: Vec::new(alloc),
+        failed: false,
+        flushed: false,
+    };
+    match rewrite(alloc, &mut input, &mut output, table.lend(), hide_ignored) {
+        Ok(summary) => {
+            *counts = TraceCounts {
+                lines: summary.lines,
+                frames: summary.frames,
+                mapped: summary.mapped,
+                hidden: summary.hidden,
+            };
+            hand_out(alloc, output.bytes, bytes)
+        }
+        Err(RewriteFault::TooMuch) => REFUSED,
+        Err(_) => NO_MEMORY,
+    }
+}

@@ -1,0 +1,149 @@
+/* smap for C and C++: source maps of ECMA-426 read, looked up, written and composed, and stack traces rewritten.
+ *
+ * Lines, columns, sources, names, sections and bytes count from 0, columns in UTF-16 code units. Texts are UTF-8, as a
+ * pointer and a length, without a byte 0 at the end.
+ *
+ * A handle holds a map, a table or bytes, or is empty. One set to {0} is empty. A call that fills a handle wants it
+ * empty: what it held before is not freed. A call that takes one from a handle wants it full, unless it says so. Each
+ * handle is used by one call at a time; two threads may use two handles, each its own.
+ *
+ * No pointer is null: of no bytes, give a pointer to anything and the length 0. Two pointers of a call lead to different
+ * places. What a call writes to has values before: begin with {0}, or with SMAP_TEXT and SMAP_SOURCE.
+ *
+ * A call returns 0 where it did what it was asked, 1 where what it was given is refused or there is nothing of that
+ * number, and 3 where there is not enough memory.
+ * After 1 and 3 handles are as they were, save where a call says more.
+ */
+#ifndef SMAP_H
+#define SMAP_H
+
+#include <stdbool.h>
+#include <stddef.h>
+#include <stdint.h>
+
+#ifdef __cplusplus
+extern "C" {
+#endif
+
+#define SMAP_DONE 0
+#define SMAP_REFUSED 1
+#define SMAP_NO_MEMORY 3
+
+/* Handles, freed by smap_map_free, smap_table_free and smap_bytes_free. */
+typedef struct smap_map { void *at; } smap_map;
+typedef struct smap_table { void *at; } smap_table;
+typedef struct smap_bytes { void *at; } smap_bytes;
+
+/* A text that is lent. It stays until the next call with the handle that lent it. */
+typedef struct smap_text { const uint8_t *bytes; size_t length; } smap_text;
+#define SMAP_TEXT { (const uint8_t *)"", 0 }
+
+/* Why a map is refused: the number of the refusal, M1 to M17, or 0 where the base is no URL. The others are 0 where the
+ * refusal has no such part. */
+typedef struct smap_refusal {
+    uint32_t number;
+    uint32_t fault;   /* the first fault of the mappings, F1 to F11 */
+    uint32_t line;    /* its generated line */
+    uint32_t build;   /* why no index is built, B1 to B5 */
+    uint64_t section; /* the section */
+    uint64_t byte;    /* where the faulty segment begins in the mappings */
+} smap_refusal;
+
+/* What a look-up answers: no mapping (0), one without an original (1), or one with an original (2). What the kind has
+ * not is 0. */
+typedef struct smap_found {
+    uint32_t kind;
+    uint32_t generated_column; /* of the mapping that answers */
+    uint32_t source;
+    uint32_t line;
+    uint32_t column;
+    uint32_t named; /* 1 where it has a name */
+    uint32_t name;
+} smap_found;
+
+typedef struct smap_position { uint32_t line, column; } smap_position;
+
+/* How much a map holds. `lines` are the generated lines that hold a mapping, each section's by themselves. */
+typedef struct smap_count {
+    uint64_t sections, sources, names, segments, lines, checkpoints;
+} smap_count;
+
+/* A source. `named`, `held` and `ignored` are 1 for yes: it has a name, the map holds its content, and the map says that
+ * a debugger should pass over it. A text that there is not has length 0. */
+typedef struct smap_source_text {
+    smap_text name, content;
+    uint32_t named, held, ignored;
+} smap_source_text;
+#define SMAP_SOURCE { SMAP_TEXT, SMAP_TEXT, 0, 0, 0 }
+
+/* What was in a trace: its lines, how many were frames, and how many of these were replaced and hidden. */
+typedef struct smap_trace_count { uint64_t lines, frames, mapped, hidden; } smap_trace_count;
+
+/* Reads the bytes of a map file into the handle `map`. `base` is the URL at which the file stands, against which its
+ * sources are resolved, or of length 0 for none. The index has a checkpoint at every `interval`-th segment of a line; 64
+ * is usual, and 1 to 4096 are taken. Where it returns 1, `refusal` says why. The bytes are not kept. */
+uint32_t smap_map_read(const uint8_t *bytes, size_t length, const uint8_t *base, size_t base_length,
+                       uint32_t interval, smap_map *map, smap_refusal *refusal);
+
+/* Frees the map, and leaves its handle empty. */
+void smap_map_free(smap_map *map);
+
+/* Writes the line that the program prints on this refusal of the map file at this path. Returns 1 where the path is not
+ * UTF-8, or no refusal has these numbers. The bytes are freed by smap_bytes_free. */
+uint32_t smap_refusal_text(const smap_refusal *refusal, const uint8_t *path, size_t path_length, smap_bytes *bytes);
+
+/* Looks a generated position up: the last mapping on the line at the position or before it answers. Returns 0. */
+uint32_t smap_look_up(smap_map *map, uint32_t line, uint32_t column, smap_found *found);
+
+/* The same in the other direction: the first mapping on the line at the position or after it answers. Returns 0. */
+uint32_t smap_look_up_from(smap_map *map, uint32_t line, uint32_t column, smap_found *found);
+
+/* Looks `count` positions up as smap_look_up does. `places` is the length of `found`, which is `count` too. Returns 0. */
+uint32_t smap_look_up_many(smap_map *map, const smap_position *positions, size_t count, smap_found *found, size_t places);
+
+/* Tells how much the map holds. Returns 0. */
+uint32_t smap_counts(smap_map *map, smap_count *counts);
+
+/* Lends source or name `index`, or the name of the generated file. Returns 1 where there is none. */
+uint32_t smap_source(smap_map *map, uint32_t index, smap_source_text *source);
+uint32_t smap_name(smap_map *map, uint32_t index, smap_text *name);
+uint32_t smap_file(smap_map *map, smap_text *file);
+
+/* Writes the map as the text of one regular map. Returns 1 where its mappings, as one text, would have more than
+ * 67,108,864 bytes. The bytes are freed by smap_bytes_free. */
+uint32_t smap_map_write(smap_map *map, smap_bytes *bytes);
+
+/* Composes two maps, the inner one being of source `source` of the outer one, and writes the map that they come to.
+ * Where it returns 1, `refusal` is 1 where the outer map has no such source, and 2 where the composed map would be too
+ * large. The bytes are freed by smap_bytes_free. */
+uint32_t smap_compose(smap_map *outer, uint32_t source, smap_map *inner, smap_bytes *bytes, uint32_t *refusal);
+
+/* Lends bytes that were handed out. Returns 0. */
+uint32_t smap_bytes_text(smap_bytes *bytes, smap_text *text);
+
+/* Frees bytes that were handed out, and leaves their handle empty. */
+void smap_bytes_free(smap_bytes *bytes);
+
+/* Makes a table without maps. */
+uint32_t smap_table_new(smap_table *table);
+
+/* Puts the map into the table, under the URL that frames name. The table takes the map over: its handle is empty then.
+ * Where it returns 1, `refusal` is 1 where no frame can name such a URL, 2 where the table has a map under it, and 0
+ * where the URL is not UTF-8, and the map stays in its handle. Where it returns 3 the map is freed, and its handle is
+ * empty. */
+uint32_t smap_table_add(smap_table *table, const uint8_t *url, size_t url_length, smap_map *map, uint32_t *refusal);
+
+/* Frees the table with its maps, and leaves its handle empty. */
+void smap_table_free(smap_table *table);
+
+/* Rewrites a trace: each frame whose URL is in the table and whose place has an original gets it in its place, and every
+ * other byte stays. With `hide_ignored` lines of frames from ignored sources are dropped. Returns 1 where the trace has
+ * more than 1,073,741,824 bytes. The bytes are freed by smap_bytes_free. */
+uint32_t smap_rewrite(smap_table *table, const uint8_t *trace, size_t length, bool hide_ignored,
+                      smap_bytes *bytes, smap_trace_count *counts);
+
+#ifdef __cplusplus
+}
+#endif
+
+#endif

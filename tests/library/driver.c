@@ -1,0 +1,286 @@
+/* What tests/try-library asks of the library in C: driver COMMAND ARGUMENT.., in the program's words where it has some.
+ *   look MAP, from MAP, many MAP   the first line of `smap lookup` for each LINE COLUMN of standard input, from 0
+ *   refuse FILE..                  the line of `smap check` on each file
+ *   counts MAP                     the line of `smap check`
+ *   show MAP                       what `smap show` writes, without its LF
+ *   compose OUTER SOURCE INNER     what `smap compose` writes, without its LF
+ *   rewrite URL MAP                the trace on standard input, rewritten
+ *   again MAP COUNT                reads and frees the map so often, and prints how much memory is held more at the end
+ *   threads MAP MAP                two threads with a map each
+ *   mistakes MAP                   each refusal that no file has
+ */
+#include <malloc.h>
+#include <pthread.h>
+#include <smap.h>
+#include <stdio.h>
+#include <stdlib.h>
+#include <string.h>
+
+static void fail(const char *what) {
+    fprintf(stderr, "driver: %s\n", what);
+    exit(9);
+}
+
+static uint8_t *whole(FILE *file, size_t *length) {
+    size_t room = 1 << 16, taken = 0, count;
+    uint8_t *bytes = malloc(room);
+    while ((count = fread(bytes + taken, 1, room - taken, file)) > 0) {
+        taken += count;
+        if (taken == room) bytes = realloc(bytes, room *= 2);
+    }
+    *length = taken;
+    return bytes;
+}
+
+static uint32_t read_file(const char *path, const char *base, uint32_t interval, smap_map *map, smap_refusal *refusal) {
+    FILE *file = fopen(path, "rb");
+    if (!file) fail(path);
+    size_t length;
+    uint8_t *bytes = whole(file, &length);
+    fclose(file);
+    uint32_t status = smap_map_read(bytes, length, (const uint8_t *)base, strlen(base), interval, map, refusal);
+    free(bytes);
+    return status;
+}
+
+static smap_map opened(const char *path) {
+    smap_map map = {0};
+    smap_refusal refusal = {0};
+    if (read_file(path, "", 64, &map, &refusal) != SMAP_DONE) fail("a map is refused");
+    return map;
+}
+
+static void put(smap_text text) { fwrite(text.bytes, 1, text.length, stdout); }
+
+static void put_bytes(smap_bytes *bytes) {
+    smap_text text = SMAP_TEXT;
+    smap_bytes_text(bytes, &text);
+    put(text);
+    smap_bytes_free(bytes);
+}
+
+static void tell(smap_map *map, const smap_found *found) {
+    if (found->kind == 0) {
+        puts("none");
+    } else if (found->kind == 1) {
+        puts("unmapped");
+    } else {
+        smap_source_text source = SMAP_SOURCE;
+        if (smap_source(map, found->source, &source) != SMAP_DONE) fail("no such source");
+        if (source.named)
+            put(source.name);
+        else
+            printf("(no name)");
+        uint32_t ignored = source.ignored;
+        printf(":%u:%u", found->line + 1, found->column + 1);
+        if (found->named) {
+            smap_text name = SMAP_TEXT;
+            if (smap_name(map, found->name, &name) != SMAP_DONE) fail("no such name");
+            printf(" name ");
+            put(name);
+        }
+        puts(ignored ? " ignored" : "");
+    }
+}
+
+static void look(smap_map *map, uint32_t (*call)(smap_map *, uint32_t, uint32_t, smap_found *)) {
+    smap_position position;
+    while (scanf("%u %u", &position.line, &position.column) == 2) {
+        smap_found found = {0};
+        if (call(map, position.line, position.column, &found) != SMAP_DONE) fail("look-up");
+        tell(map, &found);
+    }
+}
+
+static void many(smap_map *map) {
+    size_t count = 0, room = 1024;
+    smap_position *positions = malloc(room * sizeof *positions);
+    while (scanf("%u %u", &positions[count].line, &positions[count].column) == 2)
+        if (++count == room) positions = realloc(positions, (room *= 2) * sizeof *positions);
+    smap_found *found = calloc(count + 1, sizeof *found);
+    if (smap_look_up_many(map, positions, count, found, count) != SMAP_DONE) fail("look-ups");
+    for (size_t i = 0; i < count; i++) tell(map, &found[i]);
+    free(found);
+    free(positions);
+}
+
+static void tell_refusal(const smap_refusal *refusal, const char *path) {
+    smap_bytes line = {0};
+    if (smap_refusal_text(refusal, (const uint8_t *)path, strlen(path), &line) != SMAP_DONE) fail("no line");
+    put_bytes(&line);
+}
+
+static void refuse(const char *path) {
+    smap_map map = {0};
+    smap_refusal refusal = {0};
+    if (read_file(path, "", 64, &map, &refusal) != SMAP_REFUSED) fail("a map is not refused");
+    tell_refusal(&refusal, path);
+}
+
+static void counts(const char *path) {
+    smap_map map = opened(path);
+    smap_count count = {0};
+    smap_counts(&map, &count);
+    printf("ok sections %lu sources %lu names %lu segments %lu lines %lu checkpoints %lu\n", (unsigned long)count.sections,
+           (unsigned long)count.sources, (unsigned long)count.names, (unsigned long)count.segments,
+           (unsigned long)count.lines, (unsigned long)count.checkpoints);
+    smap_map_free(&map);
+}
+
+static void show(const char *path) {
+    smap_map map = opened(path);
+    smap_bytes bytes = {0};
+    if (smap_map_write(&map, &bytes) != SMAP_DONE) fail("not written");
+    put_bytes(&bytes);
+    smap_map_free(&map);
+}
+
+static void composed(const char *outer, const char *source, const char *inner) {
+    smap_map a = opened(outer), b = opened(inner);
+    smap_bytes bytes = {0};
+    uint32_t refusal = 0;
+    uint32_t status = smap_compose(&a, (uint32_t)atol(source), &b, &bytes, &refusal);
+    if (status == SMAP_REFUSED)
+        printf("refused C%u\n", refusal);
+    else if (status == SMAP_DONE)
+        put_bytes(&bytes);
+    smap_map_free(&a);
+    smap_map_free(&b);
+}
+
+static void rewritten(const char *url, const char *path) {
+    size_t length;
+    uint8_t *trace = whole(stdin, &length);
+    smap_map map = {0};
+    smap_refusal refusal = {0};
+    if (read_file(path, strstr(url, "://") ? url : "", 64, &map, &refusal) != SMAP_DONE) fail("a map is refused");
+    smap_table table = {0};
+    uint32_t why = 0;
+    if (smap_table_new(&table) != SMAP_DONE) fail("no table");
+    if (smap_table_add(&table, (const uint8_t *)url, strlen(url), &map, &why) != SMAP_DONE) fail("not added");
+    smap_bytes bytes = {0};
+    smap_trace_count count = {0};
+    if (smap_rewrite(&table, trace, length, false, &bytes, &count) != SMAP_DONE) fail("not rewritten");
+    put_bytes(&bytes);
+    fprintf(stderr, "lines %lu frames %lu mapped %lu hidden %lu\n", (unsigned long)count.lines, (unsigned long)count.frames,
+            (unsigned long)count.mapped, (unsigned long)count.hidden);
+    smap_table_free(&table);
+    free(trace);
+}
+
+static void again(const char *path, long count) {
+    FILE *file = fopen(path, "rb");
+    size_t length;
+    uint8_t *bytes = whole(file, &length);
+    fclose(file);
+    size_t before = 0;
+    for (long i = 0; i < count; i++) {
+        smap_map map = {0};
+        smap_refusal refusal = {0};
+        if (smap_map_read(bytes, length, bytes, 0, 64, &map, &refusal) != SMAP_DONE) fail("a map is refused");
+        smap_map_free(&map);
+        if (i == 0) before = mallinfo2().uordblks;
+    }
+    printf("%ld\n", (long)(mallinfo2().uordblks - before));
+    free(bytes);
+}
+
+struct work {
+    smap_map map;
+    uint64_t sum;
+};
+
+static void *sweep(void *given) {
+    struct work *work = given;
+    for (uint32_t line = 0; line < 200; line++)
+        for (uint32_t column = 0; column < 500; column++) {
+            smap_found found = {0};
+            smap_look_up(&work->map, line, column, &found);
+            work->sum = work->sum * 31 + found.kind + found.line * 7 + found.column;
+        }
+    return NULL;
+}
+
+static void threads(const char *first, const char *second) {
+    const char *paths[2] = {first, second};
+    uint64_t alone[2];
+    for (int i = 0; i < 2; i++) {
+        struct work work = {opened(paths[i]), 0};
+        sweep(&work);
+        alone[i] = work.sum;
+        smap_map_free(&work.map);
+    }
+    struct work works[2] = {{opened(first), 0}, {opened(second), 0}};
+    pthread_t ids[2];
+    for (int i = 0; i < 2; i++) pthread_create(&ids[i], NULL, sweep, &works[i]);
+    for (int i = 0; i < 2; i++) pthread_join(ids[i], NULL);
+    for (int i = 0; i < 2; i++) {
+        puts(works[i].sum == alone[i] ? "same" : "other");
+        smap_map_free(&works[i].map);
+    }
+}
+
+static void mistakes(const char *path) {
+    smap_map map = {0};
+    smap_refusal refusal = {0};
+    if (read_file(path, "no URL", 64, &map, &refusal) != SMAP_REFUSED || refusal.number != 0) fail("a base");
+    if (read_file(path, "\xff", 64, &map, &refusal) != SMAP_REFUSED || refusal.number != 0) fail("a base that is no text");
+    if (read_file(path, "", 0, &map, &refusal) != SMAP_REFUSED) fail("interval 0");
+    tell_refusal(&refusal, "MAP");
+    if (read_file(path, "", 4097, &map, &refusal) != SMAP_REFUSED) fail("interval 4097");
+    tell_refusal(&refusal, "MAP");
+    smap_refusal none = {0};
+    smap_bytes bytes = {0};
+    if (smap_refusal_text(&none, (const uint8_t *)"", 0, &bytes) != SMAP_REFUSED) fail("a line of no refusal");
+    map = opened(path);
+    smap_source_text source = SMAP_SOURCE;
+    smap_text text = SMAP_TEXT;
+    if (smap_source(&map, 1000000, &source) != SMAP_REFUSED) fail("a source past the last");
+    if (smap_name(&map, 1000000, &text) != SMAP_REFUSED) fail("a name past the last");
+    smap_map other = opened(path);
+    uint32_t why = 9;
+    if (smap_compose(&map, 1000000, &other, &bytes, &why) != SMAP_REFUSED || why != 1) fail("C1");
+    smap_table table = {0};
+    if (smap_table_new(&table) != SMAP_DONE) fail("no table");
+    if (smap_table_add(&table, (const uint8_t *)"a\nb", 3, &map, &why) != SMAP_REFUSED || why != 1) fail("A1");
+    if (smap_table_add(&table, (const uint8_t *)"\xff", 1, &map, &why) != SMAP_REFUSED || why != 0) fail("a URL that is no text");
+    if (smap_table_add(&table, (const uint8_t *)"a.js", 4, &map, &why) != SMAP_DONE) fail("not added");
+    if (smap_table_add(&table, (const uint8_t *)"a.js", 4, &other, &why) != SMAP_REFUSED || why != 2) fail("A2");
+    smap_found found = {0};
+    if (smap_look_up(&other, 0, 0, &found) != SMAP_DONE) fail("a map that came back");
+    smap_map_free(&other);
+    smap_table_free(&table);
+    puts("mistakes 10");
+}
+
+int main(int count, char **words) {
+    if (count < 3) fail("driver COMMAND ARGUMENT..");
+    const char *command = words[1];
+    if (!strcmp(command, "look") || !strcmp(command, "from") || !strcmp(command, "many")) {
+        smap_map map = opened(words[2]);
+        if (!strcmp(command, "many"))
+            many(&map);
+        else
+            look(&map, strcmp(command, "look") ? smap_look_up_from : smap_look_up);
+        smap_map_free(&map);
+    } else if (!strcmp(command, "refuse")) {
+        for (int i = 2; i < count; i++) refuse(words[i]);
+    } else if (!strcmp(command, "counts")) {
+        counts(words[2]);
+    } else if (!strcmp(command, "show")) {
+        show(words[2]);
+    } else if (!strcmp(command, "compose")) {
+        composed(words[2], words[3], words[4]);
+    } else if (!strcmp(command, "rewrite")) {
+        rewritten(words[2], words[3]);
+    } else if (!strcmp(command, "again")) {
+        again(words[2], atol(words[3]));
+    } else if (!strcmp(command, "threads")) {
+        threads(words[2], words[3]);
+    } else if (!strcmp(command, "mistakes")) {
+        mistakes(words[2]);
+    } else {
+        fail(command);
+    }
+    return 0;
+}
