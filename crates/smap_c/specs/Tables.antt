@@ -1,5 +1,5 @@
 -- What adding a map to a table comes to.
-use Rattle.std.specs.Prelude.{◌≡◌, ◌⊎◌, ℕ, List, Option, IsUtf8, IsSomeAnd}
+use Rattle.std.specs.Prelude.{◌≡◌, ◌⊎◌, ℕ, List, None, Option, IsUtf8, IsSomeAnd}
 use Rattle.smap_record.specs.MapFile.{Map}
 use Rattle.smap_record.specs.Record.{MapRecord}
 use Rattle.smap_trace.specs.Table.{IsWith, url_refusal}
@@ -24,3 +24,7 @@ abbrev pub IsNotAdded : Option Maps → (url : List ℕ) → ℕ → Type 0
 IsNotAdded table url number =
     ((number ≡ 0) × (IsUtf8 url → ⊥))
     ⊎ IsSomeAnd table (λ maps. IsSomeAnd (url_refusal maps url) (λ refusal. number ≡ table_number refusal))
+
+-- the table takes a map under this URL
+abbrev pub IsFree : Option Maps → (url : List ℕ) → Type 0
+IsFree table url = IsUtf8 url × IsSomeAnd table (λ maps. url_refusal maps url ≡ None)

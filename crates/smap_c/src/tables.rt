@@ -1,6 +1,6 @@
 //! The maps of a trace.
 ghost use Rattle.std.specs.Prelude.{◌≡◌, ◌≢◌, ◌⊎◌, [], None, Some, IsSome, IfSome, IfOk, IfErr, IsUtf8, string_bytes};
-ghost use Rattle.smap_c.specs.Tables.{IsAdded, IsNotAdded};
+ghost use Rattle.smap_c.specs.Tables.{IsAdded, IsFree, IsNotAdded};
 
 use crate::handles::{MapHandle, TableHandle};
 use crate::status::{DONE, NO_MEMORY, REFUSED};
@@ -39,7 +39,9 @@ pub extern "C" fn smap_table_add(
     requires map { IsSome map.old.held }
     ensures added { result ≡ 0 → IsAdded table.old.held url.now map.old.held table.new.held }
     ensures taken { result ≢ 1 → map.new.held ≡ None }
+    ensures sound { result ≡ 0 → IsFree table.old.held url.now }
     ensures refused { result ≡ 1 → IsNotAdded table.old.held url.now refusal.new }
+    ensures untold { result ≢ 1 → refusal.new ≡ refusal.old }
     ensures back { result ≡ 1 → map.new.held ≡ map.old.held }
     ensures stays { result ≢ 0 → table.new.held ≡ table.old.held }
     ensures status { (result ≡ 0) ⊎ (result ≡ 1) ⊎ (result ≡ 3) }
@@ -69,7 +71,7 @@ fn give_back(
     refusal: &mut u32,
 ) -> u32
     ensures back { result ≡ 1 → (map.new.held ≡ Some file) × (refusal.new ≡ number) }
-    ensures lost { result ≡ 3 → map.new.held ≡ map.old.held }
+    ensures lost { result ≡ 3 → (map.new.held ≡ map.old.held) × (refusal.new ≡ refusal.old) }
     ensures status { (result ≡ 1) ⊎ (result ≡ 3) }
 {
     match MapHandle::new(alloc, file) {

@@ -1,5 +1,5 @@
 //! A trace in memory, and its rewriting.
-ghost use Rattle.std.specs.Prelude.{◌≡◌, ◌≢◌, ◌<◌, ◌⊎◌, Some, true, false, IfSome, IsSome, length};
+ghost use Rattle.std.specs.Prelude.{◌≡◌, ◌≢◌, ◌<◌, ◌≤◌, ◌⊎◌, Some, true, false, IfSome, IsSome, length};
 ghost use Rattle.smap_lines.specs.Limits.{most_text_bytes};
 ghost use Rattle.smap_trace.specs.Rewritten.{counts_of, rewritten};
 ghost use Rattle.smap_c.specs.Trace.{counts_seen};
@@ -101,6 +101,7 @@ pub extern "C" fn smap_rewrite(
     ensures counts { IfSome table.old.held (λ maps.
         result ≡ 0 → counts_seen counts.new ≡ counts_of trace.now maps hide_ignored) }
     ensures refused { result ≡ 1 → most_text_bytes < length trace.now }
+    ensures fits { result ≡ 0 → length trace.now ≤ most_text_bytes }
     ensures stays { (table.new.held ≡ table.old.held) × (result ≢ 0 → bytes.new.held ≡ bytes.old.held) }
     ensures status { (result ≡ 0) ⊎ (result ≡ 1) ⊎ (result ≡ 3) }
 {

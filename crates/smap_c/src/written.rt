@@ -4,7 +4,7 @@ ghost use Rattle.smap_mappings.specs.Canonical.{canonical_text};
 ghost use Rattle.smap_mappings.specs.Limits.{most_text_bytes};
 ghost use Rattle.smap_index.specs.Parts.{joined};
 ghost use Rattle.smap_c.specs.Written.{compose_number, composed_text, map_text};
-ghost use Rattle.smap_compose.specs.Composition.{compose_refusal};
+ghost use Rattle.smap_compose.specs.Composition.{compose_refusal, count_refusal};
 
 use crate::bytes::Bytes;
 use crate::handles::{BytesHandle, MapHandle};
@@ -22,6 +22,8 @@ pub extern "C" fn smap_map_write(alloc: Global, map: &mut MapHandle, bytes: &mut
     ensures text { IfSome map.old.held (λ held. result ≡ 0 → bytes.new.held ≡ Some (map_text held.stated)) }
     ensures refused { IfSome map.old.held (λ held.
         result ≡ 1 → most_text_bytes < length (canonical_text (joined held.stated.parts))) }
+    ensures too_long { IfSome map.old.held (λ held.
+        most_text_bytes < length (canonical_text (joined held.stated.parts)) → result ≡ 1) }
     ensures stays { (map.new.held ≡ map.old.held) × (result ≢ 0 → bytes.new.held ≡ bytes.old.held) }
     ensures status { (result ≡ 0) ⊎ (result ≡ 1) ⊎ (result ≡ 3) }
 {
@@ -49,6 +51,11 @@ pub extern "C" fn smap_compose(
         result ≡ 0 → bytes.new.held ≡ Some (composed_text outside.stated source inside.stated))) }
     ensures refused { IfSome outer.old.held (λ outside. IfSome inner.old.held (λ inside.
         result ≡ 1 → IfSome (compose_refusal outside.stated source inside.stated) (λ why. refusal.new ≡ compose_number why))) }
+    ensures sound { IfSome outer.old.held (λ outside. IfSome inner.old.held (λ inside.
+        result ≡ 0 → compose_refusal outside.stated source inside.stated ≡ None)) }
+    ensures counted { IfSome outer.old.held (λ outside. IfSome inner.old.held (λ inside.
+        IfSome (count_refusal outside.stated source inside.stated) (λ why. result ≡ 1))) }
+    ensures untold { result ≢ 1 → refusal.new ≡ refusal.old }
     ensures stays { (outer.new.held ≡ outer.old.held) × (inner.new.held ≡ inner.old.held)
         × (result ≢ 0 → bytes.new.held ≡ bytes.old.held) }
     ensures status { (result ≡ 0) ⊎ (result ≡ 1) ⊎ (result ≡ 3) }

@@ -1,0 +1,34 @@
+#!/usr/bin/env bash
+# Times the library inside a process, in C, Python and node, beside @jridgewell/trace-mapping: reading a map of about 28 MB,
+# and a million positions by chance in it, one by one and in one call. Each is run RUNS times, and the least time counts.
+# All have to come to the same sum. It builds the library, and needs what lib/build and lib/node/build do.
+set -euo pipefail
+
+# shellcheck source=timing.sh
+. "$(dirname -- "$(readlink -f -- "${BASH_SOURCE[0]}")")/timing.sh"
+map=$folder/map
+node "$root/bench/repeat-map.js" "$real" "$most" "$map" >/dev/null
+node "$root/bench/chance-positions.js" "$map" "${POSITIONS:-1000000}" "$folder/positions"
+"$root/lib/build" "$folder/usr" >/dev/null
+"$root/lib/node/build" "$folder/usr"
+"${CC:-cc}" -O2 -I "$folder/usr/include" -o "$folder/library" "$root/bench/library.c" "$folder/usr/lib/libsmap.a"
+export SMAP_LIBRARY=$folder/usr/lib/libsmap.so.1 PYTHONPATH=$root/lib/python PYTHONDONTWRITEBYTECODE=1
+
+in_c() { "$folder/library" "$map" "$folder/positions"; }
+in_python() { python3 "$root/bench/library.py" "$map" "$folder/positions"; }
+in_node() { node "$root/bench/library.js" smap "$map" "$folder/positions"; }
+by_trace_mapping() { node "$root/bench/library.js" trace "$map" "$folder/positions"; }
+
+printf 'map: %s bytes, %s positions; milliseconds\n' "$(stat -c %s -- "$map")" "${POSITIONS:-1000000}"
+printf '%-14s %8s %10s %12s\n' '' reading 'one by one' 'in one call'
+sum=
+for way in in_c in_python in_node by_trace_mapping; do
+    for ((i = 0; i < runs; i++)); do "$way"; done >"$folder/said"
+    told=$(cut -d ' ' -f 4 "$folder/said" | sort -u)
+    insist "$way" "$told" "${sum:=$told}"
+    printf '%-14s' "$way"
+    for field in 1 2 3; do
+        cut -d ' ' -f "$field" "$folder/said" | sort -n | head -n 1 | awk '{ if ($1 == "-") printf " %11s", "-"; else printf " %11.1f", $1 / 1000 }'
+    done
+    printf '\n'
+done

@@ -1,0 +1,72 @@
+/** Source maps of ECMA-426 over the library libsmap. Lines count from 1 and columns from 0, in UTF-16 code units. */
+
+export const GREATEST_LOWER_BOUND: 1;
+export const LEAST_UPPER_BOUND: -1;
+
+/** What was given is refused. The numbers are there where a map is refused. */
+export class Refused extends Error {
+  /** That of the refusal, M1 to M17, or 0 where the base is no URL. */
+  number?: number;
+  /** That of the fault of the mappings, F1 to F11, or 0. */
+  fault?: number;
+  /** The generated line of the faulty segment, from 0. */
+  line?: number;
+  /** Why no index is built, B1 to B5, or 0. */
+  build?: number;
+  /** The section, from 0. */
+  section?: number;
+  /** Where the faulty segment begins in the mappings, from 0. */
+  byte?: number;
+}
+
+export interface SourceEntry {
+  name: string | null;
+  content: string | null;
+  ignored: boolean;
+}
+
+export interface Counts {
+  sections: number;
+  sources: number;
+  names: number;
+  segments: number;
+  lines: number;
+  checkpoints: number;
+}
+
+/** A source map that was read. */
+export class TraceMap {
+  /** `mapUrl` is the URL at which the map stands; a checkpoint is made at every `interval`-th segment of a line. */
+  constructor(map: string | Uint8Array | object, mapUrl?: string | null, interval?: number);
+  readonly counts: Counts;
+  readonly file: string | null;
+  readonly sourceEntries: SourceEntry[];
+  readonly sources: (string | null)[];
+  readonly names: string[];
+  write(): Buffer;
+  close(): void;
+}
+
+export interface Needle {
+  line: number;
+  column: number;
+  bias?: 1 | -1;
+}
+
+export type OriginalMapping =
+  | { source: string | null; line: number; column: number; name: string | null }
+  | { source: null; line: null; column: null; name: null };
+
+export function originalPositionFor(map: TraceMap, needle: Needle): OriginalMapping;
+/** Lines and columns from 0, two numbers a position; seven numbers an answer. */
+export function lookUpMany(map: TraceMap, positions: Uint32Array): Uint32Array;
+export function sourceContentFor(map: TraceMap, source: string): string | null;
+export function isIgnored(map: TraceMap, source: string): boolean;
+export function compose(outer: TraceMap, source: number, inner: TraceMap): Buffer;
+
+/** The maps of a trace, each under the URL that frames name. A TraceMap that is given is closed. */
+export class Table {
+  constructor(maps: Record<string, string | Uint8Array | TraceMap> | Iterable<[string, string | Uint8Array | TraceMap]>);
+}
+
+export function rewrite(table: Table, trace: string | Uint8Array, options?: { hideIgnored?: boolean }): Buffer;

@@ -1,0 +1,358 @@
+/* The library libsmap inside node, over Node-API. index.js is what people call. */
+#include <node_api.h>
+#include <smap.h>
+#include <stdlib.h>
+#include <string.h>
+
+#define WORDS 8
+
+static napi_value refuse(napi_env env, const char *why) {
+    napi_throw_error(env, NULL, why);
+    return NULL;
+}
+
+static bool words_of(napi_env env, napi_callback_info info, size_t wanted, napi_value *words) {
+    size_t count = WORDS;
+    napi_get_cb_info(env, info, &count, words, NULL, NULL);
+    if (count < wanted) refuse(env, "too few arguments");
+    return count >= wanted;
+}
+
+static uint64_t nothing[1];
+
+/* The bytes of a Uint8Array, which stay where they are during a call. */
+static bool bytes_of(napi_env env, napi_value value, const uint8_t **bytes, size_t *length) {
+    napi_typedarray_type type;
+    void *data = NULL;
+    if (napi_get_typedarray_info(env, value, &type, length, &data, NULL, NULL) != napi_ok || type != napi_uint8_array) {
+        refuse(env, "no Uint8Array");
+        return false;
+    }
+    *bytes = *length ? data : (const uint8_t *)nothing;
+    return true;
+}
+
+static bool numbers_of(napi_env env, napi_value value, uint32_t **numbers, size_t *length) {
+    napi_typedarray_type type;
+    void *data = NULL;
+    if (napi_get_typedarray_info(env, value, &type, length, &data, NULL, NULL) != napi_ok || type != napi_uint32_array) {
+        refuse(env, "no Uint32Array");
+        return false;
+    }
+    *numbers = *length ? data : (void *)nothing;
+    return true;
+}
+
+static const napi_type_tag map_tag = {0x8d3f0b6a91c24e55, 0xb1a7c05e2f6d4a01};
+static const napi_type_tag table_tag = {0x8d3f0b6a91c24e55, 0xb1a7c05e2f6d4a02};
+
+struct held_map { smap_map map; bool full; };
+struct held_table { smap_table table; bool full; };
+
+static void drop_map(napi_env env, void *data, void *hint) {
+    (void)env, (void)hint;
+    struct held_map *held = data;
+    if (held->full) smap_map_free(&held->map);
+    free(held);
+}
+
+static void drop_table(napi_env env, void *data, void *hint) {
+    (void)env, (void)hint;
+    struct held_table *held = data;
+    if (held->full) smap_table_free(&held->table);
+    free(held);
+}
+
+static struct held_map *map_of(napi_env env, napi_value value) {
+    bool is = false;
+    void *data = NULL;
+    if (napi_check_object_type_tag(env, value, &map_tag, &is) != napi_ok || !is || napi_unwrap(env, value, &data) != napi_ok) {
+        refuse(env, "no map");
+        return NULL;
+    }
+    struct held_map *held = data;
+    if (!held->full) {
+        refuse(env, "the map is closed");
+        return NULL;
+    }
+    return held;
+}
+
+static struct held_table *table_of(napi_env env, napi_value value) {
+    bool is = false;
+    void *data = NULL;
+    if (napi_check_object_type_tag(env, value, &table_tag, &is) != napi_ok || !is || napi_unwrap(env, value, &data) != napi_ok) {
+        refuse(env, "no table");
+        return NULL;
+    }
+    return data;
+}
+
+static napi_value number(napi_env env, double value) {
+    napi_value result;
+    napi_create_double(env, value, &result);
+    return result;
+}
+
+static napi_value string(napi_env env, smap_text text) {
+    napi_value result;
+    napi_create_string_utf8(env, (const char *)text.bytes, text.length, &result);
+    return result;
+}
+
+static napi_value null(napi_env env) {
+    napi_value result;
+    napi_get_null(env, &result);
+    return result;
+}
+
+/* Bytes that were handed out, as a Buffer. */
+static napi_value buffer(napi_env env, smap_bytes *bytes) {
+    smap_text text = SMAP_TEXT;
+    smap_bytes_text(bytes, &text);
+    napi_value result = NULL;
+    if (napi_create_buffer_copy(env, text.length, text.bytes, NULL, &result) != napi_ok) refuse(env, "out of memory");
+    smap_bytes_free(bytes);
+    return result;
+}
+
+/* read(bytes, base, interval, refusal): a map, or the status, with the numbers of the refusal in a Float64Array of 6. */
+static napi_value read_map(napi_env env, napi_callback_info info) {
+    napi_value words[WORDS];
+    const uint8_t *bytes, *base;
+    size_t length, base_length, places;
+    uint32_t interval;
+    napi_typedarray_type type;
+    void *data = NULL;
+    if (!words_of(env, info, 4, words) || !bytes_of(env, words[0], &bytes, &length) || !bytes_of(env, words[1], &base, &base_length))
+        return NULL;
+    if (napi_get_value_uint32(env, words[2], &interval) != napi_ok) return refuse(env, "no interval");
+    if (napi_get_typedarray_info(env, words[3], &type, &places, &data, NULL, NULL) != napi_ok || type != napi_float64_array || places < 6)
+        return refuse(env, "no room for a refusal");
+    struct held_map *held = calloc(1, sizeof *held);
+    if (!held) return refuse(env, "out of memory");
+    smap_refusal refusal = {0};
+    uint32_t status = smap_map_read(bytes, length, base, base_length, interval, &held->map, &refusal);
+    if (status != SMAP_DONE) {
+        free(held);
+        double *numbers = data;
+        numbers[0] = refusal.number, numbers[1] = refusal.fault, numbers[2] = refusal.line;
+        numbers[3] = refusal.build, numbers[4] = (double)refusal.section, numbers[5] = (double)refusal.byte;
+        return number(env, status);
+    }
+    held->full = true;
+    napi_value object;
+    napi_create_object(env, &object);
+    napi_type_tag_object(env, object, &map_tag);
+    if (napi_wrap(env, object, held, drop_map, NULL, NULL) != napi_ok) {
+        drop_map(env, held, NULL);
+        return refuse(env, "out of memory");
+    }
+    return object;
+}
+
+/* refusalText(numbers, path): the program's line on a refusal, as a Buffer, or null. */
+static napi_value refusal_text(napi_env env, napi_callback_info info) {
+    napi_value words[WORDS];
+    const uint8_t *path;
+    size_t length, places;
+    napi_typedarray_type type;
+    void *data = NULL;
+    if (!words_of(env, info, 2, words)) return NULL;
+    if (napi_get_typedarray_info(env, words[0], &type, &places, &data, NULL, NULL) != napi_ok || type != napi_float64_array || places < 6)
+        return refuse(env, "no refusal");
+    if (!bytes_of(env, words[1], &path, &length)) return NULL;
+    const double *n = data;
+    smap_refusal refusal = {(uint32_t)n[0], (uint32_t)n[1], (uint32_t)n[2], (uint32_t)n[3], (uint64_t)n[4], (uint64_t)n[5]};
+    smap_bytes bytes = {0};
+    uint32_t status = smap_refusal_text(&refusal, path, length, &bytes);
+    if (status == SMAP_NO_MEMORY) return refuse(env, "out of memory");
+    return status == SMAP_DONE ? buffer(env, &bytes) : null(env);
+}
+
+static napi_value close_map(napi_env env, napi_callback_info info) {
+    napi_value words[WORDS];
+    if (!words_of(env, info, 1, words)) return NULL;
+    struct held_map *held = map_of(env, words[0]);
+    if (!held) return NULL;
+    smap_map_free(&held->map);
+    held->full = false;
+    return NULL;
+}
+
+/* lookUp(map, line, column, from, found): the kind, with the seven numbers of the answer in a Uint32Array. */
+static napi_value look_up(napi_env env, napi_callback_info info) {
+    napi_value words[WORDS];
+    uint32_t line, column, *numbers;
+    size_t places;
+    bool from;
+    if (!words_of(env, info, 5, words)) return NULL;
+    struct held_map *held = map_of(env, words[0]);
+    if (!held || !numbers_of(env, words[4], &numbers, &places)) return NULL;
+    if (napi_get_value_uint32(env, words[1], &line) != napi_ok || napi_get_value_uint32(env, words[2], &column) != napi_ok ||
+        napi_get_value_bool(env, words[3], &from) != napi_ok || places < 7)
+        return refuse(env, "no position");
+    smap_found found = {0};
+    (from ? smap_look_up_from : smap_look_up)(&held->map, line, column, &found);
+    memcpy(numbers, &found, sizeof found);
+    return number(env, found.kind);
+}
+
+/* lookUpMany(map, positions, found): the answers to a Uint32Array of lines and columns, seven numbers each. */
+static napi_value look_up_many(napi_env env, napi_callback_info info) {
+    napi_value words[WORDS];
+    uint32_t *positions, *found;
+    size_t length, places;
+    if (!words_of(env, info, 3, words)) return NULL;
+    struct held_map *held = map_of(env, words[0]);
+    if (!held || !numbers_of(env, words[1], &positions, &length) || !numbers_of(env, words[2], &found, &places)) return NULL;
+    if (length % 2 || places != length / 2 * 7) return refuse(env, "the lengths do not fit");
+    smap_look_up_many(&held->map, (const smap_position *)positions, length / 2, (smap_found *)found, length / 2);
+    return words[2];
+}
+
+static napi_value counts(napi_env env, napi_callback_info info) {
+    napi_value words[WORDS], result;
+    if (!words_of(env, info, 1, words)) return NULL;
+    struct held_map *held = map_of(env, words[0]);
+    if (!held) return NULL;
+    smap_count count = {0};
+    smap_counts(&held->map, &count);
+    const char *names[] = {"sections", "sources", "names", "segments", "lines", "checkpoints"};
+    const uint64_t values[] = {count.sections, count.sources, count.names, count.segments, count.lines, count.checkpoints};
+    napi_create_object(env, &result);
+    for (int i = 0; i < 6; i++) napi_set_named_property(env, result, names[i], number(env, (double)values[i]));
+    return result;
+}
+
+/* source(map, index): {name, content, ignored}, or null. */
+static napi_value source(napi_env env, napi_callback_info info) {
+    napi_value words[WORDS], result, ignored;
+    uint32_t index;
+    if (!words_of(env, info, 2, words)) return NULL;
+    struct held_map *held = map_of(env, words[0]);
+    if (!held) return NULL;
+    if (napi_get_value_uint32(env, words[1], &index) != napi_ok) return refuse(env, "no number");
+    smap_source_text told = SMAP_SOURCE;
+    if (smap_source(&held->map, index, &told) != SMAP_DONE) return null(env);
+    napi_create_object(env, &result);
+    napi_get_boolean(env, told.ignored != 0, &ignored);
+    napi_set_named_property(env, result, "name", told.named ? string(env, told.name) : null(env));
+    napi_set_named_property(env, result, "content", told.held ? string(env, told.content) : null(env));
+    napi_set_named_property(env, result, "ignored", ignored);
+    return result;
+}
+
+static napi_value name(napi_env env, napi_callback_info info) {
+    napi_value words[WORDS];
+    uint32_t index;
+    if (!words_of(env, info, 2, words)) return NULL;
+    struct held_map *held = map_of(env, words[0]);
+    if (!held) return NULL;
+    if (napi_get_value_uint32(env, words[1], &index) != napi_ok) return refuse(env, "no number");
+    smap_text text = SMAP_TEXT;
+    return smap_name(&held->map, index, &text) == SMAP_DONE ? string(env, text) : null(env);
+}
+
+static napi_value file(napi_env env, napi_callback_info info) {
+    napi_value words[WORDS];
+    if (!words_of(env, info, 1, words)) return NULL;
+    struct held_map *held = map_of(env, words[0]);
+    if (!held) return NULL;
+    smap_text text = SMAP_TEXT;
+    return smap_file(&held->map, &text) == SMAP_DONE ? string(env, text) : null(env);
+}
+
+static napi_value write_map(napi_env env, napi_callback_info info) {
+    napi_value words[WORDS];
+    if (!words_of(env, info, 1, words)) return NULL;
+    struct held_map *held = map_of(env, words[0]);
+    if (!held) return NULL;
+    smap_bytes bytes = {0};
+    uint32_t status = smap_map_write(&held->map, &bytes);
+    if (status == SMAP_DONE) return buffer(env, &bytes);
+    return refuse(env, status == SMAP_REFUSED ? "refused: O1 TextTooLong" : "out of memory");
+}
+
+/* compose(outer, source, inner) */
+static napi_value compose(napi_env env, napi_callback_info info) {
+    napi_value words[WORDS];
+    uint32_t index, why = 0;
+    if (!words_of(env, info, 3, words)) return NULL;
+    struct held_map *outer = map_of(env, words[0]), *inner = outer ? map_of(env, words[2]) : NULL;
+    if (!inner) return NULL;
+    if (outer == inner) return refuse(env, "a map with itself: write it and read it again");
+    if (napi_get_value_uint32(env, words[1], &index) != napi_ok) return refuse(env, "no number");
+    smap_bytes bytes = {0};
+    uint32_t status = smap_compose(&outer->map, index, &inner->map, &bytes, &why);
+    if (status == SMAP_DONE) return buffer(env, &bytes);
+    if (status == SMAP_NO_MEMORY) return refuse(env, "out of memory");
+    return refuse(env, why == 1 ? "refused: C1 SourceIndex" : "refused: C2 TooLarge");
+}
+
+static napi_value new_table(napi_env env, napi_callback_info info) {
+    (void)info;
+    struct held_table *held = calloc(1, sizeof *held);
+    if (!held || smap_table_new(&held->table) != SMAP_DONE) {
+        free(held);
+        return refuse(env, "out of memory");
+    }
+    held->full = true;
+    napi_value object;
+    napi_create_object(env, &object);
+    napi_type_tag_object(env, object, &table_tag);
+    if (napi_wrap(env, object, held, drop_table, NULL, NULL) != napi_ok) {
+        drop_table(env, held, NULL);
+        return refuse(env, "out of memory");
+    }
+    return object;
+}
+
+/* add(table, url, map): the map is closed then. */
+static napi_value add(napi_env env, napi_callback_info info) {
+    napi_value words[WORDS];
+    const uint8_t *url;
+    size_t length;
+    uint32_t why = 0;
+    if (!words_of(env, info, 3, words)) return NULL;
+    struct held_table *table = table_of(env, words[0]);
+    if (!table || !bytes_of(env, words[1], &url, &length)) return NULL;
+    struct held_map *held = map_of(env, words[2]);
+    if (!held) return NULL;
+    uint32_t status = smap_table_add(&table->table, url, length, &held->map, &why);
+    held->full = status == SMAP_REFUSED;
+    if (status == SMAP_NO_MEMORY) return refuse(env, "out of memory");
+    if (status == SMAP_REFUSED) return refuse(env, why == 1 ? "usage: A1 BadUrl" : "usage: A2 Twice");
+    return NULL;
+}
+
+/* rewrite(table, trace, hideIgnored) */
+static napi_value rewrite(napi_env env, napi_callback_info info) {
+    napi_value words[WORDS];
+    const uint8_t *trace;
+    size_t length;
+    bool hide;
+    if (!words_of(env, info, 3, words)) return NULL;
+    struct held_table *table = table_of(env, words[0]);
+    if (!table || !bytes_of(env, words[1], &trace, &length)) return NULL;
+    if (napi_get_value_bool(env, words[2], &hide) != napi_ok) return refuse(env, "no boolean");
+    smap_bytes bytes = {0};
+    smap_trace_count count = {0};
+    uint32_t status = smap_rewrite(&table->table, trace, length, hide, &bytes, &count);
+    if (status == SMAP_DONE) return buffer(env, &bytes);
+    return refuse(env, status == SMAP_REFUSED ? "refused: X3 TooMuch" : "out of memory");
+}
+
+NAPI_MODULE_INIT() {
+    const struct { const char *name; napi_callback call; } calls[] = {
+        {"read", read_map}, {"refusalText", refusal_text}, {"close", close_map}, {"lookUp", look_up},
+        {"lookUpMany", look_up_many}, {"counts", counts}, {"source", source}, {"name", name}, {"file", file},
+        {"write", write_map}, {"compose", compose}, {"newTable", new_table}, {"add", add}, {"rewrite", rewrite},
+    };
+    for (size_t i = 0; i < sizeof calls / sizeof *calls; i++) {
+        napi_value function;
+        napi_create_function(env, calls[i].name, NAPI_AUTO_LENGTH, calls[i].call, NULL, &function);
+        napi_set_named_property(env, exports, calls[i].name, function);
+    }
+    return exports;
+}

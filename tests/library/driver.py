@@ -1,0 +1,132 @@
+"""What tests/try-library asks of the library in Python. driver.c says of each command what it prints."""
+
+import re
+import sys
+from array import array
+
+from smap import Refused, Rewriter, SourceMap, compose
+
+
+def opened(path, **words):
+    with open(path, "rb") as file:
+        return SourceMap(file.read(), **words)
+
+
+def positions():
+    return [tuple(map(int, line.split())) for line in sys.stdin]
+
+
+def tell(source_map, answer, texts={}):
+    if answer is None:
+        return "none"
+    if answer.source is None:
+        return "unmapped"
+    for kind, index in (("source", answer.source), ("name", answer.name)):
+        if index is not None and (kind, index) not in texts:
+            texts[kind, index] = getattr(source_map, kind)(index)
+    source = texts["source", answer.source]
+    name = "" if answer.name is None else " name " + texts["name", answer.name]
+    shown = "(no name)" if source.name is None else source.name
+    return f"{shown}:{answer.line + 1}:{answer.column + 1}{name}{' ignored' if source.ignored else ''}"
+
+
+def look(path):
+    with opened(path) as source_map:
+        for line, column in positions():
+            print(tell(source_map, source_map.look_up(line, column)))
+
+
+def from_(path):
+    with opened(path) as source_map:
+        for line, column in positions():
+            print(tell(source_map, source_map.look_up_from(line, column)))
+
+
+def many(path):
+    from smap import Answer
+    with opened(path) as source_map:
+        found = source_map.look_up_many(array("I", [number for pair in positions() for number in pair]))
+        for i in range(0, len(found), 7):
+            kind, generated, source, line, column, named, name = found[i:i + 7]
+            answer = (None if kind == 0 else Answer(generated, None, None, None, None) if kind == 1
+                      else Answer(generated, source, line, column, name if named else None))
+            print(tell(source_map, answer))
+
+
+def refuse(*paths):
+    for path in paths:
+        try:
+            opened(path)
+            sys.exit("a map is not refused")
+        except Refused as refused:
+            assert (refused.number == 14) == (refused.fault is not None) and (refused.number == 15) == (refused.build is not None)
+            print(re.sub("^refused: map:", "refused: " + path + ":", str(refused)))
+
+
+def counts(path):
+    with opened(path) as source_map:
+        print("ok " + " ".join(f"{name} {value}" for name, value in source_map.counts._asdict().items()))
+
+
+def show(path):
+    with opened(path) as source_map:
+        sys.stdout.buffer.write(source_map.write())
+
+
+def composed(outer, source, inner):
+    with opened(outer) as first, opened(inner) as second:
+        sys.stdout.buffer.write(compose(first, int(source), second))
+
+
+def rewrite(url, path):
+    with open(path, "rb") as file, Rewriter({url: file.read()}) as rewriter:
+        sys.stdout.buffer.write(rewriter.rewrite(sys.stdin.buffer.read()))
+
+
+def again(path, count):
+    with open("/proc/self/statm") as statm, open(path, "rb") as file:
+        data, before = file.read(), 0
+        for i in range(int(count)):
+            SourceMap(data).close()
+            if i == 100:
+                before = resident()
+        print((resident() - before) // 1024)
+
+
+def resident():
+    with open("/proc/self/statm") as statm:
+        return int(statm.read().split()[1]) * 4096
+
+
+def mistakes(path):
+    told = 0
+
+    def insist(error, call):
+        nonlocal told
+        try:
+            call()
+            sys.exit("no " + error.__name__)
+        except error:
+            told += 1
+
+    insist(Refused, lambda: opened(path, base="no URL"))
+    insist(Refused, lambda: opened(path, base=""))
+    insist(Refused, lambda: opened(path, interval=0))
+    with opened(path) as source_map, opened(path) as other:
+        insist(IndexError, lambda: source_map.source(1000000))
+        insist(IndexError, lambda: source_map.name(1000000))
+        insist(Refused, lambda: compose(source_map, 1000000, other))
+        insist(Refused, lambda: Rewriter({"a\nb": other}))
+        assert other.look_up(0, 0) == source_map.look_up(0, 0)
+        Rewriter({"a.js": other}).close()
+        insist(ValueError, lambda: other.look_up(0, 0))
+        assert compose(source_map, 0, source_map)
+    insist(ValueError, lambda: source_map.look_up(0, 0))
+    insist(ValueError, lambda: source_map.counts)
+    print("mistakes", told)
+
+
+if __name__ == "__main__":
+    commands = {"look": look, "from": from_, "many": many, "refuse": refuse, "counts": counts, "show": show,
+                "compose": composed, "rewrite": rewrite, "again": again, "mistakes": mistakes}
+    commands[sys.argv[1]](*sys.argv[2:])

@@ -1,0 +1,27 @@
+'use strict';
+// Writes a file for each refusal of a map into a folder: node refused.js FOLDER. The names say which it is.
+const fs = require('node:fs');
+const path = require('node:path');
+const folder = process.argv[2];
+const put = (name, text) => fs.writeFileSync(path.join(folder, name), text);
+const map = (members) => JSON.stringify({ version: 3, sources: ['a.js'], names: ['n'], mappings: '', ...members });
+const at = (line, column, mappings) => ({ offset: { line, column }, map: JSON.parse(map({ mappings })) });
+const sections = (...list) => JSON.stringify({ version: 3, sections: list });
+put('M1', Buffer.alloc(67108865, ' '));
+put('M2', 'no JSON');
+put('M3', '[]');
+put('M4', map({ version: 2 }));
+put('M5', JSON.stringify({ version: 3, sections: {} }));
+put('M6', sections(at(0, 0, ''), { map: {} }));
+put('M7', sections({ offset: { line: 0, column: 0 }, map: JSON.parse(sections()) }));
+put('M8', map({ sources: 1 }));
+put('M9', map({ names: [1] }));
+put('M10', map({ sourcesContent: [1] }));
+put('M11', map({ ignoreList: [7] }));
+put('M12', map({ file: 1 }));
+put('M13', map({ mappings: 1 }));
+const faults = ['!', 'g', 'gggggggA', 'ggggggE', 'B', 'AA', 'D', '+/////D,C', 'C,D', 'ACAA', 'AAAAC'];
+faults.forEach((mappings, i) => put(`M14-F${i + 1}`, map({ mappings })));
+put('M15-B2', sections(at(1, 0, ''), at(0, 0, '')));
+put('M15-B3', sections(at(0, 0, ';;A'), at(1, 0, '')));
+put('M15-B4', sections(at(2147483647, 0, ';A')));
