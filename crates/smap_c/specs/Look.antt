@@ -13,9 +13,28 @@ abbrev pub number_or_0 : Option ℕ → ℕ
 number_or_0 None = 0
 number_or_0 (Some number) = number
 
+-- of this kind, at this generated column, and no more
+abbrev pub without_origin : (kind column : ℕ) → Found
+without_origin kind column = record {
+  kind = kind;
+  generated_column = column;
+  source = 0;
+  line = 0;
+  column = 0;
+  named = 0;
+  name = 0;
+}
+
 -- its kind, the generated column, and the origin with its name
 abbrev pub answer_numbers : Answer → Found
-answer_numbers answers.Nothing = record { kind = 0; generated_column = 0; source = 0; line = 0; column = 0; named = 0; name = 0 }
-answer_numbers (answers.Unmapped column) = record { kind = 1; generated_column = column; source = 0; line = 0; column = 0; named = 0; name = 0 }
-answer_numbers (answers.Found column origin) =
-    record { kind = 2; generated_column = column; source = origin.source; line = origin.line; column = origin.column; named = flag_of origin.name; name = number_or_0 origin.name }
+answer_numbers answers.Nothing = without_origin 0 0
+answer_numbers (answers.Unmapped column) = without_origin 1 column
+answer_numbers (answers.Found column origin) = record {
+  kind = 2;
+  generated_column = column;
+  source = origin.source;
+  line = origin.line;
+  column = origin.column;
+  named = flag_of origin.name;
+  name = number_or_0 origin.name;
+}

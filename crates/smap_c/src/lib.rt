@@ -1,4 +1,16 @@
-//! The maps of ECMA-426, for C.
+//! Source maps for C, and for what calls C: maps are read, looked up, written and composed, and stack traces rewritten, by
+//! the calls of smap_record, smap_compose and smap_trace. Nothing is decided here. A map, a table of maps and bytes that
+//! are handed out stand behind handles, each a pointer that owns what it leads to.
+//!
+//! ```text
+//! if smap_map_read(alloc, bytes, base, 64, &mut map, &mut refusal) == 0 {
+//!     smap_look_up(alloc, &mut map, line, column, &mut found);
+//!     smap_map_free(alloc, &mut map);
+//! }
+//! ```
+//!
+//! A call returns 0 where it did what it was asked, 1 where what it was given is refused or there is nothing of that
+//! number, and 3 where there is not enough memory. `lib/smap.h` says of each what it asks for, in C.
 #![tactic(auto)]
 
 mod bytes;

@@ -8,8 +8,8 @@ use crate::status::DONE;
 use smap_record::{Answer, Meter};
 use std::alloc::Global;
 
-/// What a look-up answers. `kind` is 0 where no mapping answers, 1 where one does that has no original, and 2 where it has
-/// one; what the kind has not is 0. All count from 0, columns in UTF-16 code units.
+/// What a look-up answers. `kind` is 0 where no mapping answers, 1 where one does that has no original, and 2 where it
+/// has one; what the kind has not is 0. All count from 0, columns in UTF-16 code units.
 #[repr(C)]
 #[derive(Clone, Copy)]
 pub struct Found {
@@ -73,7 +73,8 @@ pub extern "C" fn smap_look_up(
     found: &mut Found,
 ) -> u32
     requires { IsSome map.old.held }
-    ensures answer { IfSome map.old.held (λ held. found.new ≡ answer_numbers (answer_of_map held.stated line column)) }
+    ensures answer { IfSome map.old.held (λ held.
+        found.new ≡ answer_numbers (answer_of_map held.stated line column)) }
     ensures stays { map.new.held ≡ map.old.held }
     ensures status { result ≡ 0 }
 {
@@ -93,7 +94,8 @@ pub extern "C" fn smap_look_up_from(
     found: &mut Found,
 ) -> u32
     requires { IsSome map.old.held }
-    ensures answer { IfSome map.old.held (λ held. found.new ≡ answer_numbers (answer_of_map_from held.stated line column)) }
+    ensures answer { IfSome map.old.held (λ held.
+        found.new ≡ answer_numbers (answer_of_map_from held.stated line column)) }
     ensures stays { map.new.held ≡ map.old.held }
     ensures status { result ≡ 0 }
 {

@@ -16,7 +16,8 @@ pub struct Position {
     pub column: u32,
 }
 
-/// Looks each of these positions up as `smap_look_up` does, and puts the answers into `found`, which has a place for each.
+/// Looks each of these positions up as `smap_look_up` does, and puts the answers into `found`, which has a place for
+/// each.
 #[unsafe(no_mangle)]
 pub extern "C" fn smap_look_up_many(
     alloc: Global,
@@ -26,7 +27,8 @@ pub extern "C" fn smap_look_up_many(
 ) -> u32
     requires held { IsSome map.old.held }
     requires places { length found.old ≡ length positions.now }
-    ensures answers { IfSome map.old.held (λ held. found.new ≡ all_found held.stated positions.now) }
+    ensures answers { IfSome map.old.held (λ held.
+        found.new ≡ all_found held.stated positions.now) }
     ensures stays { map.new.held ≡ map.old.held }
     ensures status { result ≡ 0 }
 {

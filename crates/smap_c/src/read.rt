@@ -10,9 +10,9 @@ use smap_record::{MapFile, MapRefusal, Url};
 use std::alloc::Global;
 use url::ParseError;
 
-/// Reads the bytes of a map file (ECMA-426, Source map format) that stands at the base, a URL in UTF-8, or none where it
-/// has no bytes. Its index has a checkpoint at the segments of number 0, `interval`, 2 `interval` and so on of each line;
-/// the interval is 1 to 4096. Where the map is refused, `refusal` says why, and where it is not read `map` stays.
+/// Reads the bytes of a map file (ECMA-426, Source map format) that stands at the base, a URL in UTF-8, or none where
+/// it has no bytes. Its index has a checkpoint at the segments of number 0, `interval`, 2 `interval` and so on of each
+/// line; the interval is 1 to 4096. Where the map is refused, `refusal` says why, and where it is not read `map` stays.
 #[unsafe(no_mangle)]
 pub extern "C" fn smap_map_read(
     alloc: Global,

@@ -2,7 +2,8 @@
 ghost use Rattle.std.specs.Prelude.{◌≡◌, ◌≢◌, Some};
 ghost use Rattle.smap_record.specs.declared.refusal.MapRefusal.TheVariants.{Build, Memory};
 ghost use Rattle.smap_index.specs.declared.refusal.BuildRefusal.TheVariants as builds;
-ghost use Rattle.smap_c.specs.Refusal.{build_in, build_numbers, kind_in, kind_number, numbers_of, refusal_in};
+ghost use Rattle.smap_c.specs.Refusal.{build_in, build_numbers, kind_in, kind_number, numbered};
+ghost use Rattle.smap_c.specs.Refusal.{numbers_of, refusal_in};
 
 use smap_record::{BuildRefusal, Fault, FaultKind, MapRefusal};
 
@@ -29,7 +30,8 @@ pub struct Refusal {
 #[tactic(auto, using(crate::proofs::Refusals::kinds_read_back), unfolding(crate::specs::Refusal::refusal_in))]
 pub(crate) fn numbers_of(refusal: MapRefusal) -> Refusal
     ensures numbers { result ≡ numbers_of refusal }
-    ensures reads_back { refusal ≢ Memory → refusal ≢ Build builds.Memory → refusal_in result ≡ Some refusal }
+    ensures reads_back { refusal ≢ Memory → refusal ≢ Build builds.Memory
+        → refusal_in result ≡ Some refusal }
 {
     match refusal {
         MapRefusal::TooLarge => numbered(1, 0),
@@ -61,7 +63,7 @@ pub(crate) fn numbers_of(refusal: MapRefusal) -> Refusal
 
 // The refusal of this number, with a section where it has one.
 pub(crate) fn numbered(number: u32, section: u64) -> Refusal
-    ensures { result ≡ record { number = number; fault = 0; line = 0; build = 0; section = section; byte = 0 } }
+    ensures { result ≡ numbered number section }
 {
     Refusal {
         number,

@@ -84,8 +84,8 @@ impl ByteSink for Output {
 }
 
 /// Rewrites a trace: a frame whose URL is in the table and whose place has an original gets it in its place, and every
-/// other byte stays. With `hide_ignored` the lines of frames whose original is in an ignored source are dropped. A trace
-/// of more than 1,073,741,824 bytes is refused.
+/// other byte stays. With `hide_ignored` the lines of frames whose original is in an ignored source are dropped. A
+/// trace of more than 1,073,741,824 bytes is refused.
 #[unsafe(no_mangle)]
 pub extern "C" fn smap_rewrite(
     alloc: Global,
@@ -102,7 +102,8 @@ pub extern "C" fn smap_rewrite(
         result ≡ 0 → counts_seen counts.new ≡ counts_of trace.now maps hide_ignored) }
     ensures refused { result ≡ 1 → most_text_bytes < length trace.now }
     ensures fits { result ≡ 0 → length trace.now ≤ most_text_bytes }
-    ensures stays { (table.new.held ≡ table.old.held) × (result ≢ 0 → bytes.new.held ≡ bytes.old.held) }
+    ensures stays { (table.new.held ≡ table.old.held)
+        × (result ≢ 0 → bytes.new.held ≡ bytes.old.held) × (result ≡ 1 → counts.new ≡ counts.old) }
     ensures status { (result ≡ 0) ⊎ (result ≡ 1) ⊎ (result ≡ 3) }
 {
     let mut input = Input { left: trace };

@@ -19,7 +19,8 @@ use std::alloc::Global;
 #[unsafe(no_mangle)]
 pub extern "C" fn smap_map_write(alloc: Global, map: &mut MapHandle, bytes: &mut BytesHandle) -> u32
     requires { IsSome map.old.held }
-    ensures text { IfSome map.old.held (λ held. result ≡ 0 → bytes.new.held ≡ Some (map_text held.stated)) }
+    ensures text { IfSome map.old.held (λ held.
+        result ≡ 0 → bytes.new.held ≡ Some (map_text held.stated)) }
     ensures refused { IfSome map.old.held (λ held.
         result ≡ 1 → most_text_bytes < length (canonical_text (joined held.stated.parts))) }
     ensures too_long { IfSome map.old.held (λ held.
@@ -50,7 +51,8 @@ pub extern "C" fn smap_compose(
     ensures text { IfSome outer.old.held (λ outside. IfSome inner.old.held (λ inside.
         result ≡ 0 → bytes.new.held ≡ Some (composed_text outside.stated source inside.stated))) }
     ensures refused { IfSome outer.old.held (λ outside. IfSome inner.old.held (λ inside.
-        result ≡ 1 → IfSome (compose_refusal outside.stated source inside.stated) (λ why. refusal.new ≡ compose_number why))) }
+        result ≡ 1 → IfSome (compose_refusal outside.stated source inside.stated)
+        (λ why. refusal.new ≡ compose_number why))) }
     ensures sound { IfSome outer.old.held (λ outside. IfSome inner.old.held (λ inside.
         result ≡ 0 → compose_refusal outside.stated source inside.stated ≡ None)) }
     ensures counted { IfSome outer.old.held (λ outside. IfSome inner.old.held (λ inside.
