@@ -27,7 +27,7 @@ mod trace;
 
 pub use load::{Loaded, load_files};
 pub use outcome::{Failure, Reply};
-pub use refusal::refusal_of;
+pub use refusal::refusal_line;
 pub use running::run;
 pub use smap_command::{Command, USUAL_INTERVAL};
 pub use telling::tell;

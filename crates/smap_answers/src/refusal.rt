@@ -22,8 +22,8 @@ pub fn refusal_of(alloc: Global, path: &str, refused: MapRefusal) -> Failure
     }
 }
 
-// The line that tells it.
-fn refusal_line(alloc: Global, path: &str, refused: MapRefusal) -> Result<String, AllocError>
+/// The line that tells why the map file at this path is not read, with its LF. Want of memory has none.
+pub fn refusal_line(alloc: Global, path: &str, refused: MapRefusal) -> Result<String, AllocError>
     ensures told { IfOk result (λ line. string_bytes line ≡ map_refused_line path.now
         (refusal_text refused)) }
     ensures not_memory { IfOk result (λ _. refused ≢ Memory) }

@@ -7,7 +7,7 @@ use crate::handles::BytesHandle;
 use crate::refusal::{Refusal, refusal_in};
 use crate::status::{NO_MEMORY, REFUSED};
 use crate::written::hand_out;
-use smap_answers::refuse;
+use smap_answers::refusal_line;
 use std::alloc::Global;
 
 /// Writes the line that the program prints on this refusal of the map file at this path, in UTF-8, with its LF. No line
@@ -31,11 +31,8 @@ pub extern "C" fn smap_refusal_text(
     let Some(refused) = refusal_in(refusal) else {
         return REFUSED;
     };
-    match refuse(alloc, path, refused) {
-        Ok(outcome) => match Vec::from_slice(alloc, outcome.bytes()) {
-            Ok(line) => hand_out(alloc, line, bytes),
-            Err(_) => NO_MEMORY,
-        },
+    match refusal_line(alloc, path, refused) {
+        Ok(line) => hand_out(alloc, line.into_bytes(), bytes),
         Err(_) => NO_MEMORY,
     }
 }

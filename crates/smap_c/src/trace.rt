@@ -31,9 +31,7 @@ struct Input<'a> {
 }
 
 impl<'a> ByteSource for Input<'a> {
-    ghost left = { λ input. Some input.left.now };
-
-    ghost has_failed = { λ _. false };
+    ghost seen = { λ input. record { left = Some input.left.now; failed = false } };
 
     fn read(&mut self, room: &mut [u8]) -> Result<usize, DeviceFault> {
         let count = room.len().min(self.left.len());
@@ -56,11 +54,11 @@ struct Output {
 }
 
 impl ByteSink for Output {
-    ghost taken = { λ output. Some output.bytes.items };
-
-    ghost has_failed = { λ output. output.failed };
-
-    ghost is_flushed = { λ output. output.flushed };
+    ghost seen = { λ output. record {
+      taken = Some output.bytes.items;
+      flushed = output.flushed;
+      failed = output.failed;
+    } };
 
     fn write(&mut self, bytes: &[u8]) -> Result<usize, DeviceFault> {
         self.flushed = false;
