@@ -8,7 +8,7 @@ use types.Kit.{Item, Goal, Seq, ‵}
 use denote.RattleType.{RattleType}
 use denote.Memory.{lone}
 use denote.RawPtr.{Ptr, block_ptr, null_ptr, in_a_block}
-use Rattle.libc.specs.Heap.{chunk}
+use Rattle.smap_c.specs.Owned.{chunk}
 use Rattle.std.specs.Box.Ownership.{box_owns}
 use Rattle.smap_c.specs.Owned.{owns_held}
 

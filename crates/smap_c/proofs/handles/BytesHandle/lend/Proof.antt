@@ -26,7 +26,7 @@ use denote.Struct.Struct.{within}
 use denote.Struct.Owning.{shape}
 use denote.Follow.{follows, Part, lends_Part}
 use denote.Triple.Walked.{says, Stays, stay_dropped, walk_of, ends_at, Goes-spent_ref}
-use Rattle.libc.specs.Heap.{chunk}
+use Rattle.smap_c.specs.Owned.{chunk}
 use Rattle.std.proofs.raw_atomic.Walks.{proved}
 use Rattle.std.proofs.VecSteps.Shapes.{after}
 use Rattle.smap_c.specs.contracts.bytes.Bytes.{the_row as R}
