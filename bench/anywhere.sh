@@ -32,7 +32,7 @@ END
 
 anywhere() { measured "$program" rewrite --anywhere "$url=one" <"$text" >written; }
 frames() { measured "$program" rewrite "$url=one" <"$text" >written; }
-by_grep() { measured grep -F -c -- "$url" <"$text" >/dev/null; }
+by_grep() { measured grep -F -c -- "$url" <"$text" >counted; }
 
 megabytes_a_second() { printf '%44s %9d MB a second\n' '' "$(($(stat -c %s -- "$text") / (least - $1)))"; }
 

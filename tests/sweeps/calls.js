@@ -63,6 +63,14 @@ const TAKING = [
   { call: 'traces add to a table of 1', answer: REPLACED, memory: KEPT },
   { call: 'traces add to a table of 11', answer: REPLACED, memory: KEPT },
   { call: 'traces rewrite', answer: REPLACED, memory: 'Memory|' },
+  { call: 'traces rewrite_places', answer: REPLACED, memory: 'Memory|' },
+  { call: 'traces answer_positions', answer: 'answered|a.ts:1:2/bad position/', memory: 'not answered|' },
+  {
+    call: 'traces answer_positions as JSON',
+    answer:
+      'answered|{"answer":"found","column":2,"generatedColumn":2,"ignored":false,"line":1,"name":null,"originalColumn":2,"originalLine":1,"source":"a.ts","sourceIndex":0}/{"answer":"bad position"}/',
+    memory: 'not answered|',
+  },
   { call: 'parse smap raw 1 6', answer: 'raw 0 5', memory: 'Memory' },
   { call: 'parse smap check m.map', answer: 'check m.map', memory: 'Memory' },
   { call: 'parse smap check --base https://ex.test/ m.map', answer: 'check m.map with a base', memory: 'Memory' },
@@ -74,6 +82,17 @@ const TAKING = [
     answer: 'rewrite https://ex.test/app.js of app.map',
     memory: 'Memory',
   },
+  {
+    call: 'parse smap rewrite --anywhere https://ex.test/app.js=app.map',
+    answer: 'anywhere https://ex.test/app.js of app.map',
+    memory: 'Memory',
+  },
+  {
+    call: 'parse smap rewrite --anywhere --hide-ignored u=m',
+    answer: 'words: usage: --hide-ignored with --anywhere',
+    memory: 'Memory',
+  },
+  { call: 'parse smap positions --json m.map', answer: 'positions m.map', memory: 'Memory' },
   { call: 'parse smap rewrite app.map', answer: 'words: usage: no URL=FILE: app.map', memory: 'Memory' },
   { call: 'parse smap check --base nope m.map', answer: 'words: usage: bad base URL', memory: 'Memory' },
   {
@@ -95,6 +114,25 @@ const TAKING = [
   },
   { call: 'run lookup', answer: '0|b.js:1:1/|', memory: NO_ROOM },
   { call: 'run lookup with an excerpt', answer: '0|a.ts:1:7/let 😀x/     ^/|', memory: NO_ROOM },
+  {
+    call: 'run lookup as JSON',
+    answer:
+      '0|{"answer":"found","column":1,"excerpt":["let 😀x","     ^"],"generatedColumn":1,"ignored":false,"line":1,"name":null,"originalColumn":7,"originalLine":1,"source":"a.ts","sourceIndex":0}/|',
+    memory: NO_ROOM,
+  },
+  { call: 'run positions', answer: '0|b.js:1:1/|', memory: NO_ROOM },
+  {
+    call: 'run positions as JSON',
+    answer:
+      '0|{"answer":"found","column":11,"generatedColumn":11,"ignored":false,"line":1,"name":null,"originalColumn":1,"originalLine":1,"source":"b.js","sourceIndex":1}/|',
+    memory: NO_ROOM,
+  },
+  {
+    call: 'run positions, refused',
+    answer: '1|bad position/|refused: P1 BadPosition 1/',
+    memory: NO_ROOM,
+  },
+  { call: 'run rewrite anywhere', answer: '0|12:34 (https://ex.test/a.ts:1:2) {|', memory: NO_ROOM },
   { call: 'run show', answer: `0|${TWO_WRITTEN}/|`, memory: NO_ROOM },
   { call: 'run compose', answer: `0|${COMPOSED}/|`, memory: NO_ROOM },
   { call: 'run compose, refused', answer: '1||refused: C1 SourceIndex/', memory: NO_ROOM },
