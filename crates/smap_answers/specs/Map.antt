@@ -36,7 +36,7 @@ IsResult result_of stated telling = telling ≡ result_of stated
 abbrev pub IsLine : (line_of : MapRecord → List ℕ) → MapRecord → Telling → Type 0
 IsLine line_of stated telling = telling ≡ answer (line_of stated)
 
--- ---- what only private contracts say
+-- ---- a file that is refused
 
 -- a file that gives this is refused so
 abbrev pub IsFoundRefusal : (path : List ℕ) → Result MapRecord MapRefusal → Telling → Type 0
