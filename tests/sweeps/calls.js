@@ -1,6 +1,6 @@
 // The calls, each with its answer, which is written out by hand. Those that take memory have what they answer where it is
-// wanting. `growths` is how often it grows with ample memory, where that is pinned, and `again` what is told in place of its
-// answer where it is not made again.
+// wanting. `growths` is how often it grows with ample memory, where that is pinned, `late` what is answered where memory is
+// wanting after something was written, and `again` what is told in place of its answer where it is not made again.
 'use strict';
 
 const TWO = '0,0,0,0,0 0,10,1,0,0';
@@ -131,6 +131,7 @@ const TAKING = [
     call: 'run positions, refused',
     answer: '1|bad position/|refused: P1 BadPosition 1/',
     memory: NO_ROOM,
+    late: '3|bad position/|memory/',
   },
   { call: 'run rewrite anywhere', answer: '0|12:34 (https://ex.test/a.ts:1:2) {|', memory: NO_ROOM },
   { call: 'run show', answer: `0|${TWO_WRITTEN}/|`, memory: NO_ROOM },

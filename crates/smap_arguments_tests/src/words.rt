@@ -2,6 +2,7 @@
 use smap_arguments::{Usage, parse};
 use smap_command::{Command, Url};
 use std::alloc::{AllocError, Global};
+use std::process::Abort;
 use std::test::Fail;
 
 // What the arguments come to, on one line or, for help and mistakes, with their text.
@@ -369,45 +370,7 @@ fn reads_commands(rt: HostRuntime) -> Result<(), Fail> {
 }
 
 // Arguments that are no command, and how the text for them begins.
-const MISTAKES: [(&[&str], &str); 71] = [
-    (
-        &["smap", "rewrite", "u=1.map", "--hide-ignored=true"],
-        "error: unexpected value 'true' for '--hide-ignored' found; no more were expected\n",
-    ),
-    (
-        &[
-            "smap",
-            "rewrite",
-            "--hide-ignored",
-            "u=1.map",
-            "--hide-ignored",
-        ],
-        "error: the argument '--hide-ignored' cannot be used multiple times\n",
-    ),
-    (
-        &["smap", "rewrite", "--hide-ignored"],
-        "error: the following required arguments were not provided:\n",
-    ),
-    (
-        &["smap", "rewrite", "--hide-ignored", "--anywhere", "u=1.map"],
-        "usage: --hide-ignored with --anywhere\n",
-    ),
-    (
-        &["smap", "rewrite", "--hide-ignored", "--anywhere", "u"],
-        "usage: no URL=FILE: u\n",
-    ),
-    (
-        &[
-            "smap",
-            "rewrite",
-            "--anywhere",
-            "--base",
-            "nope",
-            "--hide-ignored",
-            "u=1.map",
-        ],
-        "usage: bad base URL\n",
-    ),
+const MISTAKES: [(&[&str], &str); 28] = [
     (
         &["smap", "lookup", "--hide-ignored", "r.map", "1", "1"],
         "error: unexpected argument '--hide-ignored' found\n",
@@ -517,6 +480,18 @@ const MISTAKES: [(&[&str], &str); 71] = [
         &["smap", "positions", "--base", "nope", "r.map"],
         "usage: bad base URL\n",
     ),
+];
+
+#[test]
+fn refuses_words(rt: HostRuntime) -> Result<(), Fail> {
+    for (words, start) in MISTAKES.as_slice() {
+        assert_refused(&rt, rt.alloc(), words, start)?;
+    }
+    Ok(())
+}
+
+// More of these.
+const MORE_MISTAKES: [(&[&str], &str); 29] = [
     (
         &["smap", "check", "--json", "--json", "r.map"],
         "error: unexpected argument '--json' found\n",
@@ -556,30 +531,6 @@ const MISTAKES: [(&[&str], &str); 71] = [
     (
         &["smap", "lookup", "1", "1", "a.map"],
         "error: invalid value 'a.map' for '<COLUMN>': invalid digit found in string\n",
-    ),
-    (
-        &["smap", "rewrite"],
-        "error: the following required arguments were not provided:\n  <URL=FILE>...\n",
-    ),
-    (
-        &["smap", "rewrite", "app.map"],
-        "usage: no URL=FILE: app.map\n",
-    ),
-    (
-        &["smap", "rewrite", "u=1.map", "", "v"],
-        "usage: no URL=FILE: \n",
-    ),
-    (
-        &["smap", "rewrite", "a\nb", "u=1.map"],
-        "usage: no URL=FILE: a?b\n",
-    ),
-    (
-        &["smap", "rewrite", "app.map", "--base", "nope"],
-        "usage: bad base URL\n",
-    ),
-    (
-        &["smap", "rewrite", "--base"],
-        "error: a value is required for '--base <URL>' but none was supplied\n",
     ),
     (
         &["smap", "compose", "o.map", "i.map"],
@@ -638,14 +589,6 @@ const MISTAKES: [(&[&str], &str); 71] = [
         "error: invalid value '-1' for '--interval <K>': -1 is not in 1..=4096\n",
     ),
     (
-        &["smap", "rewrite", "--interval", "x", "u=1.map"],
-        "error: invalid value 'x' for '--interval <K>': invalid digit found in string\n",
-    ),
-    (
-        &["smap", "rewrite", "u=1.map", "--interval"],
-        "error: a value is required for '--interval <K>' but none was supplied\n",
-    ),
-    (
         &[
             "smap",
             "check",
@@ -684,16 +627,103 @@ const MISTAKES: [(&[&str], &str); 71] = [
 ];
 
 #[test]
-fn refuses_words(rt: HostRuntime) -> Result<(), Fail> {
-    for (words, start) in MISTAKES.as_slice() {
-        let told = read(rt.alloc(), words)?;
-        let wanted = format!(in rt.alloc(); "words: {start}")?;
-        assert!(rt; told.starts_with(wanted.as_str()), "{words:?}: {told}");
-        assert!(rt;
-            told.ends_with("\n") && !told.ends_with("\n\n"),
-            "{words:?}: {told}"
-        );
+fn refuses_more_words(rt: HostRuntime) -> Result<(), Fail> {
+    for (words, start) in MORE_MISTAKES.as_slice() {
+        assert_refused(&rt, rt.alloc(), words, start)?;
     }
+    Ok(())
+}
+
+// The same, of `rewrite`.
+const REWRITE_MISTAKES: [(&[&str], &str); 14] = [
+    (
+        &["smap", "rewrite", "u=1.map", "--hide-ignored=true"],
+        "error: unexpected value 'true' for '--hide-ignored' found; no more were expected\n",
+    ),
+    (
+        &[
+            "smap",
+            "rewrite",
+            "--hide-ignored",
+            "u=1.map",
+            "--hide-ignored",
+        ],
+        "error: the argument '--hide-ignored' cannot be used multiple times\n",
+    ),
+    (
+        &["smap", "rewrite", "--hide-ignored"],
+        "error: the following required arguments were not provided:\n",
+    ),
+    (
+        &["smap", "rewrite", "--hide-ignored", "--anywhere", "u=1.map"],
+        "usage: --hide-ignored with --anywhere\n",
+    ),
+    (
+        &["smap", "rewrite", "--hide-ignored", "--anywhere", "u"],
+        "usage: no URL=FILE: u\n",
+    ),
+    (
+        &[
+            "smap",
+            "rewrite",
+            "--anywhere",
+            "--base",
+            "nope",
+            "--hide-ignored",
+            "u=1.map",
+        ],
+        "usage: bad base URL\n",
+    ),
+    (
+        &["smap", "rewrite"],
+        "error: the following required arguments were not provided:\n  <URL=FILE>...\n",
+    ),
+    (
+        &["smap", "rewrite", "app.map"],
+        "usage: no URL=FILE: app.map\n",
+    ),
+    (
+        &["smap", "rewrite", "u=1.map", "", "v"],
+        "usage: no URL=FILE: \n",
+    ),
+    (
+        &["smap", "rewrite", "a\nb", "u=1.map"],
+        "usage: no URL=FILE: a?b\n",
+    ),
+    (
+        &["smap", "rewrite", "app.map", "--base", "nope"],
+        "usage: bad base URL\n",
+    ),
+    (
+        &["smap", "rewrite", "--base"],
+        "error: a value is required for '--base <URL>' but none was supplied\n",
+    ),
+    (
+        &["smap", "rewrite", "--interval", "x", "u=1.map"],
+        "error: invalid value 'x' for '--interval <K>': invalid digit found in string\n",
+    ),
+    (
+        &["smap", "rewrite", "u=1.map", "--interval"],
+        "error: a value is required for '--interval <K>' but none was supplied\n",
+    ),
+];
+
+#[test]
+fn refuses_words_of_rewrite(rt: HostRuntime) -> Result<(), Fail> {
+    for (words, start) in REWRITE_MISTAKES.as_slice() {
+        assert_refused(&rt, rt.alloc(), words, start)?;
+    }
+    Ok(())
+}
+
+fn assert_refused(rt: &impl Abort, alloc: Global, words: &[&str], start: &str) -> Result<(), Fail> {
+    let told = read(alloc, words)?;
+    let wanted = format!(in alloc; "words: {start}")?;
+    assert!(rt; told.starts_with(wanted.as_str()), "{words:?}: {told}");
+    assert!(rt;
+        told.ends_with("\n") && !told.ends_with("\n\n"),
+        "{words:?}: {told}"
+    );
     Ok(())
 }
 
