@@ -92,7 +92,7 @@ by_dask() {
     local said
     said=$("$python" "$root/cluster/smap_dask.py" rewrite "${joined[@]}" --program "$program" --block "$block" \
         --output "$out" "${words[@]}" -- "${traces[@]}")
-    within=$(LC_ALL=C awk -v seconds="${said##* }" 'BEGIN { print seconds * 1000000 }')
+    within=$(LC_ALL=C awk -v seconds="${said##* }" 'BEGIN { printf "%d", seconds * 1000000 }')
 }
 
 # The columns are the seconds, MB a second, how many times as fast as one process, and that by each job or worker.
