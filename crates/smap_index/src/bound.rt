@@ -1,6 +1,7 @@
 //! The bound of a search: a position, and whether the mappings at it are before the bound or after it.
 
 ghost use Rattle.std.specs.Prelude.{◌≡◌};
+ghost use Rattle.smap_mappings.specs.Range.{at_position};
 ghost use Rattle.smap_index.specs.Private.Search.{is_up_to};
 
 use smap_mappings::{Mapping, Position};
@@ -38,13 +39,20 @@ impl Bound {
     pub fn reaches(&self, mapping: &Mapping) -> bool
         ensures { result ≡ is_up_to self.now mapping.now }
     {
-        let position = Position {
+        self.reaches_position(&Position {
             line: mapping.line as u64,
             column: mapping.column as u64,
-        };
+        })
+    }
+
+    // Whether what stands at the position does so up to the bound.
+    #[inline(always)]
+    pub fn reaches_position(&self, position: &Position) -> bool
+        ensures { result ≡ is_up_to self.now (at_position position.now) }
+    {
         match self.side {
             Side::Before => position.is_before(&self.position),
-            Side::Through => !self.position.is_before(&position),
+            Side::Through => !self.position.is_before(position),
         }
     }
 }

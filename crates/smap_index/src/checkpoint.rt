@@ -114,7 +114,8 @@ impl Checkpoint {
 }
 
 // What a mapping's segment has.
-fn kind_of(mapping: &Mapping) -> Kind
+#[inline(always)]
+pub fn kind_of(mapping: &Mapping) -> Kind
     ensures { result ≡ kind_of mapping.now.origin }
 {
     match &mapping.origin {

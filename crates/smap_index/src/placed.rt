@@ -3,8 +3,8 @@
 ghost use Rattle.std.specs.Prelude.{◌≡◌, ◌+◌, ◌||◌, ◌==◌, Some, None, option_map, if◌then◌else◌};
 ghost use Rattle.smap_index.specs.Parts.{placed_origin, placed_mapping};
 ghost use Rattle.smap_index.specs.Faults.{is_after_offset};
-ghost use Rattle.smap_index.specs.Private.Walk.{position_of};
-ghost use Rattle.smap_mappings.specs.Range.{is_number_past_limit, is_name_past_limit, is_origin_past_limit, is_mapping_past_limit};
+ghost use Rattle.smap_index.specs.Private.Walk.{IsPlacedInRange, position_of};
+ghost use Rattle.smap_mappings.specs.Range.{at_position, position_at, is_number_past_limit, is_name_past_limit, is_origin_past_limit, is_mapping_past_limit};
 
 use crate::part::Part;
 use smap_mappings::{Cursor, LIMIT, Mapping, Origin, Position};
@@ -42,6 +42,7 @@ fn placed_origin(part: &Part, origin: &Origin) -> Option<Origin>
 }
 
 // What is added to the columns of this line of a part's text: the offset's column moves the text's first line alone.
+#[inline(always)]
 fn added_column(part: &Part, line: u32) -> u32
     ensures { result ≡ (if line == 0 then part.now.column else 0) }
 {
@@ -64,6 +65,29 @@ pub fn placed_mapping(part: &Part, mapping: &Mapping) -> Option<Mapping>
         column,
         origin,
     })
+}
+
+// The same of a mapping no number of which is past the limit at its place.
+#[inline(always)]
+pub fn placed_within(part: &Part, mapping: &Mapping) -> Mapping
+    requires { IsPlacedInRange part.now mapping.now }
+    ensures { result ≡ placed_mapping part.now mapping.now }
+{
+    match placed_mapping(part, mapping) {
+        Some(placed) => placed,
+        None => unreachable!("no number of it is past the limit"),
+    }
+}
+
+// The position at its place of what stands at this one in a part's text.
+#[inline(always)]
+pub fn placed_position(part: &Part, line: u32, column: u32) -> Position
+    ensures { at_position result ≡ placed_mapping part.now (position_at line column) }
+{
+    Position {
+        line: part.line as u64 + line as u64,
+        column: added_column(part, line) as u64 + column as u64,
+    }
 }
 
 // The part's offset.
@@ -97,9 +121,5 @@ pub fn is_after_offset(part: &Part, values: &Cursor, next: &Part) -> bool
     ensures { result
         ≡ is_after_offset next.now (placed_mapping part.now (position_of values.now)) }
 {
-    let last = Position {
-        line: part.line as u64 + values.line as u64,
-        column: added_column(part, values.line) as u64 + values.column as u64,
-    };
-    offset_of(next).is_before(&last)
+    offset_of(next).is_before(&placed_position(part, values.line, values.column))
 }

@@ -1,8 +1,8 @@
 //! Output that is gathered until it is written.
-ghost use Rattle.std.specs.Prelude.{◌≡◌, ◌++◌, [], true, map, IfOk, OnErr, OnOk};
+ghost use Rattle.std.specs.Prelude.{◌≡◌, ◌-◌, ◌≤◌, ◌++◌, [], true, length, map, IfOk, OnErr, OnOk};
 ghost use Rattle.std.specs.List.{concat};
 ghost use Rattle.smap_io.specs.Device.{Takes, TakesFront};
-ghost use Rattle.smap_lines.specs.Gathered.{HandsOn};
+ghost use Rattle.smap_lines.specs.Gathered.{HandsOn, most_gathered};
 ghost use Rattle.smap_lines.specs.Lines.{end_in};
 
 use crate::line_end::end_of_line;
@@ -42,6 +42,7 @@ impl Gathered {
 
     /// Puts bytes after those that wait. Where they don't fit, the output takes those first; and where they are more
     /// than ever wait, them too. Where a write fails, it took a front of all of them.
+    #[inline(always)]
     pub fn put<W: ByteSink>(&mut self, bytes: &[u8], output: &mut W) -> Result<(), DeviceFault>
         ensures put { OnOk result
             (HandsOn (W.seen output.old).taken (W.seen output.new).taken (self.old ++ bytes.now)
@@ -53,15 +54,41 @@ impl Gathered {
         ensures failure { OnErr result ((W.seen output.new).failed ≡ true) }
     {
         if bytes.len() > MOST_GATHERED.saturating_sub(self.bytes.len()) {
-            self.write(output)?;
-            if bytes.len() > MOST_GATHERED {
-                return write_all(output, bytes);
-            }
+            return self.put_anew(bytes, output);
         }
+        self.hold(bytes);
+        Ok(())
+    }
+
+    // Writes the bytes that wait, and puts these then. It seldom happens, so it stands out of line.
+    #[inline(never)]
+    fn put_anew<W: ByteSink>(&mut self, bytes: &[u8], output: &mut W) -> Result<(), DeviceFault>
+        ensures put { OnOk result
+            (HandsOn (W.seen output.old).taken (W.seen output.new).taken (self.old ++ bytes.now)
+            self.new) }
+        ensures no_failure { OnOk result ((W.seen output.new).failed ≡ (W.seen output.old).failed) }
+
+        ensures front { OnErr result
+            (TakesFront (W.seen output.old).taken (W.seen output.new).taken (self.old ++ bytes.now)) }
+        ensures failure { OnErr result ((W.seen output.new).failed ≡ true) }
+    {
+        self.write(output)?;
+        if bytes.len() > MOST_GATHERED {
+            return write_all(output, bytes);
+        }
+        self.hold(bytes);
+        Ok(())
+    }
+
+    // Puts bytes that fit after those that wait.
+    #[inline(always)]
+    fn hold(&mut self, bytes: &[u8])
+        requires { length bytes.now ≤ most_gathered - length self.old }
+        ensures { self.new ≡ self.old ++ bytes.now }
+    {
         if self.bytes.extend_from_slice(bytes).is_err() {
             unreachable!("what fits takes no memory");
         }
-        Ok(())
     }
 
     /// Puts a line after the bytes that wait, with an LF where it has one.
@@ -84,6 +111,7 @@ impl Gathered {
     }
 
     /// Puts pieces after the bytes that wait, one after another.
+    #[inline(always)]
     pub fn put_all<W: ByteSink>(
         &mut self,
         pieces: &[&[u8]],

@@ -3,3 +3,4 @@ pub mod Answerer
 pub mod AnswererLaws
 pub mod Putting
 pub mod JsonPieces
+pub mod Backward

@@ -1,6 +1,5 @@
 //! The lines of JSON for positions, put into the output.
-ghost use Rattle.std.specs.Prelude.{◌≡◌, ◌++◌, codes, map, option_map};
-ghost use Rattle.std.specs.List.{concat};
+ghost use Rattle.std.specs.Prelude.{◌≡◌, option_map};
 ghost use Rattle.serde_json.specs.Written.{compact_text};
 ghost use Rattle.smap_record.specs.Sources.{source_of};
 ghost use Rattle.smap_positions.specs.Json.{answer_value, bad_position_value, json_line, no_excerpt, source_name};
@@ -8,11 +7,11 @@ ghost use Rattle.smap_positions.specs.Private.JsonPieces.{bool_text, found_end, 
 ghost use Rattle.smap_positions.specs.Private.JsonPieces.{none_text, unmapped_text};
 ghost use Rattle.smap_positions.specs.Private.Putting.{IsPut, output_seen};
 
+use crate::backward::Backward;
 use crate::lines::from_one;
 use crate::lookup::{is_ignored, name_at};
 use crate::position::Position;
-use crate::putting::{put, put_all, put_json_text};
-use itoa::Buffer;
+use crate::putting::{put, put_json_text};
 use smap_io::{ByteSink, DeviceFault};
 use smap_lines::Gathered;
 use smap_record::{Answer, MapFile, Origin, SourceEntry};
@@ -69,7 +68,6 @@ fn put_answer<W: ByteSink>(
 }
 
 // Puts that no mapping answers.
-#[tactic(auto, unfolding(crate::specs::Private::JsonPieces::none_text))]
 fn put_none<W: ByteSink>(
     position: Position,
     gathered: &mut Gathered,
@@ -78,27 +76,13 @@ fn put_none<W: ByteSink>(
     ensures { IsPut (output_seen (W.seen output.old) gathered.old)
         (output_seen (W.seen output.new) gathered.new) (none_text position) result }
 {
-    let (mut column, mut line) = (Buffer::new(), Buffer::new());
-    let pieces = none_pieces(
-        column.format(position.column).as_bytes(),
-        line.format(position.line).as_bytes(),
-    );
-    put_all(&pieces, gathered, output)
-}
-
-// What that is joined of.
-fn none_pieces<'a>(column: &'a [u8], line: &'a [u8]) -> [&'a [u8]; 5]
-    ensures { concat (map (λ piece. piece.now) result)
-        ≡ codes "{\"answer\":\"none\",\"column\":" ++
-        (column.now ++ (codes ",\"line\":" ++ (line.now ++ codes "}"))) }
-{
-    [
-        b"{\"answer\":\"none\",\"column\":",
-        column,
-        b",\"line\":",
-        line,
-        b"}",
-    ]
+    let mut text = Backward::new();
+    text.add(b"}");
+    text.add_number(u64::from(position.line));
+    text.add(b",\"line\":");
+    text.add_number(u64::from(position.column));
+    text.add(b"{\"answer\":\"none\",\"column\":");
+    put(text.text(), gathered, output)
 }
 
 // Puts that the mapping that answers, which stands at this column, has no original.
@@ -112,31 +96,15 @@ fn put_unmapped<W: ByteSink>(
         (output_seen (W.seen output.new) gathered.new) (unmapped_text position generated_column)
         result }
 {
-    let (mut column, mut generated, mut line) = (Buffer::new(), Buffer::new(), Buffer::new());
-    let pieces = unmapped_pieces(
-        column.format(position.column).as_bytes(),
-        generated.format(from_one(generated_column)).as_bytes(),
-        line.format(position.line).as_bytes(),
-    );
-    put_all(&pieces, gathered, output)
-}
-
-// What that is joined of.
-fn unmapped_pieces<'a>(column: &'a [u8], generated: &'a [u8], line: &'a [u8]) -> [&'a [u8]; 7]
-    ensures { concat (map (λ piece. piece.now) result)
-        ≡ codes "{\"answer\":\"unmapped\",\"column\":" ++
-        (column.now ++ (codes ",\"generatedColumn\":"
-        ++ (generated.now ++ (codes ",\"line\":" ++ (line.now ++ codes "}"))))) }
-{
-    [
-        b"{\"answer\":\"unmapped\",\"column\":",
-        column,
-        b",\"generatedColumn\":",
-        generated,
-        b",\"line\":",
-        line,
-        b"}",
-    ]
+    let mut text = Backward::new();
+    text.add(b"}");
+    text.add_number(u64::from(position.line));
+    text.add(b",\"line\":");
+    text.add_number(from_one(generated_column));
+    text.add(b",\"generatedColumn\":");
+    text.add_number(u64::from(position.column));
+    text.add(b"{\"answer\":\"unmapped\",\"column\":");
+    put(text.text(), gathered, output)
 }
 
 // Puts where the mapping that answers, which stands at this column, comes from.
@@ -188,39 +156,17 @@ fn put_found_front<W: ByteSink>(
         (output_seen (W.seen output.new) gathered.new)
         (found_front position generated_column ignored) result }
 {
-    let (mut column, mut generated, mut line) = (Buffer::new(), Buffer::new(), Buffer::new());
-    let pieces = front_pieces(
-        column.format(position.column).as_bytes(),
-        generated.format(from_one(generated_column)).as_bytes(),
-        bool_text(ignored),
-        line.format(position.line).as_bytes(),
-    );
-    put_all(&pieces, gathered, output)
-}
-
-// What that is joined of.
-fn front_pieces<'a>(
-    column: &'a [u8],
-    generated: &'a [u8],
-    ignored: &'a [u8],
-    line: &'a [u8],
-) -> [&'a [u8]; 9]
-    ensures { concat (map (λ piece. piece.now) result)
-        ≡ codes "{\"answer\":\"found\",\"column\":" ++ (column.now ++ (codes ",\"generatedColumn\":"
-        ++ (generated.now ++ (codes ",\"ignored\":" ++ (ignored.now ++ (codes ",\"line\":"
-        ++ (line.now ++ codes ",\"name\":"))))))) }
-{
-    [
-        b"{\"answer\":\"found\",\"column\":",
-        column,
-        b",\"generatedColumn\":",
-        generated,
-        b",\"ignored\":",
-        ignored,
-        b",\"line\":",
-        line,
-        b",\"name\":",
-    ]
+    let mut text = Backward::new();
+    text.add(b",\"name\":");
+    text.add_number(u64::from(position.line));
+    text.add(b",\"line\":");
+    text.add(bool_text(ignored));
+    text.add(b",\"ignored\":");
+    text.add_number(from_one(generated_column));
+    text.add(b",\"generatedColumn\":");
+    text.add_number(u64::from(position.column));
+    text.add(b"{\"answer\":\"found\",\"column\":");
+    put(text.text(), gathered, output)
 }
 
 // A truth value as JSON.
@@ -231,7 +177,6 @@ fn bool_text(value: bool) -> &'static [u8]
 }
 
 // Puts what stands between the name and the source.
-#[tactic(auto, unfolding(crate::specs::Private::JsonPieces::found_middle))]
 fn put_found_middle<W: ByteSink>(
     origin: &Origin,
     gathered: &mut Gathered,
@@ -240,31 +185,16 @@ fn put_found_middle<W: ByteSink>(
     ensures { IsPut (output_seen (W.seen output.old) gathered.old)
         (output_seen (W.seen output.new) gathered.new) (found_middle origin.now) result }
 {
-    let (mut column, mut line) = (Buffer::new(), Buffer::new());
-    let pieces = middle_pieces(
-        column.format(from_one(origin.column)).as_bytes(),
-        line.format(from_one(origin.line)).as_bytes(),
-    );
-    put_all(&pieces, gathered, output)
-}
-
-// What that is joined of.
-fn middle_pieces<'a>(column: &'a [u8], line: &'a [u8]) -> [&'a [u8]; 5]
-    ensures { concat (map (λ piece. piece.now) result)
-        ≡ codes ",\"originalColumn\":" ++ (column.now ++ (codes ",\"originalLine\":"
-        ++ (line.now ++ codes ",\"source\":"))) }
-{
-    [
-        b",\"originalColumn\":",
-        column,
-        b",\"originalLine\":",
-        line,
-        b",\"source\":",
-    ]
+    let mut text = Backward::new();
+    text.add(b",\"source\":");
+    text.add_number(from_one(origin.line));
+    text.add(b",\"originalLine\":");
+    text.add_number(from_one(origin.column));
+    text.add(b",\"originalColumn\":");
+    put(text.text(), gathered, output)
 }
 
 // Puts what stands after the source.
-#[tactic(auto, unfolding(crate::specs::Private::JsonPieces::found_end))]
 fn put_found_end<W: ByteSink>(
     origin: &Origin,
     gathered: &mut Gathered,
@@ -273,15 +203,9 @@ fn put_found_end<W: ByteSink>(
     ensures { IsPut (output_seen (W.seen output.old) gathered.old)
         (output_seen (W.seen output.new) gathered.new) (found_end origin.now) result }
 {
-    let mut index = Buffer::new();
-    let pieces = end_pieces(index.format(origin.source).as_bytes());
-    put_all(&pieces, gathered, output)
-}
-
-// What that is joined of.
-fn end_pieces(index: &[u8]) -> [&[u8]; 3]
-    ensures { concat (map (λ piece. piece.now) result) ≡ codes ",\"sourceIndex\":" ++
-        (index.now ++ codes "}") }
-{
-    [b",\"sourceIndex\":", index, b"}"]
+    let mut text = Backward::new();
+    text.add(b"}");
+    text.add_number(u64::from(origin.source));
+    text.add(b",\"sourceIndex\":");
+    put(text.text(), gathered, output)
 }

@@ -12,6 +12,7 @@
 
 mod answerer;
 mod answering;
+mod backward;
 mod json_lines;
 mod lines;
 mod lookup;

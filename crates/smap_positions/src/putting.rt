@@ -59,7 +59,12 @@ pub fn put_shown<W: ByteSink>(
 fn has_control(text: &[u8]) -> bool
     ensures { result ≡ list_any is_ascii_control text.now }
 {
-    text.iter().any(|byte| byte.is_ascii_control())
+    // No byte is asked whether to stop, so that many are tested at once.
+    let mut found = false;
+    for byte in text {
+        found |= byte.is_ascii_control();
+    }
+    found
 }
 
 // A byte as it prints.
@@ -121,7 +126,11 @@ fn put_escaped<W: ByteSink>(
 fn has_escaped(text: &[u8]) -> bool
     ensures { result ≡ list_any is_escaped text.now }
 {
-    text.iter().any(|byte| is_escaped(*byte))
+    let mut found = false;
+    for byte in text {
+        found |= is_escaped(*byte);
+    }
+    found
 }
 
 // Whether something else stands in quotes for a byte.

@@ -22,8 +22,8 @@ pub fn read_position(line: &[u8]) -> Option<Position>
 {
     numbers_are_read_as_printed();
     let text = &line[blanks(line)..];
-    let printed_line = first_number(text);
-    let column = column_after(&text[digits(text)..]);
+    let (printed_line, after) = first_number(text);
+    let column = column_after(&text[after..]);
     Some(Position {
         line: printed_line?,
         column: column?,
@@ -41,19 +41,23 @@ fn column_after(text: &[u8]) -> Option<u32>
 fn column_of(text: &[u8]) -> Option<u32>
     ensures { result ≡ column_of text.now }
 {
-    let rest = &text[digits(text)..];
+    let (column, after) = first_number(text);
+    let rest = &text[after..];
     if is_line_end(&rest[blanks(rest)..]) {
-        first_number(text)
+        column
     } else {
         None
     }
 }
 
-// The number that the digits print which a text begins with.
-fn first_number(text: &[u8]) -> Option<u32>
-    ensures { result ≡ first_number text.now }
+// The number that the digits print which a text begins with, and how many they are.
+fn first_number(text: &[u8]) -> (Option<u32>, usize)
+    ensures number { result.0 ≡ first_number text.now }
+    ensures count { result.1 ≡ prefix_len is_ascii_digit text.now }
+    ensures within { result.1 ≤ length text.now }
 {
-    number(&text[..digits(text)])
+    let count = digits(text);
+    (number(&text[..count]), count)
 }
 
 // How many digits a text begins with.

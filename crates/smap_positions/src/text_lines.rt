@@ -8,6 +8,7 @@ ghost use Rattle.smap_positions.specs.Lookup.{is_ignored, origin_line, source_te
 ghost use Rattle.smap_positions.specs.Positions.{answer_line};
 ghost use Rattle.smap_positions.specs.Private.Putting.{IsPut, output_seen};
 
+use crate::backward::Backward;
 use crate::lines::{self, from_one, ignored_text};
 use crate::lookup::{is_ignored, name_at};
 use crate::putting::{put, put_all, put_shown};
@@ -109,20 +110,12 @@ fn put_place<W: ByteSink>(
         (output_seen (W.seen output.new) gathered.new)
         (codes ":" ++ (decimal (line + 1) ++ (codes ":" ++ decimal (column + 1)))) result }
 {
-    let (mut line_text, mut column_text) = (Buffer::new(), Buffer::new());
-    let pieces = place_pieces(
-        line_text.format(from_one(line)).as_bytes(),
-        column_text.format(from_one(column)).as_bytes(),
-    );
-    put_all(&pieces, gathered, output)
-}
-
-// What a line and a column are joined of.
-fn place_pieces<'a>(line: &'a [u8], column: &'a [u8]) -> [&'a [u8]; 4]
-    ensures { concat (map (λ piece. piece.now) result) ≡ codes ":" ++
-        (line.now ++ (codes ":" ++ column.now)) }
-{
-    [b":", line, b":", column]
+    let mut text = Backward::new();
+    text.add_number(from_one(column));
+    text.add(b":");
+    text.add_number(from_one(line));
+    text.add(b":");
+    put(text.text(), gathered, output)
 }
 
 // Puts what prints of a name.

@@ -1,6 +1,6 @@
 use Rattle.std.proofs.lemmas.Result.{err_from_is_err_and, on_err_weaker, on_ok_weaker}
 use Rattle.smap_lines.proofs.TakingLaws.{all_after, front_after, front_of_more}
-use Rattle.smap_lines.proofs.gathered.Gathered.put.Goals as goal
+use Rattle.smap_lines.proofs.gathered.Gathered.put_anew.Goals as goal
 
 pub returns-in_err-write-clause-front : goal.returns-in_err-write-clause-front
 returns-in_err-write-clause-front g c =
