@@ -15,7 +15,7 @@ _smap() {
     '') options='--help --version' ;;
     lookup | positions) options='--after --base --interval --json --help' ;;
     rewrite) options='--anywhere --base --interval --hide-ignored --help' ;;
-    check) options='--base --interval --help' ;;
+    check) options='--base --interval --json --help' ;;
     show | compose) options='--base --help' ;;
     raw) options='--interval --help' ;;
     esac

@@ -1,6 +1,6 @@
 // The calls, each with its answer, which is written out by hand. Those that take memory have what they answer where it is
-// wanting. `growths` is how often it grows with ample memory, where that is pinned, `late` what is answered where memory is
-// wanting after something was written, and `again` what is told in place of its answer where it is not made again.
+// wanting: one answer, or several of which each has to come. `growths` is how often it grows with ample memory, where that is
+// pinned, and `again` what is told in place of its answer where it is not made again.
 'use strict';
 
 const TWO = '0,0,0,0,0 0,10,1,0,0';
@@ -11,6 +11,12 @@ const LINE = '    at f (https://ex.test/app.js:1:6)';
 // Its map is read without a base, so that the source keeps its name.
 const REPLACED = '1 1 1|    at f (a.ts:1:2)';
 const NO_ROOM = '3||memory/';
+const COUNTS = 'ok sections 2 sources 2 names 0 segments 2 lines 2 checkpoints 2';
+const REFUSAL = 'refused: m.map: M14 Text 0 F10 SourceIndex line 1 byte 0';
+const COUNTS_JSON =
+  '{"checkpoints":2,"lines":2,"names":0,"ok":true,"path":"a.map","sections":2,"segments":2,"sources":2}';
+const REFUSAL_JSON =
+  '{"byte":0,"fault":"F10","faultName":"SourceIndex","line":1,"name":"Text","ok":false,"path":"m.map","refusal":"M14","section":0}';
 
 // What stays where a map is not put into a table: what comes back, and the line over the table as it was.
 const KEPT = `Memory https://ex.test/app.js 2 1 1 0|${LINE}`;
@@ -74,6 +80,8 @@ const TAKING = [
   { call: 'parse smap raw 1 6', answer: 'raw 0 5', memory: 'Memory' },
   { call: 'parse smap check m.map', answer: 'check m.map', memory: 'Memory' },
   { call: 'parse smap check --base https://ex.test/ m.map', answer: 'check m.map with a base', memory: 'Memory' },
+  { call: 'parse smap check m.map n.map', answer: 'check m.map n.map', memory: 'Memory' },
+  { call: 'parse smap check --json m.map', answer: 'check m.map as JSON', memory: 'Memory' },
   { call: 'parse smap lookup c.map 1 1', answer: 'lookup c.map 0 0', memory: 'Memory' },
   { call: 'parse smap show b.map', answer: 'show b.map', memory: 'Memory' },
   { call: 'parse smap compose o.map 0 i.map', answer: 'compose o.map 0 i.map', memory: 'Memory' },
@@ -104,13 +112,23 @@ const TAKING = [
   { call: 'run raw, refused', answer: '1||refused: F5 NegativeZero line 1 byte 0/', memory: NO_ROOM },
   {
     call: 'run check',
-    answer: '0|ok sections 2 sources 2 names 0 segments 2 lines 2 checkpoints 2/|',
+    answer: `0|${COUNTS}/|`,
     memory: NO_ROOM,
   },
   {
     call: 'run check, refused',
-    answer: '1||refused: m.map: M14 Text 0 F10 SourceIndex line 1 byte 0/',
+    answer: `1||${REFUSAL}/`,
     memory: NO_ROOM,
+  },
+  {
+    call: 'run check of two',
+    answer: `1|a.map: ${COUNTS}/|${REFUSAL}/`,
+    memory: [`3|a.map: ${COUNTS}/|memory/`, `3||${REFUSAL}/memory/`],
+  },
+  {
+    call: 'run check of two as JSON',
+    answer: `1|${REFUSAL_JSON}/${COUNTS_JSON}/|`,
+    memory: [`3|${COUNTS_JSON}/|memory/`, `3|${REFUSAL_JSON}/|memory/`],
   },
   { call: 'run lookup', answer: '0|b.js:1:1/|', memory: NO_ROOM },
   { call: 'run lookup with an excerpt', answer: '0|a.ts:1:7/let 😀x/     ^/|', memory: NO_ROOM },
@@ -127,12 +145,7 @@ const TAKING = [
       '0|{"answer":"found","column":11,"generatedColumn":11,"ignored":false,"line":1,"name":null,"originalColumn":1,"originalLine":1,"source":"b.js","sourceIndex":1}/|',
     memory: NO_ROOM,
   },
-  {
-    call: 'run positions, refused',
-    answer: '1|bad position/|refused: P1 BadPosition 1/',
-    memory: NO_ROOM,
-    late: '3|bad position/|memory/',
-  },
+  { call: 'run positions, refused', answer: '1|bad position/|refused: P1 BadPosition 1/', memory: NO_ROOM },
   { call: 'run rewrite anywhere', answer: '0|12:34 (https://ex.test/a.ts:1:2) {|', memory: NO_ROOM },
   { call: 'run show', answer: `0|${TWO_WRITTEN}/|`, memory: NO_ROOM },
   { call: 'run compose', answer: `0|${COMPOSED}/|`, memory: NO_ROOM },

@@ -86,10 +86,11 @@ function ran({ program, library }, call, refuse) {
 }
 
 // How the answers of a call that takes memory are, while one growth after another is refused, until it runs through.
-function swept(tools, { call, answer, again = answer, memory, late = memory, growths }) {
+function swept(tools, { call, answer, again = answer, memory, growths }) {
   const answers = { memory: 0, ample: 0 };
   const ample = [`first: ${answer}`, `again: ${again}`];
-  const wanting = [memory, late].map((first) => [`first: ${first}`, `again: ${again}`].join('\n'));
+  const wanting = [memory].flat().map((first) => [`first: ${first}`, `again: ${again}`].join('\n'));
+  const unseen = new Set(wanting);
   let last;
   for (let n = 1; n <= MOST_GROWTHS; n += 1) {
     const run = ran(tools, call, n);
@@ -100,14 +101,17 @@ function swept(tools, { call, answer, again = answer, memory, late = memory, gro
       if (told !== ample.join('\n')) return { wrong: `with ample memory: ${told}` };
       break;
     }
-    if (wanting.includes(told)) answers.memory += 1;
-    else if (told === ample.join('\n')) answers.ample += 1;
+    if (wanting.includes(told)) {
+      answers.memory += 1;
+      unseen.delete(told);
+    } else if (told === ample.join('\n')) answers.ample += 1;
     else return { wrong: `growth ${n} refused: ${told}` };
   }
   if (last === undefined) return { wrong: `more than ${MOST_GROWTHS} growths` };
   if (growths !== undefined && last.growths !== growths) {
     return { wrong: `${last.growths} growths with ample memory, and not ${growths}` };
   }
+  if (Array.isArray(memory) && unseen.size > 0) return { wrong: `never answered: ${[...unseen].join(', ')}` };
   const refused = answers.memory + answers.ample;
   return { line: `${refused} refused, ${answers.memory} want of memory, ${answers.ample} ample`, refused };
 }

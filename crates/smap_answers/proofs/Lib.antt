@@ -1,3 +1,4 @@
+mod CheckLaws
 mod LoadLaws
 mod PositionsLaws
 mod RawLaws

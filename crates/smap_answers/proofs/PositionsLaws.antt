@@ -1,6 +1,6 @@
 -- What `positions` tells, by what answering them came to.
-use Rattle.std.proofs.Common.{◌≡◌, ◌⊎◌, ℕ, Bool, true, false, List, [], ◌++◌, Option, Result, Ok, Err, refl, sym, ap, ◌∙◌, inl, inr, append-nil}
-use Rattle.smap_io.specs.Device.{SinkSeen, SourceSeen}
+use Rattle.std.proofs.Common.{◌≡◌, ℕ, Bool, true, false, List, [], Option, Some, None, Result, Ok, Err, refl, sym, ap, ◌∙◌, inl, inr, append-nil}
+use Rattle.smap_io.specs.Device.{Gives, SinkSeen, SourceSeen, Takes}
 use Rattle.smap_lines.specs.Edited.{edited}
 use Rattle.smap_lines.specs.Editing.{DevicesSeen, EditsFront, devices_seen}
 use Rattle.smap_lines.specs.declared.fault.LineFault.{LineFault}
@@ -12,7 +12,7 @@ use Rattle.smap_record.specs.Record.{MapRecord}
 use Rattle.smap_record.specs.declared.refusal.MapRefusal.{MapRefusal}
 use Rattle.smap_answers.specs.Files.{path_of}
 use Rattle.smap_answers.specs.Map.{IsFoundRefusal, map_in}
-use Rattle.smap_answers.specs.Outcome.{OrMemory, Telling}
+use Rattle.smap_answers.specs.Outcome.{OrMemory, Telling, out_of_memory}
 use Rattle.smap_answers.specs.Positions.{AnsweredTells, PositionsTells, positions_telling}
 use Rattle.smap_answers.specs.declared.load.Loaded.{Loaded}
 use Rattle.url.specs.Parts.{Parts}
@@ -31,25 +31,55 @@ written_front before input mid after stated from json summary answers kept = rec
   whole = λ e. absurd (cc);
 }
 
+-- nothing was read, and nothing written
+takes_none : (taken : Option (List ℕ)) → Takes taken taken []
+takes_none None = refl
+takes_none (Some bytes) = ap Some (sym (append-nil bytes))
+
+gives_none : (left : Option (List ℕ)) → Gives left left []
+gives_none None = refl
+gives_none (Some bytes) = refl
+
+pub no_room : (stated : MapRecord) (from json : Bool) (now : DevicesSeen) → now.input.failed ≡ false → now.output.failed ≡ false
+    → AnsweredTells stated from json now now out_of_memory
+unfolding edited
+no_room stated from json now input_works output_works = record {
+  result = Err Memory;
+  answered = record {
+    bytes = [];
+    written = [];
+    later = [];
+    read = gives_none now.input.left;
+    taken = takes_none now.output.taken;
+    front = refl;
+    many = λ e. absurd (cc);
+    whole = λ e. absurd (cc);
+  };
+  input_failed = input_works;
+  output_failed = output_works;
+  flushed = λ one. absurd (cc);
+  untouched = λ none. refl;
+  told = refl;
+}
+
 -- an answer is told where standard output works
 pub answered_works : (stated : MapRecord) (from json : Bool) (before after : DevicesSeen) (telling : Telling) → AnsweredTells stated from json before after telling →
-    telling.status ≡ 0 → after.output.failed ≡ false
+    telling.is_answer ≡ true → after.output.failed ≡ false
 answered_works stated from json before after telling tells done = go tells.result tells.output_failed tells.told
   where
-    go : (result : Result Summary LineFault) → after.output.failed ≡ is_write_fault result → OrMemory (λ told. told ≡ positions_telling result) telling → after.output.failed ≡ false
+    go : (result : Result Summary LineFault) → after.output.failed ≡ is_write_fault result → telling ≡ positions_telling result → after.output.failed ≡ false
     go (Ok summary) failed told = failed
     go (Err Read) failed told = failed
-    go (Err Write) failed (inl none) = let bad : ◌≡◌ {A = ℕ} 0 3 = sym done ∙ ap (λ (t : Telling). t.status) none in cc
-    go (Err Write) failed (inr told) = let bad : ◌≡◌ {A = ℕ} 0 3 = sym done ∙ ap (λ (t : Telling). t.status) told in cc
+    go (Err Write) failed told = let bad : ◌≡◌ {A = Bool} true false = sym done ∙ ap (λ (t : Telling). t.is_answer) told in cc
     go (Err TooMuch) failed told = failed
     go (Err Memory) failed told = failed
 
-refused_status : (path : List ℕ) (found : Result MapRecord MapRefusal) (telling : Telling) → OrMemory (IsFoundRefusal path found) telling → telling.status ≡ 0 → ⊥
-refused_status path found telling (inl none) done = let bad : ◌≡◌ {A = ℕ} 0 3 = sym done ∙ ap (λ (t : Telling). t.status) none in cc
-refused_status path (Err refused) telling (inr told) done = let bad : ◌≡◌ {A = ℕ} 0 1 = sym done ∙ ap (λ (t : Telling). t.status) told in cc
-refused_status path (Ok stated) telling (inr told) done = let bad : ◌≡◌ {A = ℕ} 0 1 = sym done ∙ ap (λ (t : Telling). t.status) told in cc
+refused_status : (path : List ℕ) (found : Result MapRecord MapRefusal) (telling : Telling) → OrMemory (IsFoundRefusal path found) telling → telling.is_answer ≡ true → ⊥
+refused_status path found telling (inl none) done = let bad : ◌≡◌ {A = Bool} true false = sym done ∙ ap (λ (t : Telling). t.is_answer) none in cc
+refused_status path (Err refused) telling (inr told) done = let bad : ◌≡◌ {A = Bool} true false = sym done ∙ ap (λ (t : Telling). t.is_answer) told in cc
+refused_status path (Ok stated) telling (inr told) done = let bad : ◌≡◌ {A = Bool} true false = sym done ∙ ap (λ (t : Telling). t.is_answer) told in cc
 
 pub positions_work : (file : Loaded) (base : Option Parts) (k : ℕ) (from json : Bool) (before after : DevicesSeen) (telling : Telling) → PositionsTells file base k from json before after telling →
-    telling.status ≡ 0 → after.output.failed ≡ false
+    telling.is_answer ≡ true → after.output.failed ≡ false
 positions_work file base k from json before after telling (inl refused) done = absurd (refused_status (path_of file) (map_in file base k) telling refused.1 done)
 positions_work file base k from json before after telling (inr answered) done = answered_works answered.0 from json before after telling answered.2 done

@@ -1,21 +1,9 @@
--- What `check` answers: how much a map holds.
-use Rattle.std.specs.Prelude.{ℕ, List, length}
-use Rattle.smap_index.specs.Marks.{marks, used_lines_in}
-use Rattle.smap_index.specs.Parts.{joined}
+-- What `check` answers of one map: how much it holds.
+use Rattle.std.specs.Prelude.{ℕ, List}
 use Rattle.smap_record.specs.Record.{MapRecord}
+use Rattle.smap_verdicts.specs.Counts.{map_counts}
 use Rattle.smap_answers.specs.Lines.{counts_line}
-use Rattle.smap_answers.specs.declared.lines.MapCounts.{MapCounts}
 
--- how much a map holds, with its checkpoints at this interval
-abbrev pub map_counts : MapRecord → (k : ℕ) → MapCounts
-map_counts stated k = record {
-  sections = length stated.parts;
-  sources = length stated.sources;
-  names = length stated.names;
-  segments = length (joined stated.parts);
-  lines = used_lines_in stated.parts;
-  checkpoints = length (marks stated.parts k);
-}
-
+-- with its checkpoints at the interval k
 abbrev pub check_line : (k : ℕ) → MapRecord → List ℕ
 check_line k stated = counts_line (map_counts stated k)

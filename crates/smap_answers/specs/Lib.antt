@@ -2,7 +2,6 @@ pub mod Lines
 pub mod Outcome
 pub mod Streams
 pub mod Raw
-pub mod Refusal
 pub mod Map
 pub mod Check
 pub mod Show
@@ -11,4 +10,6 @@ pub mod Files
 pub mod Positions
 pub mod Compose
 pub mod Trace
+pub mod CheckAll
 pub mod Run
+pub mod Private

@@ -1,18 +1,12 @@
--- The lines that the program prints, and the texts that they are made of.
-use Rattle.std.specs.Prelude.{ℕ, ◌+◌, codes, Option, None, Some, List, [], ◌∷◌, ◌++◌}
+-- The lines that the program prints.
+use Rattle.std.specs.Prelude.{ℕ, ◌+◌, codes, Option, None, Some, List, [], ◌∷◌}
 use Rattle.std.specs.Fmt.{decimal}
 use Rattle.smap_mappings.specs.declared.fault.Fault.{Fault}
-use Rattle.smap_mappings.specs.declared.fault.FaultKind.{FaultKind}
-use Rattle.smap_mappings.specs.declared.fault.FaultKind.TheVariants.{BadDigit, Unended, TooLong, TooLarge, NegativeZero, FieldCount, Negative, PastLimit, ColumnFalls, SourceIndex, NameIndex}
 use Rattle.smap_command.specs.Shown.{shown}
 pub use Rattle.smap_positions.specs.Lines.{line_from, none_line, unmapped_line}
-use Rattle.smap_answers.specs.declared.lines.MapCounts.{MapCounts}
-
--- the pieces one after the other
-abbrev pub text_from : List (List ℕ) → List ℕ
-text_from [] = []
-text_from (piece ∷ []) = piece
-text_from (piece ∷ next ∷ pieces) = piece ++ text_from (next ∷ pieces)
+use Rattle.smap_verdicts.specs.Counts.{counts_text}
+use Rattle.smap_verdicts.specs.Refusal.{fault_text}
+use Rattle.smap_verdicts.specs.declared.counts.MapCounts.{MapCounts}
 
 -- ---- standard output
 
@@ -28,44 +22,15 @@ found_line source line column name = line_from (
     ∷ codes " column " ∷ decimal (column + 1)
     ∷ name_pieces name)
 
--- how many sections, sources and names a map has
-abbrev pub lists_text : MapCounts → List ℕ
-lists_text counts = text_from (
-    codes " sections " ∷ decimal counts.sections
-    ∷ codes " sources " ∷ decimal counts.sources
-    ∷ codes " names " ∷ decimal counts.names ∷ [])
-
--- how many mappings it has, lines that hold one, and checkpoints
-abbrev pub mappings_text : MapCounts → List ℕ
-mappings_text counts = text_from (
-    codes " segments " ∷ decimal counts.segments
-    ∷ codes " lines " ∷ decimal counts.lines
-    ∷ codes " checkpoints " ∷ decimal counts.checkpoints ∷ [])
-
--- how much a map holds
+-- that a map is accepted, and how much it holds
 abbrev pub counts_line : MapCounts → List ℕ
-counts_line counts = line_from (codes "ok" ∷ lists_text counts ∷ mappings_text counts ∷ [])
+counts_line counts = line_from (counts_text counts ∷ [])
+
+-- the same of the map at a path
+abbrev pub map_counts_line : (path : List ℕ) → MapCounts → List ℕ
+map_counts_line path counts = line_from (shown path ∷ codes ": " ∷ counts_text counts ∷ [])
 
 -- ---- standard error
-
--- how a kind of fault is called
-abbrev pub kind_text : FaultKind → List ℕ
-kind_text BadDigit = codes "F1 BadDigit"
-kind_text Unended = codes "F2 Unended"
-kind_text TooLong = codes "F3 TooLong"
-kind_text TooLarge = codes "F4 TooLarge"
-kind_text NegativeZero = codes "F5 NegativeZero"
-kind_text FieldCount = codes "F6 FieldCount"
-kind_text Negative = codes "F7 Negative"
-kind_text PastLimit = codes "F8 PastLimit"
-kind_text ColumnFalls = codes "F9 ColumnFalls"
-kind_text SourceIndex = codes "F10 SourceIndex"
-kind_text NameIndex = codes "F11 NameIndex"
-
--- a fault of a mappings text; its line counts from 0, and prints from 1, its byte from 0
-abbrev pub fault_text : Fault → List ℕ
-fault_text fault = text_from (
-    kind_text fault.kind ∷ codes " line " ∷ decimal (fault.line + 1) ∷ codes " byte " ∷ decimal fault.byte ∷ [])
 
 -- a mappings text that is refused for its first fault
 abbrev pub refused_line : Fault → List ℕ

@@ -6,7 +6,7 @@ use Rattle.smap_record.specs.declared.refusal.MapRefusal.TheVariants.{Url}
 use Rattle.smap_answers.specs.Files.{path_of}
 use Rattle.smap_answers.specs.Lines.{map_refused_line}
 use Rattle.smap_answers.specs.Outcome.{Telling, answer, refusal}
-use Rattle.smap_answers.specs.Refusal.{refusal_text}
+use Rattle.smap_verdicts.specs.Refusal.{refusal_text}
 use Rattle.smap_answers.specs.declared.load.Loaded.{Loaded}
 use Rattle.url.specs.Parts.{Parts}
 

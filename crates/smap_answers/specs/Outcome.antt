@@ -1,5 +1,5 @@
 -- What a command comes to: the text that is told, and the status with which the program ends.
-use Rattle.std.specs.Prelude.{◌≡◌, ℕ, ◌⊎◌, List, [], Result, Ok, Err, string_bytes}
+use Rattle.std.specs.Prelude.{◌≡◌, ℕ, ◌⊎◌, Bool, true, false, List, [], Result, Ok, Err, string_bytes}
 use Rattle.smap_trace.specs.declared.outcome.RewriteFault.{RewriteFault}
 use Rattle.smap_trace.specs.declared.outcome.RewriteFault.TheVariants.{Read, Write, TooMuch, Memory}
 use Rattle.smap_answers.specs.Lines.{input_failed_line, memory_line, trace_too_long_line, trace_unread_line, trace_unwritten_line, argument_not_utf8_line}
@@ -8,26 +8,31 @@ use Rattle.smap_answers.specs.declared.outcome.Failure.TheVariants as failures
 use Rattle.smap_answers.specs.declared.outcome.Reply.{Reply}
 use Rattle.smap_answers.specs.declared.outcome.Reply.TheVariants as replies
 
--- a text and a status: with status 0 it is for standard output, with any other for standard error
+-- a text and a status: an answer is for standard output, and any other text for standard error
 pub record Telling : Type 0 where
   pub status : ℕ
+  pub is_answer : Bool
   pub text : List ℕ
 
 -- what was asked for
 abbrev pub answer : List ℕ → Telling
-answer text = record { status = 0; text = text }
+answer text = record { status = 0; is_answer = true; text = text }
+
+-- why a map is refused, where an answer tells that
+abbrev pub refused_answer : List ℕ → Telling
+refused_answer text = record { status = 1; is_answer = true; text = text }
 
 -- why the input is refused
 abbrev pub refusal : List ℕ → Telling
-refusal text = record { status = 1; text = text }
+refusal text = record { status = 1; is_answer = false; text = text }
 
 -- why the arguments give no command
 abbrev pub misuse : List ℕ → Telling
-misuse text = record { status = 2; text = text }
+misuse text = record { status = 2; is_answer = false; text = text }
 
 -- a device failed, or memory ran out
 abbrev pub failure : List ℕ → Telling
-failure text = record { status = 3; text = text }
+failure text = record { status = 3; is_answer = false; text = text }
 
 abbrev pub out_of_memory : Telling
 out_of_memory = failure memory_line
@@ -43,6 +48,7 @@ fault_telling Memory = out_of_memory
 abbrev pub reply_telling : Reply → Telling
 reply_telling (replies.Text text) = answer (string_bytes text)
 reply_telling (replies.Map bytes) = answer bytes.items
+reply_telling (replies.Refused text) = refused_answer (string_bytes text)
 reply_telling replies.Rewritten = answer []
 
 -- why there is none

@@ -23,7 +23,8 @@ abbrev pub bad_telling : (first_bad : Option ℕ) → Telling
 bad_telling None = answer []
 bad_telling (Some number) = refusal (bad_position_refused_line number)
 
--- of what was answered to its end: a line that is too long was not
+-- of what was answered to its end: where each line is short enough to be answered the first bad one decides, and else a
+-- long one
 abbrev pub summary_telling : Summary → Telling
 summary_telling summary = if summary.answered == summary.lines then bad_telling summary.first_bad else refusal long_position_line
 
@@ -45,8 +46,8 @@ abbrev pub IsAnswered : MapRecord → (from json : Bool) → (before after : Dev
 IsAnswered stated from json before after (Ok summary) = Answers before after stated from json summary
 IsAnswered stated from json before after (Err fault) = EditsFront (answered_line stated from json) before after fault
 
--- answering the positions on standard input from this map tells this; a refusal of them comes after their answers, which are
--- flushed
+-- answering the positions on standard input from this map tells this; a refusal for a bad line or a long one comes after
+-- their answers, which are flushed
 pub record AnsweredTells (stated : MapRecord) (from json : Bool) (before after : DevicesSeen) (telling : Telling) : Type 0 where
   pub result : Result Summary LineFault
   pub answered : IsAnswered stated from json before after result
@@ -54,7 +55,7 @@ pub record AnsweredTells (stated : MapRecord) (from json : Bool) (before after :
   pub output_failed : after.output.failed ≡ is_write_fault result
   pub flushed : telling.status ≡ 1 → (result ≡ Err TooMuch) ⊎ (after.output.flushed ≡ true)
   pub untouched : result ≡ Err Memory → after ≡ before
-  pub told : OrMemory (λ told. told ≡ positions_telling result) telling
+  pub told : telling ≡ positions_telling result
 
 -- what `positions` tells over a map's file: that the file is refused, or memory ran out, and then standard input and output
 -- stay as they are; or what the answers come to

@@ -1,9 +1,11 @@
 -- What a run of the program does to its streams, and the status with which it ends.
-use Rattle.std.specs.Prelude.{◌≡◌, ℕ, Bool, true, false, List, [], ◌∷◌, Option, map, zip, IfSome}
+use Rattle.std.specs.Prelude.{◌≡◌, ℕ, ◌⊎◌, All, Bool, true, false, List, [], ◌∷◌, Option, map, zip, string_bytes, IfSome, ⊤}
 pub use Rattle.smap_command.specs.Interval.{HasInterval}
 use Rattle.smap_command.specs.Limits.{usual_interval}
 use Rattle.smap_answers.specs.Check.{check_line}
+use Rattle.smap_answers.specs.CheckAll.{ChecksAll}
 use Rattle.smap_answers.specs.Compose.{TellsComposed}
+use Rattle.smap_answers.specs.Files.{MayRead, IsReadFile, IsUnread, gives_loaded, path_of, paths_of}
 use Rattle.smap_answers.specs.Lines.{input_failed_line}
 use Rattle.smap_answers.specs.Lookup.{lookup_print}
 use Rattle.smap_answers.specs.Map.{IsLine, IsResult, TellsMap}
@@ -16,7 +18,7 @@ use Rattle.smap_answers.specs.Streams.{Streams, Ends, sinks_seen}
 use Rattle.smap_lines.specs.Editing.{DevicesSeen, devices_seen}
 use Rattle.smap_answers.specs.Trace.{IsTextRewritten, IsTraceRewritten, RewriteTells, url_in_argument}
 use Rattle.smap_command.specs.declared.command.Command.{Command}
-use Rattle.smap_command.specs.declared.command.Command.TheVariants.{Raw, Check, Show, Lookup, Positions, Rewrite, RewriteAnywhere, Compose}
+use Rattle.smap_command.specs.declared.command.Command.TheVariants.{Raw, Check, CheckAll, Show, Lookup, Positions, Rewrite, RewriteAnywhere, Compose}
 use Rattle.smap_answers.specs.declared.load.Loaded.{Loaded}
 use Rattle.url.specs.Parts.{Parts}
 
@@ -56,13 +58,19 @@ abbrev pub PositionsOfFirst : List Loaded → Option Parts → (k : ℕ) → (fr
 PositionsOfFirst [] base k from json before after telling = ⊥
 PositionsOfFirst (first ∷ files) base k from json before after telling = PositionsTells first base k from json before after telling
 
--- ---- all commands
+-- ---- all commands that tell one thing
+
+-- a command tells one thing; but `CheckAll` tells one of each file
+abbrev pub TellsOne : Command → Type 0
+TellsOne (CheckAll paths base interval json) = ⊥
+TellsOne other = ⊤
 
 -- what a command over the files of its paths tells, and what it does to standard input and output before it tells it
 abbrev pub Tells : Command → List Loaded → (before after : DevicesSeen) → Telling → Type 0
 Tells (Raw line column interval) files = RawTells line column
 Tells (Check path base interval) files =
     TellsAside (OfFirst files (λ file. TellsMap file base interval (IsLine (check_line interval))))
+Tells (CheckAll paths base interval json) files = λ before after telling. ⊥
 Tells (Show path base) files =
     TellsAside (OfFirst files (λ file. TellsMap file base usual_interval (IsResult show_result)))
 Tells (Lookup path line column base interval after json) files =
@@ -75,10 +83,40 @@ Tells (RewriteAnywhere maps base interval) files =
 Tells (Compose outer source inner base) files =
     TellsAside (OfBoth files (λ first second. TellsComposed first source second base))
 
--- a run of a command, which ends with this status
-pub record Runs (command : Command) (files : List Loaded) (status : ℕ) (before after : Streams) : Type 0 where
+-- a run of such a command, which ends with this status
+pub record RunsOne (command : Command) (files : List Loaded) (status : ℕ) (before after : Streams) : Type 0 where
   pub telling : Telling
   -- standard output before that is told
   pub written : SinkSeen
   pub tells : Tells command files (devices_seen before.input before.sinks.output) (devices_seen after.input written) telling
   pub ends : Ends telling status (sinks_seen written before.sinks.errors) after.sinks
+
+-- ---- all commands
+
+-- a run of a command, which ends with this status
+abbrev pub Runs : Command → List Loaded → (status : ℕ) → (before after : Streams) → Type 0
+Runs (CheckAll paths base interval json) files status before after = (after.input ≡ before.input)
+    × ChecksAll (gives_loaded files) base interval json (map string_bytes paths.items) status before.sinks after.sinks
+Runs command files status before after = RunsOne command files status before after
+
+-- ---- with the files that are read
+
+-- the files of a command's paths were read, and it ran over them
+pub record RunsOver (Reads : MayRead) (command : Command) (status : ℕ) (before after : Streams) : Type 0 where
+  pub files : List Loaded
+  pub paths : map path_of files ≡ paths_of command
+  pub read : All (IsReadFile Reads) files
+  pub runs : Runs command files status before after
+
+-- one of them was not, and that was told
+pub record RunsNot (Reads : MayRead) (command : Command) (status : ℕ) (before after : Streams) : Type 0 where
+  pub telling : Telling
+  pub unread : IsUnread Reads command telling
+  pub ends : Ends telling status before.sinks after.sinks
+  pub unasked : after.input ≡ before.input
+
+-- either; `CheckAll` reads one by one
+abbrev pub RunsReading : MayRead → Command → (status : ℕ) → (before after : Streams) → Type 0
+RunsReading Reads (CheckAll paths base interval json) status before after = (after.input ≡ before.input)
+    × ChecksAll Reads base interval json (map string_bytes paths.items) status before.sinks after.sinks
+RunsReading Reads command status before after = RunsOver Reads command status before after ⊎ RunsNot Reads command status before after

@@ -1,5 +1,5 @@
 -- What the program's streams show, and what telling does to them.
-use Rattle.std.specs.Prelude.{◌≡◌, ◌≢◌, ℕ, ◌⊎◌, true, false, List}
+use Rattle.std.specs.Prelude.{◌≡◌, ℕ, ◌⊎◌, true, false, List}
 use Rattle.smap_io.specs.Device.{SinkSeen, SourceSeen, Takes, TakesFront}
 use Rattle.smap_answers.specs.Outcome.{Telling}
 use Rattle.smap_answers.specs.Lines.{output_failed_line}
@@ -52,9 +52,9 @@ pub record Reports (text : List ℕ) (before after : Sinks) : Type 0 where
   pub told : IsToldTo before.errors after.errors text
   pub unprinted : after.output ≡ before.output
 
--- a telling ends with this status: an answer with 0, or with 3 where standard output failed; another with its own
+-- a telling ends with its status, or with 3 where it is an answer and standard output failed
 abbrev pub Ends : Telling → ℕ → Sinks → Sinks → Type 0
 Ends telling status before after =
-    ((telling.status ≡ 0)
-    × (((status ≡ 0) × Answers telling.text before after) ⊎ ((status ≡ 3) × FailsToAnswer telling.text before after)))
-    ⊎ ((telling.status ≢ 0) × (status ≡ telling.status) × Reports telling.text before after)
+    ((telling.is_answer ≡ true)
+    × (((status ≡ telling.status) × Answers telling.text before after) ⊎ ((status ≡ 3) × FailsToAnswer telling.text before after)))
+    ⊎ ((telling.is_answer ≡ false) × (status ≡ telling.status) × Reports telling.text before after)

@@ -15,7 +15,8 @@ use Rattle.smap_trace.specs.declared.outcome.RewriteFault.TheVariants as fault
 use Rattle.smap_trace.specs.declared.outcome.Summary.{Summary}
 use Rattle.smap_trace.specs.declared.refusal.TableRefusal.{TableRefusal}
 use Rattle.smap_trace.specs.declared.refusal.TableRefusal.TheVariants.{BadUrl, Twice, Memory}
-use Rattle.smap_answers.specs.Lines.{bad_url_line, twice_line, text_from}
+use Rattle.smap_verdicts.specs.Texts.{text_from}
+use Rattle.smap_answers.specs.Lines.{bad_url_line, twice_line}
 use Rattle.smap_answers.specs.Map.{IsFoundRefusal, map_in, refusal_result}
 use Rattle.smap_answers.specs.Files.{path_of}
 use Rattle.smap_answers.specs.Outcome.{Telling, answer, failure_telling, fault_telling, misuse, out_of_memory}

@@ -4,12 +4,12 @@
 //! ```text
 //! let interval = USUAL_INTERVAL;
 //! let command = Command::Lookup { path, line: 0, column: 5, base: None, interval, after: false, json: false };
-//! let files = load_files(&rt, &command)?;
-//! let status = run(rt.alloc(), &command, &files, &mut input, &mut output, &mut errors);
+//! let status = run_reading(rt.alloc(), &rt, &command, &mut input, &mut output, &mut errors);
 //! ```
 #![tactic(auto)]
 
 mod check;
+mod check_files;
 mod compose;
 mod limits;
 mod lines;
@@ -19,14 +19,19 @@ mod map;
 mod outcome;
 mod positions;
 mod raw;
+mod reader;
+mod reading;
 mod refusal;
 mod running;
 mod show;
 mod telling;
 mod trace;
 
+pub use check_files::check_all;
 pub use load::{Loaded, load_files};
 pub use outcome::{Failure, Reply};
+pub use reader::{FileReader, LoadedFiles};
+pub use reading::run_reading;
 pub use refusal::refusal_line;
 pub use running::run;
 pub use smap_command::{Command, USUAL_INTERVAL};

@@ -1,15 +1,16 @@
-//! The lines that the program prints, each with its LF, and the texts that they are made of.
-ghost use Rattle.std.specs.Prelude.{◌≡◌, ◌+◌, option_map, string_bytes, IfOk};
-ghost use Rattle.smap_answers.specs.Lines.{counts_line, fault_text, file_failed_line, found_line};
-ghost use Rattle.smap_answers.specs.Lines.{bad_position_refused_line, kind_text, lists_text, map_refused_line};
-ghost use Rattle.smap_answers.specs.Lines.{mappings_text, refused_line};
+//! The lines that the program prints, each with its LF.
+ghost use Rattle.std.specs.Prelude.{◌≡◌, ◌+◌, ◌∷◌, ◌++◌, [], option_map, string_bytes, IfOk};
+ghost use Rattle.smap_answers.specs.Lines.{counts_line, file_failed_line, found_line};
+ghost use Rattle.smap_answers.specs.Lines.{map_counts_line, map_refused_line};
+ghost use Rattle.smap_answers.specs.Lines.{refused_line};
 ghost use Rattle.smap_answers.specs.Lines.{bad_url_line, twice_line};
 ghost use Rattle.smap_answers.specs.Trace.{argument_text};
 ghost use Rattle.smap_command.specs.Shown.{shown};
 
 use smap_command::shown;
-use smap_mappings::{Fault, FaultKind};
+use smap_mappings::Fault;
 use smap_positions::from_one;
+use smap_verdicts::{MapCounts, counts_text, fault_text};
 use std::alloc::{AllocError, Global};
 
 /// Standard error: the input is longer than a mappings text may be.
@@ -38,6 +39,9 @@ pub const TRACE_UNWRITTEN: &str = "device: X2 Write\n";
 
 /// Standard error: the trace is longer than one may be.
 pub const TRACE_TOO_LONG: &str = "refused: X3 TooMuch\n";
+
+/// Standard error: a line of standard input is no position; its number, from 1, and an LF follow.
+pub const BAD_POSITION: &str = "refused: P1 BadPosition ";
 
 /// Standard error: a line of standard input is longer than a position is.
 pub const LONG_POSITION: &str = "refused: P2 LongLine\n";
@@ -71,50 +75,29 @@ pub fn found_line(
     }
 }
 
-/// How much a map holds.
-#[derive(Clone, Copy)]
-pub struct MapCounts {
-    pub sections: u64,
-    pub sources: u64,
-    pub names: u64,
-    pub segments: u64,
-    pub lines: u64,
-    pub checkpoints: u64,
-}
-
 /// Standard output: how much a map holds.
 pub fn counts_line(alloc: Global, counts: MapCounts) -> Result<String, AllocError>
     ensures { IfOk result (λ text. string_bytes text ≡ counts_line counts) }
 {
-    let lists = lists_text(alloc, counts)?;
-    let mappings = mappings_text(alloc, counts)?;
-    format!(in alloc; "ok{lists}{mappings}\n")
+    let counts = counts_text(alloc, counts)?;
+    format!(in alloc; "{counts}\n")
 }
 
-// How many sections, sources and names a map has.
-fn lists_text(alloc: Global, counts: MapCounts) -> Result<String, AllocError>
-    ensures { IfOk result (λ text. string_bytes text ≡ lists_text counts) }
+/// Standard output: how much the map of a file holds.
+pub fn map_counts_line(alloc: Global, path: &str, counts: MapCounts) -> Result<String, AllocError>
+    ensures { IfOk result (λ text. string_bytes text ≡ map_counts_line path.now counts) }
 {
-    let MapCounts {
-        sections,
-        sources,
-        names,
-        ..
-    } = counts;
-    format!(in alloc; " sections {sections} sources {sources} names {names}")
+    let path = shown(alloc, path)?;
+    let counts = counts_text(alloc, counts)?;
+    format!(in alloc; "{path}: {counts}\n")
 }
 
-// How many mappings it has, lines that hold one, and checkpoints.
-fn mappings_text(alloc: Global, counts: MapCounts) -> Result<String, AllocError>
-    ensures { IfOk result (λ text. string_bytes text ≡ mappings_text counts) }
+/// Standard output: a JSON object, as a line.
+pub fn object_line(mut object: String) -> Result<String, AllocError>
+    ensures { IfOk result (λ text. string_bytes text ≡ string_bytes object ++ 10 ∷ []) }
 {
-    let MapCounts {
-        segments,
-        lines,
-        checkpoints,
-        ..
-    } = counts;
-    format!(in alloc; " segments {segments} lines {lines} checkpoints {checkpoints}")
+    object.push('\n')?;
+    Ok(object)
 }
 
 /// Standard error: why the map of a file is refused, in the words for the refusal.
@@ -160,46 +143,12 @@ fn shown_argument(alloc: Global, url: &str, path: &str) -> Result<String, AllocE
     format!(in alloc; "{url}={path}")
 }
 
-/// Standard error: the line of this number, from 1, is no position.
-pub fn bad_position_line(alloc: Global, number: u64) -> Result<String, AllocError>
-    ensures { IfOk result (λ text. string_bytes text ≡ bad_position_refused_line number) }
-{
-    format!(in alloc; "refused: P1 BadPosition {number}\n")
-}
-
 /// Standard error: a mappings text that is refused, with the text of its first fault.
 pub fn refused_line(alloc: Global, fault: Fault) -> Result<String, AllocError>
     ensures { IfOk result (λ text. string_bytes text ≡ refused_line fault) }
 {
     let fault = fault_text(alloc, fault)?;
     format!(in alloc; "refused: {fault}\n")
-}
-
-/// A fault of a mappings text: its kind, its generated line, from 1, and the byte at which its segment begins, from 0.
-pub fn fault_text(alloc: Global, fault: Fault) -> Result<String, AllocError>
-    ensures { IfOk result (λ text. string_bytes text ≡ fault_text fault) }
-{
-    let (kind, line, byte) = (kind_text(fault.kind), from_one(fault.line), fault.byte);
-    format!(in alloc; "{kind} line {line} byte {byte}")
-}
-
-// A kind of fault: its number and name.
-fn kind_text(kind: FaultKind) -> &'static str
-    ensures { result.now ≡ kind_text kind }
-{
-    match kind {
-        FaultKind::BadDigit => "F1 BadDigit",
-        FaultKind::Unended => "F2 Unended",
-        FaultKind::TooLong => "F3 TooLong",
-        FaultKind::TooLarge => "F4 TooLarge",
-        FaultKind::NegativeZero => "F5 NegativeZero",
-        FaultKind::FieldCount => "F6 FieldCount",
-        FaultKind::Negative => "F7 Negative",
-        FaultKind::PastLimit => "F8 PastLimit",
-        FaultKind::ColumnFalls => "F9 ColumnFalls",
-        FaultKind::SourceIndex => "F10 SourceIndex",
-        FaultKind::NameIndex => "F11 NameIndex",
-    }
 }
 
 // A line and a column that count from 0, counted from 1.

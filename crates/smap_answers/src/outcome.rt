@@ -16,13 +16,16 @@ pub const MISUSED: u8 = 2;
 /// The exit status of a run in which a device failed, or memory ran out.
 pub const FAILED: u8 = 3;
 
-/// What a command answers: for standard output, with status 0.
+/// What a command answers: for standard output.
 #[derive(Drop)]
 pub enum Reply {
     /// The text that was asked for, whole, with its last LF.
     Text(String),
     /// The map that was asked for, with an LF.
     Map(Vec<u8>),
+    /// Why a map is refused, where the answer was asked for in JSON: whole, with its last LF. Its status is 1, and that of
+    /// all others 0.
+    Refused(String),
     /// The trace is rewritten or the positions are answered, and standard output has that already: nothing is added.
     Rewritten,
 }
@@ -55,6 +58,16 @@ impl From<AllocError> for Failure {
 }
 
 impl Reply {
+    /// The exit status. The call takes no memory.
+    pub fn status(&self) -> u8
+        ensures { result ≡ (reply_telling self.now).status }
+    {
+        match self {
+            Reply::Refused(_) => REFUSED,
+            Reply::Text(_) | Reply::Map(_) | Reply::Rewritten => DONE,
+        }
+    }
+
     /// What the user reads. The call takes no memory.
     pub fn bytes(&self) -> &[u8]
         ensures { result.now ≡ (reply_telling self.now).text }
@@ -62,6 +75,7 @@ impl Reply {
         match self {
             Reply::Text(text) => text.as_bytes(),
             Reply::Map(bytes) => bytes,
+            Reply::Refused(text) => text.as_bytes(),
             Reply::Rewritten => &[],
         }
     }

@@ -1,19 +1,25 @@
 //! Answering the positions on standard input from a map file.
-ghost use Rattle.std.specs.Prelude.{◌≡◌, false, option_copied, MatchOption, []};
+ghost use Rattle.std.specs.Prelude.{◌≡◌, ◌≤◌, ◌+◌, ◌++◌, [], false, length, option_copied, MatchOption};
+ghost use Rattle.std.specs.Prelude.{string_bytes, string_capacity, string_len};
 ghost use Rattle.smap_lines.specs.Editing.{devices_seen};
 ghost use Rattle.smap_answers.specs.Lines.{bad_position_refused_line, long_position_line};
-ghost use Rattle.smap_answers.specs.Outcome.{OrMemory, answer, failure_telling, refusal, telling_of};
+ghost use Rattle.smap_answers.specs.Outcome.{answer, refusal, telling_of};
 ghost use Rattle.smap_answers.specs.Positions.{AnsweredTells, PositionsTells, summary_telling, trace_fault};
+ghost use Rattle.smap_answers.specs.Private.Room.{IsRoom};
 
 use crate::lines;
 use crate::load::Loaded;
 use crate::map::read_map;
 use crate::outcome::{Failure, Reply};
+use itoa::Buffer;
 use smap_io::{ByteSink, ByteSource};
 use smap_positions::{LineFault, Summary, answer_positions};
 use smap_record::{MapFile, Url};
 use smap_trace::RewriteFault;
 use std::alloc::Global;
+
+// How many bytes the line has at most that refuses positions.
+const MOST_LINE_BYTES: usize = 80;
 
 /// Answers the positions on the lines of standard input from the map that the file is, over checkpoints at this interval:
 /// at a position or before it or, with `after`, at it or after it; as text or, with `json`, as JSON objects. The caller
@@ -55,51 +61,67 @@ fn answer_over<R: ByteSource, W: ByteSink>(
         (devices_seen (R.seen input.new) (W.seen output.new))
         (telling_of result) }
 {
+    let Ok(room) = String::with_capacity(alloc, MOST_LINE_BYTES) else {
+        return Err(Failure::Memory);
+    };
     let summary = match answer_positions(alloc, input, output, map, after, json) {
         Ok(summary) => summary,
         Err(fault) => return Err(Failure::Fault(trace_fault(fault))),
     };
-    let Some(failure) = failure_of(alloc, summary) else {
+    let Some(line) = refusing_line(room, summary) else {
         return Ok(Reply::Rewritten);
     };
     match output.flush() {
-        Ok(()) => Err(failure),
+        Ok(()) => Err(Failure::Refusal(line)),
         Err(_) => Err(Failure::Fault(RewriteFault::Write)),
     }
 }
 
-// Why positions that were answered to their end are refused, where they are.
-fn failure_of(alloc: Global, summary: Summary) -> Option<Failure>
+// The line for positions that were answered to their end, where they are refused: put into the room, which takes no memory.
+fn refusing_line(room: String, summary: Summary) -> Option<String>
+    requires { IsRoom room }
     ensures { MatchOption result (summary_telling summary ≡ answer [])
-        (λ failure. OrMemory (λ told. told ≡ summary_telling summary) (failure_telling failure)) }
+        (λ line. summary_telling summary ≡ refusal (string_bytes line)) }
 {
     if summary.answered != summary.lines {
-        return Some(long_line(alloc));
+        return Some(long_line(room));
     }
     match summary.first_bad {
-        Some(number) => Some(bad_position(alloc, number)),
+        Some(number) => Some(bad_position(room, number)),
         None => None,
     }
 }
 
 // A line is too long.
-fn long_line(alloc: Global) -> Failure
-    ensures { OrMemory (λ told. told ≡ refusal long_position_line) (failure_telling result) }
+fn long_line(mut room: String) -> String
+    requires { IsRoom room }
+    ensures { string_bytes result ≡ long_position_line }
 {
-    match String::from_str(alloc, lines::LONG_POSITION) {
-        Ok(line) => Failure::Refusal(line),
-        Err(_) => Failure::Memory,
-    }
+    put(&mut room, lines::LONG_POSITION);
+    room
 }
 
-// The line of this number is no position.
-fn bad_position(alloc: Global, number: u64) -> Failure
-    ensures { OrMemory (λ told. told ≡ refusal (bad_position_refused_line number))
-        (failure_telling result) }
+// The line of this number, from 1, is no position.
+fn bad_position(mut room: String, number: u64) -> String
+    requires { IsRoom room }
+    ensures { string_bytes result ≡ bad_position_refused_line number }
 {
-    match lines::bad_position_line(alloc, number) {
-        Ok(line) => Failure::Refusal(line),
-        Err(_) => Failure::Memory,
+    let mut digits = Buffer::new();
+    put(&mut room, lines::BAD_POSITION);
+    put(&mut room, digits.format(number));
+    put(&mut room, "\n");
+    room
+}
+
+// Puts a text that fits after what stands in the room.
+fn put(room: &mut String, text: &str)
+    requires { string_len room.old + length text.now ≤ string_capacity room.old }
+    ensures put { string_bytes room.new ≡ string_bytes room.old ++ text.now }
+    ensures longer { string_len room.new ≡ string_len room.old + length text.now }
+    ensures as_large { string_capacity room.old ≤ string_capacity room.new }
+{
+    if room.push_str(text).is_err() {
+        unreachable!("what fits takes no memory");
     }
 }
 

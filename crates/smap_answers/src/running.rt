@@ -1,19 +1,21 @@
 //! Running a command over its streams.
-ghost use Rattle.std.specs.Prelude.{◌≡◌, false, map};
+ghost use Rattle.std.specs.Prelude.{◌≡◌, false, true, map};
 ghost use Rattle.smap_answers.specs.Files.{path_of, paths_of};
 ghost use Rattle.smap_answers.specs.Outcome.{telling_of};
-ghost use Rattle.smap_answers.specs.Run.{Runs, Tells};
+ghost use Rattle.smap_answers.specs.Run.{Runs, Tells, TellsOne};
 ghost use Rattle.smap_answers.specs.Streams.{streams_seen};
 ghost use Rattle.smap_lines.specs.Editing.{devices_seen};
 ghost use Rattle.smap_command.specs.Interval.{HasInterval};
 
 use crate::check::answer_check;
+use crate::check_files::check_all;
 use crate::compose::answer_compose;
 use crate::load::Loaded;
 use crate::lookup::answer_lookup;
 use crate::outcome::{Failure, Reply};
 use crate::positions::answer_input;
 use crate::raw::answer_raw;
+use crate::reader::LoadedFiles;
 use crate::show::answer_show;
 use crate::telling::tell;
 use crate::trace::{answer_anywhere, answer_rewrite};
@@ -22,7 +24,8 @@ use smap_io::{ByteSink, ByteSource};
 use std::alloc::Global;
 
 /// Runs a command, and gives the exit status. The caller gives a command at whose interval checkpoints may stand, a
-/// `Loaded` for each path of the command, in their order, and devices that have not failed.
+/// `Loaded` for each path of the command, in their order, and devices that have not failed. `CheckAll` finds its files by
+/// their paths: of two with one path the first.
 pub fn run<R: ByteSource, W: ByteSink, E: ByteSink>(
     alloc: Global,
     command: &Command,
@@ -40,11 +43,23 @@ pub fn run<R: ByteSource, W: ByteSink, E: ByteSink>(
         (streams_seen (R.seen input.old) (W.seen output.old) (E.seen errors.old))
         (streams_seen (R.seen input.new) (W.seen output.new) (E.seen errors.new)) }
 {
+    if let Command::CheckAll {
+        paths,
+        base,
+        interval,
+        json,
+    } = command
+    {
+        let (reader, base) = (LoadedFiles(files), base.as_ref());
+        return check_all(
+            alloc, &reader, paths, base, *interval, *json, output, errors,
+        );
+    }
     let outcome = answer(alloc, command, files, input, output);
     tell(&outcome, output, errors)
 }
 
-// What a command comes to. Standard output has a rewritten trace already.
+// What a command comes to that tells one thing. Standard output has a rewritten trace already.
 fn answer<R: ByteSource, W: ByteSink>(
     alloc: Global,
     command: &Command,
@@ -52,6 +67,7 @@ fn answer<R: ByteSource, W: ByteSink>(
     input: &mut R,
     output: &mut W,
 ) -> Result<Reply, Failure>
+    requires one { TellsOne command.now }
     requires interval { HasInterval command.now }
     requires loaded { map path_of files.now ≡ paths_of command.now }
     requires input_works { (R.seen input.old).failed ≡ false }
@@ -60,7 +76,7 @@ fn answer<R: ByteSource, W: ByteSink>(
         (devices_seen (R.seen input.old) (W.seen output.old))
         (devices_seen (R.seen input.new) (W.seen output.new))
         (telling_of result) }
-    ensures output_works { (telling_of result).status ≡ 0 → (W.seen output.new).failed ≡ false }
+    ensures output_works { (telling_of result).is_answer ≡ true → (W.seen output.new).failed ≡ false }
 {
     match command {
         Command::Raw {
@@ -71,6 +87,7 @@ fn answer<R: ByteSource, W: ByteSink>(
         Command::Check { base, interval, .. } => {
             answer_check(alloc, &files[0], base.as_ref(), *interval)
         }
+        Command::CheckAll { .. } => unreachable!("it tells one thing of each file"),
         Command::Show { base, .. } => answer_show(alloc, &files[0], base.as_ref()),
         Command::Lookup {
             line,

@@ -5,7 +5,7 @@ ghost use Rattle.smap_answers.specs.Outcome.{telling_of};
 ghost use Rattle.smap_answers.specs.Streams.{Ends, IsToldTo, sinks_seen};
 
 use crate::lines;
-use crate::outcome::{DONE, FAILED, Failure, Reply};
+use crate::outcome::{FAILED, Failure, Reply};
 use smap_io::{ByteSink, DeviceFault, write_all};
 
 /// Writes the text of what a command comes to to the stream that it is for and flushes that, and gives the exit status.
@@ -16,14 +16,14 @@ pub fn tell<W: ByteSink, E: ByteSink>(
     output: &mut W,
     errors: &mut E,
 ) -> u8
-    requires output_works { (telling_of outcome.now).status ≡ 0 → (W.seen output.old).failed ≡ false }
+    requires output_works { (telling_of outcome.now).is_answer ≡ true → (W.seen output.old).failed ≡ false }
     ensures { Ends (telling_of outcome.now) result
         (sinks_seen (W.seen output.old) (E.seen errors.old))
         (sinks_seen (W.seen output.new) (E.seen errors.new)) }
 {
     match outcome {
         Ok(reply) => match print(output, reply.bytes()) {
-            Ok(()) => DONE,
+            Ok(()) => reply.status(),
             Err(_) => {
                 report(errors, lines::OUTPUT_FAILED.as_bytes());
                 FAILED

@@ -166,7 +166,7 @@ rewrite_plain : Each (IsPlain at_argument) (built_leaf rewrite.top).rules
 rewrite_plain = (more_values at_argument 1 (codes "URL=FILE"), (base_plain 2, (interval_plain 2, (hide_plain 2, (anywhere_plain 2, (help_plain, tt))))))
 
 check_plain : Each (IsPlain at_argument) (built_leaf check.top).rules
-check_plain = (value at_argument 1 (codes "PATH"), (base_plain 2, (interval_plain 2, (help_plain, tt))))
+check_plain = (more_values at_argument 1 (codes "PATH"), (base_plain 2, (interval_plain 2, (json_plain 2, (help_plain, tt)))))
 
 show_plain : Each (IsPlain at_argument) (built_leaf show.top).rules
 show_plain = (value at_argument 1 (codes "PATH"), (base_plain 2, (help_plain, tt)))

@@ -1,5 +1,5 @@
 -- What the arguments of the command line ask for.
-use Rattle.std.specs.Prelude.{◌≡◌, ◌≢◌, ◌≤◌, ◌+◌, ◌++◌, ◌==◌, ◌⊎◌, ◌∷◌, ℕ, Bool, false, true, codes, List, []}
+use Rattle.std.specs.Prelude.{◌≡◌, ◌≢◌, ◌≤◌, ◌+◌, ◌++◌, ◌==◌, ◌⊎◌, ◌∷◌, ℕ, Bool, false, true, codes, length, List, []}
 use Rattle.std.specs.Prelude.{None, Ok, Option, Some, String, find, if◌then◌else◌, map, not, unwrap_or, ⊤}
 use Rattle.std.specs.declared.alloc.Global.{Global}
 use Rattle.std.specs.List.{AllZip, list_any}
@@ -20,7 +20,7 @@ use Rattle.clap.specs.declared.builder.value_parser.ValueParser.TheVariants as p
 use Rattle.clap.specs.declared.error.kind.ErrorKind.{ErrorKind}
 use Rattle.clap.specs.declared.error.kind.ErrorKind.TheVariants.{DisplayHelp, DisplayVersion, OutOfMemory}
 use Rattle.smap_command.specs.declared.command.Command.{Command}
-use Rattle.smap_command.specs.declared.command.Command.TheVariants.{Raw, Check, Show, Lookup, Positions, Rewrite, RewriteAnywhere, Compose}
+use Rattle.smap_command.specs.declared.command.Command.TheVariants.{Raw, Check, CheckAll, Show, Lookup, Positions, Rewrite, RewriteAnywhere, Compose}
 use Rattle.smap_arguments.specs.CommandLine.{named, smap}
 use Rattle.smap_arguments.specs.declared.usage.Usage.{Usage}
 use Rattle.smap_arguments.specs.declared.usage.Usage.TheVariants.{Help, Words, Memory}
@@ -29,6 +29,7 @@ use Rattle.smap_arguments.specs.declared.usage.Usage.TheVariants.{Help, Words, M
 abbrev pub HasPosition : Command → Type 0
 HasPosition (Raw line column interval) = (line ≤ limit) × (column ≤ limit)
 HasPosition (Check path base interval) = ⊤
+HasPosition (CheckAll paths base interval json) = ⊤
 HasPosition (Show path base) = ⊤
 HasPosition (Lookup path line column base interval after json) = (line ≤ limit) × (column ≤ limit)
 HasPosition (Positions path base interval after json) = ⊤
@@ -63,6 +64,10 @@ GivesNumber rows name n = (text : Text) × (one_of name rows ≡ Some text)
 -- it is this text
 abbrev pub GivesText : List Row → (name text : Text) → Type 0
 GivesText rows name text = first_of name rows ≡ Some text
+
+-- it is these texts, in their order
+abbrev pub GivesTexts : List Row → (name : Text) → List Text → Type 0
+GivesTexts rows name texts = all_of name rows ≡ Some texts
 
 -- it is a text, where it is given, that is this URL
 abbrev pub GivesUrl : Option Text → Option Parts → Type 0
@@ -107,11 +112,17 @@ ArePairs = AllZip (λ word pair. IsPair word (string_bytes pair.0) (string_bytes
 
 -- the arguments that clap reads are these pairs
 abbrev pub GivesPairs : {A : Type 0} → List Row → List (String A × String A) → Type 0
-GivesPairs rows pairs = (words : List Text) × (all_of (codes "URL=FILE") rows ≡ Some words) × ArePairs words pairs
+GivesPairs rows pairs = (words : List Text) × GivesTexts rows (codes "URL=FILE") words × ArePairs words pairs
 
 -- the first argument that is no pair
 abbrev pub first_without : List Text → Option Text
 first_without = find (λ word. not (has_equals_sign word))
+
+-- ---- the arguments of `check`
+
+-- each file is told by itself, with its path: `--json` is given, or there is not just one path
+abbrev pub TellsEachFile : {A : Type 0} → (paths : List A) → (json : Bool) → Type 0
+TellsEachFile paths json = (json ≡ true) ⊎ (length paths ≢ 1)
 
 -- ---- what any arguments ask for
 
@@ -119,6 +130,7 @@ first_without = find (λ word. not (has_equals_sign word))
 abbrev pub name_of : Command → Text
 name_of (Raw line column interval) = codes "raw"
 name_of (Check path base interval) = codes "check"
+name_of (CheckAll paths base interval json) = codes "check"
 name_of (Show path base) = codes "show"
 name_of (Lookup path line column base interval after json) = codes "lookup"
 name_of (Positions path base interval after json) = codes "positions"
@@ -130,8 +142,10 @@ name_of (Compose outer source inner base) = codes "compose"
 abbrev pub RowsAskFor : List Row → Command → Type 0
 RowsAskFor rows (Raw line column interval) = GivesNumber rows (codes "LINE") (line + 1)
     × GivesNumber rows (codes "COLUMN") (column + 1) × GivesInterval rows interval
-RowsAskFor rows (Check path base interval) =
-    GivesText rows (codes "PATH") (string_bytes path) × GivesBase rows base × GivesInterval rows interval
+RowsAskFor rows (Check path base interval) = GivesTexts rows (codes "PATH") (string_bytes path ∷ []) × GivesBase rows base
+    × GivesInterval rows interval × GivesFlag rows (codes "json") false
+RowsAskFor rows (CheckAll paths base interval json) = GivesTexts rows (codes "PATH") (texts paths.items) × GivesBase rows base
+    × GivesInterval rows interval × GivesFlag rows (codes "json") json × TellsEachFile paths.items json
 RowsAskFor rows (Show path base) = GivesText rows (codes "PATH") (string_bytes path) × GivesBase rows base
 RowsAskFor rows (Lookup path line column base interval after json) = GivesText rows (codes "PATH") (string_bytes path)
     × GivesNumber rows (codes "LINE") (line + 1) × GivesNumber rows (codes "COLUMN") (column + 1) × GivesBase rows base
@@ -211,7 +225,7 @@ TellsNoPair words text = (word : Text) × (first_without words ≡ Some word) ×
 
 -- the same, of the arguments that clap reads
 abbrev pub TellsBadPair : List Row → Text → Type 0
-TellsBadPair rows text = (words : List Text) × (all_of (codes "URL=FILE") rows ≡ Some words) × TellsNoPair words text
+TellsBadPair rows text = (words : List Text) × GivesTexts rows (codes "URL=FILE") words × TellsNoPair words text
 
 -- it is told that both flags are given, of arguments that are pairs
 abbrev pub TellsBothFlags : List Row → Text → Type 0

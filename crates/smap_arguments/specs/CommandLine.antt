@@ -34,9 +34,9 @@ text_rule name = record (new_rule name) { required = true }
 abbrev pub number_rule : ValueParser → Text → Rule
 number_rule parser name = record (new_rule name) { required = true; parser = Some parser }
 
--- the required argument that is one or more arguments, of any text
-abbrev pub pairs_rule : Rule
-pairs_rule = record (new_rule (codes "URL=FILE")) { required = true; action = Some Append }
+-- a required argument that is one or more arguments, of any text
+abbrev pub texts_rule : Text → Rule
+texts_rule name = record (new_rule name) { required = true; action = Some Append }
 
 -- the option that is a URL, of any text
 abbrev pub base_rule : Rule
@@ -80,10 +80,10 @@ abbrev pub positions : App
 positions = with_rules (codes "positions") (text_rule (codes "MAP") ∷ base_rule ∷ interval_rule ∷ after_rule ∷ json_rule ∷ [])
 
 abbrev pub rewrite : App
-rewrite = with_rules (codes "rewrite") (pairs_rule ∷ base_rule ∷ interval_rule ∷ hide_rule ∷ anywhere_rule ∷ [])
+rewrite = with_rules (codes "rewrite") (texts_rule (codes "URL=FILE") ∷ base_rule ∷ interval_rule ∷ hide_rule ∷ anywhere_rule ∷ [])
 
 abbrev pub check : App
-check = with_rules (codes "check") (text_rule (codes "PATH") ∷ base_rule ∷ interval_rule ∷ [])
+check = with_rules (codes "check") (texts_rule (codes "PATH") ∷ base_rule ∷ interval_rule ∷ json_rule ∷ [])
 
 abbrev pub show : App
 show = with_rules (codes "show") (text_rule (codes "PATH") ∷ base_rule ∷ [])

@@ -4,10 +4,10 @@ ghost use Rattle.clap.specs.Words.{found_of, rows_of, subcommand_rows_of};
 ghost use Rattle.smap_command.specs.Limits.{is_interval, limit};
 ghost use Rattle.smap_arguments.specs.CommandLine.{interval_number, named, number, source_number};
 ghost use Rattle.smap_arguments.specs.Arguments.{ArePairs, GivesBase, GivesFlag, GivesInterval, GivesNumber, GivesPairs};
-ghost use Rattle.smap_arguments.specs.Arguments.{GivesText, HasArguments, HasCommand, HasValue, HasValueIfGiven};
+ghost use Rattle.smap_arguments.specs.Arguments.{GivesText, GivesTexts, HasArguments, HasCommand, HasValue, HasValueIfGiven};
 ghost use Rattle.smap_arguments.specs.Arguments.{IsInRange, IsNamedRefusal, IsPair};
 ghost use Rattle.smap_arguments.specs.Arguments.{NamedAsksFor, SubcommandAsksFor, SubcommandTells, TellsBadBase};
-ghost use Rattle.smap_arguments.specs.Arguments.{TellsBadPair, TellsNoPair, TellsRefusal, TellsRewrite};
+ghost use Rattle.smap_arguments.specs.Arguments.{TellsBadPair, TellsNoPair, TellsRefusal, TellsRewrite, texts};
 ghost use Rattle.clap.specs.declared.builder.value_parser.ValueParser.TheVariants as parser;
 
 use crate::mistakes::{BAD_BASE, BOTH_FLAGS, no_pair_line};
@@ -62,11 +62,7 @@ fn named_command(
             json: json_in(matches),
         }),
         "rewrite" => rewrite_in(alloc, matches, base),
-        "check" => Ok(Command::Check {
-            path: text_in(alloc, matches, "PATH")?,
-            base,
-            interval: interval_in(matches),
-        }),
+        "check" => Ok(check_in(alloc, matches, base)?),
         "show" => Ok(Command::Show {
             path: text_in(alloc, matches, "PATH")?,
             base,
@@ -98,6 +94,15 @@ fn text_in(alloc: Global, matches: &ArgMatches<'_>, name: &str) -> Result<String
         (string_bytes text)) }
 {
     String::from_str(alloc, matches.get_str(name).unwrap())
+}
+
+// The texts of an argument that may have several.
+fn texts_in<'m, 'a>(matches: &'m ArgMatches<'a>, name: &str) -> &'m [&'a str]
+    requires { HasValue parser.String (rows_of (found_of matches.now)) name.now }
+    ensures { GivesTexts (rows_of (found_of matches.now)) name.now
+        (map (λ word. word.now) result.now) }
+{
+    matches.get_strs(name).unwrap()
 }
 
 // The line or column of an argument, counted from 0.
@@ -168,6 +173,46 @@ fn base_in(alloc: Global, matches: &ArgMatches<'_>) -> Result<Option<Url>, Usage
     }
 }
 
+// What `check` is asked: to tell one map or, of several paths or with `--json`, each by a line of its own.
+fn check_in(
+    alloc: Global,
+    matches: &ArgMatches<'_>,
+    base: Option<Url>,
+) -> Result<Command, AllocError>
+    requires paths { HasValue parser.String (rows_of (found_of matches.now)) (codes "PATH") }
+    requires interval { HasValueIfGiven interval_number (rows_of (found_of matches.now)) (codes "K") }
+    requires json { HasValueIfGiven parser.Bool (rows_of (found_of matches.now)) (codes "json") }
+    requires given { GivesBase (rows_of (found_of matches.now)) base }
+    ensures asked { IfOk result (NamedAsksFor (codes "check") (rows_of (found_of matches.now))) }
+    ensures in_range { IfOk result IsInRange }
+{
+    let interval = interval_in(matches);
+    match (texts_in(matches, "PATH"), json_in(matches)) {
+        ([path], false) => Ok(Command::Check {
+            path: String::from_str(alloc, path)?,
+            base,
+            interval,
+        }),
+        (paths, json) => Ok(Command::CheckAll {
+            paths: copied_texts(alloc, paths)?,
+            base,
+            interval,
+            json,
+        }),
+    }
+}
+
+// The texts once more, each of its own.
+fn copied_texts(alloc: Global, words: &[&str]) -> Result<Vec<String>, AllocError>
+    ensures { IfOk result (λ copies. texts copies.items ≡ map (λ word. word.now) words.now) }
+{
+    let mut copies = Vec::new(alloc);
+    for word in words {
+        copies.push(String::from_str(alloc, word)?)?;
+    }
+    Ok(copies)
+}
+
 // What `rewrite` is asked. Its flags exclude each other.
 fn rewrite_in(alloc: Global, matches: &ArgMatches<'_>, base: Option<Url>) -> Result<Command, Usage>
     requires pairs { HasValue parser.String (rows_of (found_of matches.now)) (codes "URL=FILE") }
@@ -203,7 +248,7 @@ fn maps_in(alloc: Global, matches: &ArgMatches<'_>) -> Result<Vec<(String, Strin
     ensures given { IfOk result (λ maps. GivesPairs (rows_of (found_of matches.now)) maps.items) }
     ensures refused { IfErr result (IsNamedRefusal (TellsBadPair (rows_of (found_of matches.now)))) }
 {
-    pairs_of(alloc, matches.get_strs("URL=FILE").unwrap())
+    pairs_of(alloc, texts_in(matches, "URL=FILE"))
 }
 
 // The URL and the path of each argument of `rewrite`.

@@ -1,17 +1,16 @@
 //! `smap` answers questions about source maps from the command line: `smap lookup app.js.map 1 6` looks up line 1,
 //! column 6 of the generated file in its map file, `smap positions app.js.map` does so for each line of its standard input,
-//! `smap rewrite URL=app.js.map` rewrites the stack trace on its standard input, `smap check app.js.map` counts what a map file holds, `smap show app.js.map` writes it as one
-//! regular map, `smap compose bundle.js.map 0 app.js.map` composes two map files, and `smap raw 1 6` looks a position
-//! up in the bare mappings text on its standard input.
+//! `smap rewrite URL=app.js.map` rewrites the stack trace on its standard input, `smap check app.js.map lib.js.map` counts
+//! what map files hold, `smap show app.js.map` writes one as one regular map, `smap compose bundle.js.map 0 app.js.map`
+//! composes two map files, and `smap raw 1 6` looks a position up in the bare mappings text on its standard input.
 #![tactic(auto)]
 
 mod usage;
 
-ghost use Rattle.std.specs.Prelude.{◌≡◌, map, IfOk};
-ghost use Rattle.smap_answers.specs.Files.{path_of, paths_of};
+ghost use Rattle.std.specs.Prelude.{IfOk};
 ghost use Rattle.smap_command.specs.Interval.{HasInterval};
 
-use smap_answers::{Failure, Loaded, Reply, load_files, run, tell};
+use smap_answers::{Failure, Reply, run_reading, tell};
 pub use smap_arguments::{Usage, parse};
 pub use smap_command::Command;
 use smap_io::FromStd;
@@ -23,11 +22,11 @@ fn main(rt: HostRuntime) -> ExitCode {
     let mut input = FromStd::new(rt.stdin());
     let mut output = FromStd::new(rt.stdout());
     let mut errors = FromStd::new(rt.stderr());
-    let status = match command_with_files(&rt) {
-        Ok((command, files)) => run(
+    let status = match command_of(&rt) {
+        Ok(command) => run_reading(
             rt.alloc(),
+            &rt,
             &command,
-            &files,
             &mut input,
             &mut output,
             &mut errors,
@@ -35,19 +34,6 @@ fn main(rt: HostRuntime) -> ExitCode {
         Err(outcome) => tell(&outcome, &mut output, &mut errors),
     };
     ExitCode::from(status)
-}
-
-// What the command line asks for, and the files that it names; or what is told where there is no such command, or a
-// file can't be read.
-fn command_with_files(rt: &HostRuntime) -> Result<(Command, Vec<Loaded>), Result<Reply, Failure>>
-    ensures loaded { IfOk result (λ asked. map path_of asked.1.items ≡ paths_of asked.0) }
-    ensures interval { IfOk result (λ asked. HasInterval asked.0) }
-{
-    let command = command_of(rt)?;
-    match load_files(rt, &command) {
-        Ok(files) => Ok((command, files)),
-        Err(failure) => Err(Err(failure)),
-    }
 }
 
 // The command that the command line asks for.

@@ -2,12 +2,13 @@
 use Rattle.std.specs.Prelude.{◌≡◌, true, ⊤}
 use Rattle.smap_command.specs.Limits.{is_interval}
 use Rattle.smap_command.specs.declared.command.Command.{Command}
-use Rattle.smap_command.specs.declared.command.Command.TheVariants.{Raw, Check, Show, Lookup, Positions, Rewrite, RewriteAnywhere, Compose}
+use Rattle.smap_command.specs.declared.command.Command.TheVariants.{Raw, Check, CheckAll, Show, Lookup, Positions, Rewrite, RewriteAnywhere, Compose}
 
 -- where a command has an interval, checkpoints may stand at it
 abbrev pub HasInterval : Command → Type 0
 HasInterval (Raw line column interval) = is_interval interval ≡ true
 HasInterval (Check path base interval) = is_interval interval ≡ true
+HasInterval (CheckAll paths base interval json) = is_interval interval ≡ true
 HasInterval (Show path base) = ⊤
 HasInterval (Lookup path line column base interval after json) = is_interval interval ≡ true
 HasInterval (Positions path base interval after json) = is_interval interval ≡ true

@@ -18,6 +18,14 @@ pub enum Command {
         base: Option<Url>,
         interval: u32,
     },
+    /// Checks the source maps in the files at these paths, one after another, each told by itself, with its path: by a line
+    /// or, with `json`, by a JSON object. Their sources are resolved against the base.
+    CheckAll {
+        paths: Vec<String>,
+        base: Option<Url>,
+        interval: u32,
+        json: bool,
+    },
     /// Writes the source map in the file at this path as one regular map. Its sources are resolved against the base.
     Show {
         path: String,

@@ -5,9 +5,13 @@
 #[cfg(test)]
 mod broken;
 #[cfg(test)]
+mod checks;
+#[cfg(test)]
 mod compose;
 #[cfg(test)]
 mod files;
+#[cfg(test)]
+mod held;
 #[cfg(test)]
 mod hostile_files;
 #[cfg(test)]

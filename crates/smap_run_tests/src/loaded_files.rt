@@ -61,7 +61,7 @@ fn left_by(rt: &HostRuntime, command: &Command) -> Result<String, AllocError>
     requires { HasInterval command.now }
 {
     let alloc = rt.alloc();
-    let files = match load_files(rt, command) {
+    let files = match load_files(alloc, rt, command) {
         Ok(files) => files,
         Err(outcome) => return left_text(alloc, outcome.status(), b"", outcome.bytes()),
     };
@@ -109,7 +109,7 @@ fn bytes_of(alloc: Global, is_first: bool) -> Result<Vec<u8>, AllocError> {
 
 // Whether a command loads files of these bytes, and no others.
 fn loads(rt: &HostRuntime, command: &Command, wanted: &[Vec<u8>]) -> bool {
-    let Ok(files) = load_files(rt, command) else {
+    let Ok(files) = load_files(rt.alloc(), rt, command) else {
         return false;
     };
     files.len() == wanted.len()
@@ -119,25 +119,41 @@ fn loads(rt: &HostRuntime, command: &Command, wanted: &[Vec<u8>]) -> bool {
             .all(|(file, bytes)| file.bytes.as_slice() == bytes.as_slice())
 }
 
-#[test]
-fn files_are_loaded_byte_by_byte(rt: HostRuntime) -> Result<(), Fail> {
-    let folder = new_folder(&rt)?;
-    let mut wanted = Vec::new(rt.alloc());
+// Writes two files into a folder, and gives their bytes.
+fn write_both(rt: &HostRuntime, folder: &str) -> Result<Vec<Vec<u8>>, Fail> {
+    let mut written = Vec::new(rt.alloc());
     for (name, is_first) in [("a", true), ("b", false)] {
         let bytes = bytes_of(rt.alloc(), is_first)?;
-        let path = path_in(rt.alloc(), &folder, name)?;
-        fs::write(&rt, path.as_str(), bytes.as_slice())?;
-        wanted.push(bytes)?;
+        let path = path_in(rt.alloc(), folder, name)?;
+        fs::write(rt, path.as_str(), bytes.as_slice())?;
+        written.push(bytes)?;
     }
+    Ok(written)
+}
+
+// Whether the files that a command names are loaded byte by byte.
+fn loads_both(rt: &HostRuntime, folder: &str, command: &Command) -> Result<bool, Fail> {
+    let wanted = write_both(rt, folder)?;
+    Ok(loads(rt, command, &wanted))
+}
+
+#[test]
+fn files_of_compose_are_loaded_byte_by_byte(rt: HostRuntime) -> Result<(), Fail> {
+    let folder = new_folder(&rt)?;
     let command = compose_in(rt.alloc(), &folder, "a", "b")?;
-    assert!(rt; loads(&rt, &command, &wanted), "for compose");
-    let command = rewrite_in(rt.alloc(), &folder, "a", "b")?;
-    assert!(rt; loads(&rt, &command, &wanted), "for rewrite");
-    let path = path_in(rt.alloc(), &folder, "b")?;
-    let command = commands::check(path, None, 64);
-    let second = [bytes_of(rt.alloc(), false)?];
-    assert!(rt; loads(&rt, &command, &second), "for check");
+    let are_loaded = loads_both(&rt, &folder, &command)?;
     fs::remove_dir_all(&rt, folder.as_str())?;
+    assert!(rt; are_loaded);
+    Ok(())
+}
+
+#[test]
+fn files_of_rewrite_are_loaded_byte_by_byte(rt: HostRuntime) -> Result<(), Fail> {
+    let folder = new_folder(&rt)?;
+    let command = rewrite_in(rt.alloc(), &folder, "a", "b")?;
+    let are_loaded = loads_both(&rt, &folder, &command)?;
+    fs::remove_dir_all(&rt, folder.as_str())?;
+    assert!(rt; are_loaded);
     Ok(())
 }
 

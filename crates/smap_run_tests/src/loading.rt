@@ -8,7 +8,7 @@ use std::test::Fail;
 // Each file that the command names with how many bytes are loaded of it, or what is told in its place, with its
 // status.
 fn loaded(rt: &HostRuntime, command: &Command) -> Result<String, AllocError> {
-    match load_files(rt, command) {
+    match load_files(rt.alloc(), rt, command) {
         Ok(files) => files_text(rt.alloc(), &files),
         Err(outcome) => {
             let told = String::from_utf8_lossy(rt.alloc(), outcome.bytes())?;

@@ -39,6 +39,19 @@ pub fn check(path: String, base: Option<Url>, interval: u32) -> Command
     }
 }
 
+/// `check` of the files at these paths, or `check --json`.
+pub fn check_all(paths: Vec<String>, base: Option<Url>, interval: u32, json: bool) -> Command
+    ensures paths { paths_of result ≡ map string_bytes paths.items }
+    ensures interval { HasInterval result }
+{
+    Command::CheckAll {
+        paths,
+        base,
+        interval: in_range(interval),
+        json,
+    }
+}
+
 /// `lookup` in the file at this path, at a line and a column that count from 1, or from there on.
 pub fn lookup(
     path: String,

@@ -1,0 +1,141 @@
+//! The texts of the help: of each command what it does and, after its arguments, how it answers; of each argument what it
+//! is.
+
+pub const STATUSES: &str = "\
+Columns are UTF-16 code units. LINE and COLUMN count from 1, as V8 prints them in a stack trace.
+
+Status: 0 answered, 1 a map, a text or a trace is refused, 2 wrong arguments, 3 an I/O error or out of memory.
+
+Example: smap lookup examples/preset-react.js.map 65 80";
+
+pub const LOOKUP_ABOUT: &str = "Looks a generated position up in a source map file";
+
+pub const LOOKUP_NOTES: &str = "\
+Answers:
+  SOURCE:LINE:COLUMN  the original position, from 1; behind it ` name NAME` where the mapping names the
+                      identifier there, and ` ignored` where the map says to pass over the source
+  unmapped            the mapping is of generated code without an original
+  none                no mapping stands at the position or before it on its line
+
+The last mapping at the position or before it answers or, with --after, the first at it or after it.
+
+Where the map holds the text of the source, its line follows, and a caret under the position.
+
+With --json the answer is one JSON object, on one line.
+
+Columns are UTF-16 code units. LINE and COLUMN count from 1, as V8 prints them in a stack trace.
+
+Example: smap lookup examples/preset-react.js.map 65 80";
+
+pub const POSITIONS_ABOUT: &str = "Answers the positions on standard input from a source map file";
+
+pub const POSITIONS_NOTES: &str = "\
+Each line of standard input is a position: LINE and COLUMN of the generated file, from 1, without signs or
+leading zeros, and between them blanks or one `:` alone.
+
+Answer: for each line one line, in their order, while they come: the first that `smap lookup` prints for it,
+or `bad position`. With --json each is a JSON object.
+
+The last mapping at a position or before it answers or, with --after, the first at it or after it.
+
+Status 1 where a line was no position; standard error then names the first.
+
+Example: printf '65:80\\n66 1\\n' | smap positions examples/preset-react.js.map";
+
+pub const REWRITE_ABOUT: &str = "Rewrites the stack trace on standard input over source map files";
+
+pub const REWRITE_NOTES: &str = "\
+Each URL=FILE is the URL of a generated file, as frames of the trace name it, and the path of that file's
+map; the last `=` of the word stands between them. Sources are resolved against the URL of --base or, where
+there is none, against the map's own.
+
+Answer: the trace, line by line. In a frame of V8, Firefox or Safari whose URL has a map, the place becomes
+the original one; the rest of the line stays, and so does each other line, byte for byte. With --hide-ignored
+the lines of frames from sources that a map says to pass over are left out. With --anywhere each place
+URL:LINE:COLUMN whose URL has a map becomes the original one, wherever it stands in a line.
+
+Example:
+  smap rewrite https://example.test/receipt.min.js=examples/receipt.min.js.map < examples/receipt.trace";
+
+pub const CHECK_ABOUT: &str = "Checks source map files and prints their counts";
+
+pub const CHECK_NOTES: &str = "\
+Answer: how many sections, sources, names and segments the map has, how many generated lines hold a segment,
+and how many checkpoints its index has.
+
+With several PATHs each is told by a line, in their order: `PATH: ok ..` on standard output, or
+`refused: PATH: ..` or `device: read PATH` on standard error. A file is let go before the next is read, and
+one that is refused or can't be read stops no other. The status is the greatest of all.
+
+With --json each map is one JSON object, on one line of standard output, with its path: also one that is
+refused. A file that can't be read has none, but its line on standard error.
+
+Examples:
+  smap check examples/preset-react.js.map
+  find . -name '*.map' -print0 | xargs -0r smap check --json";
+
+pub const SHOW_ABOUT: &str = "Writes a source map file as one regular map";
+
+pub const SHOW_NOTES: &str = "\
+Answer: the map as one regular map, in compact JSON on one line. An index map is joined, each source stands
+under its resolved name, and `mappings` in its shortest spelling. Keys that smap does not read are dropped,
+and so is `sourceRoot`, which the names then have.
+
+Example: smap show examples/bundle.js.map > joined.js.map";
+
+pub const COMPOSE_ABOUT: &str = "Composes two source map files into one regular map";
+
+pub const COMPOSE_NOTES: &str = "\
+OUTER is the map of a file that was made of others, and INNER the map of one of these: of the source of
+OUTER with the number SOURCE, from 0.
+
+Answer: one regular map, in compact JSON on one line. Its sources are those of OUTER and then those of INNER.
+A mapping into source SOURCE leads to the place to which INNER maps that one, or nowhere, where INNER maps it
+to no place; the other mappings stay.
+
+Example: smap compose examples/preset-react.min.js.map 0 examples/preset-react.js.map > whole.js.map";
+
+pub const RAW_ABOUT: &str =
+    "Looks a generated position up in the bare mappings text on standard input";
+
+pub const RAW_NOTES: &str = "\
+Answers:
+  source S line L column C  the original position, L and C from 1; S is a place in `sources`, from 0; behind
+                            it ` name N` where the mapping has a name, N being a place in `names`, from 0
+  unmapped                  the mapping is of generated code without an original
+  none                      no mapping stands at the position or before it on its line
+
+Columns are UTF-16 code units. LINE and COLUMN count from 1, as V8 prints them in a stack trace.
+
+Example: printf 'AAAA,CAAC;AACA' | smap raw 1 6";
+
+pub const PATH_HELP: &str = "Path of the source map file";
+
+pub const PATHS_HELP: &str = "Path of a source map file";
+
+pub const LINE_HELP: &str = "Line of the generated file, from 1";
+
+pub const COLUMN_HELP: &str = "Column of the generated file, from 1, in UTF-16 code units";
+
+pub const PAIRS_HELP: &str = "URL of a generated file, `=` and the path of its source map file";
+
+pub const OUTER_HELP: &str = "Path of the source map file of the last step";
+
+pub const SOURCE_HELP: &str = "Number of the source of OUTER that INNER is the map of, from 0";
+
+pub const INNER_HELP: &str = "Path of the source map file of the step before";
+
+pub const INTERVAL_HELP: &str = "\
+Checkpoints in the index stand at every K-th segment of a line, 1 to 4096, else 64. A
+smaller K answers look-ups faster and takes more memory; their answers are the same";
+
+pub const AFTER_HELP: &str =
+    "Answer by the first mapping on the line at the position or after it, not the last before";
+
+pub const JSON_HELP: &str = "Answer in JSON: one compact object a line";
+
+pub const HIDE_HELP: &str =
+    "Leave out the frames from sources that a map says to pass over (its `ignoreList`)";
+
+pub const ANYWHERE_HELP: &str =
+    "Rewrite every URL:LINE:COLUMN anywhere in a line, not frames alone";

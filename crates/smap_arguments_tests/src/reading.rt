@@ -1,0 +1,165 @@
+//! What arguments come to, as a text that a test compares.
+use smap_arguments::{Usage, parse};
+use smap_command::{Command, Url};
+use std::alloc::{AllocError, Global};
+use std::process::Abort;
+use std::test::Fail;
+
+/// What the arguments come to, on one line or, for help and mistakes, with their text.
+pub fn read(alloc: Global, words: &[&str]) -> Result<String, AllocError> {
+    let mut owned = Vec::new(alloc);
+    for word in words {
+        owned.push(String::from_str(alloc, word)?)?;
+    }
+    match parse(alloc, owned) {
+        Ok(
+            Command::Raw {
+                line,
+                column,
+                interval,
+            },
+        ) => format!(in alloc; "raw {line} {column} every {interval}"),
+        Ok(
+            Command::Check {
+                path,
+                base,
+                interval,
+            },
+        ) => {
+            let base = base_text(&base);
+            format!(in alloc; "check {path}{base} every {interval}")
+        }
+        Ok(
+            Command::CheckAll {
+                paths,
+                base,
+                interval,
+                json,
+            },
+        ) => {
+            let base = base_text(&base);
+            let flags = flags_text(false, json);
+            let mut told = format!(in alloc; "check all{base} every {interval}{flags}")?;
+            for path in paths {
+                told = format!(in alloc; "{told} [{path}]")?;
+            }
+            Ok(told)
+        }
+        Ok(Command::Show { path, base }) => {
+            let base = base_text(&base);
+            format!(in alloc; "show {path}{base}")
+        }
+        Ok(
+            Command::Lookup {
+                path,
+                line,
+                column,
+                base,
+                interval,
+                after,
+                json,
+            },
+        ) => {
+            let base = base_text(&base);
+            let flags = flags_text(after, json);
+            format!(in alloc; "lookup {path} {line} {column}{base} every {interval}{flags}")
+        }
+        Ok(
+            Command::Positions {
+                path,
+                base,
+                interval,
+                after,
+                json,
+            },
+        ) => {
+            let base = base_text(&base);
+            let flags = flags_text(after, json);
+            format!(in alloc; "positions {path}{base} every {interval}{flags}")
+        }
+        Ok(
+            Command::Rewrite {
+                maps,
+                base,
+                interval,
+                hide_ignored,
+            },
+        ) => {
+            let base = base_text(&base);
+            let hiding = if hide_ignored { " hiding" } else { "" };
+            let mut told = format!(in alloc; "rewrite{base} every {interval}{hiding}")?;
+            for (url, path) in maps {
+                told = format!(in alloc; "{told} [{url}][{path}]")?;
+            }
+            Ok(told)
+        }
+        Ok(
+            Command::RewriteAnywhere {
+                maps,
+                base,
+                interval,
+            },
+        ) => {
+            let base = base_text(&base);
+            let mut told = format!(in alloc; "anywhere{base} every {interval}")?;
+            for (url, path) in maps {
+                told = format!(in alloc; "{told} [{url}][{path}]")?;
+            }
+            Ok(told)
+        }
+        Ok(
+            Command::Compose {
+                outer,
+                source,
+                inner,
+                base,
+            },
+        ) => {
+            let base = base_text(&base);
+            format!(in alloc; "compose {outer} {source} {inner}{base}")
+        }
+        Err(usage) => read_usage(alloc, &usage),
+    }
+}
+
+// The flags of a look-up.
+fn flags_text(after: bool, json: bool) -> &'static str {
+    match (after, json) {
+        (false, false) => "",
+        (true, false) => " after",
+        (false, true) => " in JSON",
+        (true, true) => " after in JSON",
+    }
+}
+
+fn base_text(base: &Option<Url>) -> &str {
+    match base {
+        Some(url) => url.as_str(),
+        None => "",
+    }
+}
+
+fn read_usage(alloc: Global, usage: &Usage) -> Result<String, AllocError> {
+    match usage {
+        Usage::Help(text) => format!(in alloc; "help: {text}"),
+        Usage::Words(text) => format!(in alloc; "words: {text}"),
+        Usage::Memory => String::from_str(alloc, "memory"),
+    }
+}
+
+/// The arguments are no command, and the text for them begins so and ends in one LF.
+pub fn assert_refused(
+    rt: &impl Abort,
+    alloc: Global,
+    words: &[&str],
+    start: &str,
+) -> Result<(), Fail> {
+    let told = read(alloc, words)?;
+    let wanted = format!(in alloc; "words: {start}")?;
+    assert!(rt; told.starts_with(wanted.as_str()), "{words:?}: {told}");
+    assert!(rt;
+        told.ends_with("\n") && !told.ends_with("\n\n"),
+        "{words:?}: {told}"
+    );
+    Ok(())
+}

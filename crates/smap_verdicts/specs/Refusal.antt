@@ -1,0 +1,81 @@
+-- Why a map file is refused, as text and as JSON: how the refusal is called, and then its parts.
+use Rattle.std.specs.Prelude.{ℕ, ◌+◌, false, List, [], ◌∷◌, ◌++◌, codes}
+use Rattle.std.specs.Fmt.{decimal}
+use Rattle.serde_json.specs.Data.{Data, Members, boolean, string, object, no_members, member}
+use Rattle.smap_mappings.specs.declared.fault.Fault.{Fault}
+use Rattle.smap_index.specs.declared.refusal.BuildRefusal.{BuildRefusal}
+use Rattle.smap_index.specs.declared.refusal.BuildRefusal.TheVariants.{SectionOrder, SectionOverlap, PositionRange}
+use Rattle.smap_record.specs.declared.refusal.MapRefusal.{MapRefusal}
+use Rattle.smap_record.specs.declared.refusal.MapRefusal.TheVariants.{SectionOffset, Nested, Text, Build}
+use Rattle.smap_verdicts.specs.Named.{Named, build_named, kind_named, named_text, refusal_named}
+use Rattle.smap_verdicts.specs.Texts.{count, text_from}
+
+-- ---- as text
+
+-- a fault of a mappings text; its line counts from 0, and prints from 1, its byte from 0
+abbrev pub fault_text : Fault → List ℕ
+fault_text fault = text_from (
+    named_text (kind_named fault.kind) ∷ codes " line " ∷ decimal (fault.line + 1) ∷ codes " byte " ∷ decimal fault.byte ∷ [])
+
+-- the section in which an index is not built, which counts from 0, where there is one
+abbrev pub build_section_text : BuildRefusal → List ℕ
+build_section_text (SectionOrder section) = codes " " ++ decimal section
+build_section_text (SectionOverlap section) = codes " " ++ decimal section
+build_section_text (PositionRange section) = codes " " ++ decimal section
+build_section_text other = []
+
+-- the parts of a refusal, where it has some, each after a space
+abbrev pub parts_text : MapRefusal → List ℕ
+parts_text (SectionOffset section) = codes " " ++ decimal section
+parts_text (Nested section) = codes " " ++ decimal section
+parts_text (Text section fault) = text_from (codes " " ∷ decimal section ∷ codes " " ∷ fault_text fault ∷ [])
+parts_text (Build refusal) = text_from (codes " " ∷ named_text (build_named refusal) ∷ build_section_text refusal ∷ [])
+parts_text other = []
+
+-- the whole of it
+abbrev pub refusal_text : MapRefusal → List ℕ
+refusal_text refusal = named_text (refusal_named refusal) ++ parts_text refusal
+
+-- ---- as JSON, whose keys stand in the order of their bytes
+
+-- its name and number, `ok`, which is false, and the path of the map
+abbrev pub refused_members : (path : List ℕ) → Named → Members → Members
+refused_members path called rest =
+    member (codes "name") (string called.name)
+    (member (codes "ok") (boolean false)
+    (member (codes "path") (string path)
+    (member (codes "refusal") (string called.number) rest)))
+
+-- the first fault of the mappings of a section
+abbrev pub fault_members : Fault → Members → Members
+fault_members fault rest =
+    member (codes "byte") (count fault.byte)
+    (member (codes "fault") (string (kind_named fault.kind).number)
+    (member (codes "faultName") (string (kind_named fault.kind).name)
+    (member (codes "line") (count (fault.line + 1)) rest)))
+
+-- why the index is not built
+abbrev pub index_members : BuildRefusal → Members → Members
+index_members refusal rest =
+    member (codes "index") (string (build_named refusal).number)
+    (member (codes "indexName") (string (build_named refusal).name) rest)
+
+-- the section, which counts from 0
+abbrev pub section_member : (section : ℕ) → Members
+section_member section = member (codes "section") (count section) no_members
+
+abbrev pub build_section_member : BuildRefusal → Members
+build_section_member (SectionOrder section) = section_member section
+build_section_member (SectionOverlap section) = section_member section
+build_section_member (PositionRange section) = section_member section
+build_section_member other = no_members
+
+-- the refusal of the map at a path
+abbrev pub refusal_value : (path : List ℕ) → MapRefusal → Data
+refusal_value path (SectionOffset section) = object (refused_members path (refusal_named (SectionOffset section)) (section_member section))
+refusal_value path (Nested section) = object (refused_members path (refusal_named (Nested section)) (section_member section))
+refusal_value path (Text section fault) =
+    object (fault_members fault (refused_members path (refusal_named (Text section fault)) (section_member section)))
+refusal_value path (Build refusal) =
+    object (index_members refusal (refused_members path (refusal_named (Build refusal)) (build_section_member refusal)))
+refusal_value path other = object (refused_members path (refusal_named other) no_members)

@@ -1,0 +1,139 @@
+//! Why a map file is refused, as JSON.
+ghost use Rattle.std.specs.Prelude.{◌≡◌, string_bytes, IfOk, OnOk};
+ghost use Rattle.serde_json.specs.Data.{no_members, put, string};
+ghost use Rattle.serde_json.specs.View.{members_view, view};
+ghost use Rattle.serde_json.specs.Written.{compact_text};
+ghost use Rattle.smap_verdicts.specs.Named.{named};
+ghost use Rattle.smap_verdicts.specs.Private.Put.{part_members, put_all};
+ghost use Rattle.smap_verdicts.specs.Refusal.{build_section_member, fault_members, index_members};
+ghost use Rattle.smap_verdicts.specs.Refusal.{refusal_value, refused_members, section_member};
+
+use crate::label::{Label, build_label, kind_label, refusal_label};
+use serde_json::{Map, Value, put};
+use smap_record::{BuildRefusal, Fault, MapRefusal};
+use std::alloc::{AllocError, Global};
+
+/// The refusal of the map at a path as JSON, on one line, with no LF. The line of a fault counts from 1, its byte and a
+/// section from 0.
+pub fn refusal_json(alloc: Global, path: &str, refusal: MapRefusal) -> Result<String, AllocError>
+    ensures { IfOk result (λ text. string_bytes text
+        ≡ compact_text (refusal_value path.now refusal)) }
+{
+    let value = refusal_value(alloc, path, refusal)?;
+    value.to_string(alloc)
+}
+
+// The same as a value.
+fn refusal_value(alloc: Global, path: &str, refusal: MapRefusal) -> Result<Value, AllocError>
+    ensures { IfOk result (λ value. view value ≡ refusal_value path.now refusal) }
+{
+    let mut members = refused_members(alloc, path, refusal_label(refusal))?;
+    put_parts(&mut members, alloc, refusal)?;
+    Ok(Value::Object(members))
+}
+
+// How the refusal is called, and of which map it is.
+fn refused_members(
+    alloc: Global,
+    path: &str,
+    label: Label,
+) -> Result<Map<String, Value>, AllocError>
+    ensures { IfOk result (λ members. members_view members.entries
+        ≡ refused_members path.now (named label.number.now label.name.now) no_members) }
+{
+    let mut members = Map::new(alloc);
+    put_text(&mut members, alloc, "name", label.name)?;
+    put(&mut members, alloc, "ok", Value::Bool(false))?;
+    put_text(&mut members, alloc, "path", path)?;
+    put_text(&mut members, alloc, "refusal", label.number)?;
+    Ok(members)
+}
+
+// Adds the parts of the refusal, where it has some.
+fn put_parts(
+    members: &mut Map<String, Value>,
+    alloc: Global,
+    refusal: MapRefusal,
+) -> Result<(), AllocError>
+    ensures { OnOk result (members_view members.new.entries
+        ≡ put_all (part_members refusal) (members_view members.old.entries)) }
+{
+    match refusal {
+        MapRefusal::SectionOffset(section) | MapRefusal::Nested(section) => {
+            put_section(members, alloc, section)
+        }
+        MapRefusal::Text(section, fault) => {
+            put_fault(members, alloc, fault)?;
+            put_section(members, alloc, section)
+        }
+        MapRefusal::Build(refusal) => put_build(members, alloc, refusal),
+        _ => Ok(()),
+    }
+}
+
+// Adds the first fault of the mappings of a section.
+fn put_fault(
+    members: &mut Map<String, Value>,
+    alloc: Global,
+    fault: Fault,
+) -> Result<(), AllocError>
+    ensures { OnOk result (members_view members.new.entries
+        ≡ put_all (fault_members fault no_members) (members_view members.old.entries)) }
+{
+    let label = kind_label(fault.kind);
+    put(members, alloc, "byte", Value::from(fault.byte))?;
+    put_text(members, alloc, "fault", label.number)?;
+    put_text(members, alloc, "faultName", label.name)?;
+    put(
+        members,
+        alloc,
+        "line",
+        Value::from(u64::from(fault.line) + 1),
+    )
+}
+
+// Adds why the index is not built, with the section, where there is one.
+fn put_build(
+    members: &mut Map<String, Value>,
+    alloc: Global,
+    refusal: BuildRefusal,
+) -> Result<(), AllocError>
+    ensures { OnOk result (members_view members.new.entries
+        ≡ put_all (index_members refusal (build_section_member refusal))
+        (members_view members.old.entries)) }
+{
+    let label = build_label(refusal);
+    put_text(members, alloc, "index", label.number)?;
+    put_text(members, alloc, "indexName", label.name)?;
+    match refusal {
+        BuildRefusal::SectionOrder(section)
+        | BuildRefusal::SectionOverlap(section)
+        | BuildRefusal::PositionRange(section) => put_section(members, alloc, section),
+        BuildRefusal::Interval | BuildRefusal::Memory => Ok(()),
+    }
+}
+
+// Adds the section.
+fn put_section(
+    members: &mut Map<String, Value>,
+    alloc: Global,
+    section: u64,
+) -> Result<(), AllocError>
+    ensures { OnOk result (members_view members.new.entries
+        ≡ put_all (section_member section) (members_view members.old.entries)) }
+{
+    put(members, alloc, "section", Value::from(section))
+}
+
+// Adds a text at a key.
+fn put_text(
+    members: &mut Map<String, Value>,
+    alloc: Global,
+    key: &str,
+    text: &str,
+) -> Result<(), AllocError>
+    ensures { OnOk result (members_view members.new.entries
+        ≡ put key.now (string text.now) (members_view members.old.entries)) }
+{
+    put(members, alloc, key, Value::try_from_str(alloc, text)?)
+}

@@ -1,0 +1,18 @@
+//! What is told of a map file, as text and as JSON: how much it holds, or why it is refused.
+//!
+//! ```text
+//! match MapFile::read(alloc, bytes, None, 64) {
+//!     Ok(map) => counts_json(alloc, path, map_counts(&map))?,
+//!     Err(refusal) => refusal_json(alloc, path, refusal)?,
+//! }
+//! ```
+#![tactic(auto)]
+
+mod as_json;
+mod as_text;
+mod counts;
+mod label;
+
+pub use as_json::refusal_json;
+pub use as_text::{fault_text, refusal_text};
+pub use counts::{MapCounts, counts_json, counts_text, map_counts};
