@@ -27,8 +27,8 @@ left_none [] n none = refl
 left_none (part ∷ parts) n none = absurd (omega arith)
 
 module _ (parts : List Part) (part : Part) (rest : List Part) (is : parts ≡ part ∷ rest) (n : ℕ) (state : Cursor) (walk : IsWalkThrough parts n state) where
-  pub first_state : IsAfter part.text n state
-  first_state = subst (λ parts. IsAtFront parts n state) is walk.there
+  pub first_state : (at : Cursor) → at ≡ state → IsAfter part.text n at
+  first_state at same = subst (IsAfter part.text n) (sym same) (subst (λ parts. IsAtFront parts n state) is walk.there)
 
   both_in_range : (list_any is_mapping_past_limit (placed part) ≡ false) × (list_any is_mapping_past_limit (joined rest) ≡ false)
   both_in_range = or_parts _ _ (sym (list_any-append is_mapping_past_limit (placed part) (joined rest)) ∙ ap (λ parts. list_any is_mapping_past_limit (joined parts)) (sym is) ∙ walk.in_range)

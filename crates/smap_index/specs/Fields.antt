@@ -7,7 +7,7 @@ abbrev pub contents_of : Inside → IndexContents
 contents_of inside = record {
   parts = inside.parts.items;
   k = inside.k;
-  checkpoints = inside.checkpoints;
+  checkpoints = inside.table;
   segments = inside.segments;
   used_lines = inside.used_lines;
 }

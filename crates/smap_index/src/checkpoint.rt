@@ -2,7 +2,7 @@
 
 ghost use Rattle.std.specs.Prelude.{◌≡◌, false};
 ghost use Rattle.smap_mappings.specs.Range.{is_mapping_past_limit};
-ghost use Rattle.smap_mappings.specs.State.{IsMappingAt};
+ghost use Rattle.smap_mappings.specs.State.{IsBetween, IsMappingAt};
 ghost use Rattle.smap_index.specs.Parts.{placed_mapping};
 ghost use Rattle.smap_index.specs.Checkpoint.{origin_with, mapping_of, state_of};
 ghost use Rattle.smap_index.specs.Private.Walk.{checkpoint_at, kind_of, IsFitting};
@@ -21,7 +21,7 @@ pub enum Kind {
 // A segment from which a look-up can begin: the number of its part, from 0, and what it has, which share a word; the byte
 // place after it in the part's text; and the running values there, at their place in the joined list. Of these the
 // mapping has some, and the state has all.
-#[derive(Drop)]
+#[derive(Clone, Copy)]
 pub struct Checkpoint {
     pub part: u16,
     pub kind: Kind,
@@ -94,10 +94,11 @@ impl Checkpoint {
 
     // The state after the segment in the text of its part.
     pub fn state(&self, part: &Part) -> State
+        requires { IsBetween part.now.text (state_of part.now self.now) }
         ensures { result ≡ state_of part.now self.now }
     {
         let line = self.line.saturating_sub(part.line);
-        State::new(Cursor {
+        part.text.state_at(Cursor {
             place: self.place as usize,
             line,
             column: if line == 0 {

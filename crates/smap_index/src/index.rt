@@ -41,7 +41,7 @@ use std::marker::Model;
 #[derive(Drop)]
 pub struct Index {
     parts: Vec<Part>,
-    checkpoints: Checkpoints,
+    table: Checkpoints,
     k: u32,
     segments: u64,
     used_lines: u64,
@@ -91,7 +91,7 @@ impl Index {
         }
         Ok(Index {
             parts,
-            checkpoints,
+            table: checkpoints,
             k,
             segments: totals.segments,
             used_lines: totals.used_lines,
@@ -112,7 +112,7 @@ impl Index {
             × (meter.old.segments ≤ meter.new.segments) }
     {
         let through = Bound::new(line, column, Side::Through);
-        let nearest = nearest_checkpoints(&self.checkpoints, &through, meter);
+        let nearest = nearest_checkpoints(&self.table, &through, meter);
         match nearest.last {
             Some(checkpoint) if checkpoint.line == line => {
                 let part = &self.parts[checkpoint.part as usize];
@@ -156,7 +156,7 @@ impl Index {
         ensures onward { (meter.old.comparisons ≤ meter.new.comparisons)
             × (meter.old.segments ≤ meter.new.segments) }
     {
-        let nearest = nearest_checkpoints(&self.checkpoints, bound, meter);
+        let nearest = nearest_checkpoints(&self.table, bound, meter);
         let next = mapping_at(nearest.next);
         match nearest.last {
             Some(checkpoint) if checkpoint.line as u64 == bound.position.line => {
@@ -175,7 +175,7 @@ impl Index {
         ensures bound { let segments = length (joined self.now.parts) in
             result ≤ segments / self.now.k + used_lines_in self.now.parts }
     {
-        self.checkpoints.len() as u64
+        self.table.len() as u64
     }
 
     /// How many segments the texts hold.
@@ -258,12 +258,12 @@ fn an_index_has_these_fields_alone(rt: HostRuntime) -> Result<(), std::test::Fai
     let index = Index::build(rt.alloc(), Vec::new(rt.alloc()), 2)?;
     let Index {
         parts,
-        checkpoints,
+        table,
         k,
         segments,
         used_lines,
     } = &index;
-    assert!(&rt; parts.is_empty() && checkpoints.len() == 0);
+    assert!(&rt; parts.is_empty() && table.len() == 0);
     assert!(&rt; *k == 2 && *segments == 0 && *used_lines == 0);
     Ok(())
 }

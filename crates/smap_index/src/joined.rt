@@ -8,7 +8,7 @@ ghost use Rattle.smap_index.specs.Joined.{IsAtFront};
 
 use crate::part::Part;
 use crate::placed::placed_mapping;
-use smap_mappings::{Cursor, Mapping, Meter, State};
+use smap_mappings::{Cursor, Mapping, Meter};
 use std::alloc::Global;
 use std::marker::Model;
 
@@ -19,8 +19,8 @@ pub struct JoinedMappings<'a> {
     alloc: Global,
     // The part whose mappings come next, and those after it.
     parts: &'a [Part],
-    // The state in that part's text, and how many segments of it were decoded.
-    state: State,
+    // The place in that part's text with the running values there, and how many segments of it were decoded.
+    cursor: Cursor,
     meter: Meter,
 }
 
@@ -33,7 +33,7 @@ impl<'a> Model for JoinedMappings<'a> {
 
     ghost view = { λ walk. left_of walk.parts.now walk.meter.segments };
 
-    ghost invariant = { λ walk. IsWalkThrough walk.parts.now walk.meter.segments walk.state };
+    ghost invariant = { λ walk. IsWalkThrough walk.parts.now walk.meter.segments walk.cursor };
 }
 
 // The mappings of these parts. It is made with an allocator, though it takes no memory, so that a look-up, which is
@@ -45,18 +45,18 @@ pub fn joined<'a>(alloc: Global, parts: &'a [Part]) -> JoinedMappings<'a>
     JoinedMappings {
         alloc,
         parts,
-        state: front(parts),
+        cursor: front(parts),
         meter: Meter::new(alloc),
     }
 }
 
-// The state before the first segment of the first of these parts.
-fn front(parts: &[Part]) -> State
+// The place before the first segment of the first of these parts.
+fn front(parts: &[Part]) -> Cursor
     ensures { IsAtFront parts.now 0 result }
 {
     match parts.first() {
-        Some(part) => part.text.start(),
-        None => State::new(Cursor::START),
+        Some(part) => part.text.start().cursor(),
+        None => Cursor::START,
     }
 }
 
@@ -75,15 +75,16 @@ impl<'a> Iterator for JoinedMappings<'a> {
             // The contracts of `segments` and `start` say that they are few, so that the meter has room.
             let _segments = part.text.segments();
             let _start = part.text.start();
-            if let Some((mapping, after)) = part.text.next(&self.state, &mut self.meter) {
-                self.state = after;
+            let state = part.text.state_at(self.cursor);
+            if let Some((mapping, after)) = part.text.next(&state, &mut self.meter) {
+                self.cursor = after.cursor();
                 let Some(placed) = placed_mapping(part, &mapping) else {
                     unreachable!("no mapping of an index is past the limit");
                 };
                 return Some(placed);
             }
             self.parts = rest;
-            self.state = front(rest);
+            self.cursor = front(rest);
             self.meter = Meter::new(self.alloc);
         }
         None

@@ -113,6 +113,17 @@ impl PackedText {
         State::new(Cursor::START)
     }
 
+    /// The state at a place between two segments of this text, with the running values there. The caller gives a place
+    /// and values that stand between two segments: a cursor that a state of this text told, or one worked out from it.
+    #[inline(always)]
+    pub fn state_at(&self, cursor: Cursor) -> State
+        requires { IsBetween self.now cursor }
+        ensures { result ≡ cursor }
+    {
+        let _text = &self.text;
+        State::new(cursor)
+    }
+
     /// The mapping of the next segment and the state after it, whose running values are the mapping's numbers, or
     /// `None` at the end of the text. The caller gives a state of this text, and a meter whose count of segments leaves
     /// room for one more. A segment that is given adds one to that count, and the end adds nothing. The call takes no

@@ -2,8 +2,8 @@
 use crate::cursor::Cursor;
 use std::marker::Model;
 
-/// A place between two segments of a text, and all running values there, as a text takes it and gives it back. It is of
-/// use with its own text alone.
+/// A place between two segments of a text, and all running values there. One comes from a text alone: `start`, `next`
+/// and `state_at` give it, and `next` of the same text takes it back.
 #[derive(Clone, Copy)]
 pub struct State {
     cursor: Cursor,
@@ -22,9 +22,9 @@ impl Model for State {
 impl State {
     ghost use Rattle.std.specs.Prelude.{◌≡◌};
 
-    /// The state at this place, with these running values.
+    // The state at this place, with these running values.
     #[inline(always)]
-    pub fn new(cursor: Cursor) -> Self
+    pub(crate) fn new(cursor: Cursor) -> Self
         ensures { result ≡ cursor }
     {
         State { cursor }

@@ -1,6 +1,6 @@
 -- The sources of a section (ECMA-426, Source map format and Resolving sources), as contracts compare them.
-use Rattle.std.specs.Prelude.{ℕ, List, Option, Bool, false, map, option_map, slice_get, string_bytes, unwrap_or}
-use Rattle.std.specs.List.{enumerate_from}
+use Rattle.std.specs.Prelude.{◌≡◌, ℕ, List, Option, Bool, true, false, is_some, map, option_map, slice_get, string_bytes, unwrap_or}
+use Rattle.std.specs.List.{enumerate_from, list_any}
 use Rattle.std.specs.Option.{option_flatten}
 use Rattle.url.specs.Parts.{Parts}
 use Rattle.smap_resolve.specs.SourceName.{Name, name_of, source_name}
@@ -39,3 +39,7 @@ sources_with base stated texts = map (λ at. source_at base stated at.0 at.1) (e
 -- the sources that a section states, of a map that stands at this URL
 abbrev pub sources_stated : Option Parts → StatedSources → List StatedSource
 sources_stated base stated = sources_with base stated stated.texts
+
+-- one of these sources has a name
+abbrev pub NamesASource : List StatedSource → Type 0
+NamesASource sources = list_any (λ (source : StatedSource). is_some source.name) sources ≡ true

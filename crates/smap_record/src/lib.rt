@@ -29,7 +29,7 @@ mod written;
 pub use entry::SourceEntry;
 pub use map_file::MapFile;
 pub use refusal::MapRefusal;
-pub use smap_index::{Answer, BuildRefusal};
+pub use smap_index::{Answer, BuildRefusal, JoinedMappings};
 pub use smap_mappings::{Fault, FaultKind, Mapping, Meter, Origin};
 pub use smap_resolve::SourceName;
 pub use url::Url;

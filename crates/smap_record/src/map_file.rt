@@ -1,6 +1,7 @@
 //! A map file that was read, and the look-ups in it.
-ghost use Rattle.std.specs.Prelude.{◌≡◌, ◌<◌, ◌⊎◌, ◌+◌, ◌-◌, ◌≤◌, ◌*◌, ◌/◌, ◌^◌, ℕ, None, Ok, Err, length, slice_get, option_copied, option_map, IsOk, IsOkUnless, IfOk, IfErr};
+ghost use Rattle.std.specs.Prelude.{◌≡◌, ◌<◌, ◌⊎◌, ◌+◌, ◌-◌, ◌≤◌, ◌*◌, ◌/◌, ◌^◌, ℕ, None, Ok, Err, length, slice_get, option_copied, option_map, IsOkUnless, IfOk, IfErr};
 ghost use Rattle.std.specs.List.{All};
+ghost use Rattle.std.specs.Result.{IsOkAnd};
 ghost use Rattle.smap_mappings.specs.Canonical.{canonical_text};
 ghost use Rattle.smap_mappings.specs.Limits.{most_text_bytes};
 ghost use Rattle.smap_mappings.specs.Meter.{HasRoom};
@@ -12,7 +13,7 @@ ghost use Rattle.smap_record.specs.Limits.{most_file_bytes};
 ghost use Rattle.smap_record.specs.MapFile.{IsAnswerWithin};
 ghost use Rattle.smap_record.specs.ReadBack.{ReadsBackAs};
 ghost use Rattle.smap_record.specs.Record.{answer_of_map, answer_of_map_from, record_of};
-ghost use Rattle.smap_record.specs.Sources.{source_of};
+ghost use Rattle.smap_record.specs.Sources.{source_of, NamesASource};
 ghost use Rattle.smap_record.specs.Written.{written};
 ghost use Rattle.smap_record.specs.declared.refusal.MapRefusal.TheVariants as refusals;
 
@@ -54,8 +55,8 @@ impl Model for MapFile {
 impl MapFile {
     /// Reads the bytes of a map file (ECMA-426, Source map format) that stands at this URL. Its index has a checkpoint
     /// at the segments of number 0, `k`, 2`k` and so on of each line of a section; `k` is 1 to 4096, and any other is
-    /// refused before the sources get their names. `Url` comes after all other refusals. After a refusal nothing is
-    /// kept.
+    /// refused before the sources get their names. `Url` comes after all other refusals, and only where a source has a
+    /// name. After a refusal nothing is kept.
     #[tactic(auto, unfolding(crate::specs::Record::record_of, crate::specs::Record::record_in))]
     pub fn read(
         alloc: Global,
@@ -67,7 +68,8 @@ impl MapFile {
         ensures stated { IfOk result
             (λ map. (record_of bytes.now (option_copied base.entry) k ≡ Ok map.stated) × (map.k ≡ k)) }
         ensures refused { IfErr result (λ refusal. (refusal ≡ refusals.Memory)
-            ⊎ ((refusal ≡ refusals.Url) × IsOk (record_of bytes.now (option_copied base.entry) k))
+            ⊎ ((refusal ≡ refusals.Url) × IsOkAnd (record_of bytes.now (option_copied base.entry) k)
+                (λ stated. NamesASource stated.sources))
             ⊎ (record_of bytes.now (option_copied base.entry) k ≡ Err refusal)) }
     {
         if bytes.len() > MOST_FILE_BYTES {

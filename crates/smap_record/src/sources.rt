@@ -1,10 +1,10 @@
 //! The sources of a map, from what its sections state of them.
-ghost use Rattle.std.specs.Prelude.{◌≡◌, ◌⊎◌, ◌++◌, false, drop, map, flat_map, option_copied, option_map, slice_get, string_bytes, unwrap_or, IfOk, IfErr};
+ghost use Rattle.std.specs.Prelude.{◌≡◌, ◌⊎◌, ◌++◌, false, drop, is_some, map, flat_map, option_copied, option_map, slice_get, string_bytes, unwrap_or, IfOk, IfErr, IsTrue};
 ghost use Rattle.std.specs.Option.{option_flatten};
 ghost use Rattle.std.specs.Vec.Iter.{into_iter_items};
 ghost use Rattle.smap_resolve.specs.SourceName.{name_of, source_name};
 ghost use Rattle.smap_record.specs.Private.Seen.{sources_seen, texts_seen};
-ghost use Rattle.smap_record.specs.Sources.{source_of, sources_stated};
+ghost use Rattle.smap_record.specs.Sources.{source_of, sources_stated, NamesASource};
 ghost use Rattle.smap_record.specs.declared.refusal.MapRefusal.TheVariants as refusals;
 
 use crate::entry::SourceEntry;
@@ -24,7 +24,8 @@ pub fn sources(
     ensures list { IfOk result (λ sources. map source_of sources.items
         ≡ flat_map (sources_stated (option_copied base.entry)) (map sources_seen sections.items)) }
     ensures refused { IfErr result (λ refusal. (refusal ≡ refusals.Memory)
-        ⊎ (refusal ≡ refusals.Url)) }
+        ⊎ ((refusal ≡ refusals.Url) × NamesASource
+        (flat_map (sources_stated (option_copied base.entry)) (map sources_seen sections.items)))) }
 {
     let mut sources = Vec::new(alloc);
     for section in sections {
@@ -45,7 +46,8 @@ fn add_sources(
         ≡ map source_of sources.old.items
         ++ sources_stated (option_copied base.entry) (sources_seen section)) }
     ensures refused { IfErr result (λ refusal. (refusal ≡ refusals.Memory)
-        ⊎ (refusal ≡ refusals.Url)) }
+        ⊎ ((refusal ≡ refusals.Url)
+        × NamesASource (sources_stated (option_copied base.entry) (sources_seen section)))) }
 {
     let SectionSources {
         root,
@@ -79,7 +81,7 @@ fn source_name(
         ≡ option_map (λ t. source_name (option_copied root.entry) t (option_copied base.entry))
         (option_map string_bytes text)) }
     ensures refused { IfErr result (λ refusal. (refusal ≡ refusals.Memory)
-        ⊎ (refusal ≡ refusals.Url)) }
+        ⊎ ((refusal ≡ refusals.Url) × IsTrue (is_some text))) }
 {
     match text {
         Some(text) => Ok(Some(resolve(alloc, root, &text, base)?)),

@@ -1,5 +1,6 @@
 use Rattle.std.proofs.Common.{◌≡◌, [], ◌∷◌, ◌++◌, drop, length, map, option_map, string_bytes, sym, ap, ◌∙◌}
 use Rattle.std.specs.Prelude.{option_copied}
+use Rattle.std.proofs.lemmas.Result.{err_from_is_err_and}
 use Rattle.std.proofs.lemmas.List.{append_assoc, append-nil, drop-drop, length_push, length-map, map-append}
 use Rattle.smap_resolve.specs.SourceName.{name_of, source_name}
 use Rattle.smap_record.specs.Sources.{source_of, sources_with}
@@ -7,6 +8,7 @@ use Rattle.smap_record.specs.Private.Seen.{sources_seen, texts_seen}
 use Rattle.smap_record.specs.declared.entry.SourceEntry.{SourceEntry}
 use Rattle.smap_record.proofs.EachLaws.{none_left}
 use Rattle.smap_record.proofs.EntryLaws.{sources_push, content_at, flag_at, at_place}
+use Rattle.smap_record.proofs.NamedLaws.{or_then, section_named}
 use Rattle.smap_record.proofs.sources.add_sources.Goals as goal
 
 pub loop-text-preserved : goal.loop-text-preserved
@@ -44,3 +46,10 @@ returns-clause-list c =
     c.loop-text.invariant.list
     ∙ ap (λ texts. map source_of c.args.sources.now.items ++ sources_with (option_copied c.args.base) (sources_seen c.args.section) (texts_seen texts))
     (sym (append-nil before) ∙ ap (λ rest. before ++ rest) (sym (none_left c.loop-text.text-iterator c.in-None.ensures.steps.0)) ∙ c.loop-text.invariant.texts)
+
+pub returns-in_err-name-clause-refused : goal.returns-in_err-name-clause-refused
+returns-in_err-name-clause-refused c =
+    let before = c.loop-text.yielded in
+    let p = err_from_is_err_and c.from_residual.result c.from_residual.ensures.1 in
+    rw (p.1, p.2) (
+    or_then (λ url. (url.0, section_named (option_copied c.args.base) c.args.section before c.in-Some.text c.next.new.self.rest.items (ap (λ rest. before ++ rest) (sym c.in-Some.ensures.steps.0) ∙ c.loop-text.invariant.texts) url.1)) c.in_err-name.ensures.refused)

@@ -6,7 +6,7 @@ use Rattle.smap_index.proofs.joined.JoinedMappingsIterator.next.Given as goal
 abbrev pub invariant-loop-part : goal.invariant-loop-part
 invariant-loop-part l = record {
   same : left_of l.self-inside.parts.now l.self-inside.meter.segments ≡ l.fn.self;
-  walk : IsWalkThrough l.self-inside.parts.now l.self-inside.meter.segments l.self-inside.state;
+  walk : IsWalkThrough l.self-inside.parts.now l.self-inside.meter.segments l.self-inside.cursor;
 }
 
 abbrev pub decreases-loop-part : goal.decreases-loop-part
