@@ -29,7 +29,7 @@ _smap() {
     elif [[ -z $command || $command == help ]]; then
         mapfile -t COMPREPLY < <(compgen -W 'lookup positions rewrite check show compose raw help' -- "$word")
     elif [[ $command != raw ]]; then
-        # The last `=` of a word of `rewrite` stands before the path, and by default it parts words here.
+        # The last `=` of an argument of `rewrite` stands before the path, and by default arguments are cut there.
         compopt -o filenames
         mapfile -t COMPREPLY < <(compgen -f -- "${word#=}")
     fi

@@ -92,7 +92,6 @@ fn refusing_line(room: String, summary: Summary) -> Option<String>
     }
 }
 
-// A line is too long.
 fn long_line(mut room: String) -> String
     requires { IsRoom room }
     ensures { string_bytes result ≡ long_position_line }

@@ -151,14 +151,13 @@ fn look_up(
     }
 }
 
-// Of a checked text as the only part, nothing but want of memory is refused.
+// A checked text as the only part is refused only where memory runs out.
 fn no_memory(_refusal: BuildRefusal) -> AllocError
     requires { _refusal ≡ BuildRefusal.Memory }
 {
     AllocError
 }
 
-// The line for an answer.
 fn answer_line(alloc: Global, answer: &Answer) -> Result<String, AllocError>
     ensures { IfOk result (λ text. string_bytes text ≡ answer_line answer.now) }
 {

@@ -2,7 +2,7 @@
 use crate::reading::assert_refused;
 use std::test::Fail;
 
-// Arguments that are no command, and how the text for them begins.
+// Each with the beginning of the text that is told.
 const MISTAKES: [(&[&str], &str); 26] = [
     (
         &["smap", "lookup", "--hide-ignored", "r.map", "1", "1"],
@@ -115,7 +115,6 @@ fn refuses_words(rt: HostRuntime) -> Result<(), Fail> {
     Ok(())
 }
 
-// More of these.
 const MORE_MISTAKES: [(&[&str], &str); 28] = [
     (
         &["smap", "lookup"],

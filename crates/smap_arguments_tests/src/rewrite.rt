@@ -2,7 +2,7 @@
 use crate::reading::assert_refused;
 use std::test::Fail;
 
-// Arguments of `rewrite` that are no command, and how the text for them begins.
+// Each with the beginning of the text that is told.
 const REWRITE_MISTAKES: [(&[&str], &str); 14] = [
     (
         &["smap", "rewrite", "u=1.map", "--hide-ignored=true"],

@@ -27,7 +27,7 @@ use smap_record::{MOST_LISTED, MapFile, Mapping, SourceEntry, write_record};
 use std::alloc::{AllocError, Global};
 use std::marker::Model;
 
-/// A map that two maps compose to: its mappings, their canonical text, and the sources and names of both maps.
+/// Holds the mappings, their canonical text, and the sources and names of both maps.
 #[derive(Drop)]
 pub struct Composed {
     mappings: Vec<Mapping>,

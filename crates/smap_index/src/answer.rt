@@ -16,7 +16,6 @@ pub enum Answer {
     Found { column: u32, origin: Origin },
 }
 
-// What this mapping answers.
 pub fn answer_of(mapping: &Mapping) -> Answer
     ensures { result ≡ answer_of mapping.now }
 {

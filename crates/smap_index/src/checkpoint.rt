@@ -79,7 +79,6 @@ impl Checkpoint {
         }
     }
 
-    // The origin, with this name.
     #[inline(always)]
     fn origin(&self, name: Option<u32>) -> Origin
         ensures { result ≡ origin_with self.now name }

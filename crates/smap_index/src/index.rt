@@ -63,8 +63,8 @@ impl Index {
     ghost use Rattle.smap_index.specs.Index.{IsIndexOf};
 
     /// Builds the index of these parts, with a checkpoint at the segments of number 0, `k`, 2`k` and so on of each
-    /// line of a part. The caller gives at most 65,536 parts. Their first fault is refused, and want of memory only
-    /// where they have none. Each text is read once. After a refusal the parts are dropped.
+    /// line of a part. The caller gives at most 65,536 parts. Their first fault is refused; that memory ran out is
+    /// told only where they have none. Each text is read once. After a refusal the parts are dropped.
     pub fn build(alloc: Global, parts: Vec<Part>, k: u32) -> Result<Index, BuildRefusal>
         requires few { length parts.items ≤ most_parts }
         ensures { IsExactOr BuildRefusal.Memory result (build_fault parts.items k)
@@ -241,7 +241,6 @@ impl Index {
     }
 }
 
-// The checkpoint's mapping, where there is one.
 #[inline(always)]
 fn mapping_at(checkpoint: Option<&Checkpoint>) -> Option<Mapping>
     ensures { result ≡ option_map mapping_of (option_copied checkpoint.entry) }

@@ -90,7 +90,6 @@ pub fn placed_position(part: &Part, line: u32, column: u32) -> Position
     }
 }
 
-// The part's offset.
 pub fn offset_of(part: &Part) -> Position
     ensures { result ≡ record { line = part.now.line; column = part.now.column } }
 {

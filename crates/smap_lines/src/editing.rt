@@ -21,7 +21,7 @@ const READ_BYTES: usize = 8192;
 /// Reads a text to its end, and writes what becomes of its lines, which are counted. The caller gives devices that have
 /// not failed, and an editor with room for more lines than a text has bytes. The output is not flushed.
 ///
-/// All room is made before the first read: after want of memory neither device was asked. Nothing waits while more is
+/// All room is made before the first read: where memory runs out, neither device was asked. Nothing waits while more is
 /// read, and nothing at the end. The first failure ends it, and then a front of what the bytes that were read become was
 /// written; where a read failed, all of what the whole lines among them become.
 pub fn edit_lines<R: ByteSource, W: ByteSink, E: LineEditor>(

@@ -10,7 +10,6 @@ use smap_io::{ByteSink, DeviceFault};
 
 /// What becomes of the lines of a text, each by itself.
 pub trait LineEditor {
-    // What becomes of a line.
     ghost becomes: { Self → Line → List ℕ };
 
     // The editor after a line, which it may have counted, say.

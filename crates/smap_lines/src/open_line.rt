@@ -16,8 +16,7 @@ use std::marker::Model;
 /// How many bytes a line has at most that is edited, its LF aside.
 pub const MOST_LINE_BYTES: usize = 65536;
 
-/// The line that is not yet ended: its bytes so far, of which there are at most 65,536; or that it is longer and passes
-/// through. Its room is made once.
+/// Its bytes so far, of which there are at most 65,536; or that it is longer and passes through. Its room is made once.
 #[derive(Drop)]
 pub struct OpenLine {
     kept: Vec<u8>,

@@ -68,7 +68,6 @@ fn list_of(alloc: Global, row: &str) -> Result<Vec<Mapping>, Fail> {
     Ok(list)
 }
 
-// The mapping of a word.
 fn mapping_in(alloc: Global, word: &str) -> Result<Mapping, Fail> {
     let mut numbers = Vec::new(alloc);
     for number in word.split(',') {

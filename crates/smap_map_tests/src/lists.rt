@@ -2,7 +2,6 @@
 use smap_index::Answer;
 use smap_mappings::Mapping;
 
-// What a mapping answers.
 fn answer_of(mapping: &Mapping) -> Answer {
     let column = mapping.column;
     match mapping.origin {

@@ -63,7 +63,6 @@ fn source_of(alloc: Global, source: &Source) -> Result<SourceEntry, AllocError> 
     })
 }
 
-// What is written of a row.
 fn written(alloc: Global, row: &Row) -> Result<String, AllocError> {
     let (sources, names, file, mappings, _) = *row;
     let mut entries = Vec::new(alloc);

@@ -58,7 +58,6 @@ impl Meter {
         self.comparisons += 1;
     }
 
-    // Counts one decoded segment.
     pub(crate) fn count_segment(&mut self)
         requires { self.old.segments < u64.MAX }
         ensures { self.new ≡ record self.old { segments = self.old.segments + 1 } }

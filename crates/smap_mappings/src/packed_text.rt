@@ -42,7 +42,6 @@ pub struct PackedText {
 }
 
 impl Model for PackedText {
-    //! A text that was checked: its segments are given one by one, or all at once.
     ghost use Rattle.std.specs.Prelude.{ℕ, List, string_bytes};
     ghost use Rattle.smap_mappings.specs.PackedText.{IsPackedWith};
 

@@ -54,7 +54,6 @@ impl<'t> PlaceFinder<'t> {
         })
     }
 
-    // The table that it was made over.
     pub(crate) fn table(&self) -> &'t Table
         ensures { result.now ≡ self.now }
     {

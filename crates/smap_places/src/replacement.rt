@@ -16,7 +16,7 @@ pub struct Replacement<'t> {
     pub name: &'t str,
 }
 
-/// What stands in a place's stead, where the maps have an original for it in a source whose name can stand anywhere.
+/// `None` where the maps have no original for the place in a source whose name can stand anywhere.
 #[tactic(auto, unfolding(crate::specs::PlacesRewritten::replacement))]
 pub fn find_replacement<'t>(
     alloc: Global,

@@ -18,7 +18,7 @@ use std::alloc::Global;
 ///
 /// What became of each line that was read was written before more is read. The first failure ends it. What was written
 /// is then a front of what the bytes that were read become; where a read failed, all of what the whole lines among them
-/// become; and after want of memory, neither device was asked.
+/// become; and where memory ran out, neither device was asked.
 pub fn rewrite_places<R: ByteSource, W: ByteSink>(
     alloc: Global,
     input: &mut R,

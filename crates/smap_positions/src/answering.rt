@@ -28,7 +28,7 @@ pub struct Summary {
 ///
 /// What became of each line that was read was written before more is read. All room is made before the first read, and no
 /// answer takes memory. The first failure ends it. What was written is then a front of what the bytes that were read
-/// become; where a read failed, all of what the whole lines among them become; and after want of memory, neither device
+/// become; where a read failed, all of what the whole lines among them become; and where memory ran out, neither device
 /// was asked.
 pub fn answer_positions<R: ByteSource, W: ByteSink>(
     alloc: Global,

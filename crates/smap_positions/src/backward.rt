@@ -39,7 +39,6 @@ impl Backward {
         }
     }
 
-    /// The text.
     #[inline(always)]
     pub fn text(&self) -> &[u8]
         ensures { result.now ≡ self.now }

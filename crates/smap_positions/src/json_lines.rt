@@ -16,7 +16,6 @@ use smap_io::{ByteSink, DeviceFault};
 use smap_lines::Gathered;
 use smap_record::{Answer, MapFile, Origin, SourceEntry};
 
-/// Puts the line for what is no position.
 #[tactic(auto, unfolding(json::specs::Print::escape_byte))]
 pub fn put_bad_position<W: ByteSink>(
     gathered: &mut Gathered,
@@ -136,7 +135,6 @@ fn put_found<W: ByteSink>(
     put_found_end(origin, gathered, output)
 }
 
-/// The name of a source, where it has one.
 pub fn source_name(entry: Option<&SourceEntry>) -> Option<&str>
     ensures { option_map (λ name. name.now) result
         ≡ source_name (option_map (λ entry. source_of entry.now) entry.entry) }

@@ -8,10 +8,9 @@ use std::alloc::{AllocError, Global};
 /// No mapping stands at the position or before it on its line.
 pub const NONE: &str = "none\n";
 
-/// The position is of generated code without an original.
+/// The position stands in generated code without an original.
 pub const UNMAPPED: &str = "unmapped\n";
 
-/// The line is no position.
 pub const BAD_POSITION: &str = "bad position\n";
 
 /// Where a place stands in a source that prints as `source`. The line and the column count from 0 here, and from 1 in
@@ -33,7 +32,6 @@ pub fn place_line(
     format!(in alloc; "{source}:{line}:{column}{name}{ignored}\n")
 }
 
-// What prints of a name.
 fn name_suffix(alloc: Global, name: Option<&str>) -> Result<String, AllocError>
     ensures { IfOk result (λ text. string_bytes text ≡ name_suffix
         (option_map (λ name. name.now) name.entry)) }

@@ -90,7 +90,8 @@ fn origin_line(alloc: Global, map: &MapFile, origin: &Origin) -> Result<String, 
     )
 }
 
-// How a source of this index prints. The map's contract says that an origin's indices name a source and a name that there are, so `None` never comes.
+// How a source of this index prints. The map's contract says that an origin's indices name a source and a name that there
+// are, so `None` never comes.
 fn source_text(alloc: Global, entry: Option<&SourceEntry>, index: u32) -> Result<String, AllocError>
     ensures { IfOk result (λ text. string_bytes text
         ≡ source_text (option_map (λ entry. source_of entry.now) entry.entry) index) }
@@ -116,7 +117,6 @@ pub fn is_ignored(entry: Option<&SourceEntry>) -> bool
     }
 }
 
-/// The name at an index, where there is one.
 pub fn name_at(map: &MapFile, index: Option<u32>) -> Option<&str>
     ensures { option_map (λ name. name.now) result
         ≡ option_and_then (slice_get map.now.stated.names) index }

@@ -67,7 +67,6 @@ fn has_control(text: &[u8]) -> bool
     found
 }
 
-// A byte as it prints.
 fn shown_byte(byte: u8) -> u8
     ensures { result ≡ shown_byte byte }
 {
@@ -90,7 +89,6 @@ pub fn put_json_text<W: ByteSink>(
     }
 }
 
-// Puts a text in quotes.
 fn put_quoted<W: ByteSink>(
     text: &[u8],
     gathered: &mut Gathered,
@@ -181,7 +179,6 @@ fn short_escape(byte: u8) -> Option<u8>
     }
 }
 
-// A hexadecimal digit.
 fn hex_digit(digit: u8) -> u8
     requires { digit < 16 }
     ensures { result ≡ digit_char digit }

@@ -17,7 +17,6 @@ use smap_io::{ByteSink, DeviceFault};
 use smap_lines::Gathered;
 use smap_record::{Answer, MapFile, Origin, SourceEntry};
 
-/// Puts the line for an answer.
 pub fn put_answer_line<W: ByteSink>(
     map: &MapFile,
     answer: &Answer,
@@ -118,7 +117,6 @@ fn put_place<W: ByteSink>(
     put(text.text(), gathered, output)
 }
 
-// Puts what prints of a name.
 fn put_name<W: ByteSink>(
     name: Option<&str>,
     gathered: &mut Gathered,

@@ -77,7 +77,6 @@ fn take_ignored(members: &mut Map<String, Value>) -> Option<Value>
     newer.or(older)
 }
 
-// A value, where it is not null.
 fn not_null(value: Value) -> Option<Value>
     ensures { option_map view result ≡ not_null (view value) }
 {

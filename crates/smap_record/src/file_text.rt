@@ -21,7 +21,6 @@ pub fn file_members(alloc: Global, bytes: &[u8]) -> Result<Map<String, Value>, M
     }
 }
 
-// The JSON value of a file.
 fn file_value(alloc: Global, bytes: &[u8]) -> Result<Value, MapRefusal>
     ensures { GivesRead view result (ok_or (value_of_file bytes.now) NotJson) }
 {

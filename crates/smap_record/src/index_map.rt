@@ -31,7 +31,6 @@ pub struct SectionEntry {
     pub offset: Option<Offset>,
     /// Whether its map is an index map.
     pub is_nested: bool,
-    /// The members of its map.
     pub members: Map<String, Value>,
 }
 
@@ -88,7 +87,6 @@ fn entries(
     }
 }
 
-// The one entry of a regular map.
 fn regular_entry(members: Map<String, Value>) -> SectionEntry
     ensures { entry_seen result ≡ regular_entry (fields_seen members.entries) }
 {
@@ -99,7 +97,6 @@ fn regular_entry(members: Map<String, Value>) -> SectionEntry
     }
 }
 
-// The entries of an index map.
 fn index_entries(alloc: Global, sections: Value) -> Result<Option<Vec<SectionEntry>>, AllocError>
     ensures list { IfOk result (λ list. option_map (λ entries. entries_seen entries.items) list
         ≡ index_entries (view sections)) }
@@ -111,7 +108,6 @@ fn index_entries(alloc: Global, sections: Value) -> Result<Option<Vec<SectionEnt
     }
 }
 
-// A list of entries.
 fn entry_list(alloc: Global, value: Value) -> Result<Option<Vec<SectionEntry>>, AllocError>
     ensures { IfOk result (λ list. option_map (λ entries. entries_seen entries.items) list
         ≡ list_of entry_in (view value)) }
@@ -129,7 +125,6 @@ fn entry_list(alloc: Global, value: Value) -> Result<Option<Vec<SectionEntry>>, 
     Ok(Some(entries))
 }
 
-// The entry that a value is.
 fn entry(value: Value) -> Option<SectionEntry>
     ensures { option_map entry_seen result ≡ entry_in (view value) }
 {

@@ -18,7 +18,6 @@ pub fn object(value: Value) -> Option<Map<String, Value>>
     }
 }
 
-/// The text that a value is.
 pub fn text(value: Value) -> Option<String>
     ensures { option_map string_bytes result ≡ as_str (view value) }
 {
@@ -28,7 +27,6 @@ pub fn text(value: Value) -> Option<String>
     }
 }
 
-/// A text, or null for none.
 pub fn text_or_null(value: Value) -> Option<Option<String>>
     ensures { option_map (option_map string_bytes) result ≡ text_or_null (view value) }
 {
@@ -39,7 +37,6 @@ pub fn text_or_null(value: Value) -> Option<Option<String>>
     }
 }
 
-/// A list of texts.
 pub fn texts(alloc: Global, value: Value) -> Result<Option<Vec<String>>, AllocError>
     ensures { IfOk result (λ list. option_map (λ texts. map string_bytes texts.items) list
         ≡ list_of as_str (view value)) }

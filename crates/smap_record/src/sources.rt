@@ -70,7 +70,6 @@ fn add_sources(
     Ok(())
 }
 
-// The name of a source with this text, where it has one.
 fn source_name(
     alloc: Global,
     root: Option<&str>,
@@ -89,7 +88,6 @@ fn source_name(
     }
 }
 
-// The text of the root, where there is one.
 fn text_of(root: &Option<String>) -> Option<&str>
     ensures { option_copied result ≡ option_map string_bytes root.now }
 {
@@ -99,7 +97,6 @@ fn text_of(root: &Option<String>) -> Option<&str>
     }
 }
 
-// The next content, where one is left and it is there.
 fn next_content(contents: &mut IntoIter<Option<String>>) -> Option<String>
     ensures content { option_map string_bytes result
         ≡ option_flatten (slice_get (texts_seen (into_iter_items contents.old)) 0) }
@@ -111,7 +108,6 @@ fn next_content(contents: &mut IntoIter<Option<String>>) -> Option<String>
     }
 }
 
-// The next flag, where one is left.
 fn next_flag(flags: &mut IntoIter<bool>) -> bool
     ensures flag { result ≡ unwrap_or (slice_get (into_iter_items flags.old) 0) false }
     ensures onward { into_iter_items flags.new ≡ drop 1 (into_iter_items flags.old) }

@@ -100,7 +100,6 @@ fn put(
     }
 }
 
-// A text, where there is one.
 fn text_where(alloc: Global, text: Option<&str>) -> Result<Option<Value>, AllocError>
     ensures { IfOk result (λ value. option_map view value
         ≡ option_map string (option_copied text.entry)) }
@@ -111,7 +110,6 @@ fn text_where(alloc: Global, text: Option<&str>) -> Result<Option<Value>, AllocE
     }
 }
 
-// A list of texts.
 fn texts(alloc: Global, texts: &[String]) -> Result<Value, AllocError>
     ensures { IfOk result (λ value. view value ≡ list_value string (map string_bytes texts.now)) }
 {

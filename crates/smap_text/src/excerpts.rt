@@ -34,7 +34,6 @@ pub fn excerpt(
     }
 }
 
-// The excerpt of a line at a column.
 fn line_excerpt(alloc: Global, line: &str, column: u32) -> Result<Option<String>, AllocError>
     ensures { IfOk result (λ shown.
         option_map string_bytes shown ≡ line_excerpt (chars line.now) column) }
@@ -81,7 +80,6 @@ fn push_line(shown: &mut String, line: &str, first: usize) -> Result<(), AllocEr
     )
 }
 
-// Adds spaces.
 fn push_spaces(shown: &mut String, count: usize) -> Result<(), AllocError>
     ensures { OnOk result (string_bytes shown.new ≡ string_bytes shown.old
         ++ encode_utf8_all (replicate count 0x20)) }
@@ -89,7 +87,6 @@ fn push_spaces(shown: &mut String, count: usize) -> Result<(), AllocError>
     shown.extend(repeat_n(' ', count))
 }
 
-// A character as it shows.
 fn shown_character(char: char) -> char
     ensures { result ≡ shown_character char }
 {

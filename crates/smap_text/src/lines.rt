@@ -18,7 +18,6 @@ pub fn line_at(content: &str, line: u32) -> Option<&str>
     Some(first_line(rest))
 }
 
-// The first line of a text.
 fn first_line(text: &str) -> &str
     ensures line { slice_get (lines_of (chars text.now)) 0 ≡ Some (chars result.now) }
     ensures front { take (length result.now) text.now ≡ result.now }

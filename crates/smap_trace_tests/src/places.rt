@@ -105,7 +105,6 @@ fn add_map(alloc: Global, table: &mut Table, url: &str, map: &str) -> Result<(),
     }
 }
 
-// The table of the maps of the rows.
 fn table_of_rows(alloc: Global) -> Result<Table, Fail> {
     let mut table = Table::new(alloc);
     for (url, source, mappings) in MAPS {

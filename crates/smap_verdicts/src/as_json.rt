@@ -113,7 +113,6 @@ fn put_build(
     }
 }
 
-// Adds the section.
 fn put_section(
     members: &mut Map<String, Value>,
     alloc: Global,
