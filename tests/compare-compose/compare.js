@@ -11,13 +11,12 @@ const fs = require('fs');
 const os = require('os');
 const path = require('path');
 const { spawnSync } = require('child_process');
-const { isDeepStrictEqual, parseArgs } = require('util');
+const { isDeepStrictEqual } = require('util');
 const { minify } = require('terser');
 const { composedMap } = require('../vectors/compose.js');
 const { linesOf } = require('../vectors/lookup.js');
-const { BUILT, mapsIn, mapsOfPackages } = require('../compare-maps/files.js');
+const { MOST_BYTES, given } = require('../compare-maps/files.js');
 
-const MOST_BYTES = 1 << 30;
 const EXAMPLES = path.join(__dirname, '..', '..', 'examples');
 
 // The steps of the builds in examples/: an outer map, its source, and the map of that.
@@ -142,17 +141,14 @@ function newTotal() {
 }
 
 async function main() {
-  const known = { program: { type: 'string', default: BUILT } };
-  const { values, positionals } = parseArgs({ options: known, allowPositionals: true });
-  if (!fs.existsSync(values.program)) throw new Error(`there is no ${values.program}; ./smap --help builds it`);
-  const files = positionals.length > 0 ? positionals.flatMap(mapsIn) : mapsOfPackages();
+  const { program, files } = given();
   const folder = fs.mkdtempSync(path.join(os.tmpdir(), 'smap-'));
   const total = newTotal();
   try {
-    for (const step of STEPS) total.tell(step[0], wrongWith(total.steps, values.program, step));
+    for (const step of STEPS) total.tell(step[0], wrongWith(total.steps, program, step));
     for (const i of files.keys()) {
       const three = [0, 1, 2].map((far) => files[(i + far) % files.length]);
-      await compareFile(total, values.program, folder, three);
+      await compareFile(total, program, folder, three);
     }
   } finally {
     fs.rmSync(folder, { recursive: true });

@@ -4,8 +4,11 @@
 const fs = require('fs');
 const path = require('path');
 const { execFileSync } = require('child_process');
+const { parseArgs } = require('util');
 
 const PACKAGES = ['libjs-jquery', 'node-source-map', 'libjs-bootstrap5', 'node-babel7-debug'];
+// The most bytes that a program may print.
+const MOST_BYTES = 1 << 30;
 const BUILT = path.join(__dirname, '..', '..', 'crates', 'smap_cli', 'out', 'smap_cli');
 
 // The map files among these, each once. A link counts as the file that it leads to.
@@ -38,4 +41,12 @@ function mapsIn(folder) {
   return mapsAmong(fs.readdirSync(folder, { recursive: true }).map((name) => path.join(folder, name)));
 }
 
-module.exports = { BUILT, mapsIn, mapsOfPackage, mapsOfPackages };
+// The program and the map files that the arguments name: `[--program PROGRAM] [FOLDER...]`.
+function given() {
+  const known = { program: { type: 'string', default: BUILT } };
+  const { values, positionals } = parseArgs({ options: known, allowPositionals: true });
+  if (!fs.existsSync(values.program)) throw new Error(`there is no ${values.program}; ./smap --help builds it`);
+  return { program: values.program, files: positionals.length > 0 ? positionals.flatMap(mapsIn) : mapsOfPackages() };
+}
+
+module.exports = { BUILT, MOST_BYTES, given, mapsIn, mapsOfPackage, mapsOfPackages };

@@ -9,12 +9,10 @@
 
 const fs = require('fs');
 const { spawnSync } = require('child_process');
-const { isDeepStrictEqual, parseArgs } = require('util');
+const { isDeepStrictEqual } = require('util');
 const codec = require('@jridgewell/sourcemap-codec');
 const { linesOf } = require('../vectors/lookup.js');
-const { BUILT, mapsIn, mapsOfPackages } = require('../compare-maps/files.js');
-
-const MOST_BYTES = 1 << 30;
+const { MOST_BYTES, given } = require('../compare-maps/files.js');
 
 // The mappings line by line, up to the last line that holds one.
 function withoutEmptyEnd(lines) {
@@ -48,13 +46,10 @@ function differencesOf(file, written) {
 }
 
 function main() {
-  const known = { program: { type: 'string', default: BUILT } };
-  const { values, positionals } = parseArgs({ options: known, allowPositionals: true });
-  if (!fs.existsSync(values.program)) throw new Error(`there is no ${values.program}; ./smap --help builds it`);
-  const files = positionals.length > 0 ? positionals.flatMap(mapsIn) : mapsOfPackages();
+  const { program, files } = given();
   const total = { refused: 0, segments: 0, same: 0, differences: 0 };
   for (const file of files) {
-    const { status, stdout, stderr, error } = spawnSync(values.program, ['show', file], { encoding: 'utf8', maxBuffer: MOST_BYTES });
+    const { status, stdout, stderr, error } = spawnSync(program, ['show', file], { encoding: 'utf8', maxBuffer: MOST_BYTES });
     if (error) throw error;
     if (status !== 0) {
       console.log(`${file}: status ${status}: ${stderr.trim()}`);

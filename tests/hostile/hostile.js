@@ -26,7 +26,7 @@ const COMMANDS = ['check', 'lookup', 'show', 'compose', 'rewrite'];
 const KINDS = ['cut', 'flipped', 'spliced'];
 const URL = 'https://ex.test/app.js';
 
-// What is put in where a file is spliced, beside bytes of the maps and bytes by chance.
+// What is put in where a file is spliced, beside bytes of the maps and random bytes.
 const PIECES = [
   '[', ']', '{', '}', '"', ',', ':', '\\', '\\u', '\\ud800', '\n', '\0', '\x7f', '\xff', '\xef\xbb\xbf', ')]}\'\n',
   'null', 'true', '-1', '0.5', '1e9', '3', '2147483647', '2147483648', '4294967296', '18446744073709551616',

@@ -1,4 +1,4 @@
-// Numbers by chance, the same at each run.
+// Random numbers, the same at each run.
 'use strict';
 
 function chanceFrom(start) {

@@ -209,7 +209,7 @@ const A = { version: 3, sources: ['a.js'], names: ['f'], mappings: 'AAAAA,KAAK;;
 const B = { version: 3, sources: [null, 'b.js'], sourceRoot: 'lib', names: [], mappings: 'ACAA,C;AACA' };
 const NONE = { sources: [], mappings: '' };
 
-// Rows that chance would seldom make.
+// Rows that random ones would seldom be.
 const BY_HAND = [
   [],
   [section(0, 0, NONE)],
@@ -383,7 +383,7 @@ const file = [
   '//! Index maps, a row a line: the map, the numbers of its mappings and of the lines that hold one, section by',
   '//! section, its mappings with a blank between two, and its sources and its names with a comma between two; | between',
   '//! two of these. A mapping is its line, column, source, original line, original column and name, as far as it has',
-  '//! them, from 0. A source without a name is `none`, and one that is ignored has a `*` behind it.',
+  '//! them, from 0. A source without a name is `none`, and one that is ignored has a `*` after it.',
   '//! Written by `tests/vectors/make-index-maps.js`.',
   '',
   `pub const INDEX_MAPS: &str = r#"\n${list.join('\n')}\n"#;`,

@@ -269,7 +269,7 @@ const EMPTY_PIECES = [
   [',C,,C;,E', [[1, 1], [1, 2], [1, 3], [2, 2], [2, 3]]],
 ];
 
-// Segments by chance. `wide` is the largest step of a column or of a line.
+// Random segments. `wide` is the largest step of a column or of a line.
 function someLines(lineCount, segmentCount, wide) {
   const last = [0, 0, 0, 0, 0];
   const moved = (value, step) => Math.max(0, Math.min(2147483647, value + below(2 * step + 1) - step));
@@ -399,7 +399,7 @@ function makeRefusals() {
   refuse('CAAA,DAAA', 7, 9);
   refuse('AAAA;B', 1, 1);
   refuse('AAAA;B', MOST, MOST);
-  // An accepted text of which one byte is changed by chance.
+  // An accepted text of which a random byte is changed.
   const bytes = DIGITS + DIGITS + ',;! =~';
   let made = 0;
   while (made < 24) {

@@ -1,23 +1,23 @@
 #!/usr/bin/env bash
 # Times the library inside a process, in C, Python and node, beside @jridgewell/trace-mapping: reading a map of about 28 MB,
-# and a million positions by chance in it, one by one and in one call. Each is run RUNS times, and the least time counts.
+# and a million random positions in it, one by one and in one call. Each is run RUNS times, and the least time counts.
 # All have to come to the same sum. It builds the library, and needs what lib/build and lib/node/build do.
 set -euo pipefail
 
 # shellcheck source=timing.sh
 . "$(dirname -- "$(readlink -f -- "${BASH_SOURCE[0]}")")/timing.sh"
 map=$folder/map
-node "$root/bench/repeat-map.js" "$real" "$most" "$map" >/dev/null
-node "$root/bench/chance-positions.js" "$map" "${POSITIONS:-1000000}" "$folder/positions"
+make_large_map "$map"
+node "$makers/random-positions.js" "$map" "${POSITIONS:-1000000}" "$folder/positions"
 "$root/lib/build" "$folder/usr" >/dev/null
 "$root/lib/node/build" "$folder/usr"
-"${CC:-cc}" -O2 -I "$folder/usr/include" -o "$folder/library" "$root/bench/library.c" "$folder/usr/lib/libsmap.a"
+"${CC:-cc}" -O2 -I "$folder/usr/include" -o "$folder/library" "$readers/library.c" "$folder/usr/lib/libsmap.a"
 export SMAP_LIBRARY=$folder/usr/lib/libsmap.so.1 PYTHONPATH=$root/lib/python PYTHONDONTWRITEBYTECODE=1
 
 in_c() { "$folder/library" "$map" "$folder/positions"; }
-in_python() { python3 "$root/bench/library.py" "$map" "$folder/positions"; }
-in_node() { node "$root/bench/library.js" smap "$map" "$folder/positions"; }
-by_trace_mapping() { node "$root/bench/library.js" trace "$map" "$folder/positions"; }
+in_python() { python3 "$readers/library.py" "$map" "$folder/positions"; }
+in_node() { node "$readers/library.js" smap "$map" "$folder/positions"; }
+by_trace_mapping() { node "$readers/library.js" trace "$map" "$folder/positions"; }
 
 printf 'map: %s bytes, %s positions; milliseconds\n' "$(stat -c %s -- "$map")" "${POSITIONS:-1000000}"
 printf '%-14s %8s %10s %12s\n' '' reading 'one by one' 'in one call'

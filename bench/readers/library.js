@@ -8,7 +8,7 @@ const fs = require('fs');
 const [how, path, places] = process.argv.slice(2);
 const bytes = fs.readFileSync(places);
 const positions = new Uint32Array(bytes.buffer.slice(bytes.byteOffset, bytes.byteOffset + bytes.length));
-const library = how === 'smap' ? require('../lib/node') : require('@jridgewell/trace-mapping');
+const library = how === 'smap' ? require('../../lib/node') : require('@jridgewell/trace-mapping');
 const now = () => Number(process.hrtime.bigint() / 1000n);
 
 const begin = now();

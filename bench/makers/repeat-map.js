@@ -11,9 +11,9 @@
 'use strict';
 
 const fs = require('fs');
-const path = require('path');
 const codec = require('@jridgewell/sourcemap-codec');
-const { printedLine } = require(path.join(__dirname, '..', 'tests', 'vectors', 'lookup.js'));
+const { isAlone } = require('./places.js');
+const { printedLine } = require('../../tests/vectors/lookup.js');
 
 const [from, bytes, to] = process.argv.slice(2);
 const map = JSON.parse(fs.readFileSync(from, 'utf8'));
@@ -38,7 +38,7 @@ console.log(
 // The last mapping of the last copy that has a name where there is one, and its column for itself.
 const all = lines.flatMap((line, i) =>
   line
-    .filter((segment) => segment.length > 1 && line.filter((other) => other[0] === segment[0]).length === 1)
+    .filter((segment, j) => segment.length > 1 && isAlone(line, j))
     .map((segment) => ({ line: i, segment })),
 );
 const named = all.filter(({ segment }) => segment.length === 5);

@@ -1,15 +1,13 @@
 #!/usr/bin/env node
-// Makes a trace over maps: frames at positions by chance, from a fixed seed, each with an original.
+// Makes a trace over maps: frames at random positions, from a fixed seed, each with an original.
 //
 //   node make-trace.js LINES URL=MAP.. > TRACE
-//
-// Where several mappings have one column, readers differ in which of them answers: no frame is there.
 'use strict';
 
 const fs = require('fs');
-const path = require('path');
 const codec = require('@jridgewell/sourcemap-codec');
-const { below, pick } = require(path.join(__dirname, '..', 'tests', 'vectors', 'chance.js')).chanceFrom(2026);
+const { randomPlace } = require('./places.js');
+const { below, pick } = require('../../tests/vectors/chance.js').chanceFrom(2026);
 
 const [count, ...words] = process.argv.slice(2);
 
@@ -20,16 +18,6 @@ function mapOf(word) {
 }
 
 const maps = words.map(mapOf);
-
-// A segment that has its column for itself, and the column behind it where another one begins; or null.
-function place(line) {
-  if (line.length === 0) return null;
-  const i = below(line.length);
-  const [column, source] = line[i];
-  const next = i + 1 < line.length ? line[i + 1][0] : column + 8;
-  const alone = next > column && (i === 0 || line[i - 1][0] < column);
-  return alone && source !== undefined ? { column, next } : null;
-}
 
 const FORMS = [
   (name, at) => `    at ${name} (${at})`,
@@ -43,9 +31,10 @@ const lines = [];
 while (lines.length < count) {
   const { url, names, lines: generated } = pick(maps);
   const line = below(generated.length);
-  const found = place(generated[line]);
-  if (found) {
-    const column = found.column + below(found.next - found.column);
+  if (generated[line].length === 0) continue;
+  const place = randomPlace(generated[line], below);
+  if (place !== null && place.segment.length > 1) {
+    const column = place.column();
     lines.push(pick(FORMS)(pick(names), `${url}:${line + 1}:${column + 1}`));
   }
 }

@@ -13,14 +13,11 @@ set -euo pipefail
 . "$(dirname -- "$(readlink -f -- "${BASH_SOURCE[0]}")")/timing.sh"
 followed=${SOURCE:-33}
 large=$folder/map
-{
-    read -r counts
-} < <(node "$root/bench/repeat-map.js" "$real" "$most" "$large")
-insist 'smap check' "$("$program" check "$large")" "$counts"
+make_large_map "$large"
 
 compose() { measured "$program" compose "$outer" "$followed" "$inner" >"$folder/by_smap"; }
 by_remapping() {
-    measured node "$root/bench/compose-maps.js" "$outer" "$followed" "$inner" >"$folder/by_node" 2>"$folder/within"
+    measured node "$readers/compose-maps.js" "$outer" "$followed" "$inner" >"$folder/by_node" 2>"$folder/within"
     within=$(<"$folder/within")
 }
 
@@ -30,7 +27,7 @@ both() {
     compared "composing, $1"
     report 'smap compose' compose
     report 'remapping' by_remapping
-    if [ -n "${SAME:-}" ]; then node "$root/bench/same-places.js" "$folder/by_smap" "$folder/by_node"; fi
+    if [ -n "${SAME:-}" ]; then node "$readers/same-places.js" "$folder/by_smap" "$folder/by_node"; fi
 }
 
 printf 'large map: %s bytes\n%s\n' "$(stat -c %s -- "$large")" "$counts"

@@ -17,7 +17,7 @@ line=1 column=1
     read -r counts
     read -r place
     IFS= read -r last
-} < <(node "$root/bench/repeat-text.js" "${TEXT:-/usr/share/nodejs/@babel/parser/lib/index.js}" "$most" "$with" "$without" "$text")
+} < <(node "$makers/repeat-text.js" "${TEXT:-/usr/share/nodejs/@babel/parser/lib/index.js}" "$most" "$with" "$without" "$text")
 
 insist 'smap lookup' "$("$program" lookup "$without" 1 1)" "$place"
 insist 'smap lookup' "$("$program" lookup "$with" 1 1)" "$place
@@ -26,7 +26,7 @@ $last
 
 split() {
     local said
-    measured node "$root/bench/split-text.js" "$text" >"$folder/said"
+    measured node "$readers/split-text.js" "$text" >"$folder/said"
     said=$(<"$folder/said")
     insist 'node' "${said#* }" "$counts"
     within=${said%% *}

@@ -7,6 +7,7 @@
 'use strict';
 
 const fs = require('fs');
+const { answerLines } = require('./lines.js');
 
 const [how, ...words] = process.argv.slice(2);
 
@@ -54,19 +55,4 @@ function rewritten(line) {
   return original === null ? line : `${frame[1]}${original}${frame[5]}`;
 }
 
-// The text that is written at once.
-const MOST_PENDING = 65536;
-
-const text = fs.readFileSync(0, 'utf8');
-let pending = '';
-for (let begin = 0; begin < text.length; ) {
-  const end = text.indexOf('\n', begin);
-  const line = end < 0 ? text.slice(begin) : text.slice(begin, end);
-  pending += end < 0 ? rewritten(line) : `${rewritten(line)}\n`;
-  if (pending.length >= MOST_PENDING) {
-    fs.writeSync(1, pending);
-    pending = '';
-  }
-  begin = end < 0 ? text.length : end + 1;
-}
-fs.writeSync(1, pending);
+answerLines(rewritten);

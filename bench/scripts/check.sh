@@ -2,14 +2,14 @@
 # Times `smap check` of 2,000 map files in one process, as text and as JSON, beside a process for each of them, started by
 # `xargs -n 1` and by a loop of bash, and beside a node script that reads them all with @jridgewell/trace-mapping.
 #
-# The maps are the real ones below MAPS, which is where Debian's packages of node modules have theirs: node-babel7-debug has
+# The maps are the real ones below FOLDER, which is where Debian's packages of node modules have theirs: node-babel7-debug has
 # 477. One that smap refuses would be left out. Where there are fewer than COUNT, all are copied again and again until there
 # are so many. What is printed of each has to be the same from all.
 set -euo pipefail
 
 # shellcheck source=timing.sh
 . "$(dirname -- "$(readlink -f -- "${BASH_SOURCE[0]}")")/timing.sh"
-maps=${MAPS:-/usr/share/nodejs}
+maps=${FOLDER:-/usr/share/nodejs}
 count=${COUNT:-2000}
 
 cd -- "$folder"
@@ -34,8 +34,8 @@ one_by_one() { measured xargs -0 -n 1 "$program" check <paths >written; }
 one_by_one_as_json() { measured xargs -0 -n 1 "$program" check --json <paths >written; }
 # shellcheck disable=SC2016
 in_a_loop() { measured bash -c 'while IFS= read -r -d "" path; do "$0" check "$path"; done' "$program" <paths >written; }
-by_trace_mapping() { measured node "$root/bench/check-maps.js" text <paths >written; }
-by_trace_mapping_as_json() { measured node "$root/bench/check-maps.js" json <paths >written; }
+by_trace_mapping() { measured node "$readers/check-maps.js" text <paths >written; }
+by_trace_mapping_as_json() { measured node "$readers/check-maps.js" json <paths >written; }
 
 # A process for one file does not name it.
 without_paths() { sed 's/^[^:]*: //' "$1"; }

@@ -13,9 +13,8 @@
 'use strict';
 
 const fs = require('fs');
-const path = require('path');
 const codec = require('@jridgewell/sourcemap-codec');
-const { linesOf, printedLine } = require(path.join(__dirname, '..', 'tests', 'vectors', 'lookup.js'));
+const { linesOf, printedLine } = require('../../tests/vectors/lookup.js');
 
 const [from, bytes, sectionCount, toIndex, toRegular] = process.argv.slice(2);
 const map = JSON.parse(fs.readFileSync(from, 'utf8'));

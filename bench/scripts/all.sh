@@ -1,6 +1,6 @@
 #!/usr/bin/env bash
 # Runs every comparison of smap with other programs once, and prints their tables and then all rows in one, in Markdown,
-# with the commit and the machine: bench/all.sh. It takes about ten minutes where RUNS, how often each program is started,
+# with the commit and the machine: bench/scripts/all.sh. It takes about ten minutes where RUNS, how often each program is started,
 # is 3, as it is by default. What it needs is said in timing.sh; nothing else should run beside it.
 set -euo pipefail
 

@@ -5,6 +5,7 @@
 'use strict';
 
 const fs = require('fs');
+const { answerLines } = require('./lines.js');
 const { TraceMap, traceSegment } = require('@jridgewell/trace-mapping');
 
 const [how, url, file] = process.argv.slice(2);
@@ -39,19 +40,9 @@ function asJson(segment, line, column) {
 }
 
 const answer = how === 'json' ? asJson : asText;
-const MOST_PENDING = 65536;
-let pending = '';
-const positions = fs.readFileSync(0, 'utf8');
-for (let begin = 0; begin < positions.length;) {
-  const end = positions.indexOf('\n', begin);
-  const blank = positions.indexOf(' ', begin);
-  const line = Number(positions.slice(begin, blank));
-  const column = Number(positions.slice(blank + 1, end));
-  pending += `${answer(traceSegment(map, line - 1, column - 1), line, column)}\n`;
-  if (pending.length > MOST_PENDING) {
-    fs.writeSync(1, pending);
-    pending = '';
-  }
-  begin = end + 1;
-}
-fs.writeSync(1, pending);
+answerLines((text) => {
+  const blank = text.indexOf(' ');
+  const line = Number(text.slice(0, blank));
+  const column = Number(text.slice(blank + 1));
+  return answer(traceSegment(map, line - 1, column - 1), line, column);
+});

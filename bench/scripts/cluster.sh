@@ -2,7 +2,7 @@
 # Times one `smap rewrite`, GNU parallel with 1, 2 and 4 jobs and cluster/smap_dask.py with 1, 2 and 4 workers, on a
 # trace of about 300 MB over 20 maps, and on 200 traces of as much together, each over 3 of these maps.
 #
-# The maps are made of a real one, MAP (cut-maps.js), and the places of the frames are by chance (make-trace.js); the
+# The maps are made of a real one, MAP (cut-maps.js), and the places of the frames are random (make-trace.js); the
 # large trace is REPEATS times the same, 4 where it is not given. It goes to a file, and each of the small ones to its
 # own, by one process after another, by parallel, and by a scheduler and workers that run already. The time is that of
 # the whole command: of the script a part of it is Python's start, so that what it says itself is told beside it. The
@@ -48,16 +48,16 @@ export TMPDIR=$folder
 cd -- "$folder"
 
 mkdir maps small
-node "$root/bench/cut-maps.js" "$real" "$count" "$most" maps
+node "$makers/cut-maps.js" "$real" "$count" "$most" maps
 words=()
 for ((i = 0; i < count; i++)); do words+=("$url/chunk-$i.js=$folder/maps/$i"); done
-node "$root/bench/make-trace.js" "$lines" "${words[@]}" >repeated
+node "$makers/make-trace.js" "$lines" "${words[@]}" >repeated
 for ((i = 0; i < repeats; i++)); do cat repeated; done >large
 rm repeated
 for ((i = 0; i < 20; i++)); do
     three=()
     for ((j = 0; j < 3; j++)); do three+=("${words[(i + j) % count]}"); done
-    node "$root/bench/make-trace.js" "$((lines / 5))" "${three[@]}" >some
+    node "$makers/make-trace.js" "$((lines / 5))" "${three[@]}" >some
     split -n l/10 -d some "small/$i-"
 done
 rm some

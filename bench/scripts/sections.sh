@@ -16,7 +16,7 @@ regular=$folder/regular.map
     read -r regular_counts
     read -r line column
     read -r place
-} < <(node "$root/bench/cut-map.js" "$real" "$most" "${SECTIONS:-1000}" "$index" "$regular")
+} < <(node "$makers/cut-map.js" "$real" "$most" "${SECTIONS:-1000}" "$index" "$regular")
 
 insist 'smap check' "$("$program" check "$index")" "$index_counts"
 insist 'smap check' "$("$program" check "$regular")" "$regular_counts"

@@ -10,13 +10,7 @@ set -euo pipefail
 # shellcheck source=timing.sh
 . "$(dirname -- "$(readlink -f -- "${BASH_SOURCE[0]}")")/timing.sh"
 map=$folder/map
-{
-    read -r counts
-    read -r line column
-    read -r place
-} < <(node "$root/bench/repeat-map.js" "$real" "$most" "$map")
-insist 'smap check' "$("$program" check "$map")" "$counts"
-insist 'smap lookup' "$(place_in "$map")" "$place"
+make_large_map "$map"
 
 by_json() { by_node json -; }
 by_source_map() { by_node node "$place"; }

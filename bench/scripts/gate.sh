@@ -2,15 +2,15 @@
 # Times the gate: runs `bash .ci/run` in a fresh clone of the last commit, with the minutes since the start in
 # front of each line that it prints, and sums the minutes of its checks by crate.
 #
-#   bench/gate.sh                                                      the gate, on all processors
-#   taskset -c 0,1 bench/gate.sh                                       on two of them
-#   bench/gate.sh ./smap lookup examples/preset-react.js.map 65 80     another command in place of the gate
+#   bench/scripts/gate.sh                                                      the gate, on all processors
+#   taskset -c 0,1 bench/scripts/gate.sh                                       on two of them
+#   bench/scripts/gate.sh ./smap lookup examples/preset-react.js.map 65 80     another command in place of the gate
 #
 # It needs Linux, git, bash, python3, the command `rt` of the Rattle kit on the PATH, a few GB for temporary files
 # (TMPDIR), and a machine on which nothing else runs. The status is that of the command.
 set -eu
 
-root=$(CDPATH='' cd -- "$(dirname -- "$(readlink -f -- "$0")")/.." && pwd)
+root=$(CDPATH='' cd -- "$(dirname -- "$(readlink -f -- "$0")")/../.." && pwd)
 if [ -n "$(git -C "$root" status --porcelain)" ]; then
     printf 'gate.sh: what is not committed is left out\n' >&2
 fi
@@ -22,4 +22,4 @@ git clone --quiet -- "$root" "$folder/smap"
 cd -- "$folder/smap"
 
 if [ $# -eq 0 ]; then set -- bash .ci/run; fi
-PYTHONUNBUFFERED=1 python3 "$root/bench/gate.py" "$@"
+PYTHONUNBUFFERED=1 python3 "$root/bench/scripts/gate.py" "$@"

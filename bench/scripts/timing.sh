@@ -8,7 +8,12 @@
 # The maps are made of a real one, MAP, of Debian's package node-babel7-debug. The other readers are modules of its
 # packages node-ampproject-remapping and node-source-map. The peaks of memory need the program `time` (/usr/bin/time).
 
-root=$(cd -- "$(dirname -- "$(readlink -f -- "${BASH_SOURCE[0]}")")/.." && pwd)
+# shellcheck source=../../tests/checks.sh
+. "$(dirname -- "$(readlink -f -- "${BASH_SOURCE[0]}")")/../../tests/checks.sh"
+# shellcheck disable=SC2034
+at_once=yes
+makers=$root/bench/makers
+readers=$root/bench/readers
 runs=${RUNS:-5}
 real=${MAP:-/usr/share/nodejs/@babel/parser/lib/index.js.map}
 most=${BYTES:-28000000}
@@ -27,18 +32,20 @@ else
     program=$root/crates/smap_cli/out/smap_cli
 fi
 
-folder=$(mktemp -d)
-trap 'rm -rf -- "$folder"' EXIT
-
-insist() {
-    if [ "$2" != "$3" ]; then
-        printf '%s said "%s" in place of "%s"\n' "$1" "$2" "$3" >&2
-        exit 1
-    fi
-}
-
 # The line of a look-up in a map, without the excerpt behind it.
 place_in() { "$program" lookup "$1" "$line" "$column" | head -n 1; }
+
+# Makes the large map: the real one, whose mappings text stands in it many times over. What `smap check` says of it is left in
+# `counts`, and what `smap lookup` says at `line` and `column`, a position near its end, in `place`.
+make_large_map() {
+    {
+        read -r counts
+        read -r line column
+        read -r place
+    } < <(node "$makers/repeat-map.js" "$real" "$most" "$1")
+    insist 'smap check' "$("$program" check "$1")" "$counts"
+    insist 'smap lookup' "$(place_in "$1")" "$place"
+}
 
 # Runs a command, and leaves the greatest of the peaks of its memory in all runs, in KiB, in `peak`.
 measured() {
@@ -56,7 +63,7 @@ look_up() { measured "$program" lookup "$map" "$line" "$column" >/dev/null; }
 # left in `within`.
 by_node() {
     local said
-    measured node "$root/bench/read-map.js" "$1" "$map" "$line" "$column" >"$folder/said"
+    measured node "$readers/read-map.js" "$1" "$map" "$line" "$column" >"$folder/said"
     said=$(<"$folder/said")
     insist "$1" "${said#* }" "$2"
     within=${said%% *}
@@ -82,6 +89,7 @@ best_of() {
 # Begins the table of a comparison. Its first row is what the others are compared with.
 compared() {
     comparison=$1 first_time='' first_peak=''
+    empty_time='' empty_peak='' full_time='' full_peak='' wanted=''
     printf '\n%-44s %9s %9s %10s %10s %10s\n' "$1" seconds within peak time/first peak/first
 }
 
@@ -97,5 +105,26 @@ report() {
     }'
     if [ -n "${ROWS:-}" ]; then
         printf '%s|%s|%s|%s|%s|%s\n' "$comparison" "$1" "$least" "$peak" "$first_time" "$first_peak" >>"$ROWS"
+    fi
+}
+
+# report_both WHAT COMMAND NONE: times a command that answers the file `asked` in `written`, and adds two rows for it: where
+# that file is empty, which is called NONE and takes the time to read the maps alone, and where it is `questions`. It says
+# how many of its lines are answered in a second of the difference. All commands of a comparison have to write the same bytes.
+# shellcheck disable=SC2034
+report_both() {
+    asked=/dev/null first_time=$empty_time first_peak=$empty_peak
+    report "$1, $3" "$2"
+    empty_time=$first_time empty_peak=$first_peak
+    local empty=$least
+    asked=$questions first_time=$full_time first_peak=$full_peak
+    report "$1" "$2"
+    full_time=$first_time full_peak=$first_peak
+    printf '%44s %9d lines a second\n' '' "$((lines * 1000000 / (least - empty)))"
+    if [ -z "$wanted" ]; then
+        wanted=$folder/wanted
+        mv -- written "$wanted"
+    else
+        cmp -- "$wanted" written
     fi
 }

@@ -9,15 +9,11 @@ set -euo pipefail
 # shellcheck source=timing.sh
 . "$(dirname -- "$(readlink -f -- "${BASH_SOURCE[0]}")")/timing.sh"
 map=$folder/map
-{
-    read -r counts
-    read -r _
-} < <(node "$root/bench/repeat-map.js" "$real" "$most" "$map")
-insist 'smap check' "$("$program" check "$map")" "$counts"
+make_large_map "$map"
 
 show() { measured "$program" show "$map" >"$folder/by_smap"; }
 by_codec() {
-    measured node "$root/bench/show-map.js" "$map" >"$folder/by_node" 2>"$folder/within"
+    measured node "$readers/show-map.js" "$map" >"$folder/by_node" 2>"$folder/within"
     within=$(<"$folder/within")
 }
 

@@ -1,0 +1,37 @@
+# shellcheck shell=bash
+# What the scripts here and in bench/ have in common. It is read by them and not run.
+#
+# It makes a temporary folder, which goes when the script ends. Each check is counted. One that fails is told; where
+# `at_once` is set, as the scripts that measure have it, it ends the script with status 1.
+
+root=$(cd -- "$(dirname -- "$(readlink -f -- "${BASH_SOURCE[0]}")")/.." && pwd)
+folder=$(mktemp -d)
+trap 'rm -rf -- "$folder"' EXIT
+checks=0 failed=0 at_once=''
+
+failure() {
+    failed=$((failed + 1))
+    printf 'FAILED: %s\n' "$1" >&2
+    if [ -n "$at_once" ]; then exit 1; fi
+}
+
+# insist WHAT GIVEN WANTED: the two texts are the same.
+insist() {
+    checks=$((checks + 1))
+    if [ "$2" != "$3" ]; then failure "$(printf '%s: "%.200s" in place of "%.200s"' "$1" "$2" "$3")"; fi
+}
+
+# same WHAT GIVEN WANTED: the two files have the same bytes.
+same() {
+    checks=$((checks + 1))
+    if ! cmp -s -- "$2" "$3"; then
+        diff -- "$3" "$2" | head -n 4 >&2 || true
+        failure "$1"
+    fi
+}
+
+# Says how many checks were made, and ends with status 1 where one of them failed.
+sum_up() {
+    printf '%s checks, %s failed\n' "$checks" "$failed"
+    [ "$failed" = 0 ]
+}
