@@ -1,5 +1,5 @@
 'use strict';
-// Positions by chance in the generated file of a map: node positions.js MAP COUNT SEED; a LINE COLUMN a line, from 0.
+// Random positions in the generated file of a map: node positions.js MAP COUNT SEED; a LINE COLUMN a line, from 0.
 const fs = require('node:fs');
 const [path, count, seed] = process.argv.slice(2);
 const map = JSON.parse(fs.readFileSync(path, 'utf8'));
