@@ -4,7 +4,7 @@ import ctypes
 import os
 import threading
 from array import array
-from typing import List, Optional
+from typing import Callable, List, Optional
 
 from . import _given
 from ._library import ANSWER_NUMBERS, DONE, REFUSED, Counts as CountsOut, Found, Handle, Refusal, Source as SourceOut
@@ -86,7 +86,7 @@ class SourceMap:
         """The first mapping on the line at the position or after it, or None."""
         return self._looked_up(calls.smap_look_up_from, line, column)
 
-    def _looked_up(self, call: "ctypes._FuncPointer", line: int, column: int) -> Optional[Answer]:
+    def _looked_up(self, call: Callable[..., int], line: int, column: int) -> Optional[Answer]:
         line, column, found = _given.place(line, "line"), _given.place(column, "column"), Found()
         with self._lock:
             call(self._used(), line, column, found)
