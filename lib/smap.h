@@ -11,8 +11,12 @@
  * places. What a call writes to has values before: begin with {0}, or with SMAP_TEXT and SMAP_SOURCE.
  *
  * A call returns 0 where it did what it was asked, 1 where what it was given is refused or there is nothing of that
- * number, and 3 where there is not enough memory.
- * After 1 and 3 handles are as they were, save where a call says more.
+ * number, and 3 where it is out of memory.
+ * After 1 and 3 handles are as they were, save where a call says more. A call writes what it answers where it returns 0, and
+ * why it refuses where it returns 1. After another status those values say nothing.
+ *
+ * Lines and columns may be any numbers of 32 bits. A column past the line's end has the line's last mapping, and a line past
+ * the last has none. In a language with larger numbers, take care that none is cut to 32 bits on the way to a call.
  */
 #ifndef SMAP_H
 #define SMAP_H
@@ -38,8 +42,11 @@ typedef struct smap_bytes { void *at; } smap_bytes;
 typedef struct smap_text { const uint8_t *bytes; size_t length; } smap_text;
 #define SMAP_TEXT { (const uint8_t *)"", 0 }
 
-/* Why a map is refused: the number of the refusal, M1 to M17, or 0 where the base is no URL. The others are 0 where the
+/* Why a map is not read: the number of the refusal, M1 to M17, or one of those of the base. The others are 0 where the
  * refusal has no such part. */
+#define SMAP_BASE_NO_URL 0    /* the base is no URL */
+#define SMAP_BASE_TOO_LONG 18 /* the base has more bytes than can be worked on, about 4,294,967,296 */
+
 typedef struct smap_refusal {
     uint32_t number;
     uint32_t fault;   /* the first fault of the mappings, F1 to F11 */
@@ -89,7 +96,7 @@ uint32_t smap_map_read(const uint8_t *bytes, size_t length, const uint8_t *base,
 void smap_map_free(smap_map *map);
 
 /* Writes the line that the program prints on this refusal of the map file at this path. Returns 1 where the path is not
- * UTF-8, or no refusal has these numbers. The bytes are freed by smap_bytes_free. */
+ * UTF-8, or no refusal of a map has these numbers, as those of a base. The bytes are freed by smap_bytes_free. */
 uint32_t smap_refusal_text(const smap_refusal *refusal, const uint8_t *path, size_t path_length, smap_bytes *bytes);
 
 /* Looks a generated position up: the last mapping on the line at the position or before it answers. Returns 0. */
@@ -113,7 +120,8 @@ uint32_t smap_file(smap_map *map, smap_text *file);
  * 67,108,864 bytes. The bytes are freed by smap_bytes_free. */
 uint32_t smap_map_write(smap_map *map, smap_bytes *bytes);
 
-/* Composes two maps, the inner one being of source `source` of the outer one, and writes the map that they come to.
+/* Composes two maps, the inner one being of source `source` of the outer one, and writes the map that they come to. They are
+ * two handles: to compose a map with itself, write it and read what was written.
  * Where it returns 1, `refusal` is 1 where the outer map has no such source, and 2 where the composed map would be too
  * large. The bytes are freed by smap_bytes_free. */
 uint32_t smap_compose(smap_map *outer, uint32_t source, smap_map *inner, smap_bytes *bytes, uint32_t *refusal);
@@ -138,7 +146,7 @@ void smap_table_free(smap_table *table);
 
 /* Rewrites a trace: each frame whose URL is in the table and whose place has an original gets it in its place, and every
  * other byte stays. With `hide_ignored` lines of frames from ignored sources are dropped. Returns 1 where the trace has
- * more than 1,073,741,824 bytes. The bytes are freed by smap_bytes_free. */
+ * more than 1,073,741,824 bytes. `counts` is told where it returns 0. The bytes are freed by smap_bytes_free. */
 uint32_t smap_rewrite(smap_table *table, const uint8_t *trace, size_t length, bool hide_ignored,
                       smap_bytes *bytes, smap_trace_count *counts);
 

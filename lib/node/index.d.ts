@@ -3,9 +3,10 @@
 export const GREATEST_LOWER_BOUND: 1;
 export const LEAST_UPPER_BOUND: -1;
 
-/** What was given is refused. The numbers are there where a map is refused. */
+/** What was given is refused. The numbers are the library's; all but the first are there where a map is refused. */
 export class Refused extends Error {
-  /** That of the refusal, M1 to M17, or 0 where the base is no URL. */
+  /** Of a map that of M1 to M17, or 0 where the base is no URL and 18 where it is too long; of others that of C1 and C2, A1
+   * and A2, or X3. */
   number?: number;
   /** That of the fault of the mappings, F1 to F11, or 0. */
   fault?: number;
@@ -17,6 +18,8 @@ export class Refused extends Error {
   section?: number;
   /** Where the faulty segment begins in the mappings, from 0. */
   byte?: number;
+  /** The URL under which a table was to have the map. */
+  url?: string;
 }
 
 export interface SourceEntry {
@@ -37,7 +40,7 @@ export interface Counts {
 /** A source map that was read. */
 export class TraceMap {
   /** `mapUrl` is the URL at which the map stands; a checkpoint is made at every `interval`-th segment of a line. */
-  constructor(map: string | Uint8Array | object, mapUrl?: string | null, interval?: number);
+  constructor(map: string | Uint8Array | object, mapUrl?: string | URL | null, interval?: number);
   readonly counts: Counts;
   readonly file: string | null;
   readonly sourceEntries: SourceEntry[];
@@ -48,7 +51,9 @@ export class TraceMap {
 }
 
 export interface Needle {
+  /** From 1. */
   line: number;
+  /** From 0. One past the line's end, and Infinity, has the line's last mapping. */
   column: number;
   bias?: 1 | -1;
 }
@@ -64,9 +69,11 @@ export function sourceContentFor(map: TraceMap, source: string): string | null;
 export function isIgnored(map: TraceMap, source: string): boolean;
 export function compose(outer: TraceMap, source: number, inner: TraceMap): Buffer;
 
+type Given = string | Uint8Array | object | TraceMap;
+
 /** The maps of a trace, each under the URL that frames name. A TraceMap that is given is closed. */
 export class Table {
-  constructor(maps: Record<string, string | Uint8Array | TraceMap> | Iterable<[string, string | Uint8Array | TraceMap]>);
+  constructor(maps: Record<string, Given> | Iterable<[string, Given]>);
 }
 
 export function rewrite(table: Table, trace: string | Uint8Array, options?: { hideIgnored?: boolean }): Buffer;

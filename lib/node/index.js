@@ -2,47 +2,34 @@
 // Source maps of ECMA-426 over the library libsmap, with the calls of @jridgewell/trace-mapping: lines from 1 and columns
 // from 0, in UTF-16 code units. index.d.ts has the types.
 const addon = require('./smap.node');
+const given = require('./given.js');
+const { BAD_BASE, Refused, refusedComposition, refusedMap, refusedUrl } = require('./refused.js');
 
 const GREATEST_LOWER_BOUND = 1;
 const LEAST_UPPER_BOUND = -1;
 
 const found = new Uint32Array(7);
 
-// What was given is refused. `message` is the program's line; the numbers are those of the refusal, where it has them.
-class Refused extends Error {
-  constructor(message, numbers = []) {
-    super(message);
-    this.name = 'Refused';
-    [this.number, this.fault, this.line, this.build, this.section, this.byte] = numbers;
-  }
-}
-
-const NO_MEMORY = 3;
-
-function bytesOf(data) {
-  if (data instanceof Uint8Array) return data;
-  return Buffer.from(typeof data === 'string' ? data : JSON.stringify(data));
-}
-
-function read(data, base, interval) {
-  const refusal = new Float64Array(6);
-  const map = addon.read(bytesOf(data), Buffer.from(base || ''), interval, refusal);
-  if (typeof map !== 'number') return map;
-  if (map === NO_MEMORY) throw new Error('out of memory');
-  const line = addon.refusalText(refusal, Buffer.from('map'));
-  throw new Refused(line ? line.toString().trim() : 'the base is no URL', refusal);
+// The map of these bytes. `url` is that under which a table is to have it.
+function read(bytes, base, interval, url) {
+  const numbers = new Float64Array(6);
+  const map = addon.read(bytes, Buffer.from(base), interval, numbers);
+  if (map === null) throw refusedMap(numbers, url === undefined ? 'map' : url, base, url);
+  return map;
 }
 
 function open(map) {
+  if (!(map instanceof TraceMap)) throw new TypeError('a TraceMap is wanted');
   if (!map.handle) throw new Error('the map is closed');
   return map.handle;
 }
 
-// A source map that was read: of a text, a Buffer or a parsed map, which stands at the URL `mapUrl`, if there is one. It is
-// freed by `close`, or when nothing names it any more.
+// A source map that was read: of a text, a Uint8Array or a parsed map, which stands at the URL `mapUrl`, if there is one. It
+// is freed by `close`, or when nothing names it any more.
 class TraceMap {
   constructor(map, mapUrl, interval = 64) {
-    this.handle = read(map, mapUrl, interval);
+    if (map instanceof TraceMap) throw new TypeError('a TraceMap is read already');
+    this.handle = read(given.mapBytes(map), given.mapUrl(mapUrl), given.interval(interval));
     this.told = undefined;
     this.nameTexts = [];
   }
@@ -79,7 +66,9 @@ class TraceMap {
 
   // The text of one regular map that states the same, as a Buffer.
   write() {
-    return addon.write(open(this));
+    const text = addon.write(open(this));
+    if (text === null) throw new Refused('refused: O1 TextTooLong');
+    return text;
   }
 
   close() {
@@ -89,11 +78,9 @@ class TraceMap {
 }
 
 // Where the generated position comes from: {source, line, column, name}, all null where nothing answers or what answers
-// has no original.
+// has no original. A column past the line's end, and Infinity, has the line's last mapping.
 function originalPositionFor(map, { line, column, bias }) {
-  if (!(line >= 1)) throw new Error('`line` must be greater than 0 (lines start at line 1)');
-  if (!(column >= 0)) throw new Error('`column` must be greater than or equal to 0 (columns start at column 0)');
-  const kind = addon.lookUp(open(map), line - 1, column, bias === LEAST_UPPER_BOUND, found);
+  const kind = addon.lookUp(open(map), given.line(line), given.column(column), bias === LEAST_UPPER_BOUND, found);
   if (kind !== 2) return { source: null, line: null, column: null, name: null };
   return {
     source: map.sourceEntries[found[2]].name,
@@ -103,14 +90,17 @@ function originalPositionFor(map, { line, column, bias }) {
   };
 }
 
-// Looks many positions up. `positions` has a line and a column each, both from 0; the answers are seven numbers each: the
-// kind (0 nothing, 1 without an original, 2 with one), the generated column, source, line and column from 0, whether there
-// is a name (1 or 0), and the name.
+// Looks many positions up. `positions` is a Uint32Array of a line and a column each, both from 0; the answers are seven
+// numbers each: the kind (0 nothing, 1 without an original, 2 with one), the generated column, source, line and column from
+// 0, whether there is a name (1 or 0), and the name.
 function lookUpMany(map, positions) {
-  return addon.lookUpMany(open(map), positions, new Uint32Array((positions.length / 2) * 7));
+  const handle = open(map);
+  const asked = given.positions(positions);
+  return addon.lookUpMany(handle, asked, new Uint32Array((asked.length / 2) * 7));
 }
 
 function entryOf(map, source) {
+  open(map);
   return map.sourceEntries.find((entry) => entry.name === source);
 }
 
@@ -128,34 +118,59 @@ function isIgnored(map, source) {
 
 // The text of the map that two maps come to, the inner one being of this source of the outer one, from 0; as a Buffer.
 function compose(outer, source, inner) {
-  return addon.compose(open(outer), source, open(inner));
+  const [first, second, index] = [open(outer), open(inner), given.source(source)];
+  if (first === second) return composedWithItself(outer, index);
+  const told = addon.compose(first, index, second);
+  if (typeof told === 'number') throw refusedComposition(told);
+  return told;
 }
 
-// Maps, each under the URL that frames name: an object or pairs of a URL and a map's text, Buffer or TraceMap. A TraceMap
-// that is given is closed: the table has it then.
+// No call of the library takes one handle twice, so the map is written and read again.
+function composedWithItself(map, source) {
+  const text = addon.write(open(map));
+  // Where it is too large to be written, so is what it would come to, which has the same generated positions.
+  if (text === null) throw refusedComposition(source < map.counts.sources ? 2 : 1);
+  const copy = new TraceMap(text);
+  try {
+    return compose(map, source, copy);
+  } finally {
+    copy.close();
+  }
+}
+
+// Maps, each under the URL that frames name: an object or pairs of a URL and a map's text, Uint8Array or TraceMap. A
+// TraceMap that is given is closed: the table has it then.
 class Table {
   constructor(maps) {
+    if (typeof maps !== 'object' || maps === null) throw new TypeError('`maps` must be an object or pairs of a URL and a map');
     this.handle = addon.newTable();
-    for (const [url, given] of maps[Symbol.iterator] ? maps : Object.entries(maps)) {
-      const map = given instanceof TraceMap ? given : standingAt(given, url);
-      addon.add(this.handle, Buffer.from(url), open(map));
-      map.handle = undefined;
+    for (const [key, map] of maps[Symbol.iterator] ? maps : Object.entries(maps)) {
+      const url = given.text(key, 'URL');
+      const isRead = map instanceof TraceMap;
+      const handle = isRead ? open(map) : standingAt(given.mapBytes(map), url);
+      const told = addon.add(this.handle, Buffer.from(url), handle);
+      if (typeof told === 'number') throw refusedUrl(told, url);
+      if (isRead) map.handle = undefined;
     }
   }
 }
 
-function standingAt(data, url) {
+// The map of these bytes at its URL, or at none where that is no URL.
+function standingAt(bytes, url) {
   try {
-    return new TraceMap(data, url);
+    return read(bytes, url, 64, url);
   } catch (refused) {
-    if (refused instanceof Refused && refused.number === 0) return new TraceMap(data);
+    if (refused instanceof Refused && refused.number === BAD_BASE) return read(bytes, '', 64, url);
     throw refused;
   }
 }
 
 // The trace with each frame that has an original in its place, as a Buffer.
 function rewrite(table, trace, { hideIgnored = false } = {}) {
-  return addon.rewrite(table.handle, bytesOf(trace), hideIgnored);
+  if (!(table instanceof Table)) throw new TypeError('a Table is wanted');
+  const text = addon.rewrite(table.handle, given.traceBytes(trace), given.boolean(hideIgnored, 'hideIgnored'));
+  if (text === null) throw new Refused('refused: X3 TooMuch', [3]);
+  return text;
 }
 
 module.exports = {

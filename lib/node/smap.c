@@ -11,10 +11,15 @@ static napi_value refuse(napi_env env, const char *why) {
     return NULL;
 }
 
+static napi_value refuse_type(napi_env env, const char *why) {
+    napi_throw_type_error(env, NULL, why);
+    return NULL;
+}
+
 static bool words_of(napi_env env, napi_callback_info info, size_t wanted, napi_value *words) {
     size_t count = WORDS;
     napi_get_cb_info(env, info, &count, words, NULL, NULL);
-    if (count < wanted) refuse(env, "too few arguments");
+    if (count < wanted) refuse_type(env, "too few arguments");
     return count >= wanted;
 }
 
@@ -25,7 +30,7 @@ static bool bytes_of(napi_env env, napi_value value, const uint8_t **bytes, size
     napi_typedarray_type type;
     void *data = NULL;
     if (napi_get_typedarray_info(env, value, &type, length, &data, NULL, NULL) != napi_ok || type != napi_uint8_array) {
-        refuse(env, "no Uint8Array");
+        refuse_type(env, "no Uint8Array");
         return false;
     }
     *bytes = *length ? data : (const uint8_t *)nothing;
@@ -36,11 +41,33 @@ static bool numbers_of(napi_env env, napi_value value, uint32_t **numbers, size_
     napi_typedarray_type type;
     void *data = NULL;
     if (napi_get_typedarray_info(env, value, &type, length, &data, NULL, NULL) != napi_ok || type != napi_uint32_array) {
-        refuse(env, "no Uint32Array");
+        refuse_type(env, "no Uint32Array");
         return false;
     }
     *numbers = *length ? data : (void *)nothing;
     return true;
+}
+
+/* A whole number of 32 bits. Another is refused, and never wrapped. */
+static bool number_of(napi_env env, napi_value value, uint32_t *number) {
+    double given;
+    if (napi_get_value_double(env, value, &given) == napi_ok && given >= 0 && given <= UINT32_MAX && given == (uint32_t)given) {
+        *number = (uint32_t)given;
+        return true;
+    }
+    refuse_type(env, "no whole number of 32 bits");
+    return false;
+}
+
+/* The six numbers of a refusal, in a Float64Array. */
+static double *refusal_numbers_of(napi_env env, napi_value value) {
+    napi_typedarray_type type;
+    size_t places;
+    void *data = NULL;
+    if (napi_get_typedarray_info(env, value, &type, &places, &data, NULL, NULL) == napi_ok && type == napi_float64_array && places >= 6)
+        return data;
+    refuse_type(env, "no Float64Array of 6");
+    return NULL;
 }
 
 static const napi_type_tag map_tag = {0x8d3f0b6a91c24e55, 0xb1a7c05e2f6d4a01};
@@ -67,7 +94,7 @@ static struct held_map *map_of(napi_env env, napi_value value) {
     bool is = false;
     void *data = NULL;
     if (napi_check_object_type_tag(env, value, &map_tag, &is) != napi_ok || !is || napi_unwrap(env, value, &data) != napi_ok) {
-        refuse(env, "no map");
+        refuse_type(env, "no map");
         return NULL;
     }
     struct held_map *held = data;
@@ -82,7 +109,7 @@ static struct held_table *table_of(napi_env env, napi_value value) {
     bool is = false;
     void *data = NULL;
     if (napi_check_object_type_tag(env, value, &table_tag, &is) != napi_ok || !is || napi_unwrap(env, value, &data) != napi_ok) {
-        refuse(env, "no table");
+        refuse_type(env, "no table");
         return NULL;
     }
     return data;
@@ -95,8 +122,8 @@ static napi_value number(napi_env env, double value) {
 }
 
 static napi_value string(napi_env env, smap_text text) {
-    napi_value result;
-    napi_create_string_utf8(env, (const char *)text.bytes, text.length, &result);
+    napi_value result = NULL;
+    if (napi_create_string_utf8(env, (const char *)text.bytes, text.length, &result) != napi_ok) refuse(env, "out of memory");
     return result;
 }
 
@@ -116,29 +143,26 @@ static napi_value buffer(napi_env env, smap_bytes *bytes) {
     return result;
 }
 
-/* read(bytes, base, interval, refusal): a map, or the status, with the numbers of the refusal in a Float64Array of 6. */
+/* read(bytes, base, interval, refusal): a map, or null, with the numbers of the refusal in a Float64Array of 6. */
 static napi_value read_map(napi_env env, napi_callback_info info) {
     napi_value words[WORDS];
     const uint8_t *bytes, *base;
-    size_t length, base_length, places;
+    size_t length, base_length;
     uint32_t interval;
-    napi_typedarray_type type;
-    void *data = NULL;
-    if (!words_of(env, info, 4, words) || !bytes_of(env, words[0], &bytes, &length) || !bytes_of(env, words[1], &base, &base_length))
+    double *numbers;
+    if (!words_of(env, info, 4, words) || !bytes_of(env, words[0], &bytes, &length) || !bytes_of(env, words[1], &base, &base_length) ||
+        !number_of(env, words[2], &interval) || !(numbers = refusal_numbers_of(env, words[3])))
         return NULL;
-    if (napi_get_value_uint32(env, words[2], &interval) != napi_ok) return refuse(env, "no interval");
-    if (napi_get_typedarray_info(env, words[3], &type, &places, &data, NULL, NULL) != napi_ok || type != napi_float64_array || places < 6)
-        return refuse(env, "no room for a refusal");
     struct held_map *held = calloc(1, sizeof *held);
     if (!held) return refuse(env, "out of memory");
     smap_refusal refusal = {0};
     uint32_t status = smap_map_read(bytes, length, base, base_length, interval, &held->map, &refusal);
     if (status != SMAP_DONE) {
         free(held);
-        double *numbers = data;
+        if (status != SMAP_REFUSED) return refuse(env, "out of memory");
         numbers[0] = refusal.number, numbers[1] = refusal.fault, numbers[2] = refusal.line;
         numbers[3] = refusal.build, numbers[4] = (double)refusal.section, numbers[5] = (double)refusal.byte;
-        return number(env, status);
+        return null(env);
     }
     held->full = true;
     napi_value object;
@@ -155,19 +179,14 @@ static napi_value read_map(napi_env env, napi_callback_info info) {
 static napi_value refusal_text(napi_env env, napi_callback_info info) {
     napi_value words[WORDS];
     const uint8_t *path;
-    size_t length, places;
-    napi_typedarray_type type;
-    void *data = NULL;
-    if (!words_of(env, info, 2, words)) return NULL;
-    if (napi_get_typedarray_info(env, words[0], &type, &places, &data, NULL, NULL) != napi_ok || type != napi_float64_array || places < 6)
-        return refuse(env, "no refusal");
-    if (!bytes_of(env, words[1], &path, &length)) return NULL;
-    const double *n = data;
+    size_t length;
+    const double *n;
+    if (!words_of(env, info, 2, words) || !(n = refusal_numbers_of(env, words[0])) || !bytes_of(env, words[1], &path, &length)) return NULL;
     smap_refusal refusal = {(uint32_t)n[0], (uint32_t)n[1], (uint32_t)n[2], (uint32_t)n[3], (uint64_t)n[4], (uint64_t)n[5]};
     smap_bytes bytes = {0};
     uint32_t status = smap_refusal_text(&refusal, path, length, &bytes);
-    if (status == SMAP_NO_MEMORY) return refuse(env, "out of memory");
-    return status == SMAP_DONE ? buffer(env, &bytes) : null(env);
+    if (status == SMAP_DONE) return buffer(env, &bytes);
+    return status == SMAP_REFUSED ? null(env) : refuse(env, "out of memory");
 }
 
 static napi_value close_map(napi_env env, napi_callback_info info) {
@@ -188,10 +207,9 @@ static napi_value look_up(napi_env env, napi_callback_info info) {
     bool from;
     if (!words_of(env, info, 5, words)) return NULL;
     struct held_map *held = map_of(env, words[0]);
-    if (!held || !numbers_of(env, words[4], &numbers, &places)) return NULL;
-    if (napi_get_value_uint32(env, words[1], &line) != napi_ok || napi_get_value_uint32(env, words[2], &column) != napi_ok ||
-        napi_get_value_bool(env, words[3], &from) != napi_ok || places < 7)
-        return refuse(env, "no position");
+    if (!held || !number_of(env, words[1], &line) || !number_of(env, words[2], &column) || !numbers_of(env, words[4], &numbers, &places))
+        return NULL;
+    if (napi_get_value_bool(env, words[3], &from) != napi_ok || places < 7) return refuse_type(env, "no room for an answer");
     smap_found found = {0};
     (from ? smap_look_up_from : smap_look_up)(&held->map, line, column, &found);
     memcpy(numbers, &found, sizeof found);
@@ -206,7 +224,7 @@ static napi_value look_up_many(napi_env env, napi_callback_info info) {
     if (!words_of(env, info, 3, words)) return NULL;
     struct held_map *held = map_of(env, words[0]);
     if (!held || !numbers_of(env, words[1], &positions, &length) || !numbers_of(env, words[2], &found, &places)) return NULL;
-    if (length % 2 || places != length / 2 * 7) return refuse(env, "the lengths do not fit");
+    if (length % 2 || places != length / 2 * 7) return refuse_type(env, "the lengths do not fit");
     smap_look_up_many(&held->map, (const smap_position *)positions, length / 2, (smap_found *)found, length / 2);
     return words[2];
 }
@@ -231,8 +249,7 @@ static napi_value source(napi_env env, napi_callback_info info) {
     uint32_t index;
     if (!words_of(env, info, 2, words)) return NULL;
     struct held_map *held = map_of(env, words[0]);
-    if (!held) return NULL;
-    if (napi_get_value_uint32(env, words[1], &index) != napi_ok) return refuse(env, "no number");
+    if (!held || !number_of(env, words[1], &index)) return NULL;
     smap_source_text told = SMAP_SOURCE;
     if (smap_source(&held->map, index, &told) != SMAP_DONE) return null(env);
     napi_create_object(env, &result);
@@ -248,8 +265,7 @@ static napi_value name(napi_env env, napi_callback_info info) {
     uint32_t index;
     if (!words_of(env, info, 2, words)) return NULL;
     struct held_map *held = map_of(env, words[0]);
-    if (!held) return NULL;
-    if (napi_get_value_uint32(env, words[1], &index) != napi_ok) return refuse(env, "no number");
+    if (!held || !number_of(env, words[1], &index)) return NULL;
     smap_text text = SMAP_TEXT;
     return smap_name(&held->map, index, &text) == SMAP_DONE ? string(env, text) : null(env);
 }
@@ -263,6 +279,7 @@ static napi_value file(napi_env env, napi_callback_info info) {
     return smap_file(&held->map, &text) == SMAP_DONE ? string(env, text) : null(env);
 }
 
+/* write(map): its text, or null where it is refused. */
 static napi_value write_map(napi_env env, napi_callback_info info) {
     napi_value words[WORDS];
     if (!words_of(env, info, 1, words)) return NULL;
@@ -271,23 +288,21 @@ static napi_value write_map(napi_env env, napi_callback_info info) {
     smap_bytes bytes = {0};
     uint32_t status = smap_map_write(&held->map, &bytes);
     if (status == SMAP_DONE) return buffer(env, &bytes);
-    return refuse(env, status == SMAP_REFUSED ? "refused: O1 TextTooLong" : "out of memory");
+    return status == SMAP_REFUSED ? null(env) : refuse(env, "out of memory");
 }
 
-/* compose(outer, source, inner) */
+/* compose(outer, source, inner): the text of the map, or the number of the refusal. The maps are two. */
 static napi_value compose(napi_env env, napi_callback_info info) {
     napi_value words[WORDS];
     uint32_t index, why = 0;
     if (!words_of(env, info, 3, words)) return NULL;
     struct held_map *outer = map_of(env, words[0]), *inner = outer ? map_of(env, words[2]) : NULL;
-    if (!inner) return NULL;
-    if (outer == inner) return refuse(env, "a map with itself: write it and read it again");
-    if (napi_get_value_uint32(env, words[1], &index) != napi_ok) return refuse(env, "no number");
+    if (!inner || !number_of(env, words[1], &index)) return NULL;
+    if (outer == inner) return refuse_type(env, "one map twice");
     smap_bytes bytes = {0};
     uint32_t status = smap_compose(&outer->map, index, &inner->map, &bytes, &why);
     if (status == SMAP_DONE) return buffer(env, &bytes);
-    if (status == SMAP_NO_MEMORY) return refuse(env, "out of memory");
-    return refuse(env, why == 1 ? "refused: C1 SourceIndex" : "refused: C2 TooLarge");
+    return status == SMAP_REFUSED ? number(env, why) : refuse(env, "out of memory");
 }
 
 static napi_value new_table(napi_env env, napi_callback_info info) {
@@ -308,7 +323,7 @@ static napi_value new_table(napi_env env, napi_callback_info info) {
     return object;
 }
 
-/* add(table, url, map): the map is closed then. */
+/* add(table, url, map): nothing, and the map is closed then; or the number of the refusal. */
 static napi_value add(napi_env env, napi_callback_info info) {
     napi_value words[WORDS];
     const uint8_t *url;
@@ -321,12 +336,11 @@ static napi_value add(napi_env env, napi_callback_info info) {
     if (!held) return NULL;
     uint32_t status = smap_table_add(&table->table, url, length, &held->map, &why);
     held->full = status == SMAP_REFUSED;
-    if (status == SMAP_NO_MEMORY) return refuse(env, "out of memory");
-    if (status == SMAP_REFUSED) return refuse(env, why == 1 ? "usage: A1 BadUrl" : "usage: A2 Twice");
-    return NULL;
+    if (status == SMAP_DONE) return NULL;
+    return status == SMAP_REFUSED ? number(env, why) : refuse(env, "out of memory");
 }
 
-/* rewrite(table, trace, hideIgnored) */
+/* rewrite(table, trace, hideIgnored): the trace, or null where it is refused. */
 static napi_value rewrite(napi_env env, napi_callback_info info) {
     napi_value words[WORDS];
     const uint8_t *trace;
@@ -335,12 +349,12 @@ static napi_value rewrite(napi_env env, napi_callback_info info) {
     if (!words_of(env, info, 3, words)) return NULL;
     struct held_table *table = table_of(env, words[0]);
     if (!table || !bytes_of(env, words[1], &trace, &length)) return NULL;
-    if (napi_get_value_bool(env, words[2], &hide) != napi_ok) return refuse(env, "no boolean");
+    if (napi_get_value_bool(env, words[2], &hide) != napi_ok) return refuse_type(env, "no boolean");
     smap_bytes bytes = {0};
     smap_trace_count count = {0};
     uint32_t status = smap_rewrite(&table->table, trace, length, hide, &bytes, &count);
     if (status == SMAP_DONE) return buffer(env, &bytes);
-    return refuse(env, status == SMAP_REFUSED ? "refused: X3 TooMuch" : "out of memory");
+    return status == SMAP_REFUSED ? null(env) : refuse(env, "out of memory");
 }
 
 NAPI_MODULE_INIT() {

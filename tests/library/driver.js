@@ -1,6 +1,5 @@
 'use strict';
 // What tests/try-library asks of the library in node. driver.c says of each command what it prints.
-const assert = require('node:assert');
 const fs = require('node:fs');
 const smap = require('../../lib/node');
 
@@ -51,33 +50,6 @@ function again(path, count) {
   console.log(Math.round((process.memoryUsage().rss - before) / 1024));
 }
 
-function mistakes(path) {
-  let told = 0;
-  const insist = (call, message) => {
-    assert.throws(call, message);
-    told += 1;
-  };
-  insist(() => open(path, 'no URL'), { name: 'Refused', number: 0 });
-  insist(() => open(path, null, 0), { name: 'Refused', number: 15, build: 1 });
-  const map = open(path);
-  const other = open(path);
-  insist(() => smap.originalPositionFor(map, { line: 0, column: 0 }), /greater than 0/);
-  insist(() => smap.originalPositionFor(map, { line: 1, column: -1 }), /greater than or equal to 0/);
-  insist(() => smap.compose(map, 1000000, other), /C1 SourceIndex/);
-  insist(() => smap.compose(map, 0, map), /itself/);
-  insist(() => new smap.Table({ 'a\nb': other }), /A1 BadUrl/);
-  smap.originalPositionFor(other, { line: 1, column: 0 });
-  insist(() => new smap.Table([['a.js', open(path)], ['a.js', open(path)]]), /A2 Twice/);
-  new smap.Table({ 'a.js': other });
-  insist(() => smap.originalPositionFor(other, { line: 1, column: 0 }), /closed/);
-  insist(() => smap.lookUpMany(map, new Uint32Array(3)), /lengths|length/);
-  map.close();
-  insist(() => map.counts, /closed/);
-  assert.strictEqual(smap.sourceContentFor(open(path), 'no such source'), null);
-  assert.strictEqual(smap.isIgnored(open(path), 'no such source'), false);
-  console.log('mistakes', told);
-}
-
 const commands = {
   look: (path) => look(path),
   from: (path) => look(path, smap.LEAST_UPPER_BOUND),
@@ -93,10 +65,12 @@ const commands = {
     })),
   counts: (path) => put([`ok ${Object.entries(open(path).counts).map((pair) => pair.join(' ')).join(' ')}`]),
   show: (path) => process.stdout.write(open(path).write()),
-  compose: (outer, source, inner) => process.stdout.write(smap.compose(open(outer), Number(source), open(inner))),
+  compose: (outer, source, inner) => {
+    const first = open(outer);
+    process.stdout.write(smap.compose(first, Number(source), inner === outer ? first : open(inner)));
+  },
   rewrite: (url, path) =>
     process.stdout.write(smap.rewrite(new smap.Table({ [url]: fs.readFileSync(path) }), fs.readFileSync(0))),
   again,
-  mistakes,
 };
 commands[process.argv[2]](...process.argv.slice(3));

@@ -74,7 +74,7 @@ def show(path):
 
 
 def composed(outer, source, inner):
-    with opened(outer) as first, opened(inner) as second:
+    with opened(outer) as first, first if inner == outer else opened(inner) as second:
         sys.stdout.buffer.write(compose(first, int(source), second))
 
 
@@ -98,35 +98,7 @@ def resident():
         return int(statm.read().split()[1]) * 4096
 
 
-def mistakes(path):
-    told = 0
-
-    def insist(error, call):
-        nonlocal told
-        try:
-            call()
-            sys.exit("no " + error.__name__)
-        except error:
-            told += 1
-
-    insist(Refused, lambda: opened(path, base="no URL"))
-    insist(Refused, lambda: opened(path, base=""))
-    insist(Refused, lambda: opened(path, interval=0))
-    with opened(path) as source_map, opened(path) as other:
-        insist(IndexError, lambda: source_map.source(1000000))
-        insist(IndexError, lambda: source_map.name(1000000))
-        insist(Refused, lambda: compose(source_map, 1000000, other))
-        insist(Refused, lambda: Rewriter({"a\nb": other}))
-        assert other.look_up(0, 0) == source_map.look_up(0, 0)
-        Rewriter({"a.js": other}).close()
-        insist(ValueError, lambda: other.look_up(0, 0))
-        assert compose(source_map, 0, source_map)
-    insist(ValueError, lambda: source_map.look_up(0, 0))
-    insist(ValueError, lambda: source_map.counts)
-    print("mistakes", told)
-
-
 if __name__ == "__main__":
     commands = {"look": look, "from": from_, "many": many, "refuse": refuse, "counts": counts, "show": show,
-                "compose": composed, "rewrite": rewrite, "again": again, "mistakes": mistakes}
+                "compose": composed, "rewrite": rewrite, "again": again}
     commands[sys.argv[1]](*sys.argv[2:])

@@ -1,0 +1,82 @@
+'use strict';
+// Checks what was given: what no call of the library may get is refused here, and never read as something else.
+const { isUint8Array, isUint32Array, isAnyArrayBuffer } = require('util').types;
+
+// The greatest number of 32 bits. No map has a line, a column or a source of this number or a greater one.
+const MOST = 4294967295;
+
+const kind = (value) => (value === null ? 'null' : typeof value === 'object' ? 'an object' : `a ${typeof value}`);
+
+// A whole number, or Infinity of either sign.
+function whole(value, what) {
+  if (typeof value !== 'number') throw new TypeError(`\`${what}\` must be a whole number, and not ${kind(value)}`);
+  if (!Number.isInteger(value) && Math.abs(value) !== Infinity) {
+    throw new TypeError(`\`${what}\` must be a whole number, and not ${value}`);
+  }
+  return value;
+}
+
+// A line from 1, as one from 0. Past the greatest number there is as much as at it: nothing.
+function line(value) {
+  if (whole(value, 'line') < 1) throw new Error('`line` must be greater than 0 (lines start at line 1)');
+  return Math.min(value - 1, MOST);
+}
+
+// A column from 0.
+function column(value) {
+  if (whole(value, 'column') < 0) {
+    throw new Error('`column` must be greater than or equal to 0 (columns start at column 0)');
+  }
+  return Math.min(value, MOST);
+}
+
+// The number of a source. One that none can have is the greatest, which none has.
+function source(value) {
+  return whole(value, 'source') >= 0 ? Math.min(value, MOST) : MOST;
+}
+
+// How many segments stand between checkpoints. The library says which numbers are taken: 0 is not.
+function interval(value) {
+  return Math.min(Math.max(whole(value, 'interval'), 0), MOST);
+}
+
+// Lines and columns in turn, both from 0.
+function positions(value) {
+  if (!isUint32Array(value)) throw new TypeError('`positions` must be a Uint32Array');
+  if (value.length % 2) throw new TypeError('`positions` must be of even length: a line and a column each');
+  return value;
+}
+
+// The bytes of a map: those given, those of its text, or those of a parsed map as JSON.
+function mapBytes(value) {
+  if (isUint8Array(value)) return value;
+  if (typeof value === 'string') return Buffer.from(value);
+  if (typeof value !== 'object' || value === null || ArrayBuffer.isView(value) || isAnyArrayBuffer(value)) {
+    throw new TypeError('a map must be a text, a Uint8Array or a parsed map');
+  }
+  return Buffer.from(JSON.stringify(value));
+}
+
+// The bytes of a trace.
+function traceBytes(value) {
+  if (isUint8Array(value)) return value;
+  return Buffer.from(text(value, 'trace', ' or a Uint8Array'));
+}
+
+function text(value, what, more = '') {
+  if (typeof value !== 'string') throw new TypeError(`\`${what}\` must be a text${more}, and not ${kind(value)}`);
+  return value;
+}
+
+// The URL at which a map stands, or '' for none.
+function mapUrl(value) {
+  if (value === undefined || value === null) return '';
+  return value instanceof URL ? value.href : text(value, 'mapUrl');
+}
+
+function boolean(value, what) {
+  if (typeof value !== 'boolean') throw new TypeError(`\`${what}\` must be true or false, and not ${kind(value)}`);
+  return value;
+}
+
+module.exports = { boolean, column, interval, line, mapBytes, mapUrl, positions, source, text, traceBytes };

@@ -1,0 +1,136 @@
+/* The library in C at the ends of what its numbers hold: limits. It needs some 3 GiB of memory. */
+#include <smap.h>
+#include <stdio.h>
+#include <stdlib.h>
+#include <string.h>
+#include <sys/mman.h>
+
+/* Line 0 has a mapping at column 0 and one at 10 with a name, line 1 none, and line 2 one at 5 without an original. */
+static const char small[] = "{\"version\":3,\"sources\":[\"a.js\"],\"names\":[\"n\"],\"mappings\":\"AAAA,UACIA;;K\"}";
+static const size_t most_trace_bytes = 1073741824;
+
+static int told;
+
+static void insist(bool holds, const char *what) {
+    if (!holds) {
+        fprintf(stderr, "limits: %s\n", what);
+        exit(9);
+    }
+    told++;
+}
+
+static uint32_t read_small(const char *base, size_t base_length, uint32_t interval, smap_map *map, smap_refusal *refusal) {
+    return smap_map_read((const uint8_t *)small, strlen(small), (const uint8_t *)base, base_length, interval, map, refusal);
+}
+
+static smap_map opened(void) {
+    smap_map map = {0};
+    smap_refusal refusal = {0};
+    insist(read_small("", 0, 64, &map, &refusal) == SMAP_DONE, "a map");
+    return map;
+}
+
+static bool is(const smap_found *found, uint32_t kind, uint32_t generated_column, uint32_t line, uint32_t column, uint32_t named) {
+    return found->kind == kind && found->generated_column == generated_column && found->source == 0 && found->line == line &&
+           found->column == column && found->named == named && found->name == 0;
+}
+
+static void look_ups(void) {
+    smap_map map = opened();
+    const smap_position positions[] = {{0, 12}, {0, UINT32_MAX}, {1, UINT32_MAX}, {2, UINT32_MAX}, {UINT32_MAX, 0}, {UINT32_MAX, UINT32_MAX}};
+    smap_found many[6] = {{0}};
+    insist(smap_look_up_many(&map, positions, 6, many, 6) == SMAP_DONE, "many");
+    for (int i = 0; i < 6; i++) {
+        smap_found found = {9, 9, 9, 9, 9, 9, 9}, from = {9, 9, 9, 9, 9, 9, 9};
+        insist(smap_look_up(&map, positions[i].line, positions[i].column, &found) == SMAP_DONE, "a look-up");
+        insist(is(&found, i < 2 ? 2 : i == 3 ? 1 : 0, i < 2 ? 10 : i == 3 ? 5 : 0, i < 2, i < 2 ? 4 : 0, i < 2), "its answer");
+        insist(!memcmp(&found, &many[i], sizeof found), "the answer of many");
+        insist(smap_look_up_from(&map, positions[i].line, positions[i].column, &from) == SMAP_DONE, "a look-up from");
+        insist(is(&from, 0, 0, 0, 0, 0), "its answer from");
+    }
+    insist(smap_look_up_many(&map, positions, 0, many, 0) == SMAP_DONE, "none");
+    smap_map_free(&map);
+    insist(map.at == NULL, "a freed handle");
+}
+
+static void texts(void) {
+    smap_map map = opened();
+    for (uint32_t index = 0; index < 4; index++) {
+        const uint32_t past[] = {1, 2147483647, 2147483648, UINT32_MAX};
+        smap_source_text source = SMAP_SOURCE;
+        smap_text text = SMAP_TEXT;
+        insist(smap_source(&map, past[index], &source) == SMAP_REFUSED && source.name.length == 0, "a source past the last");
+        insist(smap_name(&map, past[index], &text) == SMAP_REFUSED && text.length == 0, "a name past the last");
+    }
+    smap_map other = opened();
+    smap_bytes bytes = {0};
+    uint32_t why = 0;
+    insist(smap_compose(&map, UINT32_MAX, &other, &bytes, &why) == SMAP_REFUSED && why == 1 && !bytes.at, "C1");
+    smap_map_free(&map);
+    smap_map_free(&other);
+}
+
+static void reading(void) {
+    const uint32_t intervals[] = {0, 1, 4096, 4097, 2147483648, UINT32_MAX};
+    for (int i = 0; i < 6; i++) {
+        smap_map map = {0};
+        smap_refusal refusal = {0};
+        uint32_t status = read_small("", 0, intervals[i], &map, &refusal);
+        if (i == 1 || i == 2) {
+            insist(status == SMAP_DONE, "an interval");
+            smap_map_free(&map);
+        } else {
+            insist(status == SMAP_REFUSED && refusal.number == 15 && refusal.build == 1 && !map.at, "no interval");
+        }
+    }
+    const size_t length = 1 << 20;
+    char *base = malloc(length);
+    memset(base, 'x', length);
+    smap_map map = {0};
+    smap_refusal refusal = {9, 9, 9, 9, 9, 9};
+    insist(read_small(base, length, 64, &map, &refusal) == SMAP_REFUSED && refusal.number == 0 && !map.at, "a long base that is no URL");
+    memcpy(base, "https://e.test/", 15);
+    insist(read_small(base, length, 64, &map, &refusal) == SMAP_DONE, "a long base");
+    smap_map_free(&map);
+    free(base);
+    const uint32_t others[] = {0, 17, 18, 19, UINT32_MAX};
+    for (int i = 0; i < 5; i++) {
+        smap_refusal other = {.number = others[i]};
+        smap_bytes bytes = {0};
+        insist(smap_refusal_text(&other, (const uint8_t *)"m", 1, &bytes) == SMAP_REFUSED && !bytes.at, "a line of no refusal");
+    }
+}
+
+static void traces(void) {
+    smap_table table = {0};
+    smap_map map = opened();
+    uint32_t why = 0;
+    insist(smap_table_new(&table) == SMAP_DONE, "a table");
+    insist(smap_table_add(&table, (const uint8_t *)"a.js", 4, &map, &why) == SMAP_DONE && !map.at, "a map in it");
+    /* A page that is only read takes no memory. */
+    const uint8_t *zeros = mmap(NULL, most_trace_bytes + 1, PROT_READ, MAP_PRIVATE | MAP_ANONYMOUS | MAP_NORESERVE, -1, 0);
+    insist(zeros != MAP_FAILED, "a long trace");
+    smap_bytes bytes = {0};
+    smap_trace_count count = {9, 9, 9, 9};
+    insist(smap_rewrite(&table, zeros, most_trace_bytes + 1, false, &bytes, &count) == SMAP_REFUSED, "X3");
+    insist(!bytes.at, "no bytes");
+    insist(smap_rewrite(&table, zeros, most_trace_bytes, false, &bytes, &count) == SMAP_DONE, "the longest trace");
+    insist(count.lines == 1 && count.frames == 0 && count.mapped == 0 && count.hidden == 0, "its counts");
+    smap_text text = SMAP_TEXT;
+    insist(smap_bytes_text(&bytes, &text) == SMAP_DONE && text.length == most_trace_bytes, "its length");
+    insist(!memcmp(text.bytes, zeros, most_trace_bytes), "its bytes");
+    smap_bytes_free(&bytes);
+    insist(smap_rewrite(&table, zeros, 0, false, &bytes, &count) == SMAP_DONE && count.lines == 0, "no trace");
+    smap_bytes_free(&bytes);
+    smap_table_free(&table);
+    insist(!table.at && !bytes.at, "freed handles");
+}
+
+int main(void) {
+    look_ups();
+    texts();
+    reading();
+    traces();
+    printf("limits %d\n", told);
+    return 0;
+}

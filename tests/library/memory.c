@@ -1,0 +1,244 @@
+/* Refuses each growth of each call of the library in turn: memory OUTER INNER, where OUTER is a map with an original of line
+ * 65, column 80. A call then returns 3, and handles and all else
+ * that it writes to are as they were; or it returns 0, with the answer that it has with ample memory. Nothing leaks. It is
+ * linked with --wrap for the calls of the allocator below.
+ */
+#include <smap.h>
+#include <stdio.h>
+#include <stdlib.h>
+#include <string.h>
+
+void *__real_malloc(size_t size);
+void *__real_realloc(void *at, size_t size);
+void __real_free(void *at);
+void *__wrap_malloc(size_t size);
+void *__wrap_realloc(void *at, size_t size);
+void *__wrap_calloc(size_t count, size_t size);
+void *__wrap_aligned_alloc(size_t alignment, size_t size);
+int __wrap_posix_memalign(void **at, size_t alignment, size_t size);
+void __wrap_free(void *at);
+
+static long live;             /* how many pieces of memory are held */
+static long asked;            /* how many growths were asked for since `refuse_from` */
+static long refused = -1;     /* which of them is refused, from 0, or -1 for none */
+static bool refuses_all;
+
+static bool is_refused(void) {
+    long number = asked++;
+    return refuses_all || number == refused;
+}
+
+void *__wrap_malloc(size_t size) {
+    if (is_refused()) return NULL;
+    void *at = __real_malloc(size);
+    live += at != NULL;
+    return at;
+}
+
+void *__wrap_realloc(void *at, size_t size) {
+    if (is_refused()) return NULL;
+    void *moved = __real_realloc(at, size);
+    live += !at && moved;
+    return moved;
+}
+
+void __wrap_free(void *at) {
+    live -= at != NULL;
+    __real_free(at);
+}
+
+static void fail(const char *call, const char *what) {
+    fprintf(stderr, "memory: %s: %s, growth %ld\n", call, what, refused);
+    exit(9);
+}
+
+/* The library asks for memory by malloc and realloc alone. */
+void *__wrap_calloc(size_t count, size_t size) { (void)count, (void)size, fail("calloc", "is called"); return NULL; }
+void *__wrap_aligned_alloc(size_t alignment, size_t size) { (void)alignment, (void)size, fail("aligned_alloc", "is called"); return NULL; }
+int __wrap_posix_memalign(void **at, size_t alignment, size_t size) {
+    (void)at, (void)alignment, (void)size, fail("posix_memalign", "is called");
+    return 0;
+}
+
+struct text { uint8_t bytes[1 << 20]; size_t length; };
+
+static struct text outer_file, inner_file, ample, now;
+
+static void load(const char *path, struct text *text) {
+    FILE *file = fopen(path, "rb");
+    if (!file) fail(path, "is not there");
+    text->length = fread(text->bytes, 1, sizeof text->bytes, file);
+    fclose(file);
+    if (text->length == sizeof text->bytes) fail(path, "is too long");
+}
+
+static const uint8_t base[] = "https://e.test/x/a.min.js";
+static const uint8_t url[] = "https://e.test/a.min.js";
+static const uint8_t trace[] = "Error: x\n    at f (https://e.test/a.min.js:65:80)\n    at g (https://e.test/none.js:1:1)\nlast";
+
+/* What a call may write to, and what it is given. */
+static smap_map outer, inner, made;
+static smap_table table, made_table;
+static smap_bytes bytes;
+static smap_refusal refusal;
+static smap_trace_count count;
+static uint32_t why;
+
+static uint32_t read_map(smap_map *map, const struct text *file) {
+    return smap_map_read(file->bytes, file->length, base, sizeof base - 1, 64, map, &refusal);
+}
+
+static uint32_t read_call(void) { return read_map(&made, &outer_file); }
+static uint32_t refuse_call(void) { return smap_map_read((const uint8_t *)"{}", 2, base, sizeof base - 1, 64, &made, &refusal); }
+static uint32_t line_call(void) {
+    const smap_refusal fault = {14, 9, 3, 0, 2, 7};
+    return smap_refusal_text(&fault, base, sizeof base - 1, &bytes);
+}
+static uint32_t write_call(void) { return smap_map_write(&outer, &bytes); }
+static uint32_t compose_call(void) { return smap_compose(&outer, 0, &inner, &bytes, &why); }
+static uint32_t new_call(void) { return smap_table_new(&made_table); }
+static uint32_t add_call(void) { return smap_table_add(&table, url, sizeof url - 1, &made, &why); }
+static uint32_t twice_call(void) { return smap_table_add(&table, base, sizeof base - 1, &made, &why); }
+static uint32_t rewrite_call(void) { return smap_rewrite(&table, trace, sizeof trace - 1, false, &bytes, &count); }
+
+static const struct call {
+    const char *name;
+    uint32_t (*make)(void);
+    uint32_t wanted;   /* the status with ample memory */
+    bool adds;         /* whether it is given a map for the table */
+} calls[] = {
+    {"smap_map_read", read_call, SMAP_DONE, false},
+    {"smap_map_read of what is refused", refuse_call, SMAP_REFUSED, false},
+    {"smap_refusal_text", line_call, SMAP_DONE, false},
+    {"smap_map_write", write_call, SMAP_DONE, false},
+    {"smap_compose", compose_call, SMAP_DONE, false},
+    {"smap_table_new", new_call, SMAP_DONE, false},
+    {"smap_table_add", add_call, SMAP_DONE, true},
+    {"smap_table_add of what is refused", twice_call, SMAP_REFUSED, true},
+    {"smap_rewrite", rewrite_call, SMAP_DONE, false},
+};
+
+/* What a map or handed-out bytes say, as a text. */
+static void tell(smap_map *map, struct text *into) {
+    smap_bytes written = {0};
+    if (map->at && smap_map_write(map, &written) != SMAP_DONE) fail("a map", "is not written");
+    smap_bytes *from = map->at ? &written : &bytes;
+    into->length = 0;
+    if (!from->at) return;
+    smap_text text = SMAP_TEXT;
+    smap_bytes_text(from, &text);
+    if (text.length > sizeof into->bytes) fail("a text", "is too long");
+    into->length = text.length;
+    memcpy(into->bytes, text.bytes, text.length);
+    if (map->at) smap_bytes_free(&written);
+}
+
+/* What the table answers, which is told by a trace. */
+static void tell_table(struct text *into) {
+    smap_bytes rewritten = {0};
+    smap_trace_count counted = {0};
+    smap_text text = SMAP_TEXT;
+    if (smap_rewrite(&table, trace, sizeof trace - 1, false, &rewritten, &counted) != SMAP_DONE) fail("a table", "rewrites nothing");
+    smap_bytes_text(&rewritten, &text);
+    into->length = text.length;
+    memcpy(into->bytes, text.bytes, text.length);
+    smap_bytes_free(&rewritten);
+}
+
+static bool alike(const struct text *a, const struct text *b) {
+    return a->length == b->length && !memcmp(a->bytes, b->bytes, a->length);
+}
+
+static void free_made(void) {
+    if (made.at) smap_map_free(&made);
+    if (made_table.at) smap_table_free(&made_table);
+    if (bytes.at) smap_bytes_free(&bytes);
+}
+
+/* The call while this growth is refused, or none of it; whether it asked for as many. */
+static bool made_without(const struct call *call, long number) {
+    if (read_map(&outer, &outer_file) || read_map(&inner, &inner_file) || smap_table_new(&table)) fail(call->name, "is not prepared");
+    smap_map mapped = {0};
+    if (read_map(&mapped, &inner_file) || smap_table_add(&table, base, sizeof base - 1, &mapped, &why)) fail(call->name, "has no table");
+    if (call->make == rewrite_call && (read_map(&mapped, &outer_file) || smap_table_add(&table, url, sizeof url - 1, &mapped, &why)))
+        fail(call->name, "has no map");
+    if (call->adds && read_map(&made, &outer_file)) fail(call->name, "has no map");
+    static struct text before, after;
+    tell_table(&before);
+    why = 77;
+    refusal = (smap_refusal){77, 77, 77, 77, 77, 77};
+    count = (smap_trace_count){77, 77, 77, 77};
+    refused = number;
+    asked = 0;
+    uint32_t status = call->make();
+    refused = -1;
+    bool was_refused = number >= 0 && asked > number;
+    tell_table(&after);
+    if (status == SMAP_NO_MEMORY) {
+        if (!was_refused) fail(call->name, "is out of memory where none was refused");
+        if (made.at || made_table.at || bytes.at) fail(call->name, "has filled a handle, or kept a map");
+        if (why != 77 || refusal.number != 77) fail(call->name, "tells a refusal");
+        if (!alike(&before, &after)) fail(call->name, "has changed the table");
+    } else if (status != call->wanted) {
+        fail(call->name, "has another status");
+    } else {
+        struct text *into = number < 0 ? &ample : &now;
+        if (call->make == add_call)
+            *into = after;
+        else if (call->make == refuse_call)
+            into->length = 0, into->bytes[into->length++] = (uint8_t)refusal.number;
+        else
+            tell(&made, into);
+        if (number >= 0 && !alike(&ample, &now)) fail(call->name, "has another answer");
+        if (call->make == refuse_call && refusal.number != 4) fail(call->name, "has another refusal");
+        if (call->make == rewrite_call && (count.lines != 4 || count.frames != 2 || count.mapped != 1)) fail(call->name, "has other counts");
+        if (call->make == twice_call && why != 2) fail(call->name, "has another refusal");
+    }
+    free_made();
+    smap_map_free(&outer);
+    smap_map_free(&inner);
+    smap_table_free(&table);
+    if (live != 0) fail(call->name, "leaks");
+    return was_refused;
+}
+
+/* The calls that take no memory, while every growth is refused. */
+static void free_calls(void) {
+    if (read_map(&outer, &outer_file) || smap_map_write(&outer, &bytes) || smap_table_new(&table)) fail("free calls", "not prepared");
+    const smap_position position = {0, 0};
+    smap_found found = {0};
+    smap_count counts = {0};
+    smap_source_text source = SMAP_SOURCE;
+    smap_text text = SMAP_TEXT;
+    asked = 0;
+    refuses_all = true;
+    uint32_t statuses = smap_look_up(&outer, 0, 0, &found) | smap_look_up_from(&outer, 0, 0, &found) |
+                        smap_look_up_many(&outer, &position, 1, &found, 1) | smap_counts(&outer, &counts) |
+                        smap_source(&outer, 0, &source) | smap_name(&outer, 0, &text) | smap_bytes_text(&bytes, &text);
+    uint32_t file = smap_file(&outer, &text);
+    smap_map_free(&outer);
+    smap_table_free(&table);
+    smap_bytes_free(&bytes);
+    refuses_all = false;
+    if (statuses != SMAP_DONE || file == SMAP_NO_MEMORY) fail("free calls", "another status");
+    if (asked != 0) fail("free calls", "memory is asked for");
+    if (live != 0) fail("free calls", "leaks");
+}
+
+int main(int argc, char **argv) {
+    if (argc < 3) fail("memory", "OUTER INNER");
+    load(argv[1], &outer_file);
+    load(argv[2], &inner_file);
+    long growths = 0;
+    for (size_t i = 0; i < sizeof calls / sizeof *calls; i++) {
+        long number = 0;
+        made_without(&calls[i], -1);
+        while (made_without(&calls[i], number)) number++;
+        if (number == 0 && calls[i].make != twice_call) fail(calls[i].name, "takes no memory");
+        growths += number;
+        printf("%s: %ld growths\n", calls[i].name, number);
+    }
+    free_calls();
+    printf("memory %ld\n", growths);
+    return 0;
+}

@@ -1,0 +1,214 @@
+'use strict';
+// What the library answers in node where it is called wrongly, and at the ends of what numbers hold: node mistakes.js MAP.
+const assert = require('node:assert');
+const fs = require('node:fs');
+const smap = require('../../lib/node');
+const { refusedMap } = require('../../lib/node/refused.js');
+const addon = require('../../lib/node/smap.node');
+
+// Line 1 has a mapping at column 0 and one at 10 with a name, line 2 none, and line 3 one at 5 without an original.
+const small = '{"version":3,"sources":["a.js"],"names":["n"],"mappings":"AAAA,UACIA;;K"}';
+const first = { source: 'a.js', line: 1, column: 0, name: null };
+const last = { source: 'a.js', line: 2, column: 4, name: 'n' };
+const nothing = { source: null, line: null, column: null, name: null };
+const far = 2 ** 32;
+
+let told = 0;
+const same = (got, wanted) => {
+  assert.deepStrictEqual(got, wanted);
+  told += 1;
+};
+const refuses = (name, call, message, members = {}) => {
+  assert.throws(call, { name, message, ...members });
+  told += 1;
+};
+
+function places() {
+  const map = new smap.TraceMap(small);
+  const ask = (line, column, bias) => smap.originalPositionFor(map, { line, column, bias });
+  for (const column of [10, 203, far - 1, far, far + 3, 4294967499, 2 ** 53, 1e300, Infinity]) {
+    same(ask(1, column), last);
+    same(ask(1, column, smap.GREATEST_LOWER_BOUND), last);
+    same(ask(2, column), nothing);
+    same(ask(1, column, smap.LEAST_UPPER_BOUND), column === 10 ? last : nothing);
+  }
+  for (const line of [4, far, far + 1, far + 3, 2 ** 53, 1e300, Infinity]) {
+    same(ask(line, 9), nothing);
+    same(ask(line, 0, smap.LEAST_UPPER_BOUND), nothing);
+  }
+  same(ask(1, 3), first);
+  same(ask(1, 3, smap.LEAST_UPPER_BOUND), last);
+  same(ask(1, -0), first);
+  same(ask(3, Infinity), nothing);
+  for (const line of [0, -0, -1, -far, -far + 1, -Infinity]) refuses('Error', () => ask(line, 0), /`line` must be greater than 0/);
+  for (const column of [-1, -far, -far + 3, -Infinity]) {
+    refuses('Error', () => ask(1, column), /`column` must be greater than or equal to 0/);
+  }
+  for (const other of [0.5, 1.5, -0.5, NaN, '1', 'x', '', null, undefined, true, 1n, [1], {}, new Number(1)]) {
+    refuses('TypeError', () => ask(other, 0), /`line` must be a whole number/);
+    refuses('TypeError', () => ask(1, other), /`column` must be a whole number/);
+  }
+  for (const other of [undefined, null, 7, {}, addon, small]) {
+    refuses('TypeError', () => smap.originalPositionFor(other, { line: 1, column: 0 }), /TraceMap/);
+  }
+}
+
+function many() {
+  const map = new smap.TraceMap(small);
+  const ask = (...numbers) => [...smap.lookUpMany(map, Uint32Array.of(...numbers))];
+  const found = [2, 10, 0, 1, 4, 1, 0];
+  const none = [0, 0, 0, 0, 0, 0, 0];
+  same(ask(0, 12, 3, 0, 0, far - 1, far - 1, 0), [...found, ...none, ...found, ...none]);
+  same(ask(), []);
+  same([...smap.lookUpMany(map, Uint32Array.of(9, 9, 0, 12).subarray(2))], found);
+  const others = [[0, 12], Int32Array.of(0, 12), Float64Array.of(0, 12), Uint16Array.of(0, 12), Uint8Array.of(0, 12),
+    new BigUint64Array(2), Buffer.alloc(8), new ArrayBuffer(8), new DataView(new ArrayBuffer(8)), '0 12', 7, null, undefined,
+    { length: 2, 0: 0, 1: 12 }, Object.create(Uint32Array.prototype)];
+  for (const other of others) refuses('TypeError', () => smap.lookUpMany(map, other), /Uint32Array/);
+  refuses('TypeError', () => ask(0, 12, 0), /length/);
+  refuses('TypeError', () => smap.lookUpMany({}, Uint32Array.of(0, 12)), /TraceMap/);
+}
+
+// The addon itself, beneath what index.js checks.
+function beneath() {
+  const { handle } = new smap.TraceMap(small);
+  const room = new Uint32Array(7);
+  same(addon.lookUp(handle, 0, 12, false, room), 2);
+  for (const number of [far, far + 3, -1, 0.5, NaN, Infinity, '0', null, undefined]) {
+    refuses('TypeError', () => addon.lookUp(handle, number, 0, false, room), /whole number/);
+    refuses('TypeError', () => addon.lookUp(handle, 0, number, false, room), /whole number/);
+    refuses('TypeError', () => addon.source(handle, number), /whole number/);
+    refuses('TypeError', () => addon.name(handle, number), /whole number/);
+  }
+  refuses('TypeError', () => addon.lookUp(handle, 0, 0, false, new Uint32Array(6)), /room/);
+  refuses('TypeError', () => addon.lookUpMany(handle, new Uint32Array(2), new Uint32Array(6)), /lengths/);
+  refuses('TypeError', () => addon.counts({}), /no map/);
+  refuses('TypeError', () => addon.counts(), /arguments/);
+  refuses('TypeError', () => addon.compose(handle, 0, handle), /twice/);
+}
+
+function maps() {
+  for (const data of [small, Buffer.from(small), new Uint8Array(Buffer.from(small)), JSON.parse(small)]) {
+    same(smap.originalPositionFor(new smap.TraceMap(data), { line: 1, column: 12 }), last);
+  }
+  same(new smap.TraceMap('{"version":3,"sources":["ä.js"],"names":[],"mappings":"AAAA"}').sources, ['ä.js']);
+  const buffer = new ArrayBuffer(8);
+  const others = [7, true, null, undefined, 7n, Symbol('map'), () => small, buffer, new DataView(buffer), new Uint16Array(8)];
+  for (const other of others) refuses('TypeError', () => new smap.TraceMap(other), /a map must be a text/);
+  refuses('TypeError', () => new smap.TraceMap(new smap.TraceMap(small)), /read already/);
+  refuses('Refused', () => new smap.TraceMap('no JSON'), /^refused: map: M2 NotJson$/, { number: 2, url: undefined });
+  refuses('Refused', () => new smap.TraceMap([]), /M3 NotObject/, { number: 3 });
+}
+
+function bases() {
+  for (const url of ['https://e.test/x/b.js', new URL('https://e.test/x/b.js')]) {
+    same(new smap.TraceMap(small, url).sources, ['https://e.test/x/a.js']);
+  }
+  for (const url of [undefined, null, '']) same(new smap.TraceMap(small, url).sources, ['a.js']);
+  same(new smap.TraceMap(small, `https://e.test/${'x'.repeat(100000)}/b.js`).sources[0].length, 100020);
+  for (const url of ['no URL', 'a.js', '/tmp/a.js']) {
+    refuses('Refused', () => new smap.TraceMap(small, url), `the base is no URL: "${url}"`, { number: 0 });
+  }
+  refuses('Refused', () => new smap.TraceMap(small, 'x'.repeat(100000)), /the base is no URL: .* 99800 characters more$/);
+  for (const url of [7, false, {}, [], Buffer.from('https://e.test/')]) {
+    refuses('TypeError', () => new smap.TraceMap(small, url), /`mapUrl` must be a text/);
+  }
+  // No base of a test is so long.
+  const long = refusedMap(Float64Array.of(18, 0, 0, 0, 0, 0), 'map', 'https://e.test/');
+  same([long.number, long.message], [18, 'the base is too long: "https://e.test/"']);
+  same(refusedMap(Float64Array.of(99, 0, 0, 0, 0, 0), 'map', '').message, 'refused: map: 99');
+}
+
+function intervals() {
+  for (const interval of [1, 64, 4096, undefined]) same(new smap.TraceMap(small, null, interval).names, ['n']);
+  for (const interval of [0, -1, -far + 64, 4097, far - 1, far, far + 64, 2 ** 53, Infinity, -Infinity]) {
+    refuses('Refused', () => new smap.TraceMap(small, null, interval), /M15 Build B1 Interval/, { number: 15, build: 1 });
+  }
+  for (const interval of [0.5, 64.5, NaN, '64', null, true, 64n]) {
+    refuses('TypeError', () => new smap.TraceMap(small, null, interval), /`interval` must be a whole number/);
+  }
+}
+
+function compositions(path) {
+  const [map, other] = [new smap.TraceMap(small), new smap.TraceMap(small)];
+  for (const source of [1, -1, -far, far - 1, far, 2 ** 53, Infinity]) {
+    for (const inner of [map, other]) {
+      refuses('Refused', () => smap.compose(map, source, inner), 'refused: C1 SourceIndex', { number: 1 });
+    }
+  }
+  for (const source of [0.5, NaN, '0', null, undefined, false]) {
+    refuses('TypeError', () => smap.compose(map, source, other), /`source` must be a whole number/);
+  }
+  for (const given of [7, small, null, {}]) {
+    refuses('TypeError', () => smap.compose(map, 0, given), /TraceMap/);
+    refuses('TypeError', () => smap.compose(given, 0, map), /TraceMap/);
+  }
+  same(smap.compose(map, 0, map), smap.compose(map, 0, other));
+  const [large, again] = [new smap.TraceMap(fs.readFileSync(path)), new smap.TraceMap(fs.readFileSync(path))];
+  for (const source of [0, 1, 2]) same(smap.compose(large, source, large), smap.compose(large, source, again));
+  // So many lines that it is not written.
+  const section = { version: 3, sources: ['a.js'], names: [], mappings: 'A' };
+  const long = { version: 3, sections: [{ offset: { line: 67108864, column: 0 }, map: section }] };
+  const outer = new smap.TraceMap(long);
+  refuses('Refused', () => outer.write(), 'refused: O1 TextTooLong');
+  for (const inner of [outer, new smap.TraceMap(long)]) {
+    refuses('Refused', () => smap.compose(outer, 0, inner), 'refused: C2 TooLarge', { number: 2 });
+    refuses('Refused', () => smap.compose(outer, 1, inner), 'refused: C1 SourceIndex', { number: 1 });
+  }
+}
+
+function tables() {
+  const url = 'https://e.test/a.min.js';
+  const second = 'https://e.test/b.min.js';
+  for (const [data, number, text] of [['{}', 4, 'M4 Version'], ['no JSON', 2, 'M2 NotJson'], ['[]', 3, 'M3 NotObject']]) {
+    refuses('Refused', () => new smap.Table({ [url]: small, [second]: data }), `refused: ${second}: ${text}`, { number, url: second });
+    refuses('Refused', () => new smap.Table([['b.js', data], [url, small]]), `refused: b.js: ${text}`, { number, url: 'b.js' });
+  }
+  const fault = { number: 14, fault: 1, line: 0, byte: 0, section: 0, url: second };
+  refuses('Refused', () => new smap.Table({ [second]: small.replace('AAAA', 'AA!A') }), /b\.min\.js: M14/, fault);
+  for (const bad of ['', 'a\nb', 'async a', 'eval at a']) {
+    const message = `usage: A1 BadUrl: ${JSON.stringify(bad)}`;
+    refuses('Refused', () => new smap.Table({ [url]: small, [bad]: small }), message, { number: 1, url: bad });
+  }
+  refuses('Refused', () => new smap.Table([[url, small], [url, small]]), `usage: A2 Twice: "${url}"`, { number: 2, url });
+  for (const bad of [7, null, undefined, {}]) refuses('TypeError', () => new smap.Table([[bad, small]]), /`URL` must be a text/);
+  for (const bad of [7, null, undefined, 'a.js']) refuses('TypeError', () => new smap.Table(bad), /`maps` must be/);
+  for (const bad of [7, null, undefined]) refuses('TypeError', () => new smap.Table({ 'a.js': bad }), /a map must be a text/);
+  const table = new smap.Table({ [url]: small });
+  const trace = `    at ä (${url}:1:11)\n`;
+  const wanted = Buffer.from('    at ä (https://e.test/a.js:2:5)\n');
+  for (const given of [trace, Buffer.from(trace), new Uint8Array(Buffer.from(trace))]) same(smap.rewrite(table, given), wanted);
+  for (const bad of [7, null, undefined, [trace], {}, new Uint16Array(2)]) {
+    refuses('TypeError', () => smap.rewrite(table, bad), /`trace` must be a text or a Uint8Array/);
+  }
+  for (const bad of [7, null, 'yes']) refuses('TypeError', () => smap.rewrite(table, trace, { hideIgnored: bad }), /`hideIgnored`/);
+  for (const bad of [7, null, {}, new Map()]) refuses('TypeError', () => smap.rewrite(bad, trace), /a Table is wanted/);
+  const map = new smap.TraceMap(small);
+  refuses('Refused', () => new smap.Table({ 'a\nb': map }), /A1 BadUrl/);
+  same(smap.originalPositionFor(map, { line: 1, column: 12 }), last);
+  new smap.Table({ 'a.js': map });
+  refuses('Error', () => smap.originalPositionFor(map, { line: 1, column: 12 }), 'the map is closed');
+  refuses('Error', () => new smap.Table({ 'a.js': map }), 'the map is closed');
+}
+
+function closed() {
+  const map = new smap.TraceMap(small);
+  same(smap.sourceContentFor(map, 'no such source'), null);
+  same(smap.isIgnored(map, 'no such source'), false);
+  map.close();
+  map.close();
+  const calls = [() => map.counts, () => map.file, () => map.names, () => map.write(), () => smap.compose(map, 0, map),
+    () => smap.lookUpMany(map, new Uint32Array(2)), () => smap.sourceContentFor(map, 'a.js'), () => smap.isIgnored(map, 'a.js')];
+  for (const call of calls) refuses('Error', call, 'the map is closed');
+}
+
+places();
+many();
+beneath();
+maps();
+bases();
+intervals();
+compositions(process.argv[2]);
+tables();
+closed();
+console.log('mistakes', told);

@@ -1,0 +1,219 @@
+"""What the library answers in Python where it is called wrongly, and at the ends of what numbers hold: mistakes.py MAP."""
+
+import ctypes
+import os
+import sys
+import tempfile
+from array import array
+from pathlib import Path
+
+from smap import Answer, Refused, Rewriter, SourceMap, compose
+from smap._library import Refusal
+from smap._told import refused_map
+
+# Line 0 has a mapping at column 0 and one at 10 with a name, line 1 none, and line 2 one at 5 without an original.
+SMALL = b'{"version":3,"sources":["a.js"],"names":["n"],"mappings":"AAAA,UACIA;;K"}'
+FIRST, LAST = Answer(0, 0, 0, 0, None), Answer(10, 0, 1, 4, 0)
+FAR = 2**32
+
+told = 0
+
+
+def same(got, wanted):
+    global told
+    assert got == wanted, f"{got!r} in place of {wanted!r}"
+    told += 1
+
+
+def refuses(error, call, *texts, **members):
+    global told
+    try:
+        got = call()
+    except Exception as raised:
+        assert type(raised) is error, f"{raised!r} in place of {error.__name__}"
+        for text in texts:
+            assert text in str(raised), f"{raised} has no {text}"
+        for name, wanted in members.items():
+            assert getattr(raised, name) == wanted, f"{name} of {raised!r}"
+        told += 1
+        return
+    raise AssertionError(f"{got!r} in place of {error.__name__}")
+
+
+def places():
+    with SourceMap(SMALL) as small:
+        for column in (10, 203, FAR - 1, FAR, FAR + 3, FAR + 203, 2**64, 2**64 + 3):
+            same(small.look_up(0, column), LAST)
+            same(small.look_up(1, column), None)
+            same(small.look_up_from(0, column), LAST if column == 10 else None)
+        for line in (3, FAR - 1, FAR, FAR + 2, 2**64):
+            same(small.look_up(line, 9), None)
+            same(small.look_up_from(line, 0), None)
+        same(small.look_up(0, 3), FIRST)
+        same(small.look_up_from(0, 3), LAST)
+        same(small.look_up(2, FAR), Answer(5, None, None, None, None))
+        for look_up in (small.look_up, small.look_up_from):
+            for number in (-1, -FAR, -FAR + 3):
+                refuses(ValueError, lambda: look_up(number, 0), "line", str(number))
+                refuses(ValueError, lambda: look_up(0, number), "column", str(number))
+            for number in (True, False, 0.0, 1.5, float("inf"), float("nan"), "0", b"0", None, (0,)):
+                refuses(TypeError, lambda: look_up(number, 0), "line", type(number).__name__)
+                refuses(TypeError, lambda: look_up(0, number), "column", type(number).__name__)
+
+
+def many():
+    with SourceMap(SMALL) as small:
+        last, none = [2, 10, 0, 1, 4, 1, 0], [0] * 7
+        ask = lambda positions: small.look_up_many(positions).tolist()
+        same(ask(array("I", [0, 12, 3, 0, 0, FAR - 1, FAR - 1, 0])), last + none + last + none)
+        same(ask(array("I")), [])
+        same(ask(memoryview(array("I", [0, 12]))), last)
+        same(ask(memoryview(array("I", [0, 9, 12, 9]))[::2]), last)
+        same(ask((ctypes.c_uint32 * 2)(0, 12)), last)
+        same(ask(memoryview(array("I", [0, 12, 3, 0])).cast("B").cast("I", [2, 2])), last + none)
+        for typecode in "bBhHiqQfd":
+            refuses(TypeError, lambda: ask(array(typecode, [0, 12])), "32 bits")
+        if array("L").itemsize == 8:
+            refuses(TypeError, lambda: ask(array("L", [0, 12])), "64 bits")
+        for other in (b"\0" * 8, bytearray(8)):
+            refuses(TypeError, lambda: ask(other), "32 bits")
+        for other in ([0, 12], "0 12", None, 7):
+            refuses(TypeError, lambda: ask(other), "array")
+        refuses(ValueError, lambda: ask(array("I", [0, 12, 0])), "a line without a column")
+
+
+def texts():
+    with SourceMap(SMALL) as small:
+        same((small.source(0).name, small.name(0), small.name(None)), ("a.js", "n", None))
+        for get in (small.source, small.name):
+            for index in (1, -1, FAR - 1, FAR, -FAR, 2**64):
+                refuses(IndexError, lambda: get(index), str(index))
+            for index in (False, 0.0, "0"):
+                refuses(TypeError, lambda: get(index), type(index).__name__)
+        refuses(TypeError, lambda: small.source(None), "NoneType")
+
+
+def maps(folder):
+    path, other = folder / "small.map", folder / "other ä.map"
+    path.write_bytes(SMALL)
+    other.write_bytes(b"no JSON")
+    for data in (SMALL, SMALL.decode(), bytearray(SMALL), memoryview(SMALL), path):
+        with SourceMap(data) as small:
+            same(small.look_up(0, 12), LAST)
+    with SourceMap('{"version":3,"sources":["ä.js"],"names":[],"mappings":"AAAA"}') as source_map:
+        same(source_map.source(0).name, "ä.js")
+    for data in (7, 7.5, True, None, [123, 125], {"version": 3}, object()):
+        refuses(TypeError, lambda: SourceMap(data), "bytes, a str or a Path", type(data).__name__)
+    refuses(TypeError, lambda: SourceMap(array("I", [0])), "32 bits")
+    refuses(FileNotFoundError, lambda: SourceMap(folder / "none.map"))
+    refuses(Refused, lambda: SourceMap(other), f"refused: {other}: M2 NotJson", number=2, url=None)
+    refuses(Refused, lambda: SourceMap(str(path)), "refused: map: M2 NotJson", number=2)
+    unnamed = Path(os.fsdecode(os.fsencode(folder) + b"/\xff.map"))
+    unnamed.write_bytes(b"[]")
+    refuses(Refused, lambda: SourceMap(unnamed), "refused: map: M3 NotObject", number=3)
+
+
+def bases():
+    with SourceMap(SMALL, base="https://e.test/x/b.js") as small:
+        same(small.source(0).name, "https://e.test/x/a.js")
+    with SourceMap(SMALL, base="https://e.test/" + "x" * 100000 + "/b.js") as small:
+        same(len(small.source(0).name), 100020)
+    for base in ("", "no URL", "a.js", "/tmp/a.js", "\udc80"):
+        refuses(Refused, lambda: SourceMap(SMALL, base=base), "the base is no URL", repr(base), number=0)
+    refuses(Refused, lambda: SourceMap(SMALL, base="x" * 100000), "the base is no URL", "99800 characters more", number=0)
+    for base in (7, b"https://e.test/", Path("/tmp")):
+        refuses(TypeError, lambda: SourceMap(SMALL, base=base), "base is a str", type(base).__name__)
+    # No base of a test is so long.
+    long = refused_map(Refusal(number=18), b"map", "https://e.test/")
+    same((long.number, str(long)), (18, "the base is too long: 'https://e.test/'"))
+    same(str(refused_map(Refusal(number=99), b"map", "")), "refused: map: 99")
+
+
+def intervals():
+    for interval in (1, 64, 4096):
+        with SourceMap(SMALL, interval=interval) as small:
+            same(small.look_up(0, 12), LAST)
+    for interval in (0, -1, -FAR + 64, 4097, FAR - 1, FAR, FAR + 64, 2**64 + 64):
+        refuses(Refused, lambda: SourceMap(SMALL, interval=interval), "M15 Build B1 Interval", number=15, build=1)
+    for interval in (True, 64.0, "64", None):
+        refuses(TypeError, lambda: SourceMap(SMALL, interval=interval), "interval", type(interval).__name__)
+
+
+def compositions(path):
+    with SourceMap(SMALL) as small, SourceMap(SMALL) as other:
+        for source in (1, -1, -FAR, FAR - 1, FAR, 2**64):
+            refuses(Refused, lambda: compose(small, source, other), "refused: C1 SourceIndex", number=1)
+            refuses(Refused, lambda: compose(small, source, small), "refused: C1 SourceIndex", number=1)
+        for source in (False, 0.0, "0", None):
+            refuses(TypeError, lambda: compose(small, source, other), "source", type(source).__name__)
+        for given in (7, SMALL, None):
+            refuses(TypeError, lambda: compose(small, 0, given), "SourceMap", type(given).__name__)
+            refuses(TypeError, lambda: compose(given, 0, small), "SourceMap", type(given).__name__)
+        same(compose(small, 0, small), compose(small, 0, other))
+    with SourceMap(path) as source_map, SourceMap(path) as other:
+        for source in range(3):
+            same(compose(source_map, source, source_map), compose(source_map, source, other))
+    # So many lines that it is not written.
+    far = (b'{"version":3,"sections":[{"offset":{"line":67108864,"column":0},'
+           b'"map":{"version":3,"sources":["a.js"],"names":[],"mappings":"A"}}]}')
+    with SourceMap(far) as source_map, SourceMap(far) as other:
+        refuses(Refused, source_map.write, "refused: O1 TextTooLong")
+        for inner in (source_map, other):
+            refuses(Refused, lambda: compose(source_map, 0, inner), "refused: C2 TooLarge", number=2)
+            refuses(Refused, lambda: compose(source_map, 1, inner), "refused: C1 SourceIndex", number=1)
+
+
+def tables():
+    url, second = "https://e.test/a.min.js", "https://e.test/b.min.js"
+    for data, number, text in ((b"{}", 4, "M4 Version"), (b"no JSON", 2, "M2 NotJson"), ("[]", 3, "M3 NotObject")):
+        refuses(Refused, lambda: Rewriter({url: SMALL, second: data}), f"refused: {second}: {text}", number=number, url=second)
+        refuses(Refused, lambda: Rewriter({"b.js": data, url: SMALL}), f"refused: b.js: {text}", number=number, url="b.js")
+    fault = SMALL.replace(b"AAAA", b"AA!A")
+    refuses(Refused, lambda: Rewriter({second: fault}), second, number=14, fault=1, line=0, byte=0, section=0, url=second)
+    for bad in ("", "a\nb", "async a", "eval at a"):
+        refuses(Refused, lambda: Rewriter({url: SMALL, bad: SMALL}), "usage: A1 BadUrl: " + repr(bad), number=1, url=bad)
+    refuses(Refused, lambda: Rewriter({"\udc80": SMALL}), "no UTF-8", number=0, url="\udc80")
+    for bad in (7, b"a.js", None):
+        refuses(TypeError, lambda: Rewriter({bad: SMALL}), "URL", type(bad).__name__)
+    for bad in (7, [("a.js", SMALL)], "a.js", None):
+        refuses(TypeError, lambda: Rewriter(bad), "dict", type(bad).__name__)
+    for bad in (7, None, []):
+        refuses(TypeError, lambda: Rewriter({"a.js": bad}), "bytes, a str or a Path", type(bad).__name__)
+    trace, wanted = "    at ä (https://e.test/a.min.js:1:11)\n", "    at ä (https://e.test/a.js:2:5)\n".encode()
+    with Rewriter({url: SMALL}) as rewriter:
+        same(rewriter.counts, {})
+        for given in (trace, trace.encode(), bytearray(trace.encode()), memoryview(trace.encode())):
+            same(rewriter.rewrite(given), wanted)
+            same(rewriter.counts, {"lines": 1, "frames": 1, "mapped": 1, "hidden": 0})
+        for bad in (7, None, [trace], Path("trace")):
+            refuses(TypeError, lambda: rewriter.rewrite(bad), "bytes or a str", type(bad).__name__)
+    refuses(ValueError, lambda: rewriter.rewrite(trace), "closed")
+    with SourceMap(SMALL) as given:
+        refuses(Refused, lambda: Rewriter({"a\nb": given}), "A1 BadUrl")
+        same(given.look_up(0, 12), LAST)
+        Rewriter({"a.js": given}).close()
+        refuses(ValueError, lambda: given.look_up(0, 12), "closed")
+        refuses(ValueError, lambda: Rewriter({"a.js": given}), "closed")
+
+
+def closed():
+    small = SourceMap(SMALL)
+    small.close()
+    small.close()
+    for call in (lambda: small.look_up(0, 0), lambda: small.look_up_many(array("I")), lambda: small.counts, small.write,
+                 lambda: small.source(0), lambda: small.name(0), lambda: small.file, lambda: compose(small, 0, small)):
+        refuses(ValueError, call, "the map is closed")
+
+
+if __name__ == "__main__":
+    places()
+    many()
+    texts()
+    with tempfile.TemporaryDirectory() as made:
+        maps(Path(made))
+    bases()
+    intervals()
+    compositions(Path(sys.argv[1]))
+    tables()
+    closed()
+    print("mistakes", told)
