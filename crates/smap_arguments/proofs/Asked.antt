@@ -233,11 +233,11 @@ wants_subcommand rows true none = refl
 wants_subcommand rows false none = cc
 
 -- where clap finds no fault in the arguments, they name a subcommand and give it its arguments
-pub command_asked : (words : List Text) → fault_of smap words ≡ [] → HasCommand (subcommand_of smap words)
-command_asked words none =
+pub command_asked : (arguments : List Text) → fault_of smap arguments ≡ [] → HasCommand (subcommand_of smap arguments)
+command_asked arguments none =
     let top = (built smap).top in
     let names = names_of (built smap) in
-    let rest = argument_words smap words in
+    let rest = argument_words smap arguments in
     let stop = stop_after top.rules names rest in
     let walked_none = first_none (walk_fault top names (walk_from nothing_held) rest) _ none in
     let below = second_none (walk_fault top names (walk_from nothing_held) rest) _ none in
@@ -255,17 +255,17 @@ unfolding clap_on_literals
 smap_is_simple = (refl, refl)
 
 -- what a parse by a command that is `smap` gives
-pub parsed_smap : (a : App) (words : List Text) (m : ArgMatches) → a ≡ smap → (is_simple_and_free a ≡ true → fault_of a words ≡ []) → HasMatchesOf a words m
-    → (fault_of smap words ≡ []) × (subcommand_of smap words ≡ subcommand_rows_of m)
-parsed_smap a words m is none matches =
-    let found = subst (λ b. HasMatchesOf b words m) is matches in
-    (subst (λ b. is_simple_and_free b ≡ true → fault_of b words ≡ []) is none smap_is_simple.0, sym (found smap_is_simple.1).1)
+pub parsed_smap : (a : App) (arguments : List Text) (m : ArgMatches) → a ≡ smap → (is_simple_and_free a ≡ true → fault_of a arguments ≡ []) → HasMatchesOf a arguments m
+    → (fault_of smap arguments ≡ []) × (subcommand_of smap arguments ≡ subcommand_rows_of m)
+parsed_smap a arguments m is none matches =
+    let found = subst (λ b. HasMatchesOf b arguments m) is matches in
+    (subst (λ b. is_simple_and_free b ≡ true → fault_of b arguments ≡ []) is none smap_is_simple.0, sym (found smap_is_simple.1).1)
 
-pub failed_smap : (a : App) (words : List Text) (e : Error) (usage : Usage) → a ≡ smap → (is_simple_and_free a ≡ true → HasKind (fault_of a words) e)
-    → IsUsageOf (kind_of e) usage → IsRefusalOf words usage
-failed_smap a words e usage is_smap fails is = refusal_of usage (subst (λ b. is_simple_and_free b ≡ true → HasKind (fault_of b words) e) is_smap fails smap_is_simple.0) is
+pub failed_smap : (a : App) (arguments : List Text) (e : Error) (usage : Usage) → a ≡ smap → (is_simple_and_free a ≡ true → HasKind (fault_of a arguments) e)
+    → IsUsageOf (kind_of e) usage → IsRefusalOf arguments usage
+failed_smap a arguments e usage is_smap fails is = refusal_of usage (subst (λ b. is_simple_and_free b ≡ true → HasKind (fault_of b arguments) e) is_smap fails smap_is_simple.0) is
   where
-    refusal_of : (usage : Usage) → HasKind (fault_of smap words) e → IsUsageOf (kind_of e) usage → IsRefusalOf words usage
+    refusal_of : (usage : Usage) → HasKind (fault_of smap arguments) e → IsUsageOf (kind_of e) usage → IsRefusalOf arguments usage
     refusal_of (Help text) kind is = elim kind [
       | inl memory ↦ elim is [
         | inl help ↦ let bad : OutOfMemory ≡ DisplayHelp = sym memory ∙ help in cc
@@ -280,8 +280,8 @@ failed_smap a words e usage is_smap fails is = refusal_of usage (subst (λ b. is
     refusal_of Memory kind is = tt
 
 -- where clap finds no fault in the arguments, but the base or an argument of `rewrite` is refused
-pub named_refused : (words : List Text) (usage : Usage) → fault_of smap words ≡ [] → IsNamedRefusal (SubcommandTells (subcommand_of smap words)) usage
-    → IsRefusalOf words usage
-named_refused words (Help text) none refused = absurd refused
-named_refused words (Words text) none refused = inr (none, refused)
-named_refused words Memory none refused = tt
+pub named_refused : (arguments : List Text) (usage : Usage) → fault_of smap arguments ≡ [] → IsNamedRefusal (SubcommandTells (subcommand_of smap arguments)) usage
+    → IsRefusalOf arguments usage
+named_refused arguments (Help text) none refused = absurd refused
+named_refused arguments (Words text) none refused = inr (none, refused)
+named_refused arguments Memory none refused = tt

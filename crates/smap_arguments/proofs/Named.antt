@@ -13,7 +13,7 @@ use Rattle.clap.specs.declared.parser.matches.ArgMatches.TheViews.{out-ArgMatche
 use Rattle.clap.specs.declared.parser.matches.SubCommand.{SubCommand}
 use Rattle.smap_command.specs.declared.command.Command.{Command}
 use Rattle.smap_arguments.specs.CommandLine.{check, compose, interval_number, lookup, named, number, positions, raw, rewrite, show}
-use Rattle.smap_arguments.specs.Arguments.{HasArguments, HasCommand, HasValue, HasValueIfGiven, IsNamedRefusal, NamedAsksFor, SubcommandAsksFor, SubcommandTells, TellsBadBase, TellsRefusal}
+use Rattle.smap_arguments.specs.Arguments.{HasArguments, HasCommand, HasValue, HasValueIfGiven, IsNamedRefusal, NamedAsksFor, SubcommandAsksFor, SubcommandTells, TellsOfBase, TellsRefusal}
 use Rattle.smap_arguments.specs.declared.usage.Usage.{Usage}
 use Rattle.smap_arguments.specs.declared.usage.Usage.TheVariants.{Help, Words, Memory}
 
@@ -61,7 +61,7 @@ module _ (subcommand : Option (Text × List Row)) (name : Text) (rows : List Row
   tells (Words text) told = (name, rows, is, told)
   tells Memory told = tt
 
-  pub tells_base : (usage : Usage) → IsNamedRefusal (TellsBadBase rows) usage → IsNamedRefusal (SubcommandTells subcommand) usage
+  pub tells_base : (usage : Usage) → IsNamedRefusal (TellsOfBase rows) usage → IsNamedRefusal (SubcommandTells subcommand) usage
   tells_base (Help text) told = told
   tells_base (Words text) told = (name, rows, is, inl told)
   tells_base Memory told = tt

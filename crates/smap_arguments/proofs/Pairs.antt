@@ -31,59 +31,59 @@ has_one (b ∷ front) back = go (b == 61) (has_one front back)
     go true rest = refl
     go false rest = rest
 
-pub cut_at_last : (word url path : Text) → SplitsAroundMatch (RFindsChar 61) word url path → IsPair word url path
-cut_at_last word url path split =
-    let back : drop split.0 word ≡ 61 ∷ path = drop_at_char 61 word split.0 split.1 split.2.1 (omega arith) ∙ ap (λ l. 61 ∷ l) (sym split.4) in (
-      sym (take-append-drop split.0 word) ∙ (λ k. sym split.3 k ++ back k),
-      subst (λ l. has_equals_sign l ≡ false) (sym split.4) (has_none (drop split.1 word) (λ i low. NoCharPasses-char 61 (drop split.1 word) i split.2.0 (omega arith) low)),
+pub cut_at_last : (argument url path : Text) → SplitsAroundMatch (RFindsChar 61) argument url path → IsPair argument url path
+cut_at_last argument url path split =
+    let back : drop split.0 argument ≡ 61 ∷ path = drop_at_char 61 argument split.0 split.1 split.2.1 (omega arith) ∙ ap (λ l. 61 ∷ l) (sym split.4) in (
+      sym (take-append-drop split.0 argument) ∙ (λ k. sym split.3 k ++ back k),
+      subst (λ l. has_equals_sign l ≡ false) (sym split.4) (has_none (drop split.1 argument) (λ i low. NoCharPasses-char 61 (drop split.1 argument) i split.2.0 (omega arith) low)),
     )
 
-pub none_to_cut : (word : Text) → RFindsChar 61 word None → first_without (word ∷ []) ≡ Some word
-none_to_cut word none = ap (λ has. cond (not has) (Some word) None) (has_none word (λ i low. NoCharPasses-char 61 word i none (omega arith) low))
+pub none_to_cut : (argument : Text) → RFindsChar 61 argument None → first_without (argument ∷ []) ≡ Some argument
+none_to_cut argument none = ap (λ has. cond (not has) (Some argument) None) (has_none argument (λ i low. NoCharPasses-char 61 argument i none (omega arith) low))
 
 -- ---- a list of arguments
 
 module _ {A : Type 0} where
   abbrev pub Zips : List (Bor Text) → List (String A × String A) → Type 0
-  Zips = AllZip (λ word pair. IsPair word.now (string_bytes pair.0) (string_bytes pair.1))
+  Zips = AllZip (λ argument pair. IsPair argument.now (string_bytes pair.0) (string_bytes pair.1))
 
-  pub pairs_of_zip : (words : List (Bor Text)) (pairs : List (String A × String A)) → Zips words pairs → ArePairs (map (λ word. word.now) words) pairs
+  pub pairs_of_zip : (arguments : List (Bor Text)) (pairs : List (String A × String A)) → Zips arguments pairs → ArePairs (map (λ argument. argument.now) arguments) pairs
   pairs_of_zip [] [] zips = tt
   pairs_of_zip [] (p ∷ ps) zips = absurd zips
   pairs_of_zip (w ∷ ws) [] zips = absurd zips
   pairs_of_zip (w ∷ ws) (p ∷ ps) zips = (zips.0, pairs_of_zip ws ps zips.1)
 
-  pub zips_more : (words : List (Bor Text)) (pairs : List (String A × String A)) (i : ℕ) (d : Bor Text) (pair : String A × String A) → i < length words
-      → Zips (take i words) pairs → IsPair (get_or words i d).now (string_bytes pair.0) (string_bytes pair.1) → Zips (take (suc i) words) (pairs ++ pair ∷ [])
+  pub zips_more : (arguments : List (Bor Text)) (pairs : List (String A × String A)) (i : ℕ) (d : Bor Text) (pair : String A × String A) → i < length arguments
+      → Zips (take i arguments) pairs → IsPair (get_or arguments i d).now (string_bytes pair.0) (string_bytes pair.1) → Zips (take (suc i) arguments) (pairs ++ pair ∷ [])
   zips_more [] pairs i d pair low zips cut = absurd (omega arith)
   zips_more (w ∷ ws) [] zero d pair low zips cut = (cut, tt)
   zips_more (w ∷ ws) (p ∷ ps) zero d pair low zips cut = absurd zips
   zips_more (w ∷ ws) [] (suc i) d pair low zips cut = absurd zips
   zips_more (w ∷ ws) (p ∷ ps) (suc i) d pair low zips cut = (zips.0, zips_more ws ps i d pair (omega arith) zips.1 cut)
 
-  first_at : (words : List (Bor Text)) (pairs : List (String A × String A)) (i : ℕ) (d : Bor Text) (first : Text) → i < length words
-      → Zips (take i words) pairs → first_without ((get_or words i d).now ∷ []) ≡ Some first → first_without (map (λ word. word.now) words) ≡ Some first
+  first_at : (arguments : List (Bor Text)) (pairs : List (String A × String A)) (i : ℕ) (d : Bor Text) (first : Text) → i < length arguments
+      → Zips (take i arguments) pairs → first_without ((get_or arguments i d).now ∷ []) ≡ Some first → first_without (map (λ argument. argument.now) arguments) ≡ Some first
   first_at [] pairs i d first low zips found = absurd (omega arith)
   first_at (w ∷ ws) pairs zero d first low zips found = go (has_equals_sign w.now) found
     where
-      go : (has : Bool) → cond (not has) (Some w.now) None ≡ Some first → cond (not has) (Some w.now) (first_without (map (λ word. word.now) ws)) ≡ Some first
+      go : (has : Bool) → cond (not has) (Some w.now) None ≡ Some first → cond (not has) (Some w.now) (first_without (map (λ argument. argument.now) ws)) ≡ Some first
       go true found = cc
       go false found = found
   first_at (w ∷ ws) [] (suc i) d first low zips found = absurd zips
   first_at (w ∷ ws) (p ∷ ps) (suc i) d first low zips found =
       let has : has_equals_sign w.now ≡ true = ap has_equals_sign zips.0.0 ∙ has_one (string_bytes p.0) (string_bytes p.1) in
-      ap (λ b. cond (not b) (Some w.now) (first_without (map (λ word. word.now) ws))) has ∙ first_at ws ps i d first (omega arith) zips.1 found
+      ap (λ b. cond (not b) (Some w.now) (first_without (map (λ argument. argument.now) ws))) has ∙ first_at ws ps i d first (omega arith) zips.1 found
 
   -- the argument after these pairs is refused as the first that is none
-  pub refused_at : (words : List (Bor Text)) (pairs : List (String A × String A)) (i : ℕ) (d : Bor Text) (usage : Usage) → i < length words
-      → Zips (take i words) pairs → IsNamedRefusal (TellsNoPair ((get_or words i d).now ∷ [])) usage
-      → IsNamedRefusal (TellsNoPair (map (λ word. word.now) words)) usage
-  refused_at words pairs i d (Help text) low zips refused = refused
-  refused_at words pairs i d (Words text) low zips refused = (refused.0, first_at words pairs i d refused.0 low zips refused.1, refused.2)
-  refused_at words pairs i d Memory low zips refused = tt
+  pub refused_at : (arguments : List (Bor Text)) (pairs : List (String A × String A)) (i : ℕ) (d : Bor Text) (usage : Usage) → i < length arguments
+      → Zips (take i arguments) pairs → IsNamedRefusal (TellsNoPair ((get_or arguments i d).now ∷ [])) usage
+      → IsNamedRefusal (TellsNoPair (map (λ argument. argument.now) arguments)) usage
+  refused_at arguments pairs i d (Help text) low zips refused = refused
+  refused_at arguments pairs i d (Words text) low zips refused = (refused.0, first_at arguments pairs i d refused.0 low zips refused.1, refused.2)
+  refused_at arguments pairs i d Memory low zips refused = tt
 
-pub tells_bad_pair : (rows : List Row) (words : List Text) → all_of (codes "URL=FILE") rows ≡ Some words → (usage : Usage)
-    → IsNamedRefusal (TellsNoPair words) usage → IsNamedRefusal (TellsBadPair rows) usage
-tells_bad_pair rows words all (Help text) told = told
-tells_bad_pair rows words all (Words text) told = (words, all, told)
-tells_bad_pair rows words all Memory told = tt
+pub tells_bad_pair : (rows : List Row) (arguments : List Text) → all_of (codes "URL=FILE") rows ≡ Some arguments → (usage : Usage)
+    → IsNamedRefusal (TellsNoPair arguments) usage → IsNamedRefusal (TellsBadPair rows) usage
+tells_bad_pair rows arguments all (Help text) told = told
+tells_bad_pair rows arguments all (Words text) told = (arguments, all, told)
+tells_bad_pair rows arguments all Memory told = tt

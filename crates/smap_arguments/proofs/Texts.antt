@@ -36,7 +36,7 @@ first_of_value name rows has = go (find (λ r. bytes_eq r.id name) rows) has.1
     go (Some r) is = first r.reading (slice_get r.values 0) is
 
 -- and it has all of them
-pub all_of_value : (name : Text) (rows : List Row) → HasValue parser.String rows name → (words : List Text) × (all_of name rows ≡ Some words)
+pub all_of_value : (name : Text) (rows : List Row) → HasValue parser.String rows name → (arguments : List Text) × (all_of name rows ≡ Some arguments)
 all_of_value name rows has =
     let found = row_found name has.0 rows has.1 in
     (found.0.values, go (find (λ r. bytes_eq r.id name) rows) found.0 found.1)
@@ -46,6 +46,6 @@ all_of_value name rows has =
     go (Some x) r is = cc
 
 -- what the getter of all texts gives
-pub some_texts : (o : Option (Bor (List (Bor (List ℕ))))) (words : List Text) → option_map (λ s. map (λ v. v.now) s.now) o ≡ Some words → IsSome o
-some_texts None words is = cc
-some_texts (Some s) words is = refl
+pub some_texts : (o : Option (Bor (List (Bor (List ℕ))))) (arguments : List Text) → option_map (λ s. map (λ v. v.now) s.now) o ≡ Some arguments → IsSome o
+some_texts None arguments is = cc
+some_texts (Some s) arguments is = refl

@@ -1,6 +1,6 @@
 -- What the arguments of the command line ask for.
 use Rattle.std.specs.Prelude.{◌≡◌, ◌≢◌, ◌≤◌, ◌+◌, ◌++◌, ◌==◌, ◌⊎◌, ◌∷◌, ℕ, Bool, false, true, codes, length, List, []}
-use Rattle.std.specs.Prelude.{None, Ok, Option, Some, String, find, if◌then◌else◌, map, not, unwrap_or, ⊤}
+use Rattle.std.specs.Prelude.{Err, None, Ok, Option, Some, String, find, if◌then◌else◌, map, not, unwrap_or, ⊤}
 use Rattle.std.specs.declared.alloc.Global.{Global}
 use Rattle.std.specs.List.{AllZip, list_any}
 use Rattle.std.specs.Option.{IsSome}
@@ -9,8 +9,9 @@ use Rattle.std.specs.String.{string_bytes}
 use Rattle.smap_command.specs.Interval.{HasInterval}
 use Rattle.smap_command.specs.Limits.{limit, usual_interval}
 use Rattle.smap_command.specs.Shown.{shown}
-use Rattle.url.specs.Parser.{parse_url}
+use Rattle.url.specs.Parser.{IsOutOfRoom, parse_url}
 use Rattle.url.specs.Parts.{Parts}
+use Rattle.url.specs.declared.error.ParseError.{ParseError}
 use Rattle.clap.specs.Faults.{fault_of}
 use Rattle.clap.specs.Kinds.{IsAmong}
 use Rattle.clap.specs.Simple.{built_leaf}
@@ -43,7 +44,7 @@ IsInRange command = HasPosition command × HasInterval command
 
 -- the arguments as text
 abbrev pub texts : {A : Type 0} → List (String A) → List Text
-texts = map (λ word. string_bytes word)
+texts = map (λ text. string_bytes text)
 
 -- ---- what clap reads for an argument
 
@@ -103,20 +104,20 @@ abbrev pub has_equals_sign : Text → Bool
 has_equals_sign = list_any (λ byte. byte == 61)
 
 -- the argument is a URL, `=` and a path, and is cut at its last `=`
-abbrev pub IsPair : (word url path : Text) → Type 0
-IsPair word url path = (word ≡ url ++ (codes "=" ++ path)) × (has_equals_sign path ≡ false)
+abbrev pub IsPair : (argument url path : Text) → Type 0
+IsPair argument url path = (argument ≡ url ++ (codes "=" ++ path)) × (has_equals_sign path ≡ false)
 
 -- the arguments are these pairs of a URL and a path
 abbrev pub ArePairs : {A : Type 0} → List Text → List (String A × String A) → Type 0
-ArePairs = AllZip (λ word pair. IsPair word (string_bytes pair.0) (string_bytes pair.1))
+ArePairs = AllZip (λ argument pair. IsPair argument (string_bytes pair.0) (string_bytes pair.1))
 
 -- the arguments that clap reads are these pairs
 abbrev pub GivesPairs : {A : Type 0} → List Row → List (String A × String A) → Type 0
-GivesPairs rows pairs = (words : List Text) × GivesTexts rows (codes "URL=FILE") words × ArePairs words pairs
+GivesPairs rows pairs = (arguments : List Text) × GivesTexts rows (codes "URL=FILE") arguments × ArePairs arguments pairs
 
 -- the first argument that is no pair
 abbrev pub first_without : List Text → Option Text
-first_without = find (λ word. not (has_equals_sign word))
+first_without = find (λ argument. not (has_equals_sign argument))
 
 -- ---- the arguments of `check`
 
@@ -170,8 +171,8 @@ SubcommandAsksFor subcommand command =
 
 -- clap finds no fault in the arguments, and the subcommand that they name asks for the command
 abbrev pub ArgumentsAskFor : List Text → Command → Type 0
-ArgumentsAskFor words command =
-    (fault_of smap words ≡ []) × SubcommandAsksFor (subcommand_of smap words) command
+ArgumentsAskFor arguments command =
+    (fault_of smap arguments ≡ []) × SubcommandAsksFor (subcommand_of smap arguments) command
 
 -- ---- what the rows have where clap finds no fault
 
@@ -207,25 +208,39 @@ IsUsageOf kind Memory = ⊤
 abbrev pub bad_base_line : Text
 bad_base_line = codes "usage: bad base URL" ++ 10 ∷ []
 
+-- the base is a URL of 4 GB or more
+abbrev pub long_base_line : Text
+long_base_line = codes "usage: base URL too long" ++ 10 ∷ []
+
 -- an argument of `rewrite` has no `=`
-abbrev pub no_pair_line : (word : Text) → Text
-no_pair_line word = codes "usage: no URL=FILE: " ++ shown word ++ 10 ∷ []
+abbrev pub no_pair_line : (argument : Text) → Text
+no_pair_line argument = codes "usage: no URL=FILE: " ++ shown argument ++ 10 ∷ []
 
 -- `rewrite` has both of its flags
 abbrev pub both_flags_line : Text
 both_flags_line = codes "usage: --hide-ignored with --anywhere" ++ 10 ∷ []
 
--- it is told that the base is no URL
+-- it is told that the base is no URL: url's definition finds an error in its text, which is not that it is too long
 abbrev pub TellsBadBase : List Row → Text → Type 0
-TellsBadBase rows text = (text ≡ bad_base_line) × ((base : Text) × GivesText rows (codes "URL") base)
+TellsBadBase rows text = (text ≡ bad_base_line)
+    × ((base : Text) × (error : ParseError) × GivesText rows (codes "URL") base × (parse_url None base ≡ Err error)
+    × (¬ (IsOutOfRoom error)))
+
+-- it is told that the base is too long: any that is given may be, since no definition of url's says when one is
+abbrev pub TellsLongBase : List Row → Text → Type 0
+TellsLongBase rows text = (text ≡ long_base_line) × ((base : Text) × GivesText rows (codes "URL") base)
+
+-- it is told why the base that is given is none
+abbrev pub TellsOfBase : List Row → Text → Type 0
+TellsOfBase rows text = TellsBadBase rows text ⊎ TellsLongBase rows text
 
 -- an argument of `rewrite` is told that is the first without `=`
 abbrev pub TellsNoPair : List Text → Text → Type 0
-TellsNoPair words text = (word : Text) × (first_without words ≡ Some word) × (text ≡ no_pair_line word)
+TellsNoPair arguments text = (argument : Text) × (first_without arguments ≡ Some argument) × (text ≡ no_pair_line argument)
 
 -- the same, of the arguments that clap reads
 abbrev pub TellsBadPair : List Row → Text → Type 0
-TellsBadPair rows text = (words : List Text) × GivesTexts rows (codes "URL=FILE") words × TellsNoPair words text
+TellsBadPair rows text = (arguments : List Text) × GivesTexts rows (codes "URL=FILE") arguments × TellsNoPair arguments text
 
 -- it is told that both flags are given, of arguments that are pairs
 abbrev pub TellsBothFlags : List Row → Text → Type 0
@@ -239,7 +254,7 @@ TellsRewrite rows text = TellsBadPair rows text ⊎ TellsBothFlags rows text
 -- the arguments are told that clap takes, but the command of this name does not: its base or, where that is not refused,
 -- what else `rewrite` refuses
 abbrev pub TellsRefusal : (name : Text) → List Row → Text → Type 0
-TellsRefusal name rows text = TellsBadBase rows text
+TellsRefusal name rows text = TellsOfBase rows text
     ⊎ ((base : Option Parts) × (name ≡ codes "rewrite") × GivesBase rows base × TellsRewrite rows text)
 
 -- where clap finds no fault, this alone may be told, or memory ran out
@@ -254,10 +269,10 @@ SubcommandTells subcommand text =
     (name : Text) × (rows : List Row) × (subcommand ≡ Some (name, rows)) × TellsRefusal name rows text
 
 -- clap finds a request for help or for the version, or another fault in the arguments; or it finds none, and what is told is
--- that the base is no URL, an argument no pair, or that two flags exclude each other; or memory ran out
+-- that the base is no URL or too long, an argument no pair, or that two flags exclude each other; or memory ran out
 abbrev pub IsRefusalOf : List Text → Usage → Type 0
-IsRefusalOf words (Help text) = (kind : ErrorKind) × IsAmong kind (fault_of smap words) × IsRequest kind
-IsRefusalOf words (Words text) =
-    ((kind : ErrorKind) × IsAmong kind (fault_of smap words) × (¬ (IsRequest kind)))
-    ⊎ ((fault_of smap words ≡ []) × SubcommandTells (subcommand_of smap words) (string_bytes text))
-IsRefusalOf words Memory = ⊤
+IsRefusalOf arguments (Help text) = (kind : ErrorKind) × IsAmong kind (fault_of smap arguments) × IsRequest kind
+IsRefusalOf arguments (Words text) =
+    ((kind : ErrorKind) × IsAmong kind (fault_of smap arguments) × (¬ (IsRequest kind)))
+    ⊎ ((fault_of smap arguments ≡ []) × SubcommandTells (subcommand_of smap arguments) (string_bytes text))
+IsRefusalOf arguments Memory = ⊤

@@ -6,11 +6,11 @@ ghost use Rattle.smap_arguments.specs.CommandLine.{interval_number, named, numbe
 ghost use Rattle.smap_arguments.specs.Arguments.{ArePairs, GivesBase, GivesFlag, GivesInterval, GivesNumber, GivesPairs};
 ghost use Rattle.smap_arguments.specs.Arguments.{GivesText, GivesTexts, HasArguments, HasCommand, HasValue, HasValueIfGiven};
 ghost use Rattle.smap_arguments.specs.Arguments.{IsInRange, IsNamedRefusal, IsPair};
-ghost use Rattle.smap_arguments.specs.Arguments.{NamedAsksFor, SubcommandAsksFor, SubcommandTells, TellsBadBase};
+ghost use Rattle.smap_arguments.specs.Arguments.{NamedAsksFor, SubcommandAsksFor, SubcommandTells, TellsOfBase};
 ghost use Rattle.smap_arguments.specs.Arguments.{TellsBadPair, TellsNoPair, TellsRefusal, TellsRewrite, texts};
 ghost use Rattle.clap.specs.declared.builder.value_parser.ValueParser.TheVariants as parser;
 
-use crate::mistakes::{BAD_BASE, BOTH_FLAGS, no_pair_line};
+use crate::mistakes::{BAD_BASE, BOTH_FLAGS, LONG_BASE, no_pair_line};
 use crate::usage::Usage;
 use clap::ArgMatches;
 use smap_command::{Command, USUAL_INTERVAL};
@@ -87,7 +87,6 @@ fn named_command(
     }
 }
 
-// The text of an argument.
 fn text_in(alloc: Global, matches: &ArgMatches<'_>, name: &str) -> Result<String, AllocError>
     requires { HasValue parser.String (rows_of (found_of matches.now)) name.now }
     ensures { IfOk result (λ text. GivesText (rows_of (found_of matches.now)) name.now
@@ -96,16 +95,15 @@ fn text_in(alloc: Global, matches: &ArgMatches<'_>, name: &str) -> Result<String
     String::from_str(alloc, matches.get_str(name).unwrap())
 }
 
-// The texts of an argument that may have several.
 fn texts_in<'m, 'a>(matches: &'m ArgMatches<'a>, name: &str) -> &'m [&'a str]
     requires { HasValue parser.String (rows_of (found_of matches.now)) name.now }
     ensures { GivesTexts (rows_of (found_of matches.now)) name.now
-        (map (λ word. word.now) result.now) }
+        (map (λ text. text.now) result.now) }
 {
     matches.get_strs(name).unwrap()
 }
 
-// The line or column of an argument, counted from 0.
+// Counted from 0, where the argument counts from 1.
 fn position_number_in(matches: &ArgMatches<'_>, name: &str) -> u32
     requires { HasValue number (rows_of (found_of matches.now)) name.now }
     ensures given { GivesNumber (rows_of (found_of matches.now)) name.now (result + 1) }
@@ -114,7 +112,6 @@ fn position_number_in(matches: &ArgMatches<'_>, name: &str) -> u32
     matches.get_one::<u32>(name).unwrap() - 1
 }
 
-// The number of the source.
 fn source_in(matches: &ArgMatches<'_>) -> u32
     requires { HasValue source_number (rows_of (found_of matches.now)) (codes "SOURCE") }
     ensures { GivesNumber (rows_of (found_of matches.now)) (codes "SOURCE") result }
@@ -142,7 +139,6 @@ fn after_in(matches: &ArgMatches<'_>) -> bool
     flag_in(matches, "after")
 }
 
-// Whether the flag is given that answers in JSON.
 fn json_in(matches: &ArgMatches<'_>) -> bool
     requires { HasValueIfGiven parser.Bool (rows_of (found_of matches.now)) (codes "json") }
     ensures { GivesFlag (rows_of (found_of matches.now)) (codes "json") result }
@@ -150,7 +146,6 @@ fn json_in(matches: &ArgMatches<'_>) -> bool
     flag_in(matches, "json")
 }
 
-// Whether a flag is given.
 fn flag_in(matches: &ArgMatches<'_>, name: &str) -> bool
     requires { HasValueIfGiven parser.Bool (rows_of (found_of matches.now)) name.now }
     ensures { GivesFlag (rows_of (found_of matches.now)) name.now result }
@@ -158,18 +153,21 @@ fn flag_in(matches: &ArgMatches<'_>, name: &str) -> bool
     matches.get_flag(name)
 }
 
-// The URL of the option `--base`, where it is given.
+// None where `--base` is not given.
 fn base_in(alloc: Global, matches: &ArgMatches<'_>) -> Result<Option<Url>, Usage>
     ensures given { IfOk result (GivesBase (rows_of (found_of matches.now))) }
-    ensures refused { IfErr result (IsNamedRefusal (TellsBadBase (rows_of (found_of matches.now)))) }
+    ensures refused { IfErr result (IsNamedRefusal (TellsOfBase (rows_of (found_of matches.now)))) }
 {
     let Some(text) = matches.get_str("URL") else {
         return Ok(None);
     };
     match Url::parse(alloc, text) {
         Ok(url) => Ok(Some(url)),
-        Err(ParseError::OutOfMemory) => Err(Usage::Memory),
-        Err(_) => Err(Usage::Words(String::from_str(alloc, BAD_BASE)?)),
+        Err(error) => match error {
+            ParseError::OutOfMemory => Err(Usage::Memory),
+            ParseError::Overflow => Err(Usage::Words(String::from_str(alloc, LONG_BASE)?)),
+            _ => Err(Usage::Words(String::from_str(alloc, BAD_BASE)?)),
+        },
     }
 }
 
@@ -202,13 +200,12 @@ fn check_in(
     }
 }
 
-// The texts once more, each of its own.
-fn copied_texts(alloc: Global, words: &[&str]) -> Result<Vec<String>, AllocError>
-    ensures { IfOk result (λ copies. texts copies.items ≡ map (λ word. word.now) words.now) }
+fn copied_texts(alloc: Global, given: &[&str]) -> Result<Vec<String>, AllocError>
+    ensures { IfOk result (λ copies. texts copies.items ≡ map (λ text. text.now) given.now) }
 {
     let mut copies = Vec::new(alloc);
-    for word in words {
-        copies.push(String::from_str(alloc, word)?)?;
+    for text in given {
+        copies.push(String::from_str(alloc, text)?)?;
     }
     Ok(copies)
 }
@@ -242,7 +239,6 @@ fn rewrite_in(alloc: Global, matches: &ArgMatches<'_>, base: Option<Url>) -> Res
     }
 }
 
-// The arguments of `rewrite`, each cut into a URL and a path.
 fn maps_in(alloc: Global, matches: &ArgMatches<'_>) -> Result<Vec<(String, String)>, Usage>
     requires { HasValue parser.String (rows_of (found_of matches.now)) (codes "URL=FILE") }
     ensures given { IfOk result (λ maps. GivesPairs (rows_of (found_of matches.now)) maps.items) }
@@ -251,14 +247,14 @@ fn maps_in(alloc: Global, matches: &ArgMatches<'_>) -> Result<Vec<(String, Strin
     pairs_of(alloc, texts_in(matches, "URL=FILE"))
 }
 
-// The URL and the path of each argument of `rewrite`.
-fn pairs_of(alloc: Global, words: &[&str]) -> Result<Vec<(String, String)>, Usage>
-    ensures cut { IfOk result (λ pairs. ArePairs (map (λ word. word.now) words.now) pairs.items) }
-    ensures refused { IfErr result (IsNamedRefusal (TellsNoPair (map (λ word. word.now) words.now))) }
+fn pairs_of(alloc: Global, arguments: &[&str]) -> Result<Vec<(String, String)>, Usage>
+    ensures cut { IfOk result (λ pairs. ArePairs (map (λ argument. argument.now) arguments.now) pairs.items) }
+    ensures refused { IfErr result (IsNamedRefusal
+        (TellsNoPair (map (λ argument. argument.now) arguments.now))) }
 {
     let mut pairs = Vec::new(alloc);
-    for word in words {
-        let pair = pair_of(alloc, word)?;
+    for argument in arguments {
+        let pair = pair_of(alloc, argument)?;
         match pairs.push(pair) {
             Ok(_) => {}
             Err(_) => return Err(Usage::Memory),
@@ -268,15 +264,15 @@ fn pairs_of(alloc: Global, words: &[&str]) -> Result<Vec<(String, String)>, Usag
 }
 
 // The URL and the path of an argument, which is cut at its last `=`, since a URL may have others.
-fn pair_of(alloc: Global, word: &str) -> Result<(String, String), Usage>
-    ensures cut { IfOk result (λ pair. IsPair word.now (string_bytes pair.0) (string_bytes pair.1)) }
-    ensures refused { IfErr result (IsNamedRefusal (TellsNoPair (word.now ∷ []))) }
+fn pair_of(alloc: Global, argument: &str) -> Result<(String, String), Usage>
+    ensures cut { IfOk result (λ pair. IsPair argument.now (string_bytes pair.0) (string_bytes pair.1)) }
+    ensures refused { IfErr result (IsNamedRefusal (TellsNoPair (argument.now ∷ []))) }
 {
-    match word.rsplit_once('=') {
+    match argument.rsplit_once('=') {
         Some((url, path)) => Ok((
             String::from_str(alloc, url)?,
             String::from_str(alloc, path)?,
         )),
-        None => Err(Usage::Words(no_pair_line(alloc, word)?)),
+        None => Err(Usage::Words(no_pair_line(alloc, argument)?)),
     }
 }

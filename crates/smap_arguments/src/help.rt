@@ -46,7 +46,7 @@ pub const REWRITE_ABOUT: &str = "Rewrites the stack trace on standard input over
 
 pub const REWRITE_NOTES: &str = "\
 Each URL=FILE is the URL of a generated file, as frames of the trace name it, and the path of that file's
-map; the last `=` of the word stands between them. Sources are resolved against the URL of --base or, where
+map; the last `=` of the argument stands between them. Sources are resolved against the URL of --base or, where
 there is none, against the map's own.
 
 Answer: the trace, line by line. In a frame of V8, Firefox or Safari whose URL has a map, the place becomes

@@ -39,7 +39,6 @@ pub fn command_line<'a>(alloc: Global) -> Result<Command<'a>, AllocError>
         .subcommands(commands)
 }
 
-// The arguments of `lookup`.
 fn lookup_command<'a>(alloc: Global) -> Result<Command<'a>, AllocError>
     ensures { IfOk result (IsLocalCommand lookup) }
 {
@@ -55,7 +54,6 @@ fn lookup_command<'a>(alloc: Global) -> Result<Command<'a>, AllocError>
     described(alloc, "lookup", LOOKUP_ABOUT, LOOKUP_NOTES, arguments)
 }
 
-// The arguments of `positions`.
 fn positions_command<'a>(alloc: Global) -> Result<Command<'a>, AllocError>
     ensures { IfOk result (IsLocalCommand positions) }
 {
@@ -75,7 +73,6 @@ fn positions_command<'a>(alloc: Global) -> Result<Command<'a>, AllocError>
     )
 }
 
-// The arguments of `rewrite`.
 fn rewrite_command<'a>(alloc: Global) -> Result<Command<'a>, AllocError>
     ensures { IfOk result (IsLocalCommand rewrite) }
 {
@@ -89,7 +86,6 @@ fn rewrite_command<'a>(alloc: Global) -> Result<Command<'a>, AllocError>
     described(alloc, "rewrite", REWRITE_ABOUT, REWRITE_NOTES, arguments)
 }
 
-// The arguments of `check`.
 fn check_command<'a>(alloc: Global) -> Result<Command<'a>, AllocError>
     ensures { IfOk result (IsLocalCommand check) }
 {
@@ -102,7 +98,6 @@ fn check_command<'a>(alloc: Global) -> Result<Command<'a>, AllocError>
     described(alloc, "check", CHECK_ABOUT, CHECK_NOTES, arguments)
 }
 
-// The arguments of `show`.
 fn show_command<'a>(alloc: Global) -> Result<Command<'a>, AllocError>
     ensures { IfOk result (IsLocalCommand show) }
 {
@@ -110,7 +105,6 @@ fn show_command<'a>(alloc: Global) -> Result<Command<'a>, AllocError>
     described(alloc, "show", SHOW_ABOUT, SHOW_NOTES, arguments)
 }
 
-// The arguments of `compose`.
 fn compose_command<'a>(alloc: Global) -> Result<Command<'a>, AllocError>
     ensures { IfOk result (IsLocalCommand compose) }
 {
@@ -123,7 +117,6 @@ fn compose_command<'a>(alloc: Global) -> Result<Command<'a>, AllocError>
     described(alloc, "compose", COMPOSE_ABOUT, COMPOSE_NOTES, arguments)
 }
 
-// The arguments of `raw`.
 fn raw_command<'a>(alloc: Global) -> Result<Command<'a>, AllocError>
     ensures { IfOk result (IsLocalCommand raw) }
 {

@@ -8,13 +8,15 @@ use std::alloc::{AllocError, Global};
 /// Standard error: the base is no URL.
 pub const BAD_BASE: &str = "usage: bad base URL\n";
 
-/// `rewrite` has both of its flags.
+/// Standard error: the base is longer than a URL may be here, which is less than 4 GB.
+pub const LONG_BASE: &str = "usage: base URL too long\n";
+
 pub const BOTH_FLAGS: &str = "usage: --hide-ignored with --anywhere\n";
 
 /// Standard error: an argument of `rewrite` without `=`.
-pub fn no_pair_line(alloc: Global, word: &str) -> Result<String, AllocError>
-    ensures { IfOk result (λ text. string_bytes text ≡ no_pair_line word.now) }
+pub fn no_pair_line(alloc: Global, argument: &str) -> Result<String, AllocError>
+    ensures { IfOk result (λ text. string_bytes text ≡ no_pair_line argument.now) }
 {
-    let word = shown(alloc, word)?;
-    format!(in alloc; "usage: no URL=FILE: {word}\n")
+    let argument = shown(alloc, argument)?;
+    format!(in alloc; "usage: no URL=FILE: {argument}\n")
 }

@@ -13,13 +13,13 @@ use std::alloc::Global;
 
 /// The command that the arguments ask for, where the first argument is the program's name. An `Err` has the
 /// text for the user, as clap writes it.
-pub fn parse(alloc: Global, words: Vec<String>) -> Result<Command, Usage>
-    ensures asked { IfOk result (ArgumentsAskFor (texts words.items)) }
+pub fn parse(alloc: Global, arguments: Vec<String>) -> Result<Command, Usage>
+    ensures asked { IfOk result (ArgumentsAskFor (texts arguments.items)) }
     ensures in_range { IfOk result IsInRange }
-    ensures refused { IfErr result (IsRefusalOf (texts words.items)) }
+    ensures refused { IfErr result (IsRefusalOf (texts arguments.items)) }
 {
     let smap = command_line(alloc)?;
-    match smap.try_get_matches_from(words.as_slice()) {
+    match smap.try_get_matches_from(arguments.as_slice()) {
         Ok(matches) => command_in(alloc, &matches),
         Err(error) => Err(usage_of(alloc, &error)),
     }

@@ -233,9 +233,9 @@ const COMMANDS: [(&[&str], &str); 51] = [
 
 #[test]
 fn reads_commands(rt: HostRuntime) -> Result<(), Fail> {
-    for (words, want) in COMMANDS.as_slice() {
-        let command = read(rt.alloc(), words)?;
-        assert_eq!(rt; command.as_str(), *want, "{words:?}");
+    for (arguments, want) in COMMANDS.as_slice() {
+        let command = read(rt.alloc(), arguments)?;
+        assert_eq!(rt; command.as_str(), *want, "{arguments:?}");
     }
     Ok(())
 }

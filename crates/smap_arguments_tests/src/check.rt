@@ -52,9 +52,9 @@ const COMMANDS: [(&[&str], &str); 11] = [
 
 #[test]
 fn reads_paths_of_check(rt: HostRuntime) -> Result<(), Fail> {
-    for (words, want) in COMMANDS.as_slice() {
-        let command = read(rt.alloc(), words)?;
-        assert_eq!(rt; command.as_str(), *want, "{words:?}");
+    for (arguments, want) in COMMANDS.as_slice() {
+        let command = read(rt.alloc(), arguments)?;
+        assert_eq!(rt; command.as_str(), *want, "{arguments:?}");
     }
     Ok(())
 }
@@ -96,9 +96,9 @@ const MISTAKES: [(&[&str], &str); 8] = [
 ];
 
 #[test]
-fn refuses_words_of_check(rt: HostRuntime) -> Result<(), Fail> {
-    for (words, start) in MISTAKES.as_slice() {
-        assert_refused(&rt, rt.alloc(), words, start)?;
+fn refuses_arguments_of_check(rt: HostRuntime) -> Result<(), Fail> {
+    for (arguments, start) in MISTAKES.as_slice() {
+        assert_refused(&rt, rt.alloc(), arguments, start)?;
     }
     Ok(())
 }

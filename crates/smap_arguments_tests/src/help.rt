@@ -1,133 +1,259 @@
-//! Requests for help and for the version.
+//! Requests for help and for the version. Each help text stands here whole.
 use crate::reading::read;
 use std::test::Fail;
 
-const LOOKUP_EXAMPLE: &str = "Example: smap lookup examples/preset-react.js.map 65 80\n";
+const SMAP: &str = "\
+Answers questions about source maps
 
-const POSITIONS_EXAMPLE: &str =
-    "Example: printf '65:80\\n66 1\\n' | smap positions examples/preset-react.js.map\n";
+Usage: smap <COMMAND>
 
-const CHECK_EXAMPLE: &str = "\
+Commands:
+  lookup     Looks a generated position up in a source map file
+  positions  Answers the positions on standard input from a source map file
+  rewrite    Rewrites the stack trace on standard input over source map files
+  check      Checks source map files and prints their counts
+  show       Writes a source map file as one regular map
+  compose    Composes two source map files into one regular map
+  raw        Looks a generated position up in the bare mappings text on standard input
+  help       Print this message or the help of the given subcommand(s)
+
+Options:
+  -h, --help     Print help
+  -V, --version  Print version
+
+Columns are UTF-16 code units. LINE and COLUMN count from 1, as V8 prints them in a stack trace.
+
+Status: 0 answered, 1 a map, a text or a trace is refused, 2 wrong arguments, 3 an I/O error or out of memory.
+
+Example: smap lookup examples/preset-react.js.map 65 80
+";
+
+const LOOKUP: &str = "\
+Looks a generated position up in a source map file
+
+Usage: smap lookup [OPTIONS] <PATH> <LINE> <COLUMN>
+
+Arguments:
+  <PATH>    Path of the source map file
+  <LINE>    Line of the generated file, from 1
+  <COLUMN>  Column of the generated file, from 1, in UTF-16 code units
+
+Options:
+      --base <URL>    URL against which the names of sources are resolved
+      --interval <K>  Checkpoints in the index stand at every K-th segment of a line, 1 to 4096, else 64. A
+                      smaller K answers look-ups faster and takes more memory; their answers are the same
+      --after         Answer by the first mapping on the line at the position or after it, not the last before
+      --json          Answer in JSON: one compact object a line
+  -h, --help          Print help
+
+Answers:
+  SOURCE:LINE:COLUMN  the original position, from 1; behind it ` name NAME` where the mapping names the
+                      identifier there, and ` ignored` where the map says to pass over the source
+  unmapped            the mapping is of generated code without an original
+  none                no mapping stands at the position or before it on its line
+
+The last mapping at the position or before it answers or, with --after, the first at it or after it.
+
+Where the map holds the text of the source, its line follows, and a caret under the position.
+
+With --json the answer is one JSON object, on one line.
+
+Columns are UTF-16 code units. LINE and COLUMN count from 1, as V8 prints them in a stack trace.
+
+Example: smap lookup examples/preset-react.js.map 65 80
+";
+
+const POSITIONS: &str = "\
+Answers the positions on standard input from a source map file
+
+Usage: smap positions [OPTIONS] <MAP>
+
+Arguments:
+  <MAP>  Path of the source map file
+
+Options:
+      --base <URL>    URL against which the names of sources are resolved
+      --interval <K>  Checkpoints in the index stand at every K-th segment of a line, 1 to 4096, else 64. A
+                      smaller K answers look-ups faster and takes more memory; their answers are the same
+      --after         Answer by the first mapping on the line at the position or after it, not the last before
+      --json          Answer in JSON: one compact object a line
+  -h, --help          Print help
+
+Each line of standard input is a position: LINE and COLUMN of the generated file, from 1, without signs or
+leading zeros, and between them blanks or one `:` alone.
+
+Answer: for each line one line, in their order, while they come: the first that `smap lookup` prints for it,
+or `bad position`. With --json each is a JSON object.
+
+The last mapping at a position or before it answers or, with --after, the first at it or after it.
+
+Status 1 where a line was no position; standard error then names the first.
+
+Example: printf '65:80\\n66 1\\n' | smap positions examples/preset-react.js.map
+";
+
+const REWRITE: &str = "\
+Rewrites the stack trace on standard input over source map files
+
+Usage: smap rewrite [OPTIONS] <URL=FILE>...
+
+Arguments:
+  <URL=FILE>...  URL of a generated file, `=` and the path of its source map file
+
+Options:
+      --base <URL>    URL against which the names of sources are resolved
+      --interval <K>  Checkpoints in the index stand at every K-th segment of a line, 1 to 4096, else 64. A
+                      smaller K answers look-ups faster and takes more memory; their answers are the same
+      --hide-ignored  Leave out the frames from sources that a map says to pass over (its `ignoreList`)
+      --anywhere      Rewrite every URL:LINE:COLUMN anywhere in a line, not frames alone
+  -h, --help          Print help
+
+Each URL=FILE is the URL of a generated file, as frames of the trace name it, and the path of that file's
+map; the last `=` of the argument stands between them. Sources are resolved against the URL of --base or, where
+there is none, against the map's own.
+
+Answer: the trace, line by line. In a frame of V8, Firefox or Safari whose URL has a map, the place becomes
+the original one; the rest of the line stays, and so does each other line, byte for byte. With --hide-ignored
+the lines of frames from sources that a map says to pass over are left out. With --anywhere each place
+URL:LINE:COLUMN whose URL has a map becomes the original one, wherever it stands in a line.
+
+Example:
+  smap rewrite https://example.test/receipt.min.js=examples/receipt.min.js.map < examples/receipt.trace
+";
+
+const CHECK: &str = "\
+Checks source map files and prints their counts
+
+Usage: smap check [OPTIONS] <PATH>...
+
+Arguments:
+  <PATH>...  Path of a source map file
+
+Options:
+      --base <URL>    URL against which the names of sources are resolved
+      --interval <K>  Checkpoints in the index stand at every K-th segment of a line, 1 to 4096, else 64. A
+                      smaller K answers look-ups faster and takes more memory; their answers are the same
+      --json          Answer in JSON: one compact object a line
+  -h, --help          Print help
+
+Answer: how many sections, sources, names and segments the map has, how many generated lines hold a segment,
+and how many checkpoints its index has.
+
+With several PATHs each is told by a line, in their order: `PATH: ok ..` on standard output, or
+`refused: PATH: ..` or `device: read PATH` on standard error. A file is let go before the next is read, and
+one that is refused or can't be read stops no other. The status is the greatest of all.
+
+With --json each map is one JSON object, on one line of standard output, with its path: also one that is
+refused. A file that can't be read has none, but its line on standard error.
+
 Examples:
   smap check examples/preset-react.js.map
   find . -name '*.map' -print0 | xargs -0r smap check --json
 ";
 
-const SHOW_EXAMPLE: &str = "Example: smap show examples/bundle.js.map > joined.js.map\n";
+const SHOW: &str = "\
+Writes a source map file as one regular map
 
-const REWRITE_EXAMPLE: &str =
-    "  smap rewrite https://example.test/receipt.min.js=examples/receipt.min.js.map < examples/receipt.trace\n";
+Usage: smap show [OPTIONS] <PATH>
 
-const COMPOSE_EXAMPLE: &str =
-    "Example: smap compose examples/preset-react.min.js.map 0 examples/preset-react.js.map > whole.js.map\n";
+Arguments:
+  <PATH>  Path of the source map file
 
-const RAW_EXAMPLE: &str = "Example: printf 'AAAA,CAAC;AACA' | smap raw 1 6\n";
+Options:
+      --base <URL>  URL against which the names of sources are resolved
+  -h, --help        Print help
 
-// Requests for help, the usage that they show, and how the text ends.
-const REQUESTS: [(&[&str], &str, &str); 21] = [
-    (&["out/program", "--help"], "smap <COMMAND>", LOOKUP_EXAMPLE),
-    (&["smap", "-h"], "smap <COMMAND>", LOOKUP_EXAMPLE),
-    (&["smap", "help"], "smap <COMMAND>", LOOKUP_EXAMPLE),
-    (
-        &["smap", "help", "raw"],
-        "smap raw [OPTIONS] <LINE> <COLUMN>",
-        RAW_EXAMPLE,
-    ),
-    (
-        &["smap", "raw", "--help"],
-        "smap raw [OPTIONS] <LINE> <COLUMN>",
-        RAW_EXAMPLE,
-    ),
-    (
-        &["smap", "raw", "-h"],
-        "smap raw [OPTIONS] <LINE> <COLUMN>",
-        RAW_EXAMPLE,
-    ),
-    (
-        &["smap", "raw", "1", "6", "--help"],
-        "smap raw [OPTIONS] <LINE> <COLUMN>",
-        RAW_EXAMPLE,
-    ),
-    (
-        &["smap", "help", "check"],
-        "smap check [OPTIONS] <PATH>...",
-        CHECK_EXAMPLE,
-    ),
-    (
-        &["smap", "check", "--help"],
-        "smap check [OPTIONS] <PATH>...",
-        CHECK_EXAMPLE,
-    ),
-    (
-        &["smap", "check", "a.map", "-h"],
-        "smap check [OPTIONS] <PATH>...",
-        CHECK_EXAMPLE,
-    ),
-    (
-        &["smap", "help", "show"],
-        "smap show [OPTIONS] <PATH>",
-        SHOW_EXAMPLE,
-    ),
-    (
-        &["smap", "show", "a.map", "--help"],
-        "smap show [OPTIONS] <PATH>",
-        SHOW_EXAMPLE,
-    ),
-    (
-        &["smap", "help", "lookup"],
-        "smap lookup [OPTIONS] <PATH> <LINE> <COLUMN>",
-        LOOKUP_EXAMPLE,
-    ),
-    (
-        &["smap", "lookup", "--help"],
-        "smap lookup [OPTIONS] <PATH> <LINE> <COLUMN>",
-        LOOKUP_EXAMPLE,
-    ),
-    (
-        &["smap", "lookup", "a.map", "1", "6", "-h"],
-        "smap lookup [OPTIONS] <PATH> <LINE> <COLUMN>",
-        LOOKUP_EXAMPLE,
-    ),
-    (
-        &["smap", "help", "positions"],
-        "smap positions [OPTIONS] <MAP>",
-        POSITIONS_EXAMPLE,
-    ),
-    (
-        &["smap", "positions", "a.map", "--help"],
-        "smap positions [OPTIONS] <MAP>",
-        POSITIONS_EXAMPLE,
-    ),
-    (
-        &["smap", "help", "rewrite"],
-        "smap rewrite [OPTIONS] <URL=FILE>...",
-        REWRITE_EXAMPLE,
-    ),
-    (
-        &["smap", "rewrite", "u=a.map", "--help"],
-        "smap rewrite [OPTIONS] <URL=FILE>...",
-        REWRITE_EXAMPLE,
-    ),
-    (
-        &["smap", "help", "compose"],
-        "smap compose [OPTIONS] <OUTER> <SOURCE> <INNER>",
-        COMPOSE_EXAMPLE,
-    ),
-    (
-        &["smap", "compose", "-h"],
-        "smap compose [OPTIONS] <OUTER> <SOURCE> <INNER>",
-        COMPOSE_EXAMPLE,
-    ),
+Answer: the map as one regular map, in compact JSON on one line. An index map is joined, each source stands
+under its resolved name, and `mappings` in its shortest spelling. Keys that smap does not read are dropped,
+and so is `sourceRoot`, which the names then have.
+
+Example: smap show examples/bundle.js.map > joined.js.map
+";
+
+const COMPOSE: &str = "\
+Composes two source map files into one regular map
+
+Usage: smap compose [OPTIONS] <OUTER> <SOURCE> <INNER>
+
+Arguments:
+  <OUTER>   Path of the source map file of the last step
+  <SOURCE>  Number of the source of OUTER that INNER is the map of, from 0
+  <INNER>   Path of the source map file of the step before
+
+Options:
+      --base <URL>  URL against which the names of sources are resolved
+  -h, --help        Print help
+
+OUTER is the map of a file that was made of others, and INNER the map of one of these: of the source of
+OUTER with the number SOURCE, from 0.
+
+Answer: one regular map, in compact JSON on one line. Its sources are those of OUTER and then those of INNER.
+A mapping into source SOURCE leads to the place to which INNER maps that one, or nowhere, where INNER maps it
+to no place; the other mappings stay.
+
+Example: smap compose examples/preset-react.min.js.map 0 examples/preset-react.js.map > whole.js.map
+";
+
+const RAW: &str = "\
+Looks a generated position up in the bare mappings text on standard input
+
+Usage: smap raw [OPTIONS] <LINE> <COLUMN>
+
+Arguments:
+  <LINE>    Line of the generated file, from 1
+  <COLUMN>  Column of the generated file, from 1, in UTF-16 code units
+
+Options:
+      --interval <K>  Checkpoints in the index stand at every K-th segment of a line, 1 to 4096, else 64. A
+                      smaller K answers look-ups faster and takes more memory; their answers are the same
+  -h, --help          Print help
+
+Answers:
+  source S line L column C  the original position, L and C from 1; S is a place in `sources`, from 0; behind
+                            it ` name N` where the mapping has a name, N being a place in `names`, from 0
+  unmapped                  the mapping is of generated code without an original
+  none                      no mapping stands at the position or before it on its line
+
+Columns are UTF-16 code units. LINE and COLUMN count from 1, as V8 prints them in a stack trace.
+
+Example: printf 'AAAA,CAAC;AACA' | smap raw 1 6
+";
+
+// Requests for help, and the text that they show.
+const REQUESTS: [(&[&str], &str); 25] = [
+    (&["out/program", "--help"], SMAP),
+    (&["smap", "-h"], SMAP),
+    (&["smap", "help"], SMAP),
+    (&["smap", "help", "lookup"], LOOKUP),
+    (&["smap", "lookup", "--help"], LOOKUP),
+    (&["smap", "lookup", "a.map", "1", "6", "-h"], LOOKUP),
+    (&["smap", "help", "positions"], POSITIONS),
+    (&["smap", "positions", "--help"], POSITIONS),
+    (&["smap", "positions", "a.map", "--help"], POSITIONS),
+    (&["smap", "help", "rewrite"], REWRITE),
+    (&["smap", "rewrite", "--help"], REWRITE),
+    (&["smap", "rewrite", "u=a.map", "--help"], REWRITE),
+    (&["smap", "help", "check"], CHECK),
+    (&["smap", "check", "--help"], CHECK),
+    (&["smap", "check", "a.map", "-h"], CHECK),
+    (&["smap", "help", "show"], SHOW),
+    (&["smap", "show", "--help"], SHOW),
+    (&["smap", "show", "a.map", "--help"], SHOW),
+    (&["smap", "help", "compose"], COMPOSE),
+    (&["smap", "compose", "--help"], COMPOSE),
+    (&["smap", "compose", "-h"], COMPOSE),
+    (&["smap", "help", "raw"], RAW),
+    (&["smap", "raw", "--help"], RAW),
+    (&["smap", "raw", "-h"], RAW),
+    (&["smap", "raw", "1", "6", "--help"], RAW),
 ];
 
 #[test]
 fn shows_help(rt: HostRuntime) -> Result<(), Fail> {
-    for (words, usage, example) in REQUESTS.as_slice() {
-        let told = read(rt.alloc(), words)?;
-        let usage = format!(in rt.alloc(); "\nUsage: {usage}\n")?;
-        assert!(rt; told.starts_with("help: "), "{words:?}: {told}");
-        assert!(rt; told.contains(usage.as_str()), "{words:?}: {told}");
-        assert!(rt; told.ends_with(*example), "{words:?}: {told}");
+    for (arguments, text) in REQUESTS.as_slice() {
+        let told = read(rt.alloc(), arguments)?;
+        let wanted = format!(in rt.alloc(); "help: {text}")?;
+        assert_eq!(rt; told.as_str(), wanted.as_str(), "{arguments:?}");
     }
     Ok(())
 }
@@ -136,9 +262,9 @@ const VERSIONS: [&[&str]; 2] = [&["smap", "--version"], &["./smap", "-V"]];
 
 #[test]
 fn shows_the_version(rt: HostRuntime) -> Result<(), Fail> {
-    for words in VERSIONS.as_slice() {
-        let told = read(rt.alloc(), words)?;
-        assert_eq!(rt; told.as_str(), "help: smap 0.1.0\n", "{words:?}");
+    for arguments in VERSIONS.as_slice() {
+        let told = read(rt.alloc(), arguments)?;
+        assert_eq!(rt; told.as_str(), "help: smap 0.1.0\n", "{arguments:?}");
     }
     Ok(())
 }

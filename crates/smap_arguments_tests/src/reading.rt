@@ -6,10 +6,10 @@ use std::process::Abort;
 use std::test::Fail;
 
 /// What the arguments come to, on one line or, for help and mistakes, with their text.
-pub fn read(alloc: Global, words: &[&str]) -> Result<String, AllocError> {
+pub fn read(alloc: Global, arguments: &[&str]) -> Result<String, AllocError> {
     let mut owned = Vec::new(alloc);
-    for word in words {
-        owned.push(String::from_str(alloc, word)?)?;
+    for argument in arguments {
+        owned.push(String::from_str(alloc, argument)?)?;
     }
     match parse(alloc, owned) {
         Ok(
@@ -151,15 +151,15 @@ fn read_usage(alloc: Global, usage: &Usage) -> Result<String, AllocError> {
 pub fn assert_refused(
     rt: &impl Abort,
     alloc: Global,
-    words: &[&str],
+    arguments: &[&str],
     start: &str,
 ) -> Result<(), Fail> {
-    let told = read(alloc, words)?;
+    let told = read(alloc, arguments)?;
     let wanted = format!(in alloc; "words: {start}")?;
-    assert!(rt; told.starts_with(wanted.as_str()), "{words:?}: {told}");
+    assert!(rt; told.starts_with(wanted.as_str()), "{arguments:?}: {told}");
     assert!(rt;
         told.ends_with("\n") && !told.ends_with("\n\n"),
-        "{words:?}: {told}"
+        "{arguments:?}: {told}"
     );
     Ok(())
 }

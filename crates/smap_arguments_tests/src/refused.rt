@@ -108,9 +108,9 @@ const MISTAKES: [(&[&str], &str); 26] = [
 ];
 
 #[test]
-fn refuses_words(rt: HostRuntime) -> Result<(), Fail> {
-    for (words, start) in MISTAKES.as_slice() {
-        assert_refused(&rt, rt.alloc(), words, start)?;
+fn refuses_arguments(rt: HostRuntime) -> Result<(), Fail> {
+    for (arguments, start) in MISTAKES.as_slice() {
+        assert_refused(&rt, rt.alloc(), arguments, start)?;
     }
     Ok(())
 }
@@ -247,9 +247,9 @@ const MORE_MISTAKES: [(&[&str], &str); 28] = [
 ];
 
 #[test]
-fn refuses_more_words(rt: HostRuntime) -> Result<(), Fail> {
-    for (words, start) in MORE_MISTAKES.as_slice() {
-        assert_refused(&rt, rt.alloc(), words, start)?;
+fn refuses_more_arguments(rt: HostRuntime) -> Result<(), Fail> {
+    for (arguments, start) in MORE_MISTAKES.as_slice() {
+        assert_refused(&rt, rt.alloc(), arguments, start)?;
     }
     Ok(())
 }

@@ -77,9 +77,9 @@ const REWRITE_MISTAKES: [(&[&str], &str); 14] = [
 ];
 
 #[test]
-fn refuses_words_of_rewrite(rt: HostRuntime) -> Result<(), Fail> {
-    for (words, start) in REWRITE_MISTAKES.as_slice() {
-        assert_refused(&rt, rt.alloc(), words, start)?;
+fn refuses_arguments_of_rewrite(rt: HostRuntime) -> Result<(), Fail> {
+    for (arguments, start) in REWRITE_MISTAKES.as_slice() {
+        assert_refused(&rt, rt.alloc(), arguments, start)?;
     }
     Ok(())
 }

@@ -4,7 +4,7 @@
 //!
 //! ```text
 //! let interval = USUAL_INTERVAL;
-//! let command = Command::Lookup { path, line: 0, column: 5, base: None, interval, after: false };
+//! let command = Command::Lookup { path, line: 0, column: 5, base: None, interval, after: false, json: false };
 //! print(shown(alloc, "a\nb.map")?); // a?b.map
 //! ```
 #![tactic(auto)]

@@ -3,5 +3,5 @@ use Rattle.smap_arguments.specs.Arguments.{texts}
 use Rattle.smap_arguments.proofs.commands.copied_texts.Given as goal
 
 -- the texts so far are copied
-abbrev pub invariant-loop-word : goal.invariant-loop-word
-invariant-loop-word l = texts l.copies.items ≡ map (λ word. word.now) (take l.word-index l.words)
+abbrev pub invariant-loop-text : goal.invariant-loop-text
+invariant-loop-text l = texts l.copies.items ≡ map (λ text. text.now) (take l.text-index l.given)

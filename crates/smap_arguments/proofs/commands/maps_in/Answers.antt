@@ -7,10 +7,10 @@ use Rattle.smap_arguments.proofs.commands.maps_in.Goals as goal
 
 pub returns-clause-given : goal.returns-clause-given
 returns-clause-given c =
-    let words = map (λ (word : Bor (List ℕ)). word.now) c.texts_in.result.now in
-    IfOk-weaker c.pairs_of.result _ _ (λ pairs are. (words, c.texts_in.ensures, are)) c.pairs_of.ensures.cut
+    let arguments = map (λ (argument : Bor (List ℕ)). argument.now) c.texts_in.result.now in
+    IfOk-weaker c.pairs_of.result _ _ (λ pairs are. (arguments, c.texts_in.ensures, are)) c.pairs_of.ensures.cut
 
 pub returns-clause-refused : goal.returns-clause-refused
 returns-clause-refused c =
-    let words = map (λ (word : Bor (List ℕ)). word.now) c.texts_in.result.now in
-    IfErr-weaker c.pairs_of.result _ _ (tells_bad_pair (rows_of (found_of c.args.matches.now)) words c.texts_in.ensures) c.pairs_of.ensures.refused
+    let arguments = map (λ (argument : Bor (List ℕ)). argument.now) c.texts_in.result.now in
+    IfErr-weaker c.pairs_of.result _ _ (tells_bad_pair (rows_of (found_of c.args.matches.now)) arguments c.texts_in.ensures) c.pairs_of.ensures.refused
