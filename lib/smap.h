@@ -95,9 +95,9 @@ uint32_t smap_map_read(const uint8_t *bytes, size_t length, const uint8_t *base,
 /* Frees the map, and leaves its handle empty. */
 void smap_map_free(smap_map *map);
 
-/* Writes the line that the program prints on this refusal of the map file at this path. Returns 1 where the path is not
- * UTF-8, or no refusal of a map has these numbers, as those of a base. The bytes are freed by smap_bytes_free. */
-uint32_t smap_refusal_text(const smap_refusal *refusal, const uint8_t *path, size_t path_length, smap_bytes *bytes);
+/* Writes what the program prints on this refusal of a map file behind the file's path, as "M2 NotJson", with no line end.
+ * Returns 1 where no refusal of a map has these numbers, as those of a base. The bytes are freed by smap_bytes_free. */
+uint32_t smap_refusal_text(const smap_refusal *refusal, smap_bytes *bytes);
 
 /* Looks a generated position up: the last mapping on the line at the position or before it answers. Returns 0. */
 uint32_t smap_look_up(smap_map *map, uint32_t line, uint32_t column, smap_found *found);

@@ -14,7 +14,7 @@ const found = new Uint32Array(7);
 function read(bytes, base, interval, url) {
   const numbers = new Float64Array(6);
   const map = addon.read(bytes, Buffer.from(base), interval, numbers);
-  if (map === null) throw refusedMap(numbers, url === undefined ? 'map' : url, base, url);
+  if (map === null) throw refusedMap(numbers, base, url);
   return map;
 }
 

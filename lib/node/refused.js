@@ -19,14 +19,14 @@ const LONG_BASE = 18;
 const shown = (url) =>
   url.length <= 200 ? JSON.stringify(url) : `${JSON.stringify(url.slice(0, 200))} and ${url.length - 200} characters more`;
 
-// Why the map of this name, at this base, is refused, by the numbers of the library.
-function refusedMap(numbers, name, base, url) {
+// Why a map at this base is refused, by the numbers of the library.
+function refusedMap(numbers, base, url) {
   const [number] = numbers;
   if (number === BAD_BASE || number === LONG_BASE) {
     return new Refused(`the base is ${number === LONG_BASE ? 'too long' : 'no URL'}: ${shown(base)}`, [...numbers], url);
   }
-  const line = addon.refusalText(numbers, Buffer.from(name));
-  return new Refused(line ? line.toString().trim() : `refused: ${name}: ${number}`, [...numbers], url);
+  const text = addon.refusalText(numbers);
+  return new Refused(`refused: ${url === undefined ? '' : `${url}: `}${text ? text.toString() : number}`, [...numbers], url);
 }
 
 const COMPOSE_REFUSALS = { 1: 'C1 SourceIndex', 2: 'C2 TooLarge' };

@@ -175,16 +175,14 @@ static napi_value read_map(napi_env env, napi_callback_info info) {
     return object;
 }
 
-/* refusalText(numbers, path): the program's line on a refusal, as a Buffer, or null. */
+/* refusalText(numbers): what the program tells of a refusal, as a Buffer, or null. */
 static napi_value refusal_text(napi_env env, napi_callback_info info) {
     napi_value words[WORDS];
-    const uint8_t *path;
-    size_t length;
     const double *n;
-    if (!words_of(env, info, 2, words) || !(n = refusal_numbers_of(env, words[0])) || !bytes_of(env, words[1], &path, &length)) return NULL;
+    if (!words_of(env, info, 1, words) || !(n = refusal_numbers_of(env, words[0]))) return NULL;
     smap_refusal refusal = {(uint32_t)n[0], (uint32_t)n[1], (uint32_t)n[2], (uint32_t)n[3], (uint64_t)n[4], (uint64_t)n[5]};
     smap_bytes bytes = {0};
-    uint32_t status = smap_refusal_text(&refusal, path, length, &bytes);
+    uint32_t status = smap_refusal_text(&refusal, &bytes);
     if (status == SMAP_DONE) return buffer(env, &bytes);
     return status == SMAP_REFUSED ? null(env) : refuse(env, "out of memory");
 }

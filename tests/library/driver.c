@@ -105,9 +105,11 @@ static void many(smap_map *map) {
 }
 
 static void tell_refusal(const smap_refusal *refusal, const char *path) {
-    smap_bytes line = {0};
-    if (smap_refusal_text(refusal, (const uint8_t *)path, strlen(path), &line) != SMAP_DONE) fail("no line");
-    put_bytes(&line);
+    smap_bytes text = {0};
+    if (smap_refusal_text(refusal, &text) != SMAP_DONE) fail("no text");
+    printf("refused: %s: ", path);
+    put_bytes(&text);
+    putchar('\n');
 }
 
 static void refuse(const char *path) {
@@ -231,7 +233,7 @@ static void mistakes(const char *path) {
     tell_refusal(&refusal, "MAP");
     smap_refusal none = {0};
     smap_bytes bytes = {0};
-    if (smap_refusal_text(&none, (const uint8_t *)"", 0, &bytes) != SMAP_REFUSED) fail("a line of no refusal");
+    if (smap_refusal_text(&none, &bytes) != SMAP_REFUSED) fail("a text of no refusal");
     map = opened(path);
     smap_source_text source = SMAP_SOURCE;
     smap_text text = SMAP_TEXT;

@@ -59,7 +59,7 @@ const commands = {
       try {
         open(path);
       } catch (refused) {
-        return refused.message.replace(/^refused: map:/, `refused: ${path}:`);
+        return refused.message.replace(/^refused:/, `refused: ${path}:`);
       }
       return 'not refused';
     })),

@@ -60,7 +60,7 @@ def refuse(*paths):
             sys.exit("a map is not refused")
         except Refused as refused:
             assert (refused.number == 14) == (refused.fault is not None) and (refused.number == 15) == (refused.build is not None)
-            print(re.sub("^refused: map:", "refused: " + path + ":", str(refused)))
+            print(re.sub("^refused:", "refused: " + path + ":", str(refused)))
 
 
 def counts(path):

@@ -97,7 +97,7 @@ static void reading(void) {
     for (int i = 0; i < 5; i++) {
         smap_refusal other = {.number = others[i]};
         smap_bytes bytes = {0};
-        insist(smap_refusal_text(&other, (const uint8_t *)"m", 1, &bytes) == SMAP_REFUSED && !bytes.at, "a line of no refusal");
+        insist(smap_refusal_text(&other, &bytes) == SMAP_REFUSED && !bytes.at, "a line of no refusal");
     }
 }
 

@@ -92,7 +92,7 @@ static uint32_t read_call(void) { return read_map(&made, &outer_file); }
 static uint32_t refuse_call(void) { return smap_map_read((const uint8_t *)"{}", 2, base, sizeof base - 1, 64, &made, &refusal); }
 static uint32_t line_call(void) {
     const smap_refusal fault = {14, 9, 3, 0, 2, 7};
-    return smap_refusal_text(&fault, base, sizeof base - 1, &bytes);
+    return smap_refusal_text(&fault, &bytes);
 }
 static uint32_t write_call(void) { return smap_map_write(&outer, &bytes); }
 static uint32_t compose_call(void) { return smap_compose(&outer, 0, &inner, &bytes, &why); }

@@ -96,7 +96,7 @@ function maps() {
   const others = [7, true, null, undefined, 7n, Symbol('map'), () => small, buffer, new DataView(buffer), new Uint16Array(8)];
   for (const other of others) refuses('TypeError', () => new smap.TraceMap(other), /a map must be a text/);
   refuses('TypeError', () => new smap.TraceMap(new smap.TraceMap(small)), /read already/);
-  refuses('Refused', () => new smap.TraceMap('no JSON'), /^refused: map: M2 NotJson$/, { number: 2, url: undefined });
+  refuses('Refused', () => new smap.TraceMap('no JSON'), /^refused: M2 NotJson$/, { number: 2, url: undefined });
   refuses('Refused', () => new smap.TraceMap([]), /M3 NotObject/, { number: 3 });
 }
 
@@ -114,9 +114,9 @@ function bases() {
     refuses('TypeError', () => new smap.TraceMap(small, url), /`mapUrl` must be a text/);
   }
   // No base of a test is so long.
-  const long = refusedMap(Float64Array.of(18, 0, 0, 0, 0, 0), 'map', 'https://e.test/');
+  const long = refusedMap(Float64Array.of(18, 0, 0, 0, 0, 0), 'https://e.test/');
   same([long.number, long.message], [18, 'the base is too long: "https://e.test/"']);
-  same(refusedMap(Float64Array.of(99, 0, 0, 0, 0, 0), 'map', '').message, 'refused: map: 99');
+  same(refusedMap(Float64Array.of(99, 0, 0, 0, 0, 0), '').message, 'refused: 99');
 }
 
 function intervals() {

@@ -107,10 +107,10 @@ def maps(folder):
     refuses(TypeError, lambda: SourceMap(array("I", [0])), "32 bits")
     refuses(FileNotFoundError, lambda: SourceMap(folder / "none.map"))
     refuses(Refused, lambda: SourceMap(other), f"refused: {other}: M2 NotJson", number=2, url=None)
-    refuses(Refused, lambda: SourceMap(str(path)), "refused: map: M2 NotJson", number=2)
+    refuses(Refused, lambda: SourceMap(str(path)), "refused: M2 NotJson", number=2)
     unnamed = Path(os.fsdecode(os.fsencode(folder) + b"/\xff.map"))
     unnamed.write_bytes(b"[]")
-    refuses(Refused, lambda: SourceMap(unnamed), "refused: map: M3 NotObject", number=3)
+    refuses(Refused, lambda: SourceMap(unnamed), "\ufffd.map: M3 NotObject", number=3)
 
 
 def bases():
@@ -124,9 +124,9 @@ def bases():
     for base in (7, b"https://e.test/", Path("/tmp")):
         refuses(TypeError, lambda: SourceMap(SMALL, base=base), "base is a str", type(base).__name__)
     # No base of a test is so long.
-    long = refused_map(Refusal(number=18), b"map", "https://e.test/")
+    long = refused_map(Refusal(number=18), None, "https://e.test/")
     same((long.number, str(long)), (18, "the base is too long: 'https://e.test/'"))
-    same(str(refused_map(Refusal(number=99), b"map", "")), "refused: map: 99")
+    same(str(refused_map(Refusal(number=99), None, "")), "refused: 99")
 
 
 def intervals():

@@ -1,8 +1,8 @@
 pub mod Counts
-pub mod Lending
 pub mod Look
 pub mod Many
 pub mod Owned
+pub mod Private
 pub mod Read
 pub mod Refusal
 pub mod Tables

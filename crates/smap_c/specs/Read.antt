@@ -1,11 +1,12 @@
 -- What reading a map comes to.
-use Rattle.std.specs.Prelude.{◌≡◌, ◌≢◌, ◌⊎◌, ℕ, List, [], ◌∷◌, Option, None, Some, Ok, Err, IsOk, IsUtf8}
-use Rattle.url.specs.Parser.{Gives, parse_url}
+use Rattle.std.specs.Prelude.{◌≡◌, ◌⊎◌, ℕ, List, [], ◌∷◌, Option, None, Some, Ok, Err, IsUtf8}
+use Rattle.std.specs.Result.{IsOkAnd}
+use Rattle.url.specs.Parser.{parse_url, IsOutOfRoom}
 use Rattle.url.specs.Parts.{Parts}
 use Rattle.url.specs.declared.error.ParseError.{ParseError}
-use Rattle.url.specs.declared.error.ParseError.TheVariants.{OutOfMemory}
 use Rattle.smap_record.specs.MapFile.{Map}
 use Rattle.smap_record.specs.Record.{record_of}
+use Rattle.smap_record.specs.Sources.{NamesASource}
 use Rattle.smap_record.specs.declared.refusal.MapRefusal.{MapRefusal}
 use Rattle.smap_record.specs.declared.refusal.MapRefusal.TheVariants.{Url}
 use Rattle.smap_c.specs.Refusal.{numbered, numbers_of}
@@ -16,17 +17,33 @@ abbrev pub NamesBase : List ℕ → Option Parts → Type 0
 NamesBase [] base = base ≡ None
 NamesBase (byte ∷ bytes) base = (url : Parts) × (parse_url None (byte ∷ bytes) ≡ Ok url) × (base ≡ Some url)
 
--- no base is named: the bytes are not UTF-8, or no URL that `url` holds
+-- a base is asked for, by some bytes that are UTF-8
+abbrev pub AsksForBase : List ℕ → Type 0
+AsksForBase [] = ⊥
+AsksForBase (byte ∷ bytes) = IsUtf8 (byte ∷ bytes)
+
+-- a base is asked for by bytes that are not UTF-8, or that the parser of URLs refuses for what they are
 abbrev pub NamesNoBase : List ℕ → Type 0
-NamesNoBase bytes = (IsUtf8 bytes → ⊥) ⊎ ((error : ParseError) × Gives (Err error) (parse_url None bytes) × (error ≢ OutOfMemory))
+NamesNoBase [] = ⊥
+NamesNoBase (byte ∷ bytes) =
+    (IsUtf8 (byte ∷ bytes) → ⊥)
+    ⊎ ((error : ParseError) × (parse_url None (byte ∷ bytes) ≡ Err error) × (IsOutOfRoom error → ⊥))
 
 -- the map that a file of these bytes states at the base that is named, with checkpoints at this interval
 abbrev pub IsReadAs : (bytes base : List ℕ) → (interval : ℕ) → Map → Type 0
 IsReadAs bytes base interval map = ((used : Option Parts) × NamesBase base used × (record_of bytes used interval ≡ Ok map.stated)) × (map.k ≡ interval)
 
--- why the file is refused: it names no base, or its record is; the URL of a source that is too long refuses it too
+-- why the file is refused at this base: its record is; or one of its sources has a name, of which the parser of URLs says
+-- that its URL is too long
+abbrev pub IsRefusedAt : (bytes : List ℕ) → Option Parts → (interval : ℕ) → MapRefusal → Type 0
+IsRefusedAt bytes base interval why =
+    (record_of bytes base interval ≡ Err why)
+    ⊎ ((why ≡ Url) × IsOkAnd (record_of bytes base interval) (λ stated. NamesASource stated.sources))
+
+-- why nothing is read, as numbers: the base is no URL, or the parser of URLs says that it is too long, or the file is
+-- refused
 abbrev pub IsRefusedAs : (bytes base : List ℕ) → (interval : ℕ) → Refusal → Type 0
 IsRefusedAs bytes base interval refusal =
     ((refusal ≡ numbered 0 0) × NamesNoBase base)
-    ⊎ ((used : Option Parts) × NamesBase base used × (why : MapRefusal) × (refusal ≡ numbers_of why)
-    × ((record_of bytes used interval ≡ Err why) ⊎ ((why ≡ Url) × IsOk (record_of bytes used interval))))
+    ⊎ ((refusal ≡ numbered 18 0) × AsksForBase base)
+    ⊎ ((used : Option Parts) × NamesBase base used × (why : MapRefusal) × (refusal ≡ numbers_of why) × IsRefusedAt bytes used interval why)

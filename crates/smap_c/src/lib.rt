@@ -24,6 +24,8 @@ mod refusal;
 mod status;
 mod tables;
 mod telling;
+#[cfg(test)]
+mod tests;
 mod texts;
 mod trace;
 mod written;

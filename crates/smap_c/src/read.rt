@@ -1,7 +1,7 @@
 //! Reading a map, and letting it go.
 ghost use Rattle.std.specs.Prelude.{◌≡◌, ◌≢◌, ◌⊎◌, None, IsSome, IsSomeAnd, IfErr, IfOk, option_map};
-ghost use Rattle.smap_c.specs.Read.{IsReadAs, IsRefusedAs, NamesBase, NamesNoBase};
-ghost use Rattle.smap_c.specs.declared.read.BaseFault.TheVariants.{Memory};
+ghost use Rattle.smap_c.specs.Read.{IsReadAs, IsRefusedAs, NamesBase};
+ghost use Rattle.smap_c.specs.Private.Base.{IsFaultOf};
 
 use crate::handles::MapHandle;
 use crate::refusal::{Refusal, numbered, numbers_of};
@@ -12,7 +12,8 @@ use url::ParseError;
 
 /// Reads the bytes of a map file (ECMA-426, Source map format) that stands at the base, a URL in UTF-8, or none where
 /// it has no bytes. Its index has a checkpoint at the segments of number 0, `interval`, 2 `interval` and so on of each
-/// line; the interval is 1 to 4096. Where the map is refused, `refusal` says why, and where it is not read `map` stays.
+/// line; the interval is 1 to 4096. Where the map or the base is refused, `refusal` says why, and where no map is read
+/// `map` stays.
 #[unsafe(no_mangle)]
 pub extern "C" fn smap_map_read(
     alloc: Global,
@@ -32,6 +33,10 @@ pub extern "C" fn smap_map_read(
         Ok(base) => base,
         Err(BaseFault::NoUrl) => {
             *refusal = numbered(0, 0);
+            return REFUSED;
+        }
+        Err(BaseFault::TooLong) => {
+            *refusal = numbered(18, 0);
             return REFUSED;
         }
         Err(BaseFault::Memory) => return NO_MEMORY,
@@ -55,13 +60,14 @@ pub extern "C" fn smap_map_read(
 // Why there is no base.
 enum BaseFault {
     NoUrl,
+    TooLong,
     Memory,
 }
 
 // The base that these bytes name.
 fn base_named(alloc: Global, base: &[u8]) -> Result<Option<Url>, BaseFault>
     ensures named { IfOk result (NamesBase base.now) }
-    ensures refused { IfErr result (λ fault. (fault ≡ Memory) ⊎ NamesNoBase base.now) }
+    ensures refused { IfErr result (IsFaultOf base.now) }
 {
     if base.is_empty() {
         return Ok(None);
@@ -71,8 +77,11 @@ fn base_named(alloc: Global, base: &[u8]) -> Result<Option<Url>, BaseFault>
     };
     match Url::parse(alloc, text) {
         Ok(url) => Ok(Some(url)),
-        Err(ParseError::OutOfMemory) => Err(BaseFault::Memory),
-        Err(_) => Err(BaseFault::NoUrl),
+        Err(error) => match error {
+            ParseError::OutOfMemory => Err(BaseFault::Memory),
+            ParseError::Overflow => Err(BaseFault::TooLong),
+            _ => Err(BaseFault::NoUrl),
+        },
     }
 }
 

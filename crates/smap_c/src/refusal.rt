@@ -7,12 +7,12 @@ ghost use Rattle.smap_c.specs.Refusal.{numbers_of, refusal_in};
 
 use smap_record::{BuildRefusal, Fault, FaultKind, MapRefusal};
 
-/// Why a map is refused. `number` is that of the refusal, 1 to 17, or 0 where the base is no URL. The other numbers are
-/// 0 where the refusal has no such part.
+/// Why a map is refused. `number` is that of the refusal, 1 to 17, or 0 where the base is no URL, or 18 where the base is
+/// too long a URL. The other numbers are 0 where the refusal has no such part.
 #[repr(C)]
 #[derive(Clone, Copy)]
 pub struct Refusal {
-    /// That of the refusal, M1 to M17, or 0.
+    /// That of the refusal, M1 to M17, or 0 or 18.
     pub number: u32,
     /// That of the fault of the mappings, F1 to F11.
     pub fault: u32,

@@ -8,12 +8,14 @@ use smap_record::SourceName;
 
 /// A text in UTF-8.
 #[repr(C)]
+#[derive(Clone, Copy)]
 pub struct Text<'a> {
     pub text: &'a [u8],
 }
 
 /// A source. A text that there is not has no bytes.
 #[repr(C)]
+#[derive(Clone, Copy)]
 pub struct Source<'a> {
     pub name: &'a [u8],
     pub content: &'a [u8],

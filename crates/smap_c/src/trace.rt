@@ -3,9 +3,10 @@ ghost use Rattle.std.specs.Prelude.{◌≡◌, ◌≢◌, ◌<◌, ◌≤◌, �
 ghost use Rattle.smap_lines.specs.Limits.{most_text_bytes};
 ghost use Rattle.smap_trace.specs.Rewritten.{counts_of, rewritten};
 ghost use Rattle.smap_c.specs.Trace.{counts_seen};
+ghost use Rattle.smap_c.specs.Private.Rewriting.{fault_status};
 
 use crate::handles::{BytesHandle, TableHandle};
-use crate::status::{NO_MEMORY, REFUSED};
+use crate::status::{DONE, NO_MEMORY, REFUSED};
 use crate::written::hand_out;
 use smap_io::{ByteSink, ByteSource, DeviceFault};
 use smap_trace::{RewriteFault, rewrite};
@@ -83,7 +84,7 @@ impl ByteSink for Output {
 
 /// Rewrites a trace: a frame whose URL is in the table and whose place has an original gets it in its place, and every
 /// other byte stays. With `hide_ignored` the lines of frames whose original is in an ignored source are dropped. A
-/// trace of more than 1,073,741,824 bytes is refused.
+/// trace of more than 1,073,741,824 bytes is refused. `bytes` and `counts` are written where the trace was rewritten.
 #[unsafe(no_mangle)]
 pub extern "C" fn smap_rewrite(
     alloc: Global,
@@ -101,7 +102,7 @@ pub extern "C" fn smap_rewrite(
     ensures refused { result ≡ 1 → most_text_bytes < length trace.now }
     ensures fits { result ≡ 0 → length trace.now ≤ most_text_bytes }
     ensures stays { (table.new.held ≡ table.old.held)
-        × (result ≢ 0 → bytes.new.held ≡ bytes.old.held) × (result ≡ 1 → counts.new ≡ counts.old) }
+        × (result ≢ 0 → (bytes.new.held ≡ bytes.old.held) × (counts.new ≡ counts.old)) }
     ensures status { (result ≡ 0) ⊎ (result ≡ 1) ⊎ (result ≡ 3) }
 {
     let mut input = Input { left: trace };
@@ -112,15 +113,27 @@ pub extern "C" fn smap_rewrite(
     };
     match rewrite(alloc, &mut input, &mut output, table.lend(), hide_ignored) {
         Ok(summary) => {
-            *counts = TraceCounts {
-                lines: summary.lines,
-                frames: summary.frames,
-                mapped: summary.mapped,
-                hidden: summary.hidden,
-            };
-            hand_out(alloc, output.bytes, bytes)
+            let status = hand_out(alloc, output.bytes, bytes);
+            if status == DONE {
+                *counts = TraceCounts {
+                    lines: summary.lines,
+                    frames: summary.frames,
+                    mapped: summary.mapped,
+                    hidden: summary.hidden,
+                };
+            }
+            status
         }
-        Err(RewriteFault::TooMuch) => REFUSED,
-        Err(_) => NO_MEMORY,
+        Err(fault) => fault_status(fault),
+    }
+}
+
+// The status of a rewriting that failed.
+fn fault_status(fault: RewriteFault) -> u32
+    ensures { result ≡ fault_status fault }
+{
+    match fault {
+        RewriteFault::TooMuch => REFUSED,
+        RewriteFault::Read | RewriteFault::Write | RewriteFault::Memory => NO_MEMORY,
     }
 }

@@ -1,5 +1,5 @@
 //! Written maps, and the bytes that are handed out.
-ghost use Rattle.std.specs.Prelude.{◌≡◌, ◌≢◌, ◌≤◌, ◌<◌, ◌⊎◌, None, Some, IfSome, IsSome, IfErr, IfOk, length};
+ghost use Rattle.std.specs.Prelude.{◌≡◌, ◌≢◌, ◌≤◌, ◌<◌, ◌⊎◌, None, Some, IfSome, IsSome, IsSomeAnd, IfErr, IfOk, length};
 ghost use Rattle.smap_mappings.specs.Canonical.{canonical_text};
 ghost use Rattle.smap_mappings.specs.Limits.{most_text_bytes};
 ghost use Rattle.smap_index.specs.Parts.{joined};
@@ -51,7 +51,7 @@ pub extern "C" fn smap_compose(
     ensures text { IfSome outer.old.held (λ outside. IfSome inner.old.held (λ inside.
         result ≡ 0 → bytes.new.held ≡ Some (composed_text outside.stated source inside.stated))) }
     ensures refused { IfSome outer.old.held (λ outside. IfSome inner.old.held (λ inside.
-        result ≡ 1 → IfSome (compose_refusal outside.stated source inside.stated)
+        result ≡ 1 → IsSomeAnd (compose_refusal outside.stated source inside.stated)
         (λ why. refusal.new ≡ compose_number why))) }
     ensures sound { IfSome outer.old.held (λ outside. IfSome inner.old.held (λ inside.
         result ≡ 0 → compose_refusal outside.stated source inside.stated ≡ None)) }

@@ -50,7 +50,7 @@ def _loaded() -> ctypes.CDLL:
     for name, result, words in [
         ("smap_map_read", number, [bytes_in, size, bytes_in, size, number, handle, pointer(Refusal)]),
         ("smap_map_free", None, [handle]),
-        ("smap_refusal_text", number, [pointer(Refusal), bytes_in, size, handle]),
+        ("smap_refusal_text", number, [pointer(Refusal), handle]),
         ("smap_look_up", number, [handle, number, number, pointer(Found)]),
         ("smap_look_up_from", number, [handle, number, number, pointer(Found)]),
         ("smap_look_up_many", number, [handle, ctypes.c_void_p, size, ctypes.c_void_p, size]),

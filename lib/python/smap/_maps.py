@@ -20,23 +20,22 @@ class SourceMap:
         """Reads a map file: its bytes, its text as a `str`, or the file at a `Path`. `base` is the URL at which it
         stands. The index has a checkpoint at every `interval`-th segment of a line, 1 to 4096. Raises `Refused`, or
         `MemoryError`."""
-        name = os.fsencode(data) if isinstance(data, os.PathLike) else b"map"
+        name = os.fsencode(data).decode(errors="replace") if isinstance(data, os.PathLike) else None
         self._read(_given.map_bytes(data), base, _given.interval(interval), name, None)
 
     @classmethod
     def _under(cls, url: str, data: _given.MapData) -> "SourceMap":
         # The map of these bytes that stands at the URL, or at none where that is no URL.
         held, self = _given.map_bytes(data), cls.__new__(cls)
-        name = url.encode()
         try:
-            self._read(held, url, 64, name, url)
+            self._read(held, url, 64, url, url)
         except Refused as refused:
             if refused.number != BAD_BASE:
                 raise
-            self._read(held, None, 64, name, url)
+            self._read(held, None, 64, url, url)
         return self
 
-    def _read(self, held: bytes, base: Optional[str], interval: int, name: bytes, url: Optional[str]) -> None:
+    def _read(self, held: bytes, base: Optional[str], interval: int, name: Optional[str], url: Optional[str]) -> None:
         self._open = False
         self._lock = threading.Lock()
         self._handle = Handle()

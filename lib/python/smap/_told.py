@@ -70,14 +70,14 @@ def answer(found: Found) -> Optional[Answer]:
     return Answer(found.generated_column, found.source, found.line, found.column, name)
 
 
-def refused_map(refusal: Refusal, name: bytes, base: str, url: Optional[str] = None) -> Refused:
-    """Why the map of this name, at this base, is refused."""
+def refused_map(refusal: Refusal, name: Optional[str], base: str, url: Optional[str] = None) -> Refused:
+    """Why the map of this name, if it has one, is refused at this base."""
     number = refusal.number
     if number in (BAD_BASE, LONG_BASE):
         return refused_base(number, base, url)
     placed = number in (6, 7, 14) or refusal.build in (2, 3, 4)
     section = refusal.section if placed else None
-    text = _line(refusal, name) or _line(refusal, b"map") or f"refused: map: {number}"
+    text = f"refused: {name}: {_text(refusal)}" if name else f"refused: {_text(refusal)}"
     if number == 14:
         return Refused(text, number, section, refusal.fault, refusal.line, refusal.byte, url=url)
     return Refused(text, number, section, build=refusal.build or None, url=url)
@@ -103,11 +103,11 @@ def _shown(url: str) -> str:
     return repr(url) if len(url) <= 200 else f"{url[:200]!r} and {len(url) - 200} characters more"
 
 
-def _line(refusal: Refusal, name: bytes) -> Optional[str]:
-    line = Handle()
-    status = calls.smap_refusal_text(refusal, name, len(name), line)
+def _text(refusal: Refusal) -> str:
+    text = Handle()
+    status = calls.smap_refusal_text(refusal, text)
     if status == REFUSED:
-        return None
+        return str(refusal.number)
     if status != DONE:
         raise MemoryError
-    return taken(line).decode().strip()
+    return taken(text).decode()

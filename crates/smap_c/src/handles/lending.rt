@@ -1,7 +1,7 @@
 //! A handle lends what it holds, and gives it up. All that follows a pointer of C's stands here.
 ghost use Rattle.std.specs.Prelude.{◌≡◌, None, Some, IsSome};
 ghost use Rattle.std.specs.Borrow.{sem};
-ghost use Rattle.smap_c.specs.Lending.{LendsBytes, LendsMap, LendsTable};
+ghost use Rattle.smap_c.specs.Private.Lending.{LendsBytes, LendsMap, LendsTable};
 
 use super::{BytesHandle, MapHandle, TableHandle};
 use crate::bytes::Bytes;

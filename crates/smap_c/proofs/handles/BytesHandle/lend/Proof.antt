@@ -33,7 +33,7 @@ use Rattle.smap_c.specs.contracts.bytes.Bytes.{the_row as R}
 use Rattle.smap_c.proofs.Held.{held_out}
 use Rattle.smap_c.specs.declared.handles.BytesHandle.{BytesHandle}
 use Rattle.smap_c.specs.contracts.handles.BytesHandle.{the_row as B, the_type}
-use Rattle.smap_c.specs.Lending.{with_bytes}
+use Rattle.smap_c.specs.Private.Lending.{with_bytes}
 use Rattle.smap_c.specs.contracts.handles.BytesHandle.lend.{ended, clauses}
 use Rattle.smap_c.specs.contracts.handles.BytesHandle.lend.Key.{name as #self}
 use Rattle.smap_c.proofs.handles.BytesHandle.lend.Statement.{statement}

@@ -33,7 +33,7 @@ use Rattle.smap_record.specs.contracts.map_file.MapFile.{the_row as R}
 use Rattle.smap_c.proofs.Held.{held_out}
 use Rattle.smap_c.specs.declared.handles.MapHandle.{MapHandle}
 use Rattle.smap_c.specs.contracts.handles.MapHandle.{the_row as B, the_type}
-use Rattle.smap_c.specs.Lending.{with_map}
+use Rattle.smap_c.specs.Private.Lending.{with_map}
 use Rattle.smap_c.specs.contracts.handles.MapHandle.lend.{ended, clauses}
 use Rattle.smap_c.specs.contracts.handles.MapHandle.lend.Key.{name as #self}
 use Rattle.smap_c.proofs.handles.MapHandle.lend.Statement.{statement}

@@ -33,7 +33,7 @@ use Rattle.smap_trace.specs.contracts.table.Table.{the_row as R}
 use Rattle.smap_c.proofs.Held.{held_out}
 use Rattle.smap_c.specs.declared.handles.TableHandle.{TableHandle}
 use Rattle.smap_c.specs.contracts.handles.TableHandle.{the_row as B, the_type}
-use Rattle.smap_c.specs.Lending.{with_table}
+use Rattle.smap_c.specs.Private.Lending.{with_table}
 use Rattle.smap_c.specs.contracts.handles.TableHandle.lend.{ended, clauses}
 use Rattle.smap_c.specs.contracts.handles.TableHandle.lend.Key.{name as #self}
 use Rattle.smap_c.proofs.handles.TableHandle.lend.Statement.{statement}

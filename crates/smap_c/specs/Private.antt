@@ -1,0 +1,4 @@
+-- What contracts of private functions alone cite.
+pub mod Base
+pub mod Lending
+pub mod Rewriting
