@@ -4,7 +4,8 @@
  * pointer and a length, without a byte 0 at the end.
  *
  * A handle holds a map, a table or bytes, or is empty. One set to {0} is empty. A call that fills a handle wants it
- * empty: what it held before is not freed. A call that takes one from a handle wants it full, unless it says so. Each
+ * empty: what it held before is not freed. A call that takes one from a handle wants it full, unless it says so. The pointer
+ * in a handle does not show whether it is empty: after it was freed, or a call took from it, the old one stays there. Each
  * handle is used by one call at a time; two threads may use two handles, each its own.
  *
  * No pointer is null: of no bytes, give a pointer to anything and the length 0. Two pointers of a call lead to different

@@ -50,7 +50,6 @@ static void look_ups(void) {
     }
     insist(smap_look_up_many(&map, positions, 0, many, 0) == SMAP_DONE, "none");
     smap_map_free(&map);
-    insist(map.at == NULL, "a freed handle");
 }
 
 static void texts(void) {
@@ -106,7 +105,7 @@ static void traces(void) {
     smap_map map = opened();
     uint32_t why = 0;
     insist(smap_table_new(&table) == SMAP_DONE, "a table");
-    insist(smap_table_add(&table, (const uint8_t *)"a.js", 4, &map, &why) == SMAP_DONE && !map.at, "a map in it");
+    insist(smap_table_add(&table, (const uint8_t *)"a.js", 4, &map, &why) == SMAP_DONE, "a map in it");
     /* A page that is only read takes no memory. */
     const uint8_t *zeros = mmap(NULL, most_trace_bytes + 1, PROT_READ, MAP_PRIVATE | MAP_ANONYMOUS | MAP_NORESERVE, -1, 0);
     insist(zeros != MAP_FAILED, "a long trace");
@@ -123,7 +122,6 @@ static void traces(void) {
     insist(smap_rewrite(&table, zeros, 0, false, &bytes, &count) == SMAP_DONE && count.lines == 0, "no trace");
     smap_bytes_free(&bytes);
     smap_table_free(&table);
-    insist(!table.at && !bytes.at, "freed handles");
 }
 
 int main(void) {

@@ -101,58 +101,67 @@ static uint32_t add_call(void) { return smap_table_add(&table, url, sizeof url -
 static uint32_t twice_call(void) { return smap_table_add(&table, base, sizeof base - 1, &made, &why); }
 static uint32_t rewrite_call(void) { return smap_rewrite(&table, trace, sizeof trace - 1, false, &bytes, &count); }
 
+/* Which handle a call fills; or it takes the map from `made`, and gives it back where it refuses. */
+enum handle { FILLS_MAP, FILLS_TABLE, FILLS_BYTES, TAKES_MAP };
+
 static const struct call {
     const char *name;
     uint32_t (*make)(void);
     uint32_t wanted;   /* the status with ample memory */
-    bool adds;         /* whether it is given a map for the table */
+    enum handle handle;
 } calls[] = {
-    {"smap_map_read", read_call, SMAP_DONE, false},
-    {"smap_map_read of what is refused", refuse_call, SMAP_REFUSED, false},
-    {"smap_refusal_text", line_call, SMAP_DONE, false},
-    {"smap_map_write", write_call, SMAP_DONE, false},
-    {"smap_compose", compose_call, SMAP_DONE, false},
-    {"smap_table_new", new_call, SMAP_DONE, false},
-    {"smap_table_add", add_call, SMAP_DONE, true},
-    {"smap_table_add of what is refused", twice_call, SMAP_REFUSED, true},
-    {"smap_rewrite", rewrite_call, SMAP_DONE, false},
+    {"smap_map_read", read_call, SMAP_DONE, FILLS_MAP},
+    {"smap_map_read of what is refused", refuse_call, SMAP_REFUSED, FILLS_MAP},
+    {"smap_refusal_text", line_call, SMAP_DONE, FILLS_BYTES},
+    {"smap_map_write", write_call, SMAP_DONE, FILLS_BYTES},
+    {"smap_compose", compose_call, SMAP_DONE, FILLS_BYTES},
+    {"smap_table_new", new_call, SMAP_DONE, FILLS_TABLE},
+    {"smap_table_add", add_call, SMAP_DONE, TAKES_MAP},
+    {"smap_table_add of what is refused", twice_call, SMAP_REFUSED, TAKES_MAP},
+    {"smap_rewrite", rewrite_call, SMAP_DONE, FILLS_BYTES},
 };
 
-/* What a map or handed-out bytes say, as a text. */
-static void tell(smap_map *map, struct text *into) {
-    smap_bytes written = {0};
-    if (map->at && smap_map_write(map, &written) != SMAP_DONE) fail("a map", "is not written");
-    smap_bytes *from = map->at ? &written : &bytes;
-    into->length = 0;
-    if (!from->at) return;
+/* What handed-out bytes say, which are freed. */
+static void tell(smap_bytes *from, struct text *into) {
     smap_text text = SMAP_TEXT;
     smap_bytes_text(from, &text);
     if (text.length > sizeof into->bytes) fail("a text", "is too long");
     into->length = text.length;
     memcpy(into->bytes, text.bytes, text.length);
-    if (map->at) smap_bytes_free(&written);
+    smap_bytes_free(from);
 }
 
-/* What the table answers, which is told by a trace. */
-static void tell_table(struct text *into) {
+/* What a map says, which is freed. */
+static void tell_map(smap_map *map, struct text *into) {
+    smap_bytes written = {0};
+    if (smap_map_write(map, &written) != SMAP_DONE) fail("a map", "is not written");
+    tell(&written, into);
+    smap_map_free(map);
+}
+
+/* What a table says of a trace. */
+static void tell_table(smap_table *from, struct text *into) {
     smap_bytes rewritten = {0};
     smap_trace_count counted = {0};
-    smap_text text = SMAP_TEXT;
-    if (smap_rewrite(&table, trace, sizeof trace - 1, false, &rewritten, &counted) != SMAP_DONE) fail("a table", "rewrites nothing");
-    smap_bytes_text(&rewritten, &text);
-    into->length = text.length;
-    memcpy(into->bytes, text.bytes, text.length);
-    smap_bytes_free(&rewritten);
+    if (smap_rewrite(from, trace, sizeof trace - 1, false, &rewritten, &counted) != SMAP_DONE) fail("a table", "rewrites nothing");
+    tell(&rewritten, into);
+}
+
+/* What the call has given, which is freed. A map that was refused is one that was given back. */
+static void tell_answer(const struct call *call, struct text *into) {
+    into->length = 0;
+    if (call->handle == FILLS_BYTES) {
+        tell(&bytes, into);
+    } else if (call->handle == FILLS_TABLE) {
+        tell_table(&made_table, into);
+        smap_table_free(&made_table);
+    } else if ((call->handle == FILLS_MAP) == (call->wanted == SMAP_DONE)) {
+        tell_map(&made, into);
+    }
 }
 
 static bool alike(const struct text *a, const struct text *b) {
     return a->length == b->length && !memcmp(a->bytes, b->bytes, a->length);
-}
-
-static void free_made(void) {
-    if (made.at) smap_map_free(&made);
-    if (made_table.at) smap_table_free(&made_table);
-    if (bytes.at) smap_bytes_free(&bytes);
 }
 
 /* The call while this growth is refused, or none of it; whether it asked for as many. */
@@ -162,9 +171,12 @@ static bool made_without(const struct call *call, long number) {
     if (read_map(&mapped, &inner_file) || smap_table_add(&table, base, sizeof base - 1, &mapped, &why)) fail(call->name, "has no table");
     if (call->make == rewrite_call && (read_map(&mapped, &outer_file) || smap_table_add(&table, url, sizeof url - 1, &mapped, &why)))
         fail(call->name, "has no map");
-    if (call->adds && read_map(&made, &outer_file)) fail(call->name, "has no map");
+    made = (smap_map){0};
+    made_table = (smap_table){0};
+    bytes = (smap_bytes){0};
+    if (call->handle == TAKES_MAP && read_map(&made, &outer_file)) fail(call->name, "has no map");
     static struct text before, after;
-    tell_table(&before);
+    tell_table(&table, &before);
     why = 77;
     refusal = (smap_refusal){77, 77, 77, 77, 77, 77};
     count = (smap_trace_count){77, 77, 77, 77};
@@ -173,28 +185,23 @@ static bool made_without(const struct call *call, long number) {
     uint32_t status = call->make();
     refused = -1;
     bool was_refused = number >= 0 && asked > number;
-    tell_table(&after);
+    tell_table(&table, &after);
     if (status == SMAP_NO_MEMORY) {
         if (!was_refused) fail(call->name, "is out of memory where none was refused");
-        if (made.at || made_table.at || bytes.at) fail(call->name, "has filled a handle, or kept a map");
+        if ((call->handle != TAKES_MAP && made.at) || made_table.at || bytes.at) fail(call->name, "has filled a handle");
         if (why != 77 || refusal.number != 77) fail(call->name, "tells a refusal");
         if (!alike(&before, &after)) fail(call->name, "has changed the table");
     } else if (status != call->wanted) {
         fail(call->name, "has another status");
     } else {
         struct text *into = number < 0 ? &ample : &now;
-        if (call->make == add_call)
-            *into = after;
-        else if (call->make == refuse_call)
-            into->length = 0, into->bytes[into->length++] = (uint8_t)refusal.number;
-        else
-            tell(&made, into);
+        tell_answer(call, into);
         if (number >= 0 && !alike(&ample, &now)) fail(call->name, "has another answer");
+        if (alike(&before, &after) != (call->make != add_call)) fail(call->name, "has another table");
         if (call->make == refuse_call && refusal.number != 4) fail(call->name, "has another refusal");
         if (call->make == rewrite_call && (count.lines != 4 || count.frames != 2 || count.mapped != 1)) fail(call->name, "has other counts");
         if (call->make == twice_call && why != 2) fail(call->name, "has another refusal");
     }
-    free_made();
     smap_map_free(&outer);
     smap_map_free(&inner);
     smap_table_free(&table);

@@ -145,7 +145,7 @@ function compositions(path) {
   }
   same(smap.compose(map, 0, map), smap.compose(map, 0, other));
   const [large, again] = [new smap.TraceMap(fs.readFileSync(path)), new smap.TraceMap(fs.readFileSync(path))];
-  for (const source of [0, 1, 2]) same(smap.compose(large, source, large), smap.compose(large, source, again));
+  for (const source of large.sources.keys()) same(smap.compose(large, source, large), smap.compose(large, source, again));
   // So many lines that it is not written.
   const section = { version: 3, sources: ['a.js'], names: [], mappings: 'A' };
   const long = { version: 3, sections: [{ offset: { line: 67108864, column: 0 }, map: section }] };

@@ -151,7 +151,7 @@ def compositions(path):
             refuses(TypeError, lambda: compose(given, 0, small), "SourceMap", type(given).__name__)
         same(compose(small, 0, small), compose(small, 0, other))
     with SourceMap(path) as source_map, SourceMap(path) as other:
-        for source in range(3):
+        for source in range(source_map.counts.sources):
             same(compose(source_map, source, source_map), compose(source_map, source, other))
     # So many lines that it is not written.
     far = (b'{"version":3,"sections":[{"offset":{"line":67108864,"column":0},'
