@@ -69,7 +69,7 @@ impl MapFile {
             (λ map. (record_of bytes.now (option_copied base.entry) k ≡ Ok map.stated) × (map.k ≡ k)) }
         ensures refused { IfErr result (λ refusal. (refusal ≡ refusals.Memory)
             ⊎ ((refusal ≡ refusals.Url) × IsOkAnd (record_of bytes.now (option_copied base.entry) k)
-                (λ stated. NamesASource stated.sources))
+            (λ stated. NamesASource stated.sources))
             ⊎ (record_of bytes.now (option_copied base.entry) k ≡ Err refusal)) }
     {
         if bytes.len() > MOST_FILE_BYTES {
