@@ -118,10 +118,10 @@ def bases():
         same(small.source(0).name, "https://e.test/x/a.js")
     with SourceMap(SMALL, base="https://e.test/" + "x" * 100000 + "/b.js") as small:
         same(len(small.source(0).name), 100020)
-    for base in ("", "no URL", "a.js", "/tmp/a.js", "\udc80"):
+    for base in ("", "no URL", "a.js", "/a.js", "\udc80"):
         refuses(Refused, lambda: SourceMap(SMALL, base=base), "the base is no URL", repr(base), number=0)
     refuses(Refused, lambda: SourceMap(SMALL, base="x" * 100000), "the base is no URL", "99800 characters more", number=0)
-    for base in (7, b"https://e.test/", Path("/tmp")):
+    for base in (7, b"https://e.test/", Path("a")):
         refuses(TypeError, lambda: SourceMap(SMALL, base=base), "base is a str", type(base).__name__)
     # No base of a test is so long.
     long = refused_map(Refusal(number=18), None, "https://e.test/")

@@ -11,7 +11,8 @@ use Rattle.smap_trace.specs.declared.refusal.TableRefusal.TheVariants.{Memory}
 use Rattle.smap_answers.specs.Files.{path_of}
 use Rattle.smap_answers.specs.Outcome.{OrMemory, Telling, out_of_memory}
 use Rattle.smap_answers.specs.declared.load.Loaded.{Loaded}
-use Rattle.smap_answers.specs.Trace.{Gathers, IsReadAs, Maps, Puts, PutsFound, PutsMap, url_refusal_result}
+use Rattle.smap_answers.specs.Private.Gathering.{IsReadAs}
+use Rattle.smap_answers.specs.Trace.{Gathers, Maps, Puts, PutsFound, PutsMap, url_refusal_result}
 use Rattle.url.specs.Parts.{Parts}
 
 -- ---- a map and the table

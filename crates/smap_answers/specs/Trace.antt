@@ -17,11 +17,10 @@ use Rattle.smap_trace.specs.declared.refusal.TableRefusal.{TableRefusal}
 use Rattle.smap_trace.specs.declared.refusal.TableRefusal.TheVariants.{BadUrl, Twice, Memory}
 use Rattle.smap_verdicts.specs.Texts.{text_from}
 use Rattle.smap_answers.specs.Lines.{bad_url_line, twice_line}
-use Rattle.smap_answers.specs.Map.{IsFoundRefusal, map_in, refusal_result}
+use Rattle.smap_answers.specs.Map.{map_in, refusal_result}
 use Rattle.smap_answers.specs.Files.{path_of}
-use Rattle.smap_answers.specs.Outcome.{Telling, answer, failure_telling, fault_telling, misuse, out_of_memory}
+use Rattle.smap_answers.specs.Outcome.{Telling, answer, fault_telling, misuse, out_of_memory}
 use Rattle.smap_answers.specs.declared.load.Loaded.{Loaded}
-use Rattle.smap_answers.specs.declared.outcome.Failure.{Failure}
 
 -- ---- the table
 
@@ -85,26 +84,6 @@ abbrev pub Gathers : Option Parts → (k : ℕ) → Maps → List (List ℕ × L
 Gathers base k maps [] result = result ≡ Ok maps
 Gathers base k maps ((url, file) ∷ files) result =
     (put : Result Maps Telling) × PutsMap base k maps url file put × GathersOn put (λ more. Gathers base k more files result) result
-
--- ---- what the parts of the call give, which only contracts of private functions cite
-
--- the file gives this at the URL that is used
-abbrev pub IsReadAs : Option Parts → (k : ℕ) → (url : List ℕ) → Loaded → Result MapRecord MapRefusal → Type 0
-IsReadAs base k url file found = (used : Option Parts) × IsBaseUsed base url used × (map_in file used k ≡ found)
-
--- and is refused so
-abbrev pub IsReadRefusal : Option Parts → (k : ℕ) → (url : List ℕ) → Loaded → Telling → Type 0
-IsReadRefusal base k url file telling = (used : Option Parts) × IsBaseUsed base url used × IsFoundRefusal (path_of file) (map_in file used k) telling
-
--- what a call that puts a map into a table gives
-abbrev pub put_seen : Result Unit Failure → Maps → Result Maps Telling
-put_seen (Ok done) maps = Ok maps
-put_seen (Err failure) maps = Err (failure_telling failure)
-
--- and one that makes the table
-abbrev pub gathered : Result Maps Failure → Result Maps Telling
-gathered (Ok maps) = Ok maps
-gathered (Err failure) = Err (failure_telling failure)
 
 -- ---- the trace
 

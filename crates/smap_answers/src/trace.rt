@@ -2,8 +2,9 @@
 ghost use Rattle.std.specs.Prelude.{◌≡◌, [], false, map, option_copied, zip, IfErr, IfOk, None, Ok};
 ghost use Rattle.smap_answers.specs.Outcome.{OrMemory, failure_telling, telling_of};
 ghost use Rattle.smap_lines.specs.Editing.{devices_seen};
-ghost use Rattle.smap_answers.specs.Trace.{Gathers, IsBaseUsed, IsReadAs, IsReadRefusal, PutsMap};
-ghost use Rattle.smap_answers.specs.Trace.{IsTextRewritten, IsTraceRewritten, RewriteTells, gathered, put_seen, rewrite_telling, url_in_argument, url_refusal_result};
+ghost use Rattle.smap_answers.specs.Private.Gathering.{IsReadAs, IsReadRefusal, gathered, put_seen};
+ghost use Rattle.smap_answers.specs.Trace.{Gathers, IsBaseUsed, PutsMap};
+ghost use Rattle.smap_answers.specs.Trace.{IsTextRewritten, IsTraceRewritten, RewriteTells, rewrite_telling, url_in_argument, url_refusal_result};
 
 use crate::lines;
 use crate::load::Loaded;
