@@ -130,6 +130,7 @@ const TAKING = [
     answer: `1|${REFUSAL_JSON}/${COUNTS_JSON}/|`,
     memory: [`3|${COUNTS_JSON}/|memory/`, `3|${REFUSAL_JSON}/|memory/`],
   },
+  { call: 'run check, unread', answer: '3||device: read o.map/', memory: NO_ROOM },
   { call: 'run lookup', answer: '0|b.js:1:1/|', memory: NO_ROOM },
   { call: 'run lookup with an excerpt', answer: '0|a.ts:1:7/let 😀x/     ^/|', memory: NO_ROOM },
   {
@@ -153,7 +154,7 @@ const TAKING = [
   { call: 'run rewrite', answer: '0|    at f (https://ex.test/a.ts:1:2)|', memory: NO_ROOM },
   { call: 'run rewrite, refused', answer: '2||usage: A1 BadUrl: =app.map/', memory: NO_ROOM },
   { call: 'load /dev/null', answer: '0 bytes', memory: NO_ROOM },
-  { call: 'load /', answer: '3||device: read //', memory: NO_ROOM },
+  { call: 'load /', answer: 'unread', memory: NO_ROOM },
 ];
 
 const FREE = [

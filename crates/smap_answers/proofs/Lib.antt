@@ -1,5 +1,6 @@
 mod CheckLaws
-mod LoadLaws
+mod ComposeLaws
+mod NextLaws
 mod PositionsLaws
 mod RawLaws
 mod RunLaws

@@ -2,19 +2,18 @@
 use Rattle.std.proofs.Common.{◌≡◌, ℕ, Bool, true, false, List, [], Option, Some, None, Result, Ok, Err, refl, sym, ap, ◌∙◌, inl, inr, append-nil}
 use Rattle.smap_io.specs.Device.{Gives, SinkSeen, SourceSeen, Takes}
 use Rattle.smap_lines.specs.Edited.{edited}
-use Rattle.smap_lines.specs.Editing.{DevicesSeen, EditsFront, devices_seen}
+use Rattle.smap_lines.specs.Editing.{DevicesSeen, EditsFront, devices_seen, is_write_fault}
 use Rattle.smap_lines.specs.declared.fault.LineFault.{LineFault}
 use Rattle.smap_lines.specs.declared.fault.LineFault.TheVariants.{Read, Write, TooMuch, Memory}
-use Rattle.smap_positions.specs.Answering.{Answers, is_write_fault}
+use Rattle.smap_positions.specs.Answering.{Answers}
 use Rattle.smap_positions.specs.Positions.{answered_line}
 use Rattle.smap_positions.specs.declared.answering.Summary.{Summary}
-use Rattle.smap_record.specs.Record.{MapRecord}
+use Rattle.smap_record.specs.Record.{MapRecord, record_of}
 use Rattle.smap_record.specs.declared.refusal.MapRefusal.{MapRefusal}
-use Rattle.smap_answers.specs.Files.{path_of}
-use Rattle.smap_answers.specs.Map.{IsFoundRefusal, map_in}
+use Rattle.smap_answers.specs.Files.{MayRead}
+use Rattle.smap_answers.specs.Map.{Never, TellsFound, TellsMap, refusal_result}
 use Rattle.smap_answers.specs.Outcome.{OrMemory, Telling, out_of_memory}
 use Rattle.smap_answers.specs.Positions.{AnsweredTells, PositionsTells, positions_telling}
-use Rattle.smap_answers.specs.declared.load.Loaded.{Loaded}
 use Rattle.url.specs.Parts.{Parts}
 
 -- all of it was written, but not flushed
@@ -74,12 +73,21 @@ answered_works stated from json before after telling tells done = go tells.resul
     go (Err TooMuch) failed told = failed
     go (Err Memory) failed told = failed
 
-refused_status : (path : List ℕ) (found : Result MapRecord MapRefusal) (telling : Telling) → OrMemory (IsFoundRefusal path found) telling → telling.is_answer ≡ true → ⊥
-refused_status path found telling (inl none) done = let bad : ◌≡◌ {A = Bool} true false = sym done ∙ ap (λ (t : Telling). t.is_answer) none in cc
-refused_status path (Err refused) telling (inr told) done = let bad : ◌≡◌ {A = Bool} true false = sym done ∙ ap (λ (t : Telling). t.is_answer) told in cc
-refused_status path (Ok stated) telling (inr told) done = let bad : ◌≡◌ {A = Bool} true false = sym done ∙ ap (λ (t : Telling). t.is_answer) told in cc
+-- and nothing else is
+untold : (text : List ℕ) (status : ℕ) (telling : Telling) → telling ≡ record { status = status; is_answer = false; text = text } → telling.is_answer ≡ true → ⊥
+untold text status telling told done = let bad : ◌≡◌ {A = Bool} true false = sym done ∙ ap (λ (t : Telling). t.is_answer) told in cc
 
-pub positions_work : (file : Loaded) (base : Option Parts) (k : ℕ) (from json : Bool) (before after : DevicesSeen) (telling : Telling) → PositionsTells file base k from json before after telling →
-    telling.is_answer ≡ true → after.output.failed ≡ false
-positions_work file base k from json before after telling (inl refused) done = absurd (refused_status (path_of file) (map_in file base k) telling refused.1 done)
-positions_work file base k from json before after telling (inr answered) done = answered_works answered.0 from json before after telling answered.2 done
+no_map_found : (path : List ℕ) (found : Result MapRecord MapRefusal) (telling : Telling) → TellsFound (refusal_result path) found Never telling → telling.is_answer ≡ true → ⊥
+no_map_found path (Err refused) telling told done = untold _ _ telling told done
+no_map_found path (Ok stated) telling (inl told) done = untold _ _ telling told done
+no_map_found path (Ok stated) telling (inr never) done = never
+
+no_map : (Reads : MayRead) (path : List ℕ) (base : Option Parts) (k : ℕ) (telling : Telling) → OrMemory (TellsMap Reads 0 path base k Never) telling → telling.is_answer ≡ true → ⊥
+no_map Reads path base k telling (inl told) done = untold _ _ telling told done
+no_map Reads path base k telling (inr (inl unread)) done = untold _ _ telling unread.1 done
+no_map Reads path base k telling (inr (inr (bytes, reads, found))) done = no_map_found path (record_of bytes base k) telling found done
+
+pub positions_work : (Reads : MayRead) (path : List ℕ) (base : Option Parts) (k : ℕ) (from json : Bool) (before after : DevicesSeen) (telling : Telling)
+    → PositionsTells Reads path base k from json before after telling → telling.is_answer ≡ true → after.output.failed ≡ false
+positions_work Reads path base k from json before after telling (inl refused) done = absurd (no_map Reads path base k telling refused.1 done)
+positions_work Reads path base k from json before after telling (inr answered) done = answered_works answered.0 from json before after telling answered.2 done

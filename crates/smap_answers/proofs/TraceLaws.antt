@@ -1,18 +1,17 @@
 -- What the arguments of `rewrite` come to, argument by argument.
-use Rattle.std.proofs.Common.{◌≡◌, ℕ, ◌+◌, ◌<◌, ◌⊎◌, min, List, [], ◌∷◌, length, get_or, drop, drop-cons, map, suc, refl, sym, ap, subst, ◌∙◌, inl, inr, arith, add-one}
-use Rattle.std.specs.List.{zip}
+use Rattle.std.proofs.Common.{◌≡◌, ℕ, ◌+◌, ◌⊎◌, List, [], ◌∷◌, refl, sym, ap, subst, ◌∙◌, inl, inr, add-one}
 use Rattle.std.specs.Prelude.{Option, Some, None, Result, Ok, Err, MatchOption, ⊤}
-use Rattle.std.proofs.lemmas.List.{drop_all, get_or-map, length-map}
-use Rattle.std.proofs.lemmas.Slice.Zip.{length-zip, get_or-zip}
-use Rattle.smap_record.specs.Record.{MapRecord}
+use Rattle.smap_record.specs.Record.{MapRecord, record_of}
+use Rattle.smap_record.specs.declared.refusal.MapRefusal.{MapRefusal}
 use Rattle.smap_trace.specs.Table.{IsWith, url_refusal}
 use Rattle.smap_trace.specs.declared.refusal.TableRefusal.{TableRefusal}
 use Rattle.smap_trace.specs.declared.refusal.TableRefusal.TheVariants.{Memory}
-use Rattle.smap_answers.specs.Files.{path_of}
+use Rattle.smap_answers.specs.Files.{IsUnread, MayRead}
+use Rattle.smap_answers.specs.Map.{Never, TellsFound, refusal_result}
 use Rattle.smap_answers.specs.Outcome.{OrMemory, Telling, out_of_memory}
-use Rattle.smap_answers.specs.declared.load.Loaded.{Loaded}
-use Rattle.smap_answers.specs.Private.Gathering.{IsReadAs}
-use Rattle.smap_answers.specs.Trace.{Gathers, Maps, Puts, PutsFound, PutsMap, url_refusal_result}
+use Rattle.smap_answers.specs.Private.Gathering.{IsReadAs, IsReadRefusal, gathered}
+use Rattle.smap_answers.specs.Trace.{Gathers, Maps, Puts, PutsFound, PutsMap, PutsNext, url_refusal_result}
+use Rattle.smap_answers.specs.declared.outcome.Failure.{Failure}
 use Rattle.url.specs.Parts.{Parts}
 
 -- ---- a map and the table
@@ -34,40 +33,43 @@ puts_refused maps url path stated (Some first) refused telling result given is (
 -- ---- a file
 
 -- it gives a map, which the table takes or refuses
-pub puts_read : (base : Option Parts) (k : ℕ) (maps : Maps) (url : List ℕ) (file : Loaded) (stated : MapRecord) (result : Result Maps Telling) → IsReadAs base k url file (Ok stated)
-    → (result ≡ Err out_of_memory) ⊎ Puts maps url (path_of file) stated (url_refusal maps url) result → PutsMap base k maps url file result
-puts_read base k maps url file stated result read (inl no_memory) = inl no_memory
-puts_read base k maps url file stated result read (inr puts) =
-    inr (read.0, read.1, subst (λ found. PutsFound maps url (path_of file) found result) (sym read.2) (inr puts))
+pub puts_read : (base : Option Parts) (k : ℕ) (maps : Maps) (url path bytes : List ℕ) (stated : MapRecord) (result : Result Maps Telling) → IsReadAs base k url bytes (Ok stated)
+    → (result ≡ Err out_of_memory) ⊎ Puts maps url path stated (url_refusal maps url) result → PutsMap base k maps url path bytes result
+puts_read base k maps url path bytes stated result read (inl no_memory) = inl no_memory
+puts_read base k maps url path bytes stated result read (inr puts) =
+    inr (read.0, read.1, subst (λ found. PutsFound maps url path found result) (sym read.2) (inr puts))
+
+-- or it is refused
+pub puts_unread : (base : Option Parts) (k : ℕ) (maps : Maps) (url path bytes : List ℕ) (telling : Telling) → OrMemory (IsReadRefusal base k url path bytes) telling
+    → PutsMap base k maps url path bytes (Err telling)
+puts_unread base k maps url path bytes telling (inl no_memory) = inl (ap Err no_memory)
+puts_unread base k maps url path bytes telling (inr (used, is, refused)) = inr (used, is, go (record_of bytes used k) refused)
+  where
+    go : (found : Result MapRecord MapRefusal) → TellsFound (refusal_result path) found Never telling → PutsFound maps url path found (Err telling)
+    go (Err why) told = ap Err told
+    go (Ok stated) (inl told) = inl (ap Err told)
+    go (Ok stated) (inr never) = absurd never
+
+-- after the arguments before, none of which was refused
+pub puts_after : (base : Option Parts) (k : ℕ) (before : Result Maps Failure) (maps : Maps) (url path bytes : List ℕ) (result : Result Maps Telling) → before ≡ Ok maps
+    → PutsMap base k maps url path bytes result → PutsNext base k (gathered before) url path bytes result
+puts_after base k before maps url path bytes result is puts = subst (λ b. PutsNext base k (gathered b) url path bytes result) (sym is) puts
 
 -- ---- all files
 
--- the arguments from a place on, with their files
-pub next_pair : {W F A : Type 0} (word_in : W → A) (words : List W) (files : List F) (i : ℕ) (word : W) (file : F)
-    → (i < length words) × (i < length files) × ((d : W) → word ≡ get_or words i d) × ((d : F) → file ≡ get_or files i d)
-    → drop i (zip (map word_in words) files) ≡ (word_in word, file) ∷ drop (i + 1) (zip (map word_in words) files)
-next_pair {F = F} {A = A} word_in words files i word file is =
-    let firsts = map word_in words in let default : A × F = (word_in word, file) in
-    let one : i < length firsts = rw length-map is.0 in
-    let first : get_or firsts i (word_in word) ≡ word_in word = get_or-map word_in words i word (word_in word) is.0 ∙ ap word_in (sym (is.2 word)) in
-    let there : get_or (zip firsts files) i default ≡ default = get_or-zip firsts files i default one is.1 ∙ (λ k. (first k, sym (is.3 file) k)) in
-    rw (add-one) (drop-cons (zip firsts files) i default (omega (arith, length-zip firsts files)) ∙ ap (λ pair. pair ∷ drop (suc i) (zip firsts files)) there)
+module _ (Reads : MayRead) (base : Option Parts) (k number : ℕ) (before : Result Maps Telling) (arguments rest : List (List ℕ × List ℕ)) (url path : List ℕ)
+    (is : arguments ≡ (url, path) ∷ rest) where
+  -- the file of an argument was read
+  pub gathers_next : (bytes : List ℕ) (next result : Result Maps Telling) → Reads number path (Ok bytes) → PutsNext base k before url path bytes next
+      → Gathers Reads base k (number + 1) next rest result → Gathers Reads base k number before arguments result
+  gathers_next bytes next result reads puts gathers =
+      subst (λ left. Gathers Reads base k number before left result) (sym is) (inr (bytes, reads, (next, puts, (rw (add-one) at gathers))))
 
-pub no_pair_left : {W F A : Type 0} (word_in : W → A) (words : List W) (files : List F) (i : ℕ)
-    → i ≡ min (length words) (length files) → drop i (zip (map word_in words) files) ≡ []
-no_pair_left word_in words files i is =
-    drop_all i (zip (map word_in words) files) (omega (arith, is, length-zip (map word_in words) files, length-map words word_in))
+  -- or was not
+  pub gathers_unread : (telling : Telling) → OrMemory (IsUnread Reads number path) telling → Gathers Reads base k number before arguments (Err telling)
+  gathers_unread telling unread = subst (λ left. Gathers Reads base k number before left (Err telling)) (sym is) (inl (telling, unread, refl))
 
--- the map of the file at a place went into the table
-pub gathers_next : (base : Option Parts) (k : ℕ) (words rest : List (List ℕ × Loaded)) (maps more : Maps) (url : List ℕ) (file : Loaded) (result : Result Maps Telling)
-    → words ≡ (url, file) ∷ rest → PutsMap base k maps url file (Ok more) → Gathers base k more rest result → Gathers base k maps words result
-gathers_next base k words rest maps more url file result is puts gathers = subst (λ ws. Gathers base k maps ws result) (sym is) (Ok more, puts, gathers)
-
--- or was refused
-pub gathers_refused : (base : Option Parts) (k : ℕ) (words rest : List (List ℕ × Loaded)) (maps : Maps) (url : List ℕ) (file : Loaded) (telling : Telling)
-    → words ≡ (url, file) ∷ rest → PutsMap base k maps url file (Err telling) → Gathers base k maps words (Err telling)
-gathers_refused base k words rest maps url file telling is puts = subst (λ ws. Gathers base k maps ws (Err telling)) (sym is) (Err telling, puts, refl)
-
--- no file is left
-pub gathers_end : (base : Option Parts) (k : ℕ) (words : List (List ℕ × Loaded)) (maps : Maps) → words ≡ [] → Gathers base k maps words (Ok maps)
-gathers_end base k words maps is = subst (λ ws. Gathers base k maps ws (Ok maps)) (sym is) refl
+-- no argument is left
+pub gathers_end : (Reads : MayRead) (base : Option Parts) (k number : ℕ) (before : Result Maps Telling) (arguments : List (List ℕ × List ℕ)) → arguments ≡ []
+    → Gathers Reads base k number before arguments before
+gathers_end Reads base k number before arguments is = subst (λ left. Gathers Reads base k number before left before) (sym is) refl

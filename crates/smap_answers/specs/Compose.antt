@@ -1,15 +1,15 @@
 -- What `compose` tells of two map files.
 use Rattle.std.specs.Prelude.{ℕ, List, [], ◌∷◌, Option, Some, None}
 use Rattle.smap_mappings.specs.Canonical.{canonical_text}
-use Rattle.smap_record.specs.Record.{MapRecord}
+use Rattle.smap_record.specs.Record.{MapRecord, record_of}
 use Rattle.smap_record.specs.Written.{written}
 use Rattle.smap_compose.specs.Composition.{Composition, compose_refusal, composition}
 use Rattle.smap_compose.specs.declared.refusal.ComposeRefusal.{ComposeRefusal}
 use Rattle.smap_compose.specs.declared.refusal.ComposeRefusal.TheVariants.{SourceIndex, TooLarge, Memory}
+use Rattle.smap_answers.specs.Files.{MayRead, OfFile}
 use Rattle.smap_answers.specs.Lines.{composed_too_large_line, line_from, no_source_line}
-use Rattle.smap_answers.specs.Map.{IsResult, TellsMap}
+use Rattle.smap_answers.specs.Map.{IsResult, TellsFound, refusal_result}
 use Rattle.smap_answers.specs.Outcome.{Telling, answer, out_of_memory, refusal}
-use Rattle.smap_answers.specs.declared.load.Loaded.{Loaded}
 use Rattle.smap_command.specs.Limits.{usual_interval}
 use Rattle.url.specs.Parts.{Parts}
 
@@ -33,9 +33,9 @@ composed_result None composed = answer (composed_line composed)
 abbrev pub compose_result : (outer : MapRecord) (source : ℕ) (inner : MapRecord) → Telling
 compose_result outer source inner = composed_result (compose_refusal outer source inner) (composition outer source inner)
 
--- what is told of both files, of which the outer one is read first
-abbrev pub TellsComposed : (outer : Loaded) (source : ℕ) (inner : Loaded) → Option Parts → Telling → Type 0
-TellsComposed outer source inner base telling =
-    TellsMap outer base usual_interval
-    (λ stated. TellsMap inner base usual_interval (IsResult (compose_result stated source)))
-    telling
+-- what is told of both files: both are read before either map decides, and the outer one decides first
+abbrev pub TellsComposed : MayRead → (outer : List ℕ) (source : ℕ) (inner : List ℕ) → Option Parts → Telling → Type 0
+TellsComposed Reads outer source inner base =
+    OfFile Reads 0 outer (λ first. OfFile Reads 1 inner (λ second.
+    TellsFound (refusal_result outer) (record_of first base usual_interval) (λ stated.
+    TellsFound (refusal_result inner) (record_of second base usual_interval) (IsResult (compose_result stated source)))))

@@ -2,14 +2,13 @@ pub mod Lines
 pub mod Outcome
 pub mod Streams
 pub mod Raw
+pub mod Files
 pub mod Map
 pub mod Check
 pub mod Show
 pub mod Lookup
-pub mod Files
 pub mod Positions
 pub mod Compose
 pub mod Trace
-pub mod CheckAll
 pub mod Run
 pub mod Private

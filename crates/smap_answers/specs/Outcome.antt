@@ -1,7 +1,7 @@
 -- What a command comes to: the text that is told, and the status with which the program ends.
 use Rattle.std.specs.Prelude.{◌≡◌, ℕ, ◌⊎◌, Bool, true, false, List, [], Result, Ok, Err, string_bytes}
-use Rattle.smap_trace.specs.declared.outcome.RewriteFault.{RewriteFault}
-use Rattle.smap_trace.specs.declared.outcome.RewriteFault.TheVariants.{Read, Write, TooMuch, Memory}
+use Rattle.smap_lines.specs.declared.fault.LineFault.{LineFault}
+use Rattle.smap_lines.specs.declared.fault.LineFault.TheVariants.{Read, Write, TooMuch, Memory}
 use Rattle.smap_answers.specs.Lines.{input_failed_line, memory_line, trace_too_long_line, trace_unread_line, trace_unwritten_line, argument_not_utf8_line}
 use Rattle.smap_answers.specs.declared.outcome.Failure.{Failure}
 use Rattle.smap_answers.specs.declared.outcome.Failure.TheVariants as failures
@@ -38,7 +38,7 @@ abbrev pub out_of_memory : Telling
 out_of_memory = failure memory_line
 
 -- why a trace was not rewritten to its end
-abbrev pub fault_telling : RewriteFault → Telling
+abbrev pub fault_telling : LineFault → Telling
 fault_telling Read = failure trace_unread_line
 fault_telling Write = failure trace_unwritten_line
 fault_telling TooMuch = refusal trace_too_long_line

@@ -1,19 +1,16 @@
 -- What `positions` tells.
-use Rattle.std.specs.Prelude.{◌≡◌, ℕ, ◌==◌, ◌⊎◌, Bool, true, Option, Some, None, Result, Ok, Err, [], if◌then◌else◌}
-use Rattle.smap_lines.specs.Editing.{DevicesSeen, EditsFront}
+use Rattle.std.specs.Prelude.{◌≡◌, ℕ, ◌==◌, ◌⊎◌, Bool, true, List, Option, Some, None, Result, Ok, Err, [], if◌then◌else◌}
+use Rattle.smap_lines.specs.Editing.{DevicesSeen, EditsFront, is_read_fault, is_write_fault}
 use Rattle.smap_lines.specs.declared.fault.LineFault.{LineFault}
-use Rattle.smap_lines.specs.declared.fault.LineFault.TheVariants.{Read, Write, TooMuch, Memory}
+use Rattle.smap_lines.specs.declared.fault.LineFault.TheVariants.{TooMuch, Memory}
 use Rattle.smap_record.specs.Record.{MapRecord}
-use Rattle.smap_positions.specs.Answering.{Answers, is_read_fault, is_write_fault}
+use Rattle.smap_positions.specs.Answering.{Answers}
 use Rattle.smap_positions.specs.Positions.{answered_line}
 use Rattle.smap_positions.specs.declared.answering.Summary.{Summary}
-use Rattle.smap_trace.specs.declared.outcome.RewriteFault.{RewriteFault}
-use Rattle.smap_trace.specs.declared.outcome.RewriteFault.TheVariants as faults
-use Rattle.smap_answers.specs.Files.{path_of}
+use Rattle.smap_answers.specs.Files.{MayRead}
 use Rattle.smap_answers.specs.Lines.{bad_position_refused_line, long_position_line}
-use Rattle.smap_answers.specs.Map.{IsFoundRefusal, map_in}
+use Rattle.smap_answers.specs.Map.{IsStated, Never, TellsMap}
 use Rattle.smap_answers.specs.Outcome.{OrMemory, Telling, answer, fault_telling, refusal}
-use Rattle.smap_answers.specs.declared.load.Loaded.{Loaded}
 use Rattle.url.specs.Parts.{Parts}
 
 -- ---- what is told
@@ -28,16 +25,9 @@ bad_telling (Some number) = refusal (bad_position_refused_line number)
 abbrev pub summary_telling : Summary → Telling
 summary_telling summary = if summary.answered == summary.lines then bad_telling summary.first_bad else refusal long_position_line
 
--- the same failure of a trace
-abbrev pub trace_fault : LineFault → RewriteFault
-trace_fault Read = faults.Read
-trace_fault Write = faults.Write
-trace_fault TooMuch = faults.TooMuch
-trace_fault Memory = faults.Memory
-
 abbrev pub positions_telling : Result Summary LineFault → Telling
 positions_telling (Ok summary) = summary_telling summary
-positions_telling (Err fault) = fault_telling (trace_fault fault)
+positions_telling (Err fault) = fault_telling fault
 
 -- ---- the positions
 
@@ -57,9 +47,9 @@ pub record AnsweredTells (stated : MapRecord) (from json : Bool) (before after :
   pub untouched : result ≡ Err Memory → after ≡ before
   pub told : telling ≡ positions_telling result
 
--- what `positions` tells over a map's file: that the file is refused, or memory ran out, and then standard input and output
+-- what `positions` tells over the map of a file: that there is none, or memory ran out, and then standard input and output
 -- stay as they are; or what the answers come to
-abbrev pub PositionsTells : Loaded → Option Parts → (k : ℕ) → (from json : Bool) → (before after : DevicesSeen) → Telling → Type 0
-PositionsTells file base k from json before after telling =
-    ((after ≡ before) × OrMemory (IsFoundRefusal (path_of file) (map_in file base k)) telling)
-    ⊎ ((stated : MapRecord) × (map_in file base k ≡ Ok stated) × AnsweredTells stated from json before after telling)
+abbrev pub PositionsTells : MayRead → (path : List ℕ) → Option Parts → (k : ℕ) → (from json : Bool) → (before after : DevicesSeen) → Telling → Type 0
+PositionsTells Reads path base k from json before after telling =
+    ((after ≡ before) × OrMemory (TellsMap Reads 0 path base k Never) telling)
+    ⊎ ((stated : MapRecord) × IsStated Reads 0 path base k stated × AnsweredTells stated from json before after telling)

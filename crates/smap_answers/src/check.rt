@@ -1,27 +1,123 @@
-//! Counting what a map file holds.
-ghost use Rattle.std.specs.Prelude.{option_copied};
-ghost use Rattle.smap_answers.specs.Check.{check_line};
-ghost use Rattle.smap_answers.specs.Map.{IsLine, TellsMap};
+//! Checking map files: how much each holds.
+ghost use Rattle.std.specs.Prelude.{◌≡◌, ◌≢◌, false, map, option_copied, string_bytes, IfOk};
+ghost use Rattle.smap_answers.specs.Check.{ChecksAll, ChecksFile, accepted_line, form_of, refused_telling};
 ghost use Rattle.smap_answers.specs.Outcome.{OrMemory, telling_of};
+ghost use Rattle.smap_answers.specs.Streams.{sinks_seen};
+ghost use Rattle.smap_record.specs.declared.refusal.MapRefusal.TheVariants.{Memory};
 
+use crate::files::FileReader;
 use crate::lines;
-use crate::load::Loaded;
-use crate::map::read_map;
-use crate::outcome::{Failure, Reply};
-use smap_record::Url;
-use smap_verdicts::map_counts;
-use std::alloc::Global;
+use crate::map::file_bytes;
+use crate::outcome::{DONE, Failure, Reply};
+use crate::refusal::refusal_of;
+use crate::telling::tell;
+use smap_io::ByteSink;
+use smap_record::{MapFile, MapRefusal, Url};
+use smap_verdicts::{MapCounts, counts_json, map_counts, refusal_json};
+use std::alloc::{AllocError, Global};
 
-/// Reads the map that the file is, and counts what it holds, with its checkpoints at this interval.
-pub fn answer_check(
+/// How a file is told of.
+#[derive(Clone, Copy)]
+pub enum Form {
+    /// By the counts of its map.
+    Counts,
+    /// By its path and these.
+    Named,
+    /// By a JSON object, also where the map is refused.
+    Object,
+}
+
+/// What is told of the file of this number and path, with the checkpoints of its map at this interval.
+pub fn answer_check<F: FileReader>(
     alloc: Global,
-    file: &Loaded,
+    reader: &F,
+    number: usize,
+    path: &str,
     base: Option<&Url>,
     interval: u32,
+    form: Form,
 ) -> Result<Reply, Failure>
-    ensures { OrMemory (TellsMap file.now (option_copied base.entry) interval
-        (IsLine (check_line interval))) (telling_of result) }
+    ensures { OrMemory (ChecksFile (F.gives reader.now) (option_copied base.entry) interval form
+        number path.now) (telling_of result) }
 {
-    let map = read_map(alloc, file, base, interval)?;
-    Ok(Reply::Text(lines::counts_line(alloc, map_counts(&map))?))
+    let bytes = file_bytes(alloc, reader, number, path)?;
+    match MapFile::read_owned(alloc, bytes, base, interval) {
+        Ok(map) => Ok(Reply::Text(accepted_line(alloc, path, map_counts(&map), form)?)),
+        Err(refused) => refused_reply(alloc, path, refused, form),
+    }
+}
+
+/// Checks the map files at these paths, one after another: each is read, told and let go before the next is read, whether
+/// it is accepted or refused, can't be read, or memory runs out. A file is told by one line; with `json` a map, accepted or
+/// refused, is told by one JSON object. Gives the greatest status of all. Where standard output fails, nothing more is
+/// read. The caller gives a standard output that has not failed.
+pub fn check_all<F: FileReader, W: ByteSink, E: ByteSink>(
+    alloc: Global,
+    reader: &F,
+    paths: &[String],
+    base: Option<&Url>,
+    interval: u32,
+    json: bool,
+    output: &mut W,
+    errors: &mut E,
+) -> u8
+    requires output_works { (W.seen output.old).failed ≡ false }
+    ensures { ChecksAll (F.gives reader.now) (option_copied base.entry) interval (form_of json) 0
+        (map string_bytes paths.now) result
+        (sinks_seen (W.seen output.old) (E.seen errors.old))
+        (sinks_seen (W.seen output.new) (E.seen errors.new)) }
+{
+    let form = form_of(json);
+    let mut status = DONE;
+    for (number, path) in paths.iter().enumerate() {
+        let outcome = answer_check(alloc, reader, number, path, base, interval, form);
+        status = status.max(tell(&outcome, output, errors));
+        if output.failed() {
+            break;
+        }
+    }
+    status
+}
+
+// How each of several files is told of.
+fn form_of(json: bool) -> Form
+    ensures { result ≡ form_of json }
+{
+    if json { Form::Object } else { Form::Named }
+}
+
+// The line for a map that holds so much.
+fn accepted_line(
+    alloc: Global,
+    path: &str,
+    counts: MapCounts,
+    form: Form,
+) -> Result<String, AllocError>
+    ensures { IfOk result (λ line. string_bytes line ≡ accepted_line path.now form counts) }
+{
+    match form {
+        Form::Counts => lines::counts_line(alloc, counts),
+        Form::Named => lines::map_counts_line(alloc, path, counts),
+        Form::Object => lines::object_line(counts_json(alloc, path, counts)?),
+    }
+}
+
+// Why a map is refused. Want of memory is no refusal of the map.
+fn refused_reply(
+    alloc: Global,
+    path: &str,
+    refused: MapRefusal,
+    form: Form,
+) -> Result<Reply, Failure>
+    ensures { OrMemory (λ telling. (refused ≢ Memory) × (telling ≡ refused_telling path.now form refused))
+        (telling_of result) }
+{
+    let Form::Object = form else {
+        return Err(refusal_of(alloc, path, refused));
+    };
+    if let MapRefusal::Memory = refused {
+        return Err(Failure::Memory);
+    }
+    let line = lines::object_line(refusal_json(alloc, path, refused)?)?;
+    Ok(Reply::Refused(line))
 }

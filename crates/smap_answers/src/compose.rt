@@ -4,9 +4,9 @@ ghost use Rattle.smap_answers.specs.Compose.{TellsComposed, compose_result};
 ghost use Rattle.smap_answers.specs.Map.{IsResult};
 ghost use Rattle.smap_answers.specs.Outcome.{OrMemory, telling_of};
 
+use crate::files::FileReader;
 use crate::lines;
-use crate::load::Loaded;
-use crate::map::read_map;
+use crate::map::{file_bytes, map_of};
 use crate::outcome::{Failure, Reply};
 use crate::refusal::refused;
 use crate::show::line_of;
@@ -15,20 +15,25 @@ use smap_compose::{ComposeRefusal, compose};
 use smap_record::{MapFile, Url};
 use std::alloc::Global;
 
-/// Reads the maps that the two files are, the outer one first, and composes them at the outer map's source of this
-/// number, from 0.
-pub fn answer_compose(
+/// Reads the maps that the files at the two paths are, the outer one first, and composes them at the outer map's source of
+/// this number, from 0. Where the outer map is refused, the other file is read all the same: one that can't be read is told
+/// before that.
+pub fn answer_compose<F: FileReader>(
     alloc: Global,
-    outer: &Loaded,
+    reader: &F,
+    outer: &str,
     source: u32,
-    inner: &Loaded,
+    inner: &str,
     base: Option<&Url>,
 ) -> Result<Reply, Failure>
-    ensures { OrMemory (TellsComposed outer.now source inner.now (option_copied base.entry))
+    ensures { OrMemory (TellsComposed (F.gives reader.now) outer.now source inner.now (option_copied base.entry))
         (telling_of result) }
 {
-    let outer_map = read_map(alloc, outer, base, USUAL_INTERVAL)?;
-    let inner_map = read_map(alloc, inner, base, USUAL_INTERVAL)?;
+    let bytes = file_bytes(alloc, reader, 0, outer)?;
+    let outer_map = map_of(alloc, outer, bytes, base, USUAL_INTERVAL);
+    let bytes = file_bytes(alloc, reader, 1, inner)?;
+    let outer_map = outer_map?;
+    let inner_map = map_of(alloc, inner, bytes, base, USUAL_INTERVAL)?;
     composed_map(alloc, &outer_map, source, &inner_map)
 }
 

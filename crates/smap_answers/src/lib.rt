@@ -9,30 +9,24 @@
 #![tactic(auto)]
 
 mod check;
-mod check_files;
 mod compose;
+mod files;
 mod limits;
 mod lines;
-mod load;
 mod lookup;
 mod map;
 mod outcome;
 mod positions;
 mod raw;
-mod reader;
-mod reading;
 mod refusal;
 mod running;
 mod show;
 mod telling;
 mod trace;
 
-pub use check_files::check_all;
-pub use load::{Loaded, load_files};
+pub use files::{FileReader, Loaded};
 pub use outcome::{Failure, Reply};
-pub use reader::{FileReader, LoadedFiles};
-pub use reading::run_reading;
 pub use refusal::refusal_line;
-pub use running::run;
+pub use running::{run, run_reading};
 pub use smap_command::{Command, USUAL_INTERVAL};
 pub use telling::tell;

@@ -4,18 +4,19 @@ ghost use Rattle.smap_answers.specs.Lookup.{lookup_print};
 ghost use Rattle.smap_answers.specs.Map.{IsLine, TellsMap};
 ghost use Rattle.smap_answers.specs.Outcome.{OrMemory, telling_of};
 
-use crate::load::Loaded;
+use crate::files::FileReader;
 use crate::map::read_map;
 use crate::outcome::{Failure, Reply};
 use smap_positions::{lookup_as_json, lookup_text};
 use smap_record::{MapFile, Url};
 use std::alloc::{AllocError, Global};
 
-/// Looks up a generated line and column, both from 0, in the map that the file is, over checkpoints at this interval: at
+/// Looks up a generated line and column, both from 0, in the map that the file at this path is, over checkpoints at this interval: at
 /// the position or before it or, with `after`, at it or after it; as text or, with `json`, as a JSON object.
-pub fn answer_lookup(
+pub fn answer_lookup<F: FileReader>(
     alloc: Global,
-    file: &Loaded,
+    reader: &F,
+    path: &str,
     base: Option<&Url>,
     interval: u32,
     line: u32,
@@ -24,10 +25,10 @@ pub fn answer_lookup(
     json: bool,
 ) -> Result<Reply, Failure>
     ensures { OrMemory
-        (TellsMap file.now (option_copied base.entry) interval
+        (TellsMap (F.gives reader.now) 0 path.now (option_copied base.entry) interval
         (IsLine (lookup_print after json line column))) (telling_of result) }
 {
-    let map = read_map(alloc, file, base, interval)?;
+    let map = read_map(alloc, reader, 0, path, base, interval)?;
     let text = lookup_print(alloc, &map, line, column, after, json)?;
     Ok(Reply::Text(text))
 }

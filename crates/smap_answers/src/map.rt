@@ -1,31 +1,71 @@
 //! Reading the map that a file is.
-ghost use Rattle.std.specs.Prelude.{◌≡◌, option_copied, IfErr, IfOk, Ok};
-ghost use Rattle.smap_answers.specs.Files.{path_of};
-ghost use Rattle.smap_answers.specs.Map.{IsFoundRefusal, map_in};
+ghost use Rattle.std.specs.Prelude.{option_copied, IfErr, IfOk, Ok};
+ghost use Rattle.smap_answers.specs.Files.{IsUnread};
+ghost use Rattle.smap_answers.specs.Map.{IsStated, Never, TellsFound, TellsMap, refusal_result};
 ghost use Rattle.smap_answers.specs.Outcome.{OrMemory, failure_telling};
+ghost use Rattle.smap_record.specs.MapFile.{IsMapOf};
+ghost use Rattle.smap_record.specs.Record.{record_of};
 
-use crate::load::Loaded;
+use crate::files::FileReader;
+use crate::lines;
 use crate::outcome::Failure;
 use crate::refusal::refusal_of;
+use smap_io::ReadFailure;
 use smap_record::{MapFile, Url};
 use std::alloc::Global;
 
-/// The map that the bytes of the file are, with its sources resolved against the base and checkpoints at this interval.
-pub fn read_map(
+/// The map that the file of this number and path is, with its sources resolved against the base and checkpoints at this
+/// interval.
+pub fn read_map<F: FileReader>(
     alloc: Global,
-    file: &Loaded,
+    reader: &F,
+    number: usize,
+    path: &str,
     base: Option<&Url>,
     interval: u32,
 ) -> Result<MapFile, Failure>
-    ensures read { IfOk result (λ map. map_in file.now (option_copied base.entry) interval ≡ Ok
-        map.stated) }
-    ensures at_interval { IfOk result (λ map. map.k ≡ interval) }
-    ensures refused { IfErr result (λ failure. OrMemory
-        (IsFoundRefusal (path_of file.now) (map_in file.now (option_copied base.entry) interval))
+    ensures read { IfOk result (λ map. IsStated (F.gives reader.now) number path.now
+        (option_copied base.entry) interval map.stated) }
+    ensures refused { IfErr result (λ failure. OrMemory (TellsMap (F.gives reader.now) number path.now
+        (option_copied base.entry) interval Never) (failure_telling failure)) }
+{
+    let bytes = file_bytes(alloc, reader, number, path)?;
+    map_of(alloc, path, bytes, base, interval)
+}
+
+/// The bytes of the file of this number and path.
+pub fn file_bytes<F: FileReader>(
+    alloc: Global,
+    reader: &F,
+    number: usize,
+    path: &str,
+) -> Result<Vec<u8>, Failure>
+    ensures read { IfOk result (λ bytes. F.gives reader.now number path.now (Ok bytes.items)) }
+    ensures unread { IfErr result (λ failure. OrMemory (IsUnread (F.gives reader.now) number path.now)
         (failure_telling failure)) }
 {
-    match MapFile::read(alloc, &file.bytes, base, interval) {
+    match reader.read_file(alloc, number, path) {
+        Ok(bytes) => Ok(bytes),
+        Err(ReadFailure::Device) => Err(Failure::Unreadable(lines::file_failed_line(alloc, path)?)),
+        Err(ReadFailure::Memory) => Err(Failure::Memory),
+    }
+}
+
+/// The map that the bytes of the file at this path are, which are let go before its index is built.
+pub fn map_of(
+    alloc: Global,
+    path: &str,
+    bytes: Vec<u8>,
+    base: Option<&Url>,
+    interval: u32,
+) -> Result<MapFile, Failure>
+    ensures read { IfOk result
+        (IsMapOf (record_of bytes.items (option_copied base.entry) interval) interval) }
+    ensures refused { IfErr result (λ failure. OrMemory (TellsFound (refusal_result path.now)
+        (record_of bytes.items (option_copied base.entry) interval) Never) (failure_telling failure)) }
+{
+    match MapFile::read_owned(alloc, bytes, base, interval) {
         Ok(map) => Ok(map),
-        Err(refused) => Err(refusal_of(alloc, &file.path, refused)),
+        Err(refused) => Err(refusal_of(alloc, path, refused)),
     }
 }

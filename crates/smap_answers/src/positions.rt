@@ -4,16 +4,16 @@ ghost use Rattle.std.specs.Prelude.{string_bytes, string_capacity, string_len};
 ghost use Rattle.smap_lines.specs.Editing.{devices_seen};
 ghost use Rattle.smap_answers.specs.Lines.{bad_position_refused_line, long_position_line};
 ghost use Rattle.smap_answers.specs.Outcome.{answer, refusal, telling_of};
-ghost use Rattle.smap_answers.specs.Positions.{AnsweredTells, PositionsTells, summary_telling, trace_fault};
+ghost use Rattle.smap_answers.specs.Positions.{AnsweredTells, PositionsTells, summary_telling};
 ghost use Rattle.smap_answers.specs.Private.Room.{IsRoom};
 
+use crate::files::FileReader;
 use crate::lines;
-use crate::load::Loaded;
 use crate::map::read_map;
 use crate::outcome::{Failure, Reply};
 use itoa::Buffer;
 use smap_io::{ByteSink, ByteSource};
-use smap_positions::{LineFault, Summary, answer_positions};
+use smap_positions::{Summary, answer_positions};
 use smap_record::{MapFile, Url};
 use smap_trace::RewriteFault;
 use std::alloc::Global;
@@ -21,12 +21,13 @@ use std::alloc::Global;
 // How many bytes the line has at most that refuses positions.
 const MOST_LINE_BYTES: usize = 80;
 
-/// Answers the positions on the lines of standard input from the map that the file is, over checkpoints at this interval:
+/// Answers the positions on the lines of standard input from the map that the file at this path is, over checkpoints at this interval:
 /// at a position or before it or, with `after`, at it or after it; as text or, with `json`, as JSON objects. The caller
 /// gives devices that have not failed.
-pub fn answer_input<R: ByteSource, W: ByteSink>(
+pub fn answer_input<F: FileReader, R: ByteSource, W: ByteSink>(
     alloc: Global,
-    file: &Loaded,
+    reader: &F,
+    path: &str,
     base: Option<&Url>,
     interval: u32,
     after: bool,
@@ -36,12 +37,12 @@ pub fn answer_input<R: ByteSource, W: ByteSink>(
 ) -> Result<Reply, Failure>
     requires input_works { (R.seen input.old).failed ≡ false }
     requires output_works { (W.seen output.old).failed ≡ false }
-    ensures { PositionsTells file.now (option_copied base.entry) interval after json
+    ensures { PositionsTells (F.gives reader.now) path.now (option_copied base.entry) interval after json
         (devices_seen (R.seen input.old) (W.seen output.old))
         (devices_seen (R.seen input.new) (W.seen output.new))
         (telling_of result) }
 {
-    let map = read_map(alloc, file, base, interval)?;
+    let map = read_map(alloc, reader, 0, path, base, interval)?;
     answer_over(alloc, &map, after, json, input, output)
 }
 
@@ -66,7 +67,7 @@ fn answer_over<R: ByteSource, W: ByteSink>(
     };
     let summary = match answer_positions(alloc, input, output, map, after, json) {
         Ok(summary) => summary,
-        Err(fault) => return Err(Failure::Fault(trace_fault(fault))),
+        Err(fault) => return Err(Failure::Fault(fault)),
     };
     let Some(line) = refusing_line(room, summary) else {
         return Ok(Reply::Rewritten);
@@ -121,17 +122,5 @@ fn put(room: &mut String, text: &str)
 {
     if room.push_str(text).is_err() {
         unreachable!("what fits takes no memory");
-    }
-}
-
-// The same failure of a trace.
-fn trace_fault(fault: LineFault) -> RewriteFault
-    ensures { result ≡ trace_fault fault }
-{
-    match fault {
-        LineFault::Read => RewriteFault::Read,
-        LineFault::Write => RewriteFault::Write,
-        LineFault::TooMuch => RewriteFault::TooMuch,
-        LineFault::Memory => RewriteFault::Memory,
     }
 }

@@ -5,8 +5,8 @@ ghost use Rattle.smap_answers.specs.Outcome.{OrMemory, telling_of};
 ghost use Rattle.smap_answers.specs.Show.{show_result};
 ghost use Rattle.smap_command.specs.Limits.{usual_interval};
 
+use crate::files::FileReader;
 use crate::lines;
-use crate::load::Loaded;
 use crate::map::read_map;
 use crate::outcome::{Failure, Reply};
 use crate::refusal::refused;
@@ -14,12 +14,17 @@ use smap_command::USUAL_INTERVAL;
 use smap_record::{MapFile, Url, WriteRefusal};
 use std::alloc::{AllocError, Global};
 
-/// Reads the map that the file is, and writes what it states as one regular map.
-pub fn answer_show(alloc: Global, file: &Loaded, base: Option<&Url>) -> Result<Reply, Failure>
-    ensures { OrMemory (TellsMap file.now (option_copied base.entry) usual_interval
+/// Reads the map that the file at this path is, and writes what it states as one regular map.
+pub fn answer_show<F: FileReader>(
+    alloc: Global,
+    reader: &F,
+    path: &str,
+    base: Option<&Url>,
+) -> Result<Reply, Failure>
+    ensures { OrMemory (TellsMap (F.gives reader.now) 0 path.now (option_copied base.entry) usual_interval
         (IsResult show_result)) (telling_of result) }
 {
-    let map = read_map(alloc, file, base, USUAL_INTERVAL)?;
+    let map = read_map(alloc, reader, 0, path, base, USUAL_INTERVAL)?;
     written_map(alloc, &map)
 }
 

@@ -1,14 +1,14 @@
 //! Rewriting the stack trace on standard input.
-ghost use Rattle.std.specs.Prelude.{◌≡◌, [], false, map, option_copied, zip, IfErr, IfOk, None, Ok};
+ghost use Rattle.std.specs.Prelude.{◌≡◌, [], false, map, option_copied, IfErr, IfOk, None, Ok};
 ghost use Rattle.smap_answers.specs.Outcome.{OrMemory, failure_telling, telling_of};
 ghost use Rattle.smap_lines.specs.Editing.{devices_seen};
-ghost use Rattle.smap_answers.specs.Private.Gathering.{IsReadAs, IsReadRefusal, gathered, put_seen};
-ghost use Rattle.smap_answers.specs.Trace.{Gathers, IsBaseUsed, PutsMap};
-ghost use Rattle.smap_answers.specs.Trace.{IsTextRewritten, IsTraceRewritten, RewriteTells, rewrite_telling, url_in_argument, url_refusal_result};
+ghost use Rattle.smap_answers.specs.Private.Gathering.{IsReadAs, IsReadRefusal, gathered};
+ghost use Rattle.smap_answers.specs.Trace.{Gathers, IsBaseUsed, PutsNext};
+ghost use Rattle.smap_answers.specs.Trace.{IsTextRewritten, IsTraceRewritten, RewriteTells, argument_of, rewrite_telling, url_refusal_result};
 
+use crate::files::FileReader;
 use crate::lines;
-use crate::load::Loaded;
-use crate::map::read_map;
+use crate::map::{file_bytes, map_of};
 use crate::outcome::{Failure, Reply};
 use smap_io::{ByteSink, ByteSource};
 use smap_places::rewrite_places;
@@ -18,12 +18,12 @@ use std::alloc::{AllocError, Global};
 use url::ParseError;
 
 /// Reads the map of each argument, which is a URL and a path, from its file, with checkpoints at this interval, and rewrites
-/// the trace on standard input over them, with the frames of ignored sources hidden or not. The caller gives a file for
-/// each argument, in their order, and devices that have not failed.
-pub fn answer_rewrite<R: ByteSource, W: ByteSink>(
+/// the trace on standard input over them, with the frames of ignored sources hidden or not. The caller gives devices
+/// that have not failed.
+pub fn answer_rewrite<F: FileReader, R: ByteSource, W: ByteSink>(
     alloc: Global,
+    reader: &F,
     arguments: &[(String, String)],
-    files: &[Loaded],
     base: Option<&Url>,
     interval: u32,
     hide_ignored: bool,
@@ -32,21 +32,21 @@ pub fn answer_rewrite<R: ByteSource, W: ByteSink>(
 ) -> Result<Reply, Failure>
     requires input_works { (R.seen input.old).failed ≡ false }
     requires output_works { (W.seen output.old).failed ≡ false }
-    ensures { RewriteTells (option_copied base.entry) interval (IsTraceRewritten hide_ignored)
-        (zip (map url_in_argument arguments.now) files.now)
+    ensures { RewriteTells (F.gives reader.now) (option_copied base.entry) interval
+        (IsTraceRewritten hide_ignored) (map argument_of arguments.now)
         (devices_seen (R.seen input.old) (W.seen output.old))
         (devices_seen (R.seen input.new) (W.seen output.new))
         (telling_of result) }
 {
-    let table = table_of(alloc, arguments, files, base, interval)?;
+    let table = table_of(alloc, reader, arguments, base, interval)?;
     rewritten(rewrite(alloc, input, output, &table, hide_ignored))
 }
 
 /// The same, of the places of the text on standard input, wherever they stand in its lines.
-pub fn answer_anywhere<R: ByteSource, W: ByteSink>(
+pub fn answer_anywhere<F: FileReader, R: ByteSource, W: ByteSink>(
     alloc: Global,
+    reader: &F,
     arguments: &[(String, String)],
-    files: &[Loaded],
     base: Option<&Url>,
     interval: u32,
     input: &mut R,
@@ -54,13 +54,13 @@ pub fn answer_anywhere<R: ByteSource, W: ByteSink>(
 ) -> Result<Reply, Failure>
     requires input_works { (R.seen input.old).failed ≡ false }
     requires output_works { (W.seen output.old).failed ≡ false }
-    ensures { RewriteTells (option_copied base.entry) interval IsTextRewritten
-        (zip (map url_in_argument arguments.now) files.now)
+    ensures { RewriteTells (F.gives reader.now) (option_copied base.entry) interval
+        IsTextRewritten (map argument_of arguments.now)
         (devices_seen (R.seen input.old) (W.seen output.old))
         (devices_seen (R.seen input.new) (W.seen output.new))
         (telling_of result) }
 {
-    let table = table_of(alloc, arguments, files, base, interval)?;
+    let table = table_of(alloc, reader, arguments, base, interval)?;
     rewritten(rewrite_places(alloc, input, output, &table))
 }
 
@@ -74,63 +74,68 @@ fn rewritten(end: Result<Summary, RewriteFault>) -> Result<Reply, Failure>
     }
 }
 
-// The maps of these files, each under the URL of its argument; or the first refusal.
-fn table_of(
+// The maps of the files at the paths of the arguments, each under its URL; or the first file that can't be read, and then
+// the first refusal.
+fn table_of<F: FileReader>(
     alloc: Global,
+    reader: &F,
     arguments: &[(String, String)],
-    files: &[Loaded],
     base: Option<&Url>,
     interval: u32,
 ) -> Result<Table, Failure>
-    ensures { Gathers (option_copied base.entry) interval []
-        (zip (map url_in_argument arguments.now) files.now) (gathered result) }
+    ensures { Gathers (F.gives reader.now) (option_copied base.entry) interval 0 (Ok [])
+        (map argument_of arguments.now) (gathered result) }
 {
-    let mut table = Table::new(alloc);
-    for ((url, _), file) in arguments.iter().zip(files) {
-        add_map(alloc, &mut table, url, file, base, interval)?;
+    let mut table = Ok(Table::new(alloc));
+    for (number, (url, path)) in arguments.iter().enumerate() {
+        let bytes = file_bytes(alloc, reader, number, path)?;
+        table = with_map(alloc, table, url, path, bytes, base, interval);
     }
-    Ok(table)
+    table
 }
 
-// Reads a map from its file, and puts it under a URL.
-fn add_map(
+// The table with the map that the bytes are under a URL, where nothing was refused before.
+fn with_map(
     alloc: Global,
-    table: &mut Table,
+    table: Result<Table, Failure>,
     url: &str,
-    file: &Loaded,
+    path: &str,
+    bytes: Vec<u8>,
     base: Option<&Url>,
     interval: u32,
-) -> Result<(), Failure>
-    ensures { PutsMap (option_copied base.entry) interval table.old url.now file.now
-        (put_seen result table.new) }
+) -> Result<Table, Failure>
+    ensures { PutsNext (option_copied base.entry) interval (gathered table) url.now path.now bytes.items
+        (gathered result) }
 {
-    let map = read_map_at(alloc, url, file, base, interval)?;
+    let mut table = table?;
+    let map = read_map_at(alloc, url, path, bytes, base, interval)?;
     let owned = String::from_str(alloc, url)?;
     match table.add(owned, map) {
-        Ok(()) => Ok(()),
-        Err((refusal, _, _)) => Err(refused_url(alloc, refusal, url, &file.path)),
+        Ok(()) => Ok(table),
+        Err((refusal, _, _)) => Err(refused_url(alloc, refusal, url, path)),
     }
 }
 
-// The map that the file is. Without a base, it stands at the URL that frames name.
+// The map that the bytes of the file at a path are. Without a base, it stands at the URL that frames name.
 fn read_map_at(
     alloc: Global,
     url: &str,
-    file: &Loaded,
+    path: &str,
+    bytes: Vec<u8>,
     base: Option<&Url>,
     interval: u32,
 ) -> Result<MapFile, Failure>
-    ensures read { IfOk result (λ map. IsReadAs (option_copied base.entry) interval url.now file.now
+    ensures read { IfOk result (λ map. IsReadAs (option_copied base.entry) interval url.now bytes.items
         (Ok map.stated)) }
     ensures refused { IfErr result (λ failure. OrMemory
-        (IsReadRefusal (option_copied base.entry) interval url.now file.now)
+        (IsReadRefusal (option_copied base.entry) interval url.now path.now bytes.items)
         (failure_telling failure)) }
 {
     match base {
-        Some(base) => read_map(alloc, file, Some(base), interval),
+        Some(base) => map_of(alloc, path, bytes, Some(base), interval),
         None => {
             let own = own_base(alloc, url)?;
-            read_map(alloc, file, own.as_ref(), interval)
+            map_of(alloc, path, bytes, own.as_ref(), interval)
         }
     }
 }

@@ -43,15 +43,15 @@ pub record EditsFront (becomes : Line → List ℕ) (before after : DevicesSeen)
       → (more : List ℕ) × (written ≡ edited becomes first ++ more)
 
 -- whether the input failed, and whether the output did
-abbrev pub is_read_fault : Result ℕ LineFault → Bool
-is_read_fault (Ok lines) = false
+abbrev pub is_read_fault : {A : Type 0} → Result A LineFault → Bool
+is_read_fault (Ok done) = false
 is_read_fault (Err Read) = true
 is_read_fault (Err Write) = false
 is_read_fault (Err TooMuch) = false
 is_read_fault (Err Memory) = false
 
-abbrev pub is_write_fault : Result ℕ LineFault → Bool
-is_write_fault (Ok lines) = false
+abbrev pub is_write_fault : {A : Type 0} → Result A LineFault → Bool
+is_write_fault (Ok done) = false
 is_write_fault (Err Read) = false
 is_write_fault (Err Write) = true
 is_write_fault (Err TooMuch) = false

@@ -22,3 +22,4 @@ pub use editor::LineEditor;
 pub use fault::LineFault;
 pub use gathered::Gathered;
 pub use line_end::end_of_line;
+pub use open_line::MOST_LINE_BYTES;

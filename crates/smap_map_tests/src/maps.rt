@@ -1,7 +1,7 @@
 //! Map files: what is read, and what the ones that no command can ask are refused for.
 use crate::same::assert_same;
 use crate::shown::mappings_text;
-use smap_record::{MapFile, SourceEntry};
+use smap_record::{MapFile, MapRefusal, SourceEntry};
 use smap_vectors::INTERVALS;
 use std::alloc::{AllocError, Global};
 use std::test::Fail;
@@ -56,56 +56,69 @@ fn names_text(alloc: Global, map: &MapFile) -> Result<String, AllocError> {
     Ok(text)
 }
 
-fn entries_at(alloc: Global, text: &str, interval: u32) -> Result<String, Fail> {
-    let map = MapFile::read(alloc, text.as_bytes(), None, interval)?;
-    Ok(entries(alloc, &map)?)
+// Each map is read twice: of bytes that are lent, and of bytes that are let go.
+fn read_twice(alloc: Global, text: &str, interval: u32) -> Result<[MapFile; 2], Fail> {
+    let bytes = text.as_bytes().to_vec(alloc)?;
+    Ok([
+        MapFile::read(alloc, text.as_bytes(), None, interval)?,
+        MapFile::read_owned(alloc, bytes, None, interval)?,
+    ])
 }
 
 #[test]
 fn every_entry_has_its_place(rt: HostRuntime) -> Result<(), Fail> {
     for interval in INTERVALS {
-        let text = entries_at(rt.alloc(), FULL, *interval)?;
-        assert_same(
-            &rt,
-            FULL,
-            &text,
-            "o.js | src/a.ts None false, none Some(\"x\") true, src/c.ts Some(\"y\") false, | fg------- | 2|2|0,0,0,0,0,1 1,0,1,2,3,0",
-        );
+        for map in &read_twice(rt.alloc(), FULL, *interval)? {
+            let text = entries(rt.alloc(), map)?;
+            assert_same(
+                &rt,
+                FULL,
+                &text,
+                "o.js | src/a.ts None false, none Some(\"x\") true, src/c.ts Some(\"y\") false, | fg------- | 2|2|0,0,0,0,0,1 1,0,1,2,3,0",
+            );
+        }
     }
     Ok(())
 }
 
 // Why a map is refused, or `accepted`.
-fn refusal(alloc: Global, bytes: &[u8], interval: u32) -> Result<String, AllocError> {
-    match MapFile::read(alloc, bytes, None, interval) {
+fn refusal(alloc: Global, read: Result<MapFile, MapRefusal>) -> Result<String, AllocError> {
+    match read {
         Ok(_) => String::from_str(alloc, "accepted"),
         Err(refusal) => format!(in alloc; "{refusal:?}"),
     }
 }
 
+// The same of bytes that are lent, and of bytes that are let go.
+fn refusals(alloc: Global, bytes: Vec<u8>, interval: u32) -> Result<String, AllocError> {
+    let lent = refusal(alloc, MapFile::read(alloc, &bytes, None, interval))?;
+    let owned = refusal(alloc, MapFile::read_owned(alloc, bytes, None, interval))?;
+    format!(in alloc; "{lent} {owned}")
+}
+
 #[test]
 fn other_intervals_are_refused(rt: HostRuntime) -> Result<(), Fail> {
     for interval in [0, 4_097] {
-        let refusal = refusal(rt.alloc(), EMPTY.as_bytes(), interval)?;
-        assert_same(&rt, EMPTY, &refusal, "Build(Interval)");
+        let refusals = refusals(rt.alloc(), EMPTY.as_bytes().to_vec(rt.alloc())?, interval)?;
+        assert_same(&rt, EMPTY, &refusals, "Build(Interval) Build(Interval)");
     }
     Ok(())
 }
 
 // The same of an empty map with so many blanks after it that it has this many bytes.
-fn refusal_of_size(alloc: Global, size: usize, interval: u32) -> Result<String, AllocError> {
+fn refusals_of_size(alloc: Global, size: usize, interval: u32) -> Result<String, AllocError> {
     let mut bytes = EMPTY.as_bytes().to_vec(alloc)?;
     bytes.resize(size, b' ')?;
-    refusal(alloc, &bytes, interval)
+    refusals(alloc, bytes, interval)
 }
 
 #[test]
 fn the_largest_file_and_one_that_is_too_large(rt: HostRuntime) -> Result<(), Fail> {
-    let most = refusal_of_size(rt.alloc(), 67_108_864, 64)?;
-    assert_same(&rt, "most", &most, "accepted");
+    let most = refusals_of_size(rt.alloc(), 67_108_864, 64)?;
+    assert_same(&rt, "most", &most, "accepted accepted");
     for interval in INTERVALS {
-        let more = refusal_of_size(rt.alloc(), 67_108_865, *interval)?;
-        assert_same(&rt, "one more", &more, "TooLarge");
+        let more = refusals_of_size(rt.alloc(), 67_108_865, *interval)?;
+        assert_same(&rt, "one more", &more, "TooLarge TooLarge");
     }
     Ok(())
 }

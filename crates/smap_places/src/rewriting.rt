@@ -1,14 +1,13 @@
 //! Rewriting the places of a text.
 ghost use Rattle.std.specs.Prelude.{◌≡◌, false, IfErr, IfOk};
-ghost use Rattle.smap_lines.specs.Editing.{devices_seen};
-ghost use Rattle.smap_trace.specs.Rewriting.{is_read_fault, is_write_fault};
-ghost use Rattle.smap_trace.specs.declared.outcome.RewriteFault.TheVariants.{Memory};
+ghost use Rattle.smap_lines.specs.Editing.{devices_seen, is_read_fault, is_write_fault};
+ghost use Rattle.smap_lines.specs.declared.fault.LineFault.TheVariants.{Memory};
 ghost use Rattle.smap_places.specs.PlacesRewriting.{RewritesPlaces, RewritesPlacesFront};
 
 use crate::finder::PlaceFinder;
 use crate::place_rewriter::PlaceRewriter;
 use smap_io::{ByteSink, ByteSource};
-use smap_lines::{LineFault, edit_lines};
+use smap_lines::edit_lines;
 use smap_trace::{RewriteFault, Summary, Table};
 use std::alloc::Global;
 
@@ -47,16 +46,11 @@ pub fn rewrite_places<R: ByteSource, W: ByteSink>(
         places: 0,
         mapped: 0,
     };
-    match edit_lines(alloc, input, output, &mut rewriter) {
-        Ok(lines) => Ok(Summary {
-            lines,
-            frames: rewriter.places,
-            mapped: rewriter.mapped,
-            hidden: 0,
-        }),
-        Err(LineFault::Read) => Err(RewriteFault::Read),
-        Err(LineFault::Write) => Err(RewriteFault::Write),
-        Err(LineFault::TooMuch) => Err(RewriteFault::TooMuch),
-        Err(LineFault::Memory) => Err(RewriteFault::Memory),
-    }
+    let lines = edit_lines(alloc, input, output, &mut rewriter)?;
+    Ok(Summary {
+        lines,
+        frames: rewriter.places,
+        mapped: rewriter.mapped,
+        hidden: 0,
+    })
 }

@@ -1,8 +1,8 @@
 //! Answering a text of positions.
 ghost use Rattle.std.specs.Prelude.{◌≡◌, false, IfErr, IfOk};
-ghost use Rattle.smap_lines.specs.Editing.{EditsFront, devices_seen};
+ghost use Rattle.smap_lines.specs.Editing.{EditsFront, devices_seen, is_read_fault, is_write_fault};
 ghost use Rattle.smap_lines.specs.declared.fault.LineFault.TheVariants.{Memory};
-ghost use Rattle.smap_positions.specs.Answering.{Answers, is_read_fault, is_write_fault};
+ghost use Rattle.smap_positions.specs.Answering.{Answers};
 ghost use Rattle.smap_positions.specs.Positions.{answered_line};
 
 use crate::answerer::PositionAnswerer;

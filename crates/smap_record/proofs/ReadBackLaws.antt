@@ -1,5 +1,5 @@
 -- A written map, read again.
-use Rattle.std.proofs.Common.{◌≡◌, ℕ, ◌+◌, ◌≤◌, List, [], ◌∷◌, length, map, Bool, true, false, nat_lt, if◌then◌else◌, Option, Some, None, Result, Ok, codes, refl, sym, ap, subst, ◌∙◌, arith}
+use Rattle.std.proofs.Common.{◌≡◌, ℕ, ◌+◌, ◌≤◌, List, [], ◌∷◌, length, map, Bool, true, false, nat_lt, if◌then◌else◌, Option, Some, None, Result, Ok, Err, codes, refl, sym, ap, subst, ◌∙◌, arith}
 use Rattle.std.specs.Prelude.{ok_or, option_and_then, option_map}
 use Rattle.std.specs.List.{list_any}
 use Rattle.std.specs.Str.{IsUtf8}
@@ -51,8 +51,11 @@ pub value_there : (rest : List ℕ) (value : Data) → IsUtf8 (123 ∷ rest) →
 value_there rest value utf8 is = ap read_utf8 (begins rest) ∙ value_of_utf8 (123 ∷ rest) value utf8 is
 
 -- the members of the object that such a file is
-pub members_there : (bytes : List ℕ) (ms : Members) → value_of_file bytes ≡ Some (object ms) → members_in bytes ≡ Ok ms
-members_there bytes ms is = ap (λ found. ok_or found refusals.NotJson >>= λ value. ok_or (as_object value) refusals.NotObject) is
+pub members_there : (bytes : List ℕ) (ms : Members) → length bytes ≤ most_file_bytes → value_of_file bytes ≡ Some (object ms) → members_in bytes ≡ Ok ms
+members_there bytes ms short is =
+    ap (λ found. found >>= λ value. ok_or (as_object value) refusals.NotObject)
+    (cond-false (nat_lt most_file_bytes (length bytes)) (Err refusals.TooLarge) (ok_or (value_of_file bytes) refusals.NotJson) (le-ltb most_file_bytes (length bytes) short)
+    ∙ ap (λ found. ok_or found refusals.NotJson) is)
 
 few_of : {A : Type 0} (entries : List A) → length entries ≤ most_listed → few 0 entries ≡ Some entries
 few_of entries small = cond-false (nat_lt most_listed (0 + length entries)) None (Some entries) (le-ltb most_listed (0 + length entries) (omega (arith, small)))
@@ -161,7 +164,7 @@ module _ (sources : List StatedSource) (names : List (List ℕ)) (file : Option 
         pub reads_back : (bytes : List ℕ) → length bytes ≤ most_file_bytes → value_of_file bytes ≡ Some value → ReadsBackAs bytes (mappings_of mappings) sources names file
         reads_back bytes short value_is k interval = (
           back,
-          stated bytes None k members outer sections sections.parts short (members_there bytes members value_is) outer_read sections_read
+          stated bytes None k members outer sections sections.parts (members_there bytes members short value_is) outer_read sections_read
               (ap (λ fault. unless (option_map refusals.Build fault) sections.parts) (no_build_fault mappings sound k interval))
               ∙ ap (λ list. Ok (record { parts = sections.parts; sources = list; names = names; file = file })) (append-nil (read_sources sources)),
           is_back,

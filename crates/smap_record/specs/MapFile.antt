@@ -1,14 +1,17 @@
 -- What callers see of a map file.
-use Rattle.std.specs.Prelude.{◌≡◌, ◌≤◌, ℕ, length, map, option_map, string_bytes}
+use Rattle.std.specs.Prelude.{◌≡◌, ◌⊎◌, ◌≤◌, ℕ, length, map, option_map, string_bytes, Result, Ok, Err}
 use Rattle.std.specs.List.{All}
+use Rattle.std.specs.Result.{IsOkAnd}
 use Rattle.smap_mappings.specs.Within.{IsOriginWithin, IsWithin}
 use Rattle.smap_index.specs.Parts.{joined}
 use Rattle.smap_index.specs.declared.answer.Answer.{Answer}
 use Rattle.smap_index.specs.declared.answer.Answer.TheVariants.{Nothing, Unmapped, Found}
 use Rattle.smap_record.specs.Limits.{most_listed}
 use Rattle.smap_record.specs.Record.{MapRecord}
-use Rattle.smap_record.specs.Sources.{source_of}
+use Rattle.smap_record.specs.Sources.{source_of, NamesASource}
 use Rattle.smap_record.specs.declared.map_file.MapFile.TheInside.{Inside}
+use Rattle.smap_record.specs.declared.refusal.MapRefusal.{MapRefusal}
+use Rattle.smap_record.specs.declared.refusal.MapRefusal.TheVariants.{Memory, Url}
 
 -- what it states, and the interval of its checkpoints
 pub record Map : Type 0 where
@@ -34,6 +37,22 @@ pub record IsCounted (inside : Inside) : Type 0 where
   pub few_sources : length inside.sources.items ≤ most_listed
   pub few_names : length inside.names.items ≤ most_listed
   pub within : All (IsWithin (length inside.sources.items) (length inside.names.items)) (joined inside.index.parts)
+
+-- ---- reading
+
+-- a map that was read, of a file that gives this: it states that, and its checkpoints stand at the interval k
+abbrev pub IsMapOf : Result MapRecord MapRefusal → (k : ℕ) → Map → Type 0
+IsMapOf given k map = (given ≡ Ok map.stated) × (map.k ≡ k)
+
+-- why none was read: memory ran out, or the file gives this refusal; or it gives a record in which a source has a name,
+-- whose URL is too long
+abbrev pub IsRefusalOf : Result MapRecord MapRefusal → MapRefusal → Type 0
+IsRefusalOf given refusal =
+    (refusal ≡ Memory)
+    ⊎ ((refusal ≡ Url) × IsOkAnd given (λ (stated : MapRecord). NamesASource stated.sources))
+    ⊎ (given ≡ Err refusal)
+
+-- ---- answers
 
 -- the origin that an answer gives, where it gives one, names one of these many sources and names
 unfoldable pub IsAnswerWithin : ℕ → ℕ → Answer → Type 0

@@ -29,7 +29,7 @@ pub record MapRecord : Type 0 where
 -- the members of the object that a file of these bytes is
 abbrev pub members_in : List ℕ → Result Members MapRefusal
 members_in bytes = do
-  value ← ok_or (value_of_file bytes) NotJson
+  value ← if nat_lt most_file_bytes (length bytes) then Err TooLarge else ok_or (value_of_file bytes) NotJson
   ok_or (as_object value) NotObject
 
 -- these parts, where an index is built of them
@@ -51,8 +51,7 @@ record_in members base k = do
 
 -- the record of a file's bytes, which stand at this URL, at an interval k; or the first refusal
 unfoldable pub record_of : (bytes : List ℕ) (base : Option Parts) (k : ℕ) → Result MapRecord MapRefusal
-record_of bytes base k =
-    if nat_lt most_file_bytes (length bytes) then Err TooLarge else members_in bytes >>= λ members. record_in members base k
+record_of bytes base k = members_in bytes >>= λ members. record_in members base k
 
 -- what a map answers at a generated position
 abbrev pub answer_of_map : MapRecord → ℕ → ℕ → Answer

@@ -1,20 +1,27 @@
 //! From the bytes of a map file to its JSON value.
-ghost use Rattle.std.specs.Prelude.{◌≡◌, ok_or};
+ghost use Rattle.std.specs.Prelude.{◌≡◌, ◌<◌, Err, length, ok_or};
 ghost use Rattle.serde_json.specs.View.{members_view, view};
 ghost use Rattle.smap_record.specs.FileText.{json_text, value_of_file, without_guard_line, without_mark};
+ghost use Rattle.smap_record.specs.Limits.{most_file_bytes};
 ghost use Rattle.smap_record.specs.Record.{members_in};
 ghost use Rattle.smap_record.specs.Private.Given.{GivesRead};
-ghost use Rattle.smap_record.specs.declared.refusal.MapRefusal.TheVariants.{NotJson};
+ghost use Rattle.smap_record.specs.declared.refusal.MapRefusal.TheVariants.{NotJson, TooLarge};
 
+use crate::MOST_FILE_BYTES;
 use crate::json::object;
 use crate::refusal::MapRefusal;
 use serde_json::{Map, Value};
 use std::alloc::Global;
 
-/// The members of the object that is the JSON value of a file.
+/// The members of the object that is the JSON value of a file, where that is not too large. No memory is taken before
+/// it is known to be so.
 pub fn file_members(alloc: Global, bytes: &[u8]) -> Result<Map<String, Value>, MapRefusal>
-    ensures { GivesRead (λ members. members_view members.entries) result (members_in bytes.now) }
+    ensures members { GivesRead (λ members. members_view members.entries) result (members_in bytes.now) }
+    ensures too_large { most_file_bytes < length bytes.now → result ≡ Err TooLarge }
 {
+    if bytes.len() > MOST_FILE_BYTES {
+        return Err(MapRefusal::TooLarge);
+    }
     match object(file_value(alloc, bytes)?) {
         Some(members) => Ok(members),
         None => Err(MapRefusal::NotObject),

@@ -1,7 +1,7 @@
 //! A map file that was read, and the look-ups in it.
-ghost use Rattle.std.specs.Prelude.{◌≡◌, ◌<◌, ◌⊎◌, ◌+◌, ◌-◌, ◌≤◌, ◌*◌, ◌/◌, ◌^◌, ℕ, None, Ok, Err, length, slice_get, option_copied, option_map, IsOkUnless, IfOk, IfErr};
+ghost use Rattle.std.specs.Prelude.{◌≡◌, ◌<◌, ◌+◌, ◌-◌, ◌≤◌, ◌*◌, ◌/◌, ◌^◌, ℕ, None, Err, length, slice_get, option_copied, option_map, IsOkUnless, IfOk, IfErr};
 ghost use Rattle.std.specs.List.{All};
-ghost use Rattle.std.specs.Result.{IsOkAnd};
+ghost use Rattle.serde_json.specs.View.{members_view};
 ghost use Rattle.smap_mappings.specs.Canonical.{canonical_text};
 ghost use Rattle.smap_mappings.specs.Limits.{most_text_bytes};
 ghost use Rattle.smap_mappings.specs.Meter.{HasRoom};
@@ -10,14 +10,13 @@ ghost use Rattle.smap_mappings.specs.Within.{IsWithin};
 ghost use Rattle.smap_index.specs.Parts.{bytes_in, joined};
 ghost use Rattle.smap_index.specs.Marks.{marks, used_lines_in};
 ghost use Rattle.smap_record.specs.Limits.{most_file_bytes};
-ghost use Rattle.smap_record.specs.MapFile.{IsAnswerWithin};
+ghost use Rattle.smap_record.specs.MapFile.{IsAnswerWithin, IsMapOf, IsRefusalOf};
 ghost use Rattle.smap_record.specs.ReadBack.{ReadsBackAs};
-ghost use Rattle.smap_record.specs.Record.{answer_of_map, answer_of_map_from, record_of};
-ghost use Rattle.smap_record.specs.Sources.{source_of, NamesASource};
+ghost use Rattle.smap_record.specs.Record.{answer_of_map, answer_of_map_from, record_in, record_of};
+ghost use Rattle.smap_record.specs.Sources.{source_of};
 ghost use Rattle.smap_record.specs.Written.{written};
 ghost use Rattle.smap_record.specs.declared.refusal.MapRefusal.TheVariants as refusals;
 
-use crate::MOST_FILE_BYTES;
 use crate::entry::SourceEntry;
 use crate::file_text::file_members;
 use crate::index::build_index;
@@ -26,6 +25,7 @@ use crate::outer::read_outer;
 use crate::refusal::MapRefusal;
 use crate::sources::sources;
 use crate::write::{WriteRefusal, write_owned};
+use serde_json::{Map, Value};
 use smap_index::{Answer, Index, JoinedMappings};
 use smap_mappings::{Mapping, Meter};
 use std::alloc::{AllocError, Global};
@@ -57,7 +57,7 @@ impl MapFile {
     /// at the segments of number 0, `k`, 2`k` and so on of each line of a section; `k` is 1 to 4096, and any other is
     /// refused before the sources get their names. `Url` comes after all other refusals, and only where a source has a
     /// name. After a refusal nothing is kept.
-    #[tactic(auto, unfolding(crate::specs::Record::record_of, crate::specs::Record::record_in))]
+    #[tactic(auto, unfolding(crate::specs::Record::record_of))]
     pub fn read(
         alloc: Global,
         bytes: &[u8],
@@ -65,17 +65,43 @@ impl MapFile {
         k: u32,
     ) -> Result<MapFile, MapRefusal>
         ensures too_large { most_file_bytes < length bytes.now → result ≡ Err refusals.TooLarge }
-        ensures stated { IfOk result
-            (λ map. (record_of bytes.now (option_copied base.entry) k ≡ Ok map.stated) × (map.k ≡ k)) }
-        ensures refused { IfErr result (λ refusal. (refusal ≡ refusals.Memory)
-            ⊎ ((refusal ≡ refusals.Url) × IsOkAnd (record_of bytes.now (option_copied base.entry) k)
-            (λ stated. NamesASource stated.sources))
-            ⊎ (record_of bytes.now (option_copied base.entry) k ≡ Err refusal)) }
+        ensures stated { IfOk result (IsMapOf (record_of bytes.now (option_copied base.entry) k) k) }
+        ensures refused { IfErr result (IsRefusalOf (record_of bytes.now (option_copied base.entry) k)) }
     {
-        if bytes.len() > MOST_FILE_BYTES {
-            return Err(MapRefusal::TooLarge);
-        }
         let members = file_members(alloc, bytes)?;
+        MapFile::of_members(alloc, members, base, k)
+    }
+
+    /// The same of bytes that are let go once their JSON value is read, before the index is built.
+    #[tactic(auto, unfolding(crate::specs::Record::record_of))]
+    pub fn read_owned(
+        alloc: Global,
+        bytes: Vec<u8>,
+        base: Option<&Url>,
+        k: u32,
+    ) -> Result<MapFile, MapRefusal>
+        ensures too_large { most_file_bytes < length bytes.items → result ≡ Err refusals.TooLarge }
+        ensures stated { IfOk result (IsMapOf (record_of bytes.items (option_copied base.entry) k) k) }
+        ensures refused { IfErr result (IsRefusalOf (record_of bytes.items (option_copied base.entry) k)) }
+    {
+        let members = file_members(alloc, &bytes)?;
+        drop(bytes);
+        MapFile::of_members(alloc, members, base, k)
+    }
+
+    // The map of the file with these members.
+    #[tactic(auto, unfolding(crate::specs::Record::record_in))]
+    fn of_members(
+        alloc: Global,
+        members: Map<String, Value>,
+        base: Option<&Url>,
+        k: u32,
+    ) -> Result<MapFile, MapRefusal>
+        ensures stated { IfOk result
+            (IsMapOf (record_in (members_view members.entries) (option_copied base.entry) k) k) }
+        ensures refused { IfErr result
+            (IsRefusalOf (record_in (members_view members.entries) (option_copied base.entry) k)) }
+    {
         let outer = read_outer(alloc, members)?;
         let joined = read_sections(alloc, outer.entries)?;
         let sections = joined.parts.len() as u64;

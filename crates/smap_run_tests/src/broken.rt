@@ -1,6 +1,4 @@
 //! Commands over a reader and a writer of which each call breaks off in turn, and over a reader without end.
-ghost use Rattle.std.specs.Prelude.{◌≡◌, ◌∷◌, []};
-ghost use Rattle.smap_answers.specs.Files.{paths_of};
 ghost use Rattle.smap_answers.specs.Run.{HasInterval};
 
 use crate::same::assert_same;
@@ -82,8 +80,7 @@ fn on_map(
     path: &str,
     breaks: Breaks,
 ) -> Result<String, AllocError>
-    requires interval { HasInterval command.now }
-    requires its_path { paths_of command.now ≡ path.now ∷ [] }
+    requires { HasInterval command.now }
 {
     let file = loaded(alloc, path, MAP.as_bytes())?;
     let (breaks_at, how) = breaks;

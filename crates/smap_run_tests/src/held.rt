@@ -10,7 +10,12 @@ use std::alloc::{AllocError, Global};
 use std::test::Fail;
 
 // Of two files at one path the first is read.
-const HELD: Held = &[("o.map", OUTER), ("i.map", INNER), ("i.map", "{")];
+const HELD: Held = &[
+    ("o.map", OUTER),
+    ("i.map", INNER),
+    ("i.map", "{"),
+    ("bad", "{"),
+];
 
 // The paths of the outer map and of the inner, and what `compose` leaves.
 const COMPOSED: &[(&str, &str, &str)] = &[
@@ -27,6 +32,8 @@ const COMPOSED: &[(&str, &str, &str)] = &[
     ("none", "i.map", "3||device: read none\n"),
     ("o.map", "no\tne", "3||device: read no?ne\n"),
     ("first", "second", "3||device: read first\n"),
+    ("bad", "second", "3||device: read second\n"),
+    ("bad", "bad", "1||refused: bad: M2 NotJson\n"),
 ];
 
 // `compose` of the maps at two paths.

@@ -1,11 +1,11 @@
-//! Files that are written first and loaded then: their bytes, what a command makes of them, and which one is told where
+//! Files that are written first and read then: their bytes, what a command makes of them, and which one is told where
 //! some can't be read.
 ghost use Rattle.std.specs.Prelude.{IfOk};
 ghost use Rattle.smap_answers.specs.Run.{HasInterval};
 
 use crate::same::assert_same;
-use smap_answers::{Command, load_files};
-use smap_runs::{ALL_SOUND, commands, left_text, run_over};
+use smap_answers::{Command, FileReader};
+use smap_runs::{ALL_SOUND, commands, run_over_read};
 use smap_vectors::{INNER, OUTER};
 use std::alloc::{AllocError, Global};
 use std::test::Fail;
@@ -56,16 +56,11 @@ fn rewrite_in(alloc: Global, folder: &str, first: &str, second: &str) -> Result<
     Ok(commands::rewrite(maps, None, 64, false))
 }
 
-// What a command leaves over the files that it names.
-fn left_by(rt: &HostRuntime, command: &Command) -> Result<String, AllocError>
+// What a command leaves of this input over the files that it names.
+fn left_by(rt: &HostRuntime, command: &Command, input: &[u8]) -> Result<String, AllocError>
     requires { HasInterval command.now }
 {
-    let alloc = rt.alloc();
-    let files = match load_files(alloc, rt, command) {
-        Ok(files) => files,
-        Err(outcome) => return left_text(alloc, outcome.status(), b"", outcome.bytes()),
-    };
-    run_over(alloc, command, &files, b"", ALL_SOUND)
+    run_over_read(rt.alloc(), rt, command, input, ALL_SOUND)
 }
 
 #[test]
@@ -76,9 +71,9 @@ fn written_files_are_composed(rt: HostRuntime) -> Result<(), Fail> {
         fs::write(&rt, path.as_str(), text)?;
     }
     let command = compose_in(rt.alloc(), &folder, "o.map", "i.map")?;
-    let one = left_by(&rt, &command)?;
+    let one = left_by(&rt, &command, b"")?;
     let command = compose_in(rt.alloc(), &folder, "i.map", "o.map")?;
-    let other = left_by(&rt, &command)?;
+    let other = left_by(&rt, &command, b"")?;
     fs::remove_dir_all(&rt, folder.as_str())?;
     assert_same(
         &rt,
@@ -107,62 +102,66 @@ fn bytes_of(alloc: Global, is_first: bool) -> Result<Vec<u8>, AllocError> {
     Ok(bytes)
 }
 
-// Whether a command loads files of these bytes, and no others.
-fn loads(rt: &HostRuntime, command: &Command, wanted: &[Vec<u8>]) -> bool {
-    let Ok(files) = load_files(rt.alloc(), rt, command) else {
-        return false;
-    };
-    files.len() == wanted.len()
-        && files
-            .iter()
-            .zip(wanted)
-            .all(|(file, bytes)| file.bytes.as_slice() == bytes.as_slice())
-}
-
-// Writes two files into a folder, and gives their bytes.
-fn write_both(rt: &HostRuntime, folder: &str) -> Result<Vec<Vec<u8>>, Fail> {
-    let mut written = Vec::new(rt.alloc());
-    for (name, is_first) in [("a", true), ("b", false)] {
-        let bytes = bytes_of(rt.alloc(), is_first)?;
+// Whether the files at paths of a folder are read byte by byte.
+fn reads_both(rt: &HostRuntime, folder: &str) -> Result<bool, Fail> {
+    let mut are_read = true;
+    for (number, name) in ["a", "b"].iter().enumerate() {
+        let bytes = bytes_of(rt.alloc(), number == 0)?;
         let path = path_in(rt.alloc(), folder, name)?;
         fs::write(rt, path.as_str(), bytes.as_slice())?;
-        written.push(bytes)?;
+        are_read = are_read && is_read(rt, number, &path, &bytes);
     }
-    Ok(written)
+    Ok(are_read)
 }
 
-// Whether the files that a command names are loaded byte by byte.
-fn loads_both(rt: &HostRuntime, folder: &str, command: &Command) -> Result<bool, Fail> {
-    let wanted = write_both(rt, folder)?;
-    Ok(loads(rt, command, &wanted))
+// Whether the file at a path has these bytes.
+fn is_read(rt: &HostRuntime, number: usize, path: &str, wanted: &[u8]) -> bool {
+    match rt.read_file(rt.alloc(), number, path) {
+        Ok(bytes) => bytes.as_slice() == wanted,
+        Err(_) => false,
+    }
 }
 
 #[test]
-fn files_of_compose_are_loaded_byte_by_byte(rt: HostRuntime) -> Result<(), Fail> {
+fn files_are_read_byte_by_byte(rt: HostRuntime) -> Result<(), Fail> {
     let folder = new_folder(&rt)?;
-    let command = compose_in(rt.alloc(), &folder, "a", "b")?;
-    let are_loaded = loads_both(&rt, &folder, &command)?;
+    let are_read = reads_both(&rt, &folder)?;
     fs::remove_dir_all(&rt, folder.as_str())?;
-    assert!(rt; are_loaded);
+    assert!(rt; are_read);
     Ok(())
 }
 
 #[test]
-fn files_of_rewrite_are_loaded_byte_by_byte(rt: HostRuntime) -> Result<(), Fail> {
+fn each_argument_of_rewrite_has_its_file(rt: HostRuntime) -> Result<(), Fail> {
     let folder = new_folder(&rt)?;
-    let command = rewrite_in(rt.alloc(), &folder, "a", "b")?;
-    let are_loaded = loads_both(&rt, &folder, &command)?;
+    for (name, text) in [("o.map", OUTER), ("i.map", INNER)] {
+        let path = path_in(rt.alloc(), &folder, name)?;
+        fs::write(&rt, path.as_str(), text)?;
+    }
+    let trace = b"    at u:1:1\n    at v:1:1\n";
+    let command = rewrite_in(rt.alloc(), &folder, "o.map", "i.map")?;
+    let one = left_by(&rt, &command, trace)?;
+    let command = rewrite_in(rt.alloc(), &folder, "i.map", "o.map")?;
+    let other = left_by(&rt, &command, trace)?;
     fs::remove_dir_all(&rt, folder.as_str())?;
-    assert!(rt; are_loaded);
+    assert_same(&rt, "one", &one, "0|    at mid.js:1:1\n    at a.ts:1:1\n|");
+    assert_same(
+        &rt,
+        "other",
+        &other,
+        "0|    at a.ts:1:1\n    at mid.js:1:1\n|",
+    );
     Ok(())
 }
 
-// Of two files, of which `there` alone exists, the one that is told.
+// Of two files, of which `there` alone is a map and `bad` is refused, and no other exists, the one that is told.
 const UNREAD: &[(&str, &str, &str)] = &[
     ("first", "second", "first"),
     ("second", "first", "second"),
     ("there", "second", "second"),
     ("first", "there", "first"),
+    ("bad", "second", "second"),
+    ("first", "bad", "first"),
 ];
 
 // What is told of a file of this name.
@@ -173,14 +172,16 @@ fn told_text(alloc: Global, folder: &str, name: &str) -> Result<String, AllocErr
 #[test]
 fn the_first_unreadable_file_is_told(rt: HostRuntime) -> Result<(), Fail> {
     let folder = new_folder(&rt)?;
-    let path = path_in(rt.alloc(), &folder, "there")?;
-    fs::write(&rt, path.as_str(), OUTER)?;
+    for (name, text) in [("there", OUTER), ("bad", "{")] {
+        let path = path_in(rt.alloc(), &folder, name)?;
+        fs::write(&rt, path.as_str(), text)?;
+    }
     for (first, second, told) in UNREAD {
         let wanted = told_text(rt.alloc(), &folder, told)?;
         let command = compose_in(rt.alloc(), &folder, first, second)?;
-        assert_same(&rt, told, &left_by(&rt, &command)?, &wanted);
+        assert_same(&rt, told, &left_by(&rt, &command, b"")?, &wanted);
         let command = rewrite_in(rt.alloc(), &folder, first, second)?;
-        assert_same(&rt, told, &left_by(&rt, &command)?, &wanted);
+        assert_same(&rt, told, &left_by(&rt, &command, b"")?, &wanted);
     }
     fs::remove_dir_all(&rt, folder.as_str())?;
     Ok(())

@@ -1,47 +1,41 @@
-//! Loading the files that a command names.
+//! Reading the files that a command names.
 use crate::same::assert_same;
-use smap_answers::{Command, Loaded, load_files};
-use smap_runs::commands;
-use std::alloc::{AllocError, Global};
+use smap_answers::FileReader;
+use smap_io::ReadFailure;
+use smap_runs::{ALL_SOUND, commands, run_over_held, run_over_read};
+use std::alloc::AllocError;
 use std::test::Fail;
 
-// Each file that the command names with how many bytes are loaded of it, or what is told in its place, with its
-// status.
-fn loaded(rt: &HostRuntime, command: &Command) -> Result<String, AllocError> {
-    match load_files(rt.alloc(), rt, command) {
-        Ok(files) => files_text(rt.alloc(), &files),
-        Err(outcome) => {
-            let told = String::from_utf8_lossy(rt.alloc(), outcome.bytes())?;
-            format!(in rt.alloc(); "{told}{}", outcome.status())
-        }
+// How many bytes are read of the file at a path, or why none are.
+fn read_text(rt: &HostRuntime, path: &str) -> Result<String, AllocError> {
+    match rt.read_file(rt.alloc(), 0, path) {
+        Ok(bytes) => format!(in rt.alloc(); "{}", bytes.len()),
+        Err(ReadFailure::Device) => String::from_str(rt.alloc(), "unread"),
+        Err(ReadFailure::Memory) => Err(AllocError),
     }
 }
 
-// The path of each file, and how many bytes it has.
-fn files_text(alloc: Global, files: &[Loaded]) -> Result<String, AllocError> {
-    let mut text = String::new(alloc);
-    for file in files {
-        let bytes = file.bytes.len();
-        text.push_str(&format!(in alloc; "{} {bytes}", file.path)?)?;
-    }
-    Ok(text)
-}
-
-// Paths, and what comes of each.
-const PATHS: &[(&str, &str)] = &[
-    ("/dev/null", "/dev/null 0"),
+// Paths, what is read at each, and what `check` leaves.
+const PATHS: &[(&str, &str, &str)] = &[
+    ("/dev/null", "0", "1||refused: /dev/null: M2 NotJson\n"),
     // A file without end is read to one byte more than a map file may have, which shows that it is too large.
-    ("/dev/zero", "/dev/zero 67108865"),
-    ("no/such\nfile", "device: read no/such?file\n3"),
+    (
+        "/dev/zero",
+        "67108865",
+        "1||refused: /dev/zero: M1 TooLarge\n",
+    ),
+    ("no/such\nfile", "unread", "3||device: read no/such?file\n"),
     // A folder opens, and can't be read.
-    ("/", "device: read /\n3"),
+    ("/", "unread", "3||device: read /\n"),
 ];
 
 #[test]
-fn files_are_loaded_or_named(rt: HostRuntime) -> Result<(), Fail> {
-    for (path, wanted) in PATHS {
+fn files_are_read_or_named(rt: HostRuntime) -> Result<(), Fail> {
+    for (path, read, wanted) in PATHS {
+        assert_same(&rt, wanted, &read_text(&rt, path)?, read);
         let path = String::from_str(rt.alloc(), path)?;
-        let left = loaded(&rt, &commands::check(path, None, 64))?;
+        let command = commands::check(path, None, 64);
+        let left = run_over_read(rt.alloc(), &rt, &command, b"", ALL_SOUND)?;
         assert_same(&rt, wanted, &left, wanted);
     }
     Ok(())
@@ -50,6 +44,7 @@ fn files_are_loaded_or_named(rt: HostRuntime) -> Result<(), Fail> {
 #[test]
 fn raw_has_no_file(rt: HostRuntime) -> Result<(), Fail> {
     let command = commands::raw(1, 1, 64);
-    assert_same(&rt, "raw", &loaded(&rt, &command)?, "");
+    let left = run_over_held(rt.alloc(), &command, &[], ALL_SOUND)?;
+    assert_same(&rt, "raw", &left, "0|none\n|");
     Ok(())
 }

@@ -1,6 +1,5 @@
 //! Runs over a reader and a writer of std of which one call breaks off.
-ghost use Rattle.std.specs.Prelude.{◌≡◌, map, IfOk};
-ghost use Rattle.smap_answers.specs.Files.{path_of, paths_of};
+ghost use Rattle.std.specs.Prelude.{◌≡◌, IfOk};
 ghost use Rattle.smap_answers.specs.Run.{HasInterval};
 
 use crate::devices::MOST_TAKEN;
@@ -91,8 +90,7 @@ pub fn run_broken(
     breaks_at: (u64, u64),
     how: Break,
 ) -> Result<String, AllocError>
-    requires interval { HasInterval command.now }
-    requires loaded { map path_of files.now ≡ paths_of command.now }
+    requires { HasInterval command.now }
 {
     let mut reader = Broken {
         bytes: input.to_vec(alloc)?,

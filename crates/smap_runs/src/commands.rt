@@ -1,7 +1,6 @@
 //! The commands that take an interval, each made here alone.
-ghost use Rattle.std.specs.Prelude.{◌≡◌, ◌∷◌, [], map, string_bytes, true};
+ghost use Rattle.std.specs.Prelude.{◌≡◌, true};
 ghost use Rattle.smap_index.specs.Faults.{is_interval};
-ghost use Rattle.smap_answers.specs.Files.{path_in, paths_of};
 ghost use Rattle.smap_answers.specs.Run.{HasInterval};
 
 use smap_answers::{Command, USUAL_INTERVAL};
@@ -17,8 +16,7 @@ fn in_range(interval: u32) -> u32
 
 /// `raw` at a line and a column that count from 1.
 pub fn raw(line: u32, column: u32, interval: u32) -> Command
-    ensures paths { paths_of result ≡ [] }
-    ensures interval { HasInterval result }
+    ensures { HasInterval result }
 {
     Command::Raw {
         line: line.saturating_sub(1),
@@ -29,8 +27,7 @@ pub fn raw(line: u32, column: u32, interval: u32) -> Command
 
 /// `check` of the file at this path.
 pub fn check(path: String, base: Option<Url>, interval: u32) -> Command
-    ensures paths { paths_of result ≡ string_bytes path ∷ [] }
-    ensures interval { HasInterval result }
+    ensures { HasInterval result }
 {
     Command::Check {
         path,
@@ -41,8 +38,7 @@ pub fn check(path: String, base: Option<Url>, interval: u32) -> Command
 
 /// `check` of the files at these paths, or `check --json`.
 pub fn check_all(paths: Vec<String>, base: Option<Url>, interval: u32, json: bool) -> Command
-    ensures paths { paths_of result ≡ map string_bytes paths.items }
-    ensures interval { HasInterval result }
+    ensures { HasInterval result }
 {
     Command::CheckAll {
         paths,
@@ -61,8 +57,7 @@ pub fn lookup(
     interval: u32,
     after: bool,
 ) -> Command
-    ensures paths { paths_of result ≡ string_bytes path ∷ [] }
-    ensures interval { HasInterval result }
+    ensures { HasInterval result }
 {
     Command::Lookup {
         path,
@@ -77,8 +72,7 @@ pub fn lookup(
 
 /// `lookup --json` in the file at this path, at a line and a column that count from 1.
 pub fn lookup_as_json(path: String, line: u32, column: u32) -> Command
-    ensures paths { paths_of result ≡ string_bytes path ∷ [] }
-    ensures interval { HasInterval result }
+    ensures { HasInterval result }
 {
     Command::Lookup {
         path,
@@ -93,8 +87,7 @@ pub fn lookup_as_json(path: String, line: u32, column: u32) -> Command
 
 /// `positions` in the file at this path.
 pub fn positions(path: String, interval: u32, after: bool, json: bool) -> Command
-    ensures paths { paths_of result ≡ string_bytes path ∷ [] }
-    ensures interval { HasInterval result }
+    ensures { HasInterval result }
 {
     Command::Positions {
         path,
@@ -112,8 +105,7 @@ pub fn rewrite(
     interval: u32,
     hide_ignored: bool,
 ) -> Command
-    ensures paths { paths_of result ≡ map path_in maps.items }
-    ensures interval { HasInterval result }
+    ensures { HasInterval result }
 {
     Command::Rewrite {
         maps,
@@ -125,8 +117,7 @@ pub fn rewrite(
 
 /// `rewrite --anywhere` over maps: pairs of a URL and a path.
 pub fn rewrite_anywhere(maps: Vec<(String, String)>, base: Option<Url>, interval: u32) -> Command
-    ensures paths { paths_of result ≡ map path_in maps.items }
-    ensures interval { HasInterval result }
+    ensures { HasInterval result }
 {
     Command::RewriteAnywhere {
         maps,

@@ -1,16 +1,37 @@
 //! Running a command whose files are read from memory, where one may be missing.
+ghost use Rattle.std.specs.Prelude.{⊤};
 ghost use Rattle.smap_answers.specs.Run.{HasInterval};
 
 use crate::commands;
 use crate::devices::{Device, Devices, MOST_TAKEN};
-use crate::running::{left_text, loaded};
-use smap_answers::{Command, LoadedFiles, run_reading};
-use smap_io::{MemorySink, MemorySource};
+use crate::running::left_text;
+use smap_answers::{Command, FileReader, run_reading};
+use smap_io::{MemorySink, MemorySource, ReadFailure};
 use smap_record::Url;
 use std::alloc::{AllocError, Global};
 
-/// Files in memory: the path of each, and its bytes.
+/// Files in memory: the path of each, and its text.
 pub type Held = &'static [(&'static str, &'static str)];
+
+// The same as a reader. Of two with one path the first is read.
+#[derive(Clone, Copy)]
+struct HeldFiles(Held);
+
+impl FileReader for HeldFiles {
+    ghost gives = { λ files number path result. ⊤ };
+
+    fn read_file(&self, alloc: Global, _number: usize, path: &str) -> Result<Vec<u8>, ReadFailure> {
+        for (held, text) in self.0 {
+            if *held == path {
+                return match text.as_bytes().to_vec(alloc) {
+                    Ok(bytes) => Ok(bytes),
+                    Err(_) => Err(ReadFailure::Memory),
+                };
+            }
+        }
+        Err(ReadFailure::Device)
+    }
+}
 
 /// What a command leaves that reads these files, and no standard input.
 pub fn run_over_held(
@@ -19,29 +40,31 @@ pub fn run_over_held(
     held: Held,
     devices: Devices,
 ) -> Result<String, AllocError>
-    requires interval { HasInterval command.now }
+    requires { HasInterval command.now }
 {
-    let mut files = Vec::new(alloc);
-    for (path, bytes) in held {
-        files.push(loaded(alloc, path, bytes.as_bytes())?)?;
-    }
-    let reader = LoadedFiles(&files);
-    let Devices(_, Device(writes, write_fails), Device(tells, tell_fails)) = devices;
+    run_over_read(alloc, &HeldFiles(held), command, b"", devices)
+}
+
+/// What a command leaves of this input that reads its files so.
+pub fn run_over_read<F: FileReader>(
+    alloc: Global,
+    reader: &F,
+    command: &Command,
+    input: &[u8],
+    devices: Devices,
+) -> Result<String, AllocError>
+    requires { HasInterval command.now }
+{
+    let Devices(Device(reads, read_fails), Device(writes, write_fails), Device(tells, tell_fails)) =
+        devices;
     let (output, errors) = (
         Vec::with_capacity(alloc, MOST_TAKEN)?,
         Vec::with_capacity(alloc, MOST_TAKEN)?,
     );
-    let mut input = MemorySource::new(Vec::new(alloc), 1, 0);
+    let mut input = MemorySource::new(input.to_vec(alloc)?, reads.max(1), read_fails);
     let mut output = MemorySink::new(output, writes.max(1), write_fails);
     let mut errors = MemorySink::new(errors, tells.max(1), tell_fails);
-    let status = run_reading(
-        alloc,
-        &reader,
-        command,
-        &mut input,
-        &mut output,
-        &mut errors,
-    );
+    let status = run_reading(alloc, reader, command, &mut input, &mut output, &mut errors);
     left_text(alloc, status, output.bytes(), errors.bytes())
 }
 

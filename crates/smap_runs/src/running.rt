@@ -1,6 +1,4 @@
 //! Running a command, and all that the run leaves.
-ghost use Rattle.std.specs.Prelude.{◌≡◌, ◌∷◌, [], map, IfOk};
-ghost use Rattle.smap_answers.specs.Files.{path_of, paths_of};
 ghost use Rattle.smap_answers.specs.Run.{HasInterval};
 
 use crate::commands;
@@ -18,8 +16,7 @@ pub fn run_over(
     input: &[u8],
     devices: Devices,
 ) -> Result<String, AllocError>
-    requires interval { HasInterval command.now }
-    requires loaded { map path_of files.now ≡ paths_of command.now }
+    requires { HasInterval command.now }
 {
     let Devices(Device(reads, read_fails), Device(writes, write_fails), Device(tells, tell_fails)) =
         devices;
@@ -66,17 +63,14 @@ fn run_on_file(
     bytes: &[u8],
     devices: Devices,
 ) -> Result<String, AllocError>
-    requires interval { HasInterval command.now }
-    requires its_path { paths_of command.now ≡ path.now ∷ [] }
+    requires { HasInterval command.now }
 {
     let file = loaded(alloc, path, bytes)?;
     run_over(alloc, command, &[file], b"", devices)
 }
 
 /// A file that was read.
-pub fn loaded(alloc: Global, path: &str, bytes: &[u8]) -> Result<Loaded, AllocError>
-    ensures { IfOk result (λ file. path_of file ≡ path.now) }
-{
+pub fn loaded(alloc: Global, path: &str, bytes: &[u8]) -> Result<Loaded, AllocError> {
     Ok(Loaded {
         path: String::from_str(alloc, path)?,
         bytes: bytes.to_vec(alloc)?,

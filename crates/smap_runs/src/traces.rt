@@ -1,7 +1,4 @@
 //! Running `rewrite` over traces.
-ghost use Rattle.std.specs.Prelude.{◌≡◌, ◌++◌, ◌∷◌, [], map, string_bytes, IfOk, OnOk};
-ghost use Rattle.smap_answers.specs.Files.{path_of};
-
 use crate::commands;
 use crate::devices::Devices;
 use crate::running::run_over;
@@ -16,10 +13,7 @@ pub type Word = (&'static str, &'static str, &'static str);
 pub fn named(
     alloc: Global,
     table: &[Word],
-) -> Result<(Vec<(String, String)>, Vec<Loaded>), AllocError>
-    ensures paths { IfOk result (λ named. map path_of named.1.items
-        ≡ map (λ word. string_bytes word.1) named.0.items) }
-{
+) -> Result<(Vec<(String, String)>, Vec<Loaded>), AllocError> {
     let mut words = Vec::new(alloc);
     let mut files = Vec::new(alloc);
     for (url, path, map) in table {

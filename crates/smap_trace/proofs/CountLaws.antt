@@ -1,12 +1,11 @@
 -- What the editor of frames has counted after a text.
-use Rattle.std.proofs.Common.{◌≡◌, ◌+◌, ◌≤◌, ℕ, Bool, true, false, cond, List, [], ◌∷◌, length, filter, fold, Option, Some, None, is_some, refl, sym, ap, ◌∙◌, arith, subst, take, ◌-◌}
-use Rattle.std.specs.Prelude.{not, ◌&&◌, ◌==◌}
-use Rattle.std.specs.List.{list_any}
+use Rattle.std.proofs.Common.{◌≡◌, ◌+◌, ◌≤◌, ℕ, Bool, true, false, cond, List, [], ◌∷◌, length, filter, fold, Option, Some, None, is_some, refl, sym, ap, ◌∙◌, arith, subst}
+use Rattle.std.specs.Prelude.{not, ◌&&◌}
 use Rattle.std.proofs.lemmas.Bool.{cond-false, cond_both}
 use Rattle.smap_lines.specs.Edited.{after_line, after_text, is_short}
-use Rattle.smap_lines.specs.Lines.{Line, lines_with_ends}
+use Rattle.smap_lines.specs.Lines.{Line, has_line_end, lines_with_ends}
 use Rattle.smap_record.specs.Record.{MapRecord}
-use Rattle.smap_trace.specs.Frame.{FrameParts, is_line}
+use Rattle.smap_trace.specs.Frame.{FrameParts, has_cr_within, is_line}
 use Rattle.smap_trace.specs.FrameOf.{frame_of}
 use Rattle.smap_trace.specs.Private.FrameRewriter.{after_frame, hidden_in, mapped_in, staying_in}
 use Rattle.smap_trace.specs.Rewritten.{Fate, SourceLocation, counts_of, fate, fate_at, fate_of, hidden, is_frame_line, is_hidden, is_hidden_line, is_ignored, is_mapped, is_mapped_line, name_in, named_fate, no_frame, original_of, replaced, stays}
@@ -18,7 +17,7 @@ use Rattle.smap_trace.specs.declared.frame_rewriter.FrameRewriter.{FrameRewriter
 long_is_none : (line : Line) → is_short line ≡ false → frame_of line.bytes ≡ None
 unfolding frame_of
 long_is_none line long =
-    let other : is_line line.bytes ≡ false = ap (λ b. b && not (list_any (λ byte. byte == 10) line.bytes) && not (list_any (λ byte. byte == 13) (take (length line.bytes - 1) line.bytes))) long in
+    let other : is_line line.bytes ≡ false = ap (λ b. b && not (has_line_end line.bytes) && not (has_cr_within line.bytes)) long in
     cond-false (is_line line.bytes) _ None other
 
 -- it is a frame that stays, or one that is replaced, or one that is hidden

@@ -1,18 +1,35 @@
 -- The steps that the code takes from a line to its frame.
-use Rattle.std.proofs.Common.{◌≡◌, ◌≤◌, ◌+◌, ◌-◌, ◌==◌, ℕ, Bool, true, false, cond, List, [], ◌∷◌, ◌++◌, length, take, drop, slice_range, Option, Some, None, IsSome, is_some, option_map, refl, sym, ap, ◌∙◌, arith, append_assoc, append-nil, length-drop, length-take, length-append}
+use Rattle.std.proofs.Common.{◌≡◌, ◌≤◌, ◌+◌, ◌-◌, ◌==◌, ◌&&◌, ℕ, Bool, true, false, not, nat_le, cond, List, [], ◌∷◌, ◌++◌, length, take, drop, slice_range, Option, Some, None, IsSome, is_some, option_map, refl, sym, ap, ◌∙◌, arith, append_assoc, append-nil, length-drop, length-take, length-append}
 use Rattle.std.specs.List.{prefix_len, starts_with}
 use Rattle.std.specs.Bool.{nat_eq}
-use Rattle.std.proofs.lemmas.Bool.{cond-true, cond-false}
+use Rattle.std.proofs.lemmas.Bool.{cond-true, cond-false, le-leb, leb-true}
 use Rattle.std.proofs.lemmas.Option.{MatchOption-at_some}
 use Rattle.std.proofs.lemmas.List.{take_at, drop_at, take-take, take_rest, length-take-le, take-append-drop, drop-drop, drop-take}
 use Rattle.std.proofs.lemmas.Slice.Eq.{starts_is}
 use Rattle.std.proofs.lemmas.Bool.Decides.{Decides-eqb}
 use Rattle.smap_trace.specs.Cuts.{cut_at_call, cut_at_first, without_last}
-use Rattle.smap_trace.specs.Frame.{is_line, is_blank}
+use Rattle.smap_lines.specs.Lines.{has_line_end}
+use Rattle.smap_trace.specs.Frame.{has_cr_within, is_line, is_blank, is_one_line}
 use Rattle.smap_trace.specs.FrameOf.{ends_in_digit, frame_of, frame_in, frame_after, at_frame, call_frame, plain_frame, parts_with, location_of, is_async, sign_frame, sign_frame_at, unless_async}
 use Rattle.smap_trace.proofs.CutLaws.{last_stands, call_is_first, cut_is_first}
 
 -- ---- the whole line
+
+pub one_line : (line : List ℕ) → is_one_line line ≡ true → (has_line_end line ≡ false) × (length line ≤ 65536)
+one_line line one =
+    let is = both (nat_le (length line) 65536) (has_line_end line) one in (is.1, leb-true (length line) 65536 is.0)
+  where
+    both : (short ended : Bool) → (short && not ended) ≡ true → (short ≡ true) × (ended ≡ false)
+    both true true is = cc
+    both true false is = (refl, refl)
+    both false ended is = cc
+
+pub more_lines : (line : List ℕ) → is_one_line line ≡ false → is_line line ≡ false
+more_lines line more = ap (λ one. one && not (has_cr_within line)) more
+
+-- whether one line is a line hangs on its CRs
+pub by_cr : (line : List ℕ) → has_line_end line ≡ false → length line ≤ 65536 → is_line line ≡ not (has_cr_within line)
+by_cr line one short = λ i. le-leb (length line) 65536 short i && not (one i) && not (has_cr_within line)
 
 pub no_line : (line : List ℕ) → is_line line ≡ false → frame_of line ≡ None
 unfolding frame_of

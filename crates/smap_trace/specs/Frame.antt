@@ -7,7 +7,9 @@
 use Rattle.std.specs.Prelude.{◌≡◌, ◌≢◌, ◌≤◌, ◌-◌, ℕ, ◌==◌, ◌||◌, ◌&&◌, Bool, false, not, nat_le, IsTrue, List, [], ◌++◌, ◌⊎◌, codes, length, take}
 use Rattle.std.specs.Fmt.{decimal}
 use Rattle.std.specs.List.{AllByRecursion, list_any}
-use Rattle.smap_trace.specs.Limits.{most_line_bytes, most_printed}
+use Rattle.smap_lines.specs.Limits.{most_line_bytes}
+use Rattle.smap_lines.specs.Lines.{has_line_end}
+use Rattle.smap_trace.specs.Limits.{most_printed}
 
 -- what a frame line is made of
 pub record FrameParts : Type 0 where
@@ -17,9 +19,17 @@ pub record FrameParts : Type 0 where
   pub column : ℕ
   pub tail : List ℕ
 
+-- a text is one line, of at most 65,536 bytes
+abbrev pub is_one_line : List ℕ → Bool
+is_one_line text = nat_le (length text) most_line_bytes && not (has_line_end text)
+
+-- a CR stands in a line before its last byte
+abbrev pub has_cr_within : List ℕ → Bool
+has_cr_within line = list_any (λ byte. byte == 13) (take (length line - 1) line)
+
 -- a line has at most 65,536 bytes, no LF, and a CR at most as its last byte
 abbrev pub is_line : List ℕ → Bool
-is_line line = nat_le (length line) most_line_bytes && not (list_any (λ byte. byte == 10) line) && not (list_any (λ byte. byte == 13) (take (length line - 1) line))
+is_line line = is_one_line line && not (has_cr_within line)
 
 -- a space or a tab
 abbrev pub is_blank : ℕ → Bool

@@ -1,8 +1,10 @@
 //! The frames of a stack trace.
-ghost use Rattle.std.specs.Prelude.{◌≡◌, ◌≤◌, ◌↔◌, Some, length, take, drop, slice_range, option_map};
+ghost use Rattle.std.specs.Prelude.{◌≡◌, ◌≤◌, ◌↔◌, Some, false, length, take, drop, slice_range, option_map};
 ghost use Rattle.std.specs.List.{prefix_len};
+ghost use Rattle.smap_lines.specs.Limits.{most_line_bytes};
+ghost use Rattle.smap_lines.specs.Lines.{has_line_end};
 ghost use Rattle.smap_trace.specs.Cuts.{cut_at_call, without_last};
-ghost use Rattle.smap_trace.specs.Frame.{FrameParts, IsFrame, is_blank, is_line};
+ghost use Rattle.smap_trace.specs.Frame.{FrameParts, IsFrame, has_cr_within, is_blank, is_one_line};
 ghost use Rattle.smap_trace.specs.FrameOf.{call_frame, frame_after, frame_of, parts_with, location_of};
 ghost use Rattle.smap_trace.specs.FrameOf.{ends_in_digit, plain_frame, sign_frame, unless_async};
 ghost use Rattle.smap_trace.specs.FrameSeen.{parts_seen};
@@ -11,9 +13,7 @@ ghost use Rattle.smap_trace.specs.Private.LocationSeen.{location_seen};
 use crate::cuts::{cut_at_call, cut_at_first, cut_at_last, without_last};
 use crate::numbers::number;
 use crate::parts::Frame;
-
-// How many bytes a line has at most, its LF aside.
-const MOST_LINE_BYTES: usize = 65536;
+use smap_lines::MOST_LINE_BYTES;
 
 /// The parts of a line, without its LF, that is a frame. The call takes no memory, and goes over the line a fixed number
 /// of times.
@@ -22,7 +22,20 @@ pub fn frame(line: &[u8]) -> Option<Frame<'_>>
     ensures frame { (parts : FrameParts) →
         (frame_of line.now ≡ Some parts) ↔ IsFrame line.now parts }
 {
-    if !is_line(line) {
+    if is_one_line(line) {
+        frame_of_line(line)
+    } else {
+        None
+    }
+}
+
+/// The same, of a text that is one line.
+pub(crate) fn frame_of_line(line: &[u8]) -> Option<Frame<'_>>
+    requires one { has_line_end line.now ≡ false }
+    requires short { length line.now ≤ most_line_bytes }
+    ensures { option_map parts_seen result ≡ frame_of line.now }
+{
+    if has_cr_within(line) {
         return None;
     }
     match without_last(b'\r', line) {
@@ -31,13 +44,18 @@ pub fn frame(line: &[u8]) -> Option<Frame<'_>>
     }
 }
 
-// Whether the bytes are one line that is not too long.
-fn is_line(line: &[u8]) -> bool
-    ensures { result ≡ is_line line.now }
+// Whether a text is one line that is not too long.
+fn is_one_line(text: &[u8]) -> bool
+    ensures { result ≡ is_one_line text.now }
 {
-    line.len() <= MOST_LINE_BYTES
-        && !line.contains(&b'\n')
-        && !line[..line.len().saturating_sub(1)].contains(&b'\r')
+    text.len() <= MOST_LINE_BYTES && !text.contains(&b'\n')
+}
+
+// Whether a CR stands in a line before its last byte.
+fn has_cr_within(line: &[u8]) -> bool
+    ensures { result ≡ has_cr_within line.now }
+{
+    line[..line.len().saturating_sub(1)].contains(&b'\r')
 }
 
 // The frame of a line whose CR, where it has one, stands at `end`.

@@ -13,15 +13,6 @@ pub struct Summary {
     pub hidden: u64,
 }
 
-/// Why the rewriting of a trace ended before its end.
-#[derive(Clone, Copy, Debug, PartialEq, Eq)]
-pub enum RewriteFault {
-    /// X1: a read failed.
-    Read,
-    /// X2: a write failed.
-    Write,
-    /// X3: the trace has more than 1,073,741,824 bytes.
-    TooMuch,
-    /// X4: there was not enough memory.
-    Memory,
-}
+/// Why the rewriting of a trace ended before its end: X1 a read failed, X2 a write failed, X3 the trace has more than
+/// 1,073,741,824 bytes, or X4 there was not enough memory.
+pub use smap_lines::LineFault as RewriteFault;

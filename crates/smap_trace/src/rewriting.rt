@@ -1,14 +1,14 @@
 //! Rewriting a trace.
 ghost use Rattle.std.specs.Prelude.{◌≡◌, false, IfErr, IfOk};
-ghost use Rattle.smap_lines.specs.Editing.{devices_seen};
-ghost use Rattle.smap_trace.specs.Rewriting.{Rewrites, RewritesFront, is_read_fault, is_write_fault};
-ghost use Rattle.smap_trace.specs.declared.outcome.RewriteFault.TheVariants.{Memory};
+ghost use Rattle.smap_lines.specs.Editing.{devices_seen, is_read_fault, is_write_fault};
+ghost use Rattle.smap_lines.specs.declared.fault.LineFault.TheVariants.{Memory};
+ghost use Rattle.smap_trace.specs.Rewriting.{Rewrites, RewritesFront};
 
 use crate::frame_rewriter::FrameRewriter;
 use crate::outcome::{RewriteFault, Summary};
 use crate::table::Table;
 use smap_io::{ByteSink, ByteSource};
-use smap_lines::{LineFault, edit_lines};
+use smap_lines::edit_lines;
 use std::alloc::Global;
 
 /// Rewrites a trace while it is read: a frame whose URL is in the table and whose place has an original gets it in its
@@ -47,16 +47,11 @@ pub fn rewrite<R: ByteSource, W: ByteSink>(
         mapped: 0,
         hidden: 0,
     };
-    match edit_lines(alloc, input, output, &mut rewriter) {
-        Ok(lines) => Ok(Summary {
-            lines,
-            frames: rewriter.staying + rewriter.mapped + rewriter.hidden,
-            mapped: rewriter.mapped,
-            hidden: rewriter.hidden,
-        }),
-        Err(LineFault::Read) => Err(RewriteFault::Read),
-        Err(LineFault::Write) => Err(RewriteFault::Write),
-        Err(LineFault::TooMuch) => Err(RewriteFault::TooMuch),
-        Err(LineFault::Memory) => Err(RewriteFault::Memory),
-    }
+    let lines = edit_lines(alloc, input, output, &mut rewriter)?;
+    Ok(Summary {
+        lines,
+        frames: rewriter.staying + rewriter.mapped + rewriter.hidden,
+        mapped: rewriter.mapped,
+        hidden: rewriter.hidden,
+    })
 }

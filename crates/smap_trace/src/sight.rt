@@ -1,12 +1,14 @@
 //! What a line of a trace is, over the maps.
-ghost use Rattle.std.specs.Prelude.{◌≡◌, option_map};
+ghost use Rattle.std.specs.Prelude.{◌≡◌, ◌≤◌, false, length, option_map};
 ghost use Rattle.std.specs.List.{list_any};
+ghost use Rattle.smap_lines.specs.Limits.{most_line_bytes};
+ghost use Rattle.smap_lines.specs.Lines.{has_line_end};
 ghost use Rattle.smap_record.specs.Sources.{source_of};
 ghost use Rattle.smap_trace.specs.FrameSeen.{parts_seen};
 ghost use Rattle.smap_trace.specs.Rewritten.{fate, is_control, is_ignored, name_in, original_of};
 ghost use Rattle.smap_trace.specs.SightSeen.{original_seen, sight_seen};
 
-use crate::frames::frame;
+use crate::frames::frame_of_line;
 use crate::parts::Frame;
 use crate::table::Table;
 use smap_record::{Answer, Meter, SourceEntry};
@@ -48,9 +50,11 @@ pub fn look_at<'l, 't>(
     hide_ignored: bool,
     line: &'l [u8],
 ) -> Sight<'l, 't>
+    requires one { has_line_end line.now ≡ false }
+    requires short { length line.now ≤ most_line_bytes }
     ensures { sight_seen result ≡ fate line.now table.now hide_ignored }
 {
-    let Some(frame) = frame(line) else {
+    let Some(frame) = frame_of_line(line) else {
         return Sight::Other;
     };
     let Some(original) = find_original(alloc, table, &frame) else {

@@ -1,26 +1,19 @@
-use Rattle.std.proofs.lemmas.List.{length_push}
+use Rattle.std.proofs.Common.{arith}
 use Rattle.std.proofs.lemmas.Result.{err_from_is_err_and}
-use Rattle.std.proofs.lemmas.Slice.Zip.{zip_end, zip_turn}
-use Rattle.smap_answers.specs.Trace.{url_in_argument}
-use Rattle.smap_answers.proofs.TraceLaws.{gathers_end, gathers_next, gathers_refused, next_pair, no_pair_left}
+use Rattle.std.specs.Prelude.{option_copied}
+use Rattle.smap_answers.specs.Private.Gathering.{gathered}
+use Rattle.smap_answers.specs.Trace.{argument_of}
+use Rattle.smap_answers.proofs.NextLaws.{next_of}
+use Rattle.smap_answers.proofs.TraceLaws.{gathers_next, gathers_unread}
 use Rattle.smap_answers.proofs.trace.table_of.Goals as goal
 
-pub loop-url-preserved : goal.loop-url-preserved
-loop-url-preserved c =
-    let turn = zip_turn c.args.arguments.now c.args.files.now c.loop-url.yielded _ _ c.next.new.self _ (cc) (cc) c.loop-url.yielded_by (c.in-Some.field-0-0, c.in-Some.file) c.in-Some.is c.next.ensures.steps in
-    let next = next_pair url_in_argument _ _ _ c.in-Some.field-0-0.now c.in-Some.file.now turn in
-    let puts = rw c.deref.ensures at c.in_ok-add_map.ensures in
-    λ result gathers. c.loop-url.invariant result (gathers_next _ _ _ _ _ _ _ _ result next puts (rw length_push at gathers))
+pub loop-number-preserved : goal.loop-number-preserved
+loop-number-preserved g c =
+    let is = next_of argument_of c.args.arguments.now c.loop-number.number c.index-arguments-number.result (omega (arith, c.loop-number-test.true)) c.index-arguments-number.is in
+    λ result gathers. c.loop-number.invariant result (gathers_next (g.F.FileReader.gives c.args.reader.now) (option_copied c.args.base) c.args.interval c.loop-number.number (gathered c.loop-number.table) _ _ _ _ is _ _ result (rw c.deref.ensures at c.in_ok-bytes.ensures.read) (rw (c.deref-in-loop-number.ensures, c.deref-in-loop-number-2.ensures) at c.with_map-table.ensures) gathers)
 
-pub returns-in_err-add_map : goal.returns-in_err-add_map
-returns-in_err-add_map c =
-    let turn = zip_turn c.args.arguments.now c.args.files.now c.loop-url.yielded _ _ c.next.new.self _ (cc) (cc) c.loop-url.yielded_by (c.in-Some.field-0-0, c.in-Some.file) c.in-Some.is c.next.ensures.steps in
-    let next = next_pair url_in_argument _ _ _ c.in-Some.field-0-0.now c.in-Some.file.now turn in
-    let puts = rw c.deref.ensures at c.in_err-add_map.ensures in
+pub returns-in_err-bytes : goal.returns-in_err-bytes
+returns-in_err-bytes g c =
+    let is = next_of argument_of c.args.arguments.now c.loop-number.number c.index-arguments-number.result (omega (arith, c.loop-number-test.true)) c.index-arguments-number.is in
     let p = err_from_is_err_and c.from_residual.result c.from_residual.ensures.1 in
-    rw (p.1, p.2) (c.loop-url.invariant _ (gathers_refused _ _ _ _ _ _ _ _ next puts))
-
-pub returns : goal.returns
-returns c =
-    let end = zip_end c.args.arguments.now c.args.files.now c.loop-url.yielded _ _ c.next.new.self _ (cc) (cc) c.loop-url.yielded_by c.in-None.is c.next.ensures.steps in
-    c.loop-url.invariant _ (gathers_end _ _ _ _ (no_pair_left url_in_argument _ _ _ end))
+    rw (p.1, p.2) (c.loop-number.invariant _ (gathers_unread (g.F.FileReader.gives c.args.reader.now) (option_copied c.args.base) c.args.interval c.loop-number.number (gathered c.loop-number.table) _ _ _ _ is _ (rw c.deref.ensures at c.in_err-bytes.ensures.unread)))

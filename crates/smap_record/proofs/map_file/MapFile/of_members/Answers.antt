@@ -10,7 +10,7 @@ use Rattle.smap_record.specs.Sources.{source_of}
 use Rattle.smap_record.proofs.EntryLaws.{length-all_sources}
 use Rattle.smap_record.proofs.RecordLaws.{unless_is}
 use Rattle.smap_record.proofs.WithinLaws.{joined_within}
-use Rattle.smap_record.proofs.map_file.MapFile.read.Goals as goal
+use Rattle.smap_record.proofs.map_file.MapFile.of_members.Goals as goal
 
 pub invariant_of-result : goal.invariant_of-result
 invariant_of-result c =
