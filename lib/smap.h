@@ -127,6 +127,10 @@ uint32_t smap_map_write(smap_map *map, smap_bytes *bytes);
  * large. The bytes are freed by smap_bytes_free. */
 uint32_t smap_compose(smap_map *outer, uint32_t source, smap_map *inner, smap_bytes *bytes, uint32_t *refusal);
 
+/* Lends what the program prints on this refusal of smap_compose, "C1 SourceIndex" or "C2 TooLarge". Returns 1 where it has
+ * none of this number. */
+uint32_t smap_compose_refusal_text(uint32_t refusal, smap_text *text);
+
 /* Lends bytes that were handed out. Returns 0. */
 uint32_t smap_bytes_text(smap_bytes *bytes, smap_text *text);
 
@@ -141,6 +145,9 @@ uint32_t smap_table_new(smap_table *table);
  * where the URL is not UTF-8, and the map stays in its handle. Where it returns 3 the map is freed, and its handle is
  * empty. */
 uint32_t smap_table_add(smap_table *table, const uint8_t *url, size_t url_length, smap_map *map, uint32_t *refusal);
+
+/* Lends what the program prints on this refusal of smap_table_add, "A1 BadUrl" or "A2 Twice". Returns 1 for another number. */
+uint32_t smap_table_refusal_text(uint32_t refusal, smap_text *text);
 
 /* Frees the table with its maps, and leaves its handle empty. */
 void smap_table_free(smap_table *table);

@@ -8,7 +8,9 @@ const { BAD_BASE, Refused, refusedComposition, refusedMap, refusedUrl } = requir
 const GREATEST_LOWER_BOUND = 1;
 const LEAST_UPPER_BOUND = -1;
 
-const found = new Uint32Array(7);
+// What a look-up is asked and answers: the line, the column, whether in the other direction, and from the fourth on the seven
+// numbers of an answer.
+const { room } = addon;
 
 // The map of these bytes. `url` is that under which a table is to have it.
 function read(bytes, base, interval, url) {
@@ -30,7 +32,7 @@ class TraceMap {
   constructor(map, mapUrl, interval = 64) {
     if (map instanceof TraceMap) throw new TypeError('a TraceMap is read already');
     this.handle = read(given.mapBytes(map), given.mapUrl(mapUrl), given.interval(interval));
-    this.told = undefined;
+    this.sourceTexts = [];
     this.nameTexts = [];
   }
 
@@ -44,15 +46,22 @@ class TraceMap {
 
   // All sources, each {name, content, ignored}.
   get sourceEntries() {
-    if (!this.told) {
-      const handle = open(this);
-      this.told = Array.from({ length: addon.counts(handle).sources }, (_, index) => addon.source(handle, index));
-    }
-    return this.told;
+    const handle = open(this);
+    return this.sources.map((name, index) => ({
+      name,
+      content: addon.sourceContent(handle, index),
+      ignored: addon.isIgnored(handle, index),
+    }));
   }
 
   get sources() {
-    return this.sourceEntries.map((source) => source.name);
+    return Array.from({ length: this.counts.sources }, (_, index) => this.sourceAt(index));
+  }
+
+  // The name of a source: a text, or null. It is made once.
+  sourceAt(index) {
+    if (this.sourceTexts[index] === undefined) this.sourceTexts[index] = addon.sourceName(open(this), index);
+    return this.sourceTexts[index];
   }
 
   get names() {
@@ -80,13 +89,17 @@ class TraceMap {
 // Where the generated position comes from: {source, line, column, name}, all null where nothing answers or what answers
 // has no original. A column past the line's end, and Infinity, has the line's last mapping.
 function originalPositionFor(map, { line, column, bias }) {
-  const kind = addon.lookUp(open(map), given.line(line), given.column(column), bias === LEAST_UPPER_BOUND, found);
-  if (kind !== 2) return { source: null, line: null, column: null, name: null };
+  const lookUp = open(map);
+  room[0] = given.line(line);
+  room[1] = given.column(column);
+  room[2] = bias === LEAST_UPPER_BOUND ? 1 : 0;
+  lookUp();
+  if (room[3] !== 2) return { source: null, line: null, column: null, name: null };
   return {
-    source: map.sourceEntries[found[2]].name,
-    line: found[3] + 1,
-    column: found[4],
-    name: found[5] ? map.nameAt(found[6]) : null,
+    source: map.sourceAt(room[5]),
+    line: room[6] + 1,
+    column: room[7],
+    name: room[8] ? map.nameAt(room[9]) : null,
   };
 }
 
@@ -99,21 +112,22 @@ function lookUpMany(map, positions) {
   return addon.lookUpMany(handle, asked, new Uint32Array((asked.length / 2) * 7));
 }
 
-function entryOf(map, source) {
+// The number of the first source of this name, or -1.
+function sourceNumber(map, source) {
   open(map);
-  return map.sourceEntries.find((entry) => entry.name === source);
+  return map.sources.indexOf(source);
 }
 
 // The content of this source, where the map has both.
 function sourceContentFor(map, source) {
-  const entry = entryOf(map, source);
-  return entry ? entry.content : null;
+  const index = sourceNumber(map, source);
+  return index < 0 ? null : addon.sourceContent(open(map), index);
 }
 
 // Whether the map says that a debugger should pass over this source.
 function isIgnored(map, source) {
-  const entry = entryOf(map, source);
-  return entry ? entry.ignored : false;
+  const index = sourceNumber(map, source);
+  return index >= 0 && addon.isIgnored(open(map), index);
 }
 
 // The text of the map that two maps come to, the inner one being of this source of the outer one, from 0; as a Buffer.

@@ -29,17 +29,14 @@ function refusedMap(numbers, base, url) {
   return new Refused(`refused: ${url === undefined ? '' : `${url}: `}${text ? text.toString() : number}`, [...numbers], url);
 }
 
-const COMPOSE_REFUSALS = { 1: 'C1 SourceIndex', 2: 'C2 TooLarge' };
-const TABLE_REFUSALS = { 1: 'A1 BadUrl', 2: 'A2 Twice' };
-
 // Why two maps are not composed.
 function refusedComposition(number) {
-  return new Refused(`refused: ${COMPOSE_REFUSALS[number] || number}`, [number]);
+  return new Refused(`refused: ${addon.composeRefusalText(number) || number}`, [number]);
 }
 
 // Why a table takes no map under this URL.
 function refusedUrl(number, url) {
-  return new Refused(`usage: ${TABLE_REFUSALS[number] || number}: ${shown(url)}`, [number], url);
+  return new Refused(`usage: ${addon.tableRefusalText(number) || number}: ${shown(url)}`, [number], url);
 }
 
 module.exports = { BAD_BASE, Refused, refusedComposition, refusedMap, refusedUrl };

@@ -73,7 +73,11 @@ static double *refusal_numbers_of(napi_env env, napi_value value) {
 static const napi_type_tag map_tag = {0x8d3f0b6a91c24e55, 0xb1a7c05e2f6d4a01};
 static const napi_type_tag table_tag = {0x8d3f0b6a91c24e55, 0xb1a7c05e2f6d4a02};
 
-struct held_map { smap_map map; bool full; };
+/* What one look-up is asked and answers, in a Uint32Array of ten: the line, the column, 1 for the other direction, and the
+ * seven numbers of the answer. There is one, so that a look-up hands over no argument and makes no value. */
+#define ROOM 10
+
+struct held_map { smap_map map; bool full; uint32_t *room; };
 struct held_table { smap_table table; bool full; };
 
 static void drop_map(napi_env env, void *data, void *hint) {
@@ -143,7 +147,19 @@ static napi_value buffer(napi_env env, smap_bytes *bytes) {
     return result;
 }
 
-/* read(bytes, base, interval, refusal): a map, or null, with the numbers of the refusal in a Float64Array of 6. */
+/* The function that a map is, called: the look-up that the room asks for. */
+static napi_value look_up(napi_env env, napi_callback_info info) {
+    void *data = NULL;
+    napi_get_cb_info(env, info, NULL, NULL, NULL, &data);
+    struct held_map *held = data;
+    if (!held->full) return refuse(env, "the map is closed");
+    uint32_t *room = held->room;
+    (room[2] ? smap_look_up_from : smap_look_up)(&held->map, room[0], room[1], (smap_found *)(room + 3));
+    return NULL;
+}
+
+/* read(bytes, base, interval, refusal): a map, or null, with the numbers of the refusal in a Float64Array of 6. The map is a
+ * function, which looks up when it is called. */
 static napi_value read_map(napi_env env, napi_callback_info info) {
     napi_value words[WORDS];
     const uint8_t *bytes, *base;
@@ -165,14 +181,14 @@ static napi_value read_map(napi_env env, napi_callback_info info) {
         return null(env);
     }
     held->full = true;
-    napi_value object;
-    napi_create_object(env, &object);
-    napi_type_tag_object(env, object, &map_tag);
-    if (napi_wrap(env, object, held, drop_map, NULL, NULL) != napi_ok) {
+    napi_value map = NULL;
+    if (napi_get_instance_data(env, (void **)&held->room) != napi_ok ||
+        napi_create_function(env, "lookUp", NAPI_AUTO_LENGTH, look_up, held, &map) != napi_ok ||
+        napi_type_tag_object(env, map, &map_tag) != napi_ok || napi_wrap(env, map, held, drop_map, NULL, NULL) != napi_ok) {
         drop_map(env, held, NULL);
         return refuse(env, "out of memory");
     }
-    return object;
+    return map;
 }
 
 /* refusalText(numbers): what the program tells of a refusal, as a Buffer, or null. */
@@ -187,6 +203,26 @@ static napi_value refusal_text(napi_env env, napi_callback_info info) {
     return status == SMAP_REFUSED ? null(env) : refuse(env, "out of memory");
 }
 
+typedef uint32_t lend_text(uint32_t, smap_text *);
+
+/* What is lent for a number, as a text, or null. */
+static napi_value lent(napi_env env, napi_callback_info info, lend_text *lend) {
+    napi_value words[WORDS];
+    uint32_t n;
+    smap_text text = SMAP_TEXT;
+    if (!words_of(env, info, 1, words) || !number_of(env, words[0], &n)) return NULL;
+    return lend(n, &text) == SMAP_DONE ? string(env, text) : null(env);
+}
+
+/* composeRefusalText(number), tableRefusalText(number) */
+static napi_value compose_refusal_text(napi_env env, napi_callback_info info) {
+    return lent(env, info, smap_compose_refusal_text);
+}
+
+static napi_value table_refusal_text(napi_env env, napi_callback_info info) {
+    return lent(env, info, smap_table_refusal_text);
+}
+
 static napi_value close_map(napi_env env, napi_callback_info info) {
     napi_value words[WORDS];
     if (!words_of(env, info, 1, words)) return NULL;
@@ -195,23 +231,6 @@ static napi_value close_map(napi_env env, napi_callback_info info) {
     smap_map_free(&held->map);
     held->full = false;
     return NULL;
-}
-
-/* lookUp(map, line, column, from, found): the kind, with the seven numbers of the answer in a Uint32Array. */
-static napi_value look_up(napi_env env, napi_callback_info info) {
-    napi_value words[WORDS];
-    uint32_t line, column, *numbers;
-    size_t places;
-    bool from;
-    if (!words_of(env, info, 5, words)) return NULL;
-    struct held_map *held = map_of(env, words[0]);
-    if (!held || !number_of(env, words[1], &line) || !number_of(env, words[2], &column) || !numbers_of(env, words[4], &numbers, &places))
-        return NULL;
-    if (napi_get_value_bool(env, words[3], &from) != napi_ok || places < 7) return refuse_type(env, "no room for an answer");
-    smap_found found = {0};
-    (from ? smap_look_up_from : smap_look_up)(&held->map, line, column, &found);
-    memcpy(numbers, &found, sizeof found);
-    return number(env, found.kind);
 }
 
 /* lookUpMany(map, positions, found): the answers to a Uint32Array of lines and columns, seven numbers each. */
@@ -241,21 +260,36 @@ static napi_value counts(napi_env env, napi_callback_info info) {
     return result;
 }
 
-/* source(map, index): {name, content, ignored}, or null. */
-static napi_value source(napi_env env, napi_callback_info info) {
-    napi_value words[WORDS], result, ignored;
+/* The source of a call's second argument. */
+static bool source_of(napi_env env, napi_callback_info info, smap_source_text *source) {
+    napi_value words[WORDS];
     uint32_t index;
-    if (!words_of(env, info, 2, words)) return NULL;
+    if (!words_of(env, info, 2, words)) return false;
     struct held_map *held = map_of(env, words[0]);
-    if (!held || !number_of(env, words[1], &index)) return NULL;
-    smap_source_text told = SMAP_SOURCE;
-    if (smap_source(&held->map, index, &told) != SMAP_DONE) return null(env);
-    napi_create_object(env, &result);
-    napi_get_boolean(env, told.ignored != 0, &ignored);
-    napi_set_named_property(env, result, "name", told.named ? string(env, told.name) : null(env));
-    napi_set_named_property(env, result, "content", told.held ? string(env, told.content) : null(env));
-    napi_set_named_property(env, result, "ignored", ignored);
-    return result;
+    if (!held || !number_of(env, words[1], &index)) return false;
+    if (smap_source(&held->map, index, source) == SMAP_DONE) return true;
+    refuse(env, "no such source");
+    return false;
+}
+
+/* sourceName(map, index), sourceContent(map, index): a text, or null; isIgnored(map, index): whether it is. */
+static napi_value source_name(napi_env env, napi_callback_info info) {
+    smap_source_text source = SMAP_SOURCE;
+    if (!source_of(env, info, &source)) return NULL;
+    return source.named ? string(env, source.name) : null(env);
+}
+
+static napi_value source_content(napi_env env, napi_callback_info info) {
+    smap_source_text source = SMAP_SOURCE;
+    if (!source_of(env, info, &source)) return NULL;
+    return source.held ? string(env, source.content) : null(env);
+}
+
+static napi_value is_ignored(napi_env env, napi_callback_info info) {
+    smap_source_text source = SMAP_SOURCE;
+    napi_value ignored;
+    if (!source_of(env, info, &source) || napi_get_boolean(env, source.ignored != 0, &ignored) != napi_ok) return NULL;
+    return ignored;
 }
 
 static napi_value name(napi_env env, napi_callback_info info) {
@@ -357,10 +391,20 @@ static napi_value rewrite(napi_env env, napi_callback_info info) {
 
 NAPI_MODULE_INIT() {
     const struct { const char *name; napi_callback call; } calls[] = {
-        {"read", read_map}, {"refusalText", refusal_text}, {"close", close_map}, {"lookUp", look_up},
-        {"lookUpMany", look_up_many}, {"counts", counts}, {"source", source}, {"name", name}, {"file", file},
-        {"write", write_map}, {"compose", compose}, {"newTable", new_table}, {"add", add}, {"rewrite", rewrite},
+        {"read", read_map}, {"refusalText", refusal_text}, {"close", close_map}, {"lookUpMany", look_up_many},
+        {"counts", counts}, {"sourceName", source_name}, {"sourceContent", source_content}, {"isIgnored", is_ignored},
+        {"name", name}, {"file", file}, {"write", write_map}, {"compose", compose}, {"newTable", new_table}, {"add", add},
+        {"rewrite", rewrite}, {"composeRefusalText", compose_refusal_text}, {"tableRefusalText", table_refusal_text},
     };
+    napi_value buffer, room;
+    napi_ref kept;
+    void *numbers;
+    if (napi_create_arraybuffer(env, ROOM * sizeof(uint32_t), &numbers, &buffer) != napi_ok ||
+        napi_create_typedarray(env, napi_uint32_array, ROOM, buffer, 0, &room) != napi_ok ||
+        napi_create_reference(env, buffer, 1, &kept) != napi_ok ||
+        napi_set_instance_data(env, numbers, NULL, NULL) != napi_ok)
+        return refuse(env, "out of memory");
+    napi_set_named_property(env, exports, "room", room);
     for (size_t i = 0; i < sizeof calls / sizeof *calls; i++) {
         napi_value function;
         napi_create_function(env, calls[i].name, NAPI_AUTO_LENGTH, calls[i].call, NULL, &function);

@@ -222,7 +222,19 @@ static void threads(const char *first, const char *second) {
     }
 }
 
+static void lends(uint32_t call(uint32_t, smap_text *), uint32_t number, const char *wanted) {
+    smap_text text = SMAP_TEXT;
+    if (call(number, &text) != SMAP_DONE || text.length != strlen(wanted) || memcmp(text.bytes, wanted, text.length)) fail(wanted);
+}
+
 static void mistakes(const char *path) {
+    smap_text none_told = SMAP_TEXT;
+    lends(smap_compose_refusal_text, 1, "C1 SourceIndex");
+    lends(smap_compose_refusal_text, 2, "C2 TooLarge");
+    lends(smap_table_refusal_text, 1, "A1 BadUrl");
+    lends(smap_table_refusal_text, 2, "A2 Twice");
+    if (smap_compose_refusal_text(3, &none_told) != SMAP_REFUSED || smap_table_refusal_text(0, &none_told) != SMAP_REFUSED)
+        fail("a text of no refusal");
     smap_map map = {0};
     smap_refusal refusal = {0};
     if (read_file(path, "no URL", 64, &map, &refusal) != SMAP_REFUSED || refusal.number != 0) fail("a base");

@@ -71,20 +71,23 @@ function many() {
 
 // The addon itself, beneath what index.js checks.
 function beneath() {
-  const { handle } = new smap.TraceMap(small);
-  const room = new Uint32Array(7);
-  same(addon.lookUp(handle, 0, 12, false, room), 2);
+  const map = new smap.TraceMap(small);
+  const { handle } = map;
+  addon.room.set([0, 12, 0]);
+  handle();
+  same([...addon.room.subarray(3)], [2, 10, 0, 1, 4, 1, 0]);
   for (const number of [far, far + 3, -1, 0.5, NaN, Infinity, '0', null, undefined]) {
-    refuses('TypeError', () => addon.lookUp(handle, number, 0, false, room), /whole number/);
-    refuses('TypeError', () => addon.lookUp(handle, 0, number, false, room), /whole number/);
-    refuses('TypeError', () => addon.source(handle, number), /whole number/);
-    refuses('TypeError', () => addon.name(handle, number), /whole number/);
+    for (const call of [addon.sourceName, addon.sourceContent, addon.isIgnored, addon.name]) {
+      refuses('TypeError', () => call(handle, number), /whole number/);
+    }
   }
-  refuses('TypeError', () => addon.lookUp(handle, 0, 0, false, new Uint32Array(6)), /room/);
+  refuses('Error', () => addon.sourceName(handle, 9), /no such source/);
   refuses('TypeError', () => addon.lookUpMany(handle, new Uint32Array(2), new Uint32Array(6)), /lengths/);
   refuses('TypeError', () => addon.counts({}), /no map/);
   refuses('TypeError', () => addon.counts(), /arguments/);
   refuses('TypeError', () => addon.compose(handle, 0, handle), /twice/);
+  map.close();
+  refuses('Error', () => handle(), /closed/);
 }
 
 function maps() {

@@ -6,6 +6,7 @@ pub mod Private
 pub mod Read
 pub mod Refusal
 pub mod Tables
+pub mod Telling
 pub mod Texts
 pub mod Trace
 pub mod Written

@@ -1,11 +1,13 @@
-//! Telling why a map is refused.
-ghost use Rattle.std.specs.Prelude.{◌≡◌, ◌≢◌, ◌⊎◌, None, Some, IsSomeAnd};
+//! Telling why something is refused.
+ghost use Rattle.std.specs.Prelude.{◌≡◌, ◌≢◌, ◌⊎◌, None, Some, IsSomeAnd, MatchOption};
 ghost use Rattle.smap_verdicts.specs.Refusal.{refusal_text};
 ghost use Rattle.smap_c.specs.Refusal.{refusal_in};
+ghost use Rattle.smap_c.specs.Telling.{compose_refusal_text, table_refusal_text};
 
 use crate::handles::BytesHandle;
 use crate::refusal::{Refusal, refusal_in};
-use crate::status::{NO_MEMORY, REFUSED};
+use crate::status::{DONE, NO_MEMORY, REFUSED};
+use crate::texts::Text;
 use crate::written::hand_out;
 use smap_verdicts::refusal_text;
 use std::alloc::Global;
@@ -31,4 +33,32 @@ pub extern "C" fn smap_refusal_text(
         Ok(text) => hand_out(alloc, text.into_bytes(), bytes),
         Err(_) => NO_MEMORY,
     }
+}
+
+/// Lends the number and the name of this refusal of `smap_compose`, where it has one of this number.
+#[unsafe(no_mangle)]
+pub extern "C" fn smap_compose_refusal_text(number: u32, text: &mut Text<'_>) -> u32
+    ensures { MatchOption (compose_refusal_text number) ((result ≡ 1) × (text.new ≡ text.old))
+        (λ told. (result ≡ 0) × (text.new.text.now ≡ told)) }
+{
+    text.text = match number {
+        1 => b"C1 SourceIndex",
+        2 => b"C2 TooLarge",
+        _ => return REFUSED,
+    };
+    DONE
+}
+
+/// Lends the number and the name of this refusal of `smap_table_add`, where it has one of this number and that a name.
+#[unsafe(no_mangle)]
+pub extern "C" fn smap_table_refusal_text(number: u32, text: &mut Text<'_>) -> u32
+    ensures { MatchOption (table_refusal_text number) ((result ≡ 1) × (text.new ≡ text.old))
+        (λ told. (result ≡ 0) × (text.new.text.now ≡ told)) }
+{
+    text.text = match number {
+        1 => b"A1 BadUrl",
+        2 => b"A2 Twice",
+        _ => return REFUSED,
+    };
+    DONE
 }

@@ -10,7 +10,7 @@ use crate::read::{smap_map_free, smap_map_read};
 use crate::refusal::numbered;
 use crate::status::{DONE, REFUSED};
 use crate::tables::{smap_table_add, smap_table_free, smap_table_new};
-use crate::telling::smap_refusal_text;
+use crate::telling::{smap_compose_refusal_text, smap_refusal_text, smap_table_refusal_text};
 use crate::texts::{Source, Text, smap_file, smap_name, smap_source};
 use crate::trace::{TraceCounts, smap_rewrite};
 use crate::written::{smap_bytes_free, smap_bytes_text, smap_compose, smap_map_write};
@@ -216,6 +216,11 @@ fn refusals_are_told(rt: HostRuntime) -> Result<(), Fail> {
     assert_eq!(&rt; text.text, "M3 NotObject".as_bytes());
     let status = smap_map_read(alloc, MAP.as_bytes(), b"h.test", 2, &mut map, &mut refusal);
     assert!(&rt; status == REFUSED && refusal.number == 0);
+    assert_eq!(&rt; smap_compose_refusal_text(2, &mut text), DONE);
+    assert_eq!(&rt; text.text, "C2 TooLarge".as_bytes());
+    assert_eq!(&rt; smap_table_refusal_text(1, &mut text), DONE);
+    assert_eq!(&rt; text.text, "A1 BadUrl".as_bytes());
+    assert_eq!(&rt; smap_table_refusal_text(3, &mut text), REFUSED);
     Ok(())
 }
 

@@ -60,10 +60,12 @@ def _loaded() -> ctypes.CDLL:
         ("smap_file", number, [handle, text]),
         ("smap_map_write", number, [handle, handle]),
         ("smap_compose", number, [handle, number, handle, handle, pointer(number)]),
+        ("smap_compose_refusal_text", number, [number, text]),
         ("smap_bytes_text", number, [handle, text]),
         ("smap_bytes_free", None, [handle]),
         ("smap_table_new", number, [handle]),
         ("smap_table_add", number, [handle, bytes_in, size, handle, pointer(number)]),
+        ("smap_table_refusal_text", number, [number, text]),
         ("smap_table_free", None, [handle]),
         ("smap_rewrite", number, [handle, bytes_in, size, ctypes.c_bool, handle, pointer(TraceCounts)]),
     ]:

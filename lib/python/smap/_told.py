@@ -1,8 +1,8 @@
 """What the library tells: answers, what a map holds, and why something is refused."""
 
-from typing import NamedTuple, Optional
+from typing import Callable, NamedTuple, Optional
 
-from ._library import COUNT_NAMES, DONE, REFUSED, Found, Handle, Refusal, calls, taken
+from ._library import COUNT_NAMES, DONE, REFUSED, Found, Handle, Refusal, calls, copied, room, taken
 
 
 class Answer(NamedTuple):
@@ -56,9 +56,6 @@ class Refused(ValueError):
 
 BAD_BASE, LONG_BASE = 0, 18
 
-_COMPOSE_REFUSALS = {1: "C1 SourceIndex", 2: "C2 TooLarge"}
-_TABLE_REFUSALS = {0: "the URL is no UTF-8", 1: "A1 BadUrl", 2: "A2 Twice"}
-
 
 def answer(found: Found) -> Optional[Answer]:
     """What a look-up found."""
@@ -91,16 +88,22 @@ def refused_base(number: int, base: str, url: Optional[str] = None) -> Refused:
 
 def refused_composition(number: int) -> Refused:
     """Why two maps are not composed."""
-    return Refused("refused: " + _COMPOSE_REFUSALS.get(number, str(number)), number)
+    return Refused(f"refused: {_lent(calls.smap_compose_refusal_text, number)}", number)
 
 
 def refused_url(number: int, url: str) -> Refused:
     """Why a table takes no map under this URL."""
-    return Refused(f"usage: {_TABLE_REFUSALS.get(number, number)}: {_shown(url)}", number, url=url)
+    why = _lent(calls.smap_table_refusal_text, number) if number else "the URL is no UTF-8"
+    return Refused(f"usage: {why}: {_shown(url)}", number, url=url)
 
 
 def _shown(url: str) -> str:
     return repr(url) if len(url) <= 200 else f"{url[:200]!r} and {len(url) - 200} characters more"
+
+
+def _lent(call: Callable[..., int], number: int) -> str:
+    text = room()
+    return copied(text).decode() if call(number, text) == DONE else str(number)
 
 
 def _text(refusal: Refusal) -> str:
