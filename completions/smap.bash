@@ -2,7 +2,7 @@
 # Completions of smap for bash.
 
 _smap() {
-    local word=${COMP_WORDS[COMP_CWORD]} before=${COMP_WORDS[COMP_CWORD - 1]} command='' i
+    local current=${COMP_WORDS[COMP_CWORD]} before=${COMP_WORDS[COMP_CWORD - 1]} command='' i
     for ((i = 1; i < COMP_CWORD; i++)); do
         if [[ ${COMP_WORDS[i]} != -* ]]; then
             command=${COMP_WORDS[i]}
@@ -23,15 +23,15 @@ _smap() {
     COMPREPLY=()
     if [[ $before == --base ]]; then return; fi
     if [[ $before == --interval ]]; then
-        mapfile -t COMPREPLY < <(compgen -W '1 4 16 64 256 1024 4096' -- "$word")
-    elif [[ $word == -* ]]; then
-        mapfile -t COMPREPLY < <(compgen -W "$options" -- "$word")
+        mapfile -t COMPREPLY < <(compgen -W '1 4 16 64 256 1024 4096' -- "$current")
+    elif [[ $current == -* ]]; then
+        mapfile -t COMPREPLY < <(compgen -W "$options" -- "$current")
     elif [[ -z $command || $command == help ]]; then
-        mapfile -t COMPREPLY < <(compgen -W 'lookup positions rewrite check show compose raw help' -- "$word")
+        mapfile -t COMPREPLY < <(compgen -W 'lookup positions rewrite check show compose raw help' -- "$current")
     elif [[ $command != raw ]]; then
         # The last `=` of an argument of `rewrite` stands before the path, and by default arguments are cut there.
         compopt -o filenames
-        mapfile -t COMPREPLY < <(compgen -f -- "${word#=}")
+        mapfile -t COMPREPLY < <(compgen -f -- "${current#=}")
     fi
 }
 

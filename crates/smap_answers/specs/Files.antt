@@ -7,8 +7,8 @@ use Rattle.smap_answers.specs.Lines.{file_failed_line}
 use Rattle.smap_answers.specs.Outcome.{Telling, failure}
 use Rattle.smap_answers.specs.declared.files.Loaded.{Loaded}
 
--- what reading a file may give, by the number of its path among those that the command names, from 0, and the path: bytes, or
--- why there are none
+-- what reading a file may give, by the number of its path among those that the command names, from 0, and the path: bytes,
+-- or why there are none
 abbrev pub MayRead : Type 1
 MayRead = (number : ℕ) (path : List ℕ) → Result (List ℕ) ReadFailure → Type 0
 
@@ -16,8 +16,8 @@ MayRead = (number : ℕ) (path : List ℕ) → Result (List ℕ) ReadFailure →
 abbrev pub IsLoaded : (path bytes : List ℕ) → Loaded → Type 0
 IsLoaded path bytes file = (string_bytes file.path ≡ path) × (file.bytes.items ≡ bytes)
 
--- what reading one of these files gives, which is that of the number where it has the path; where it has another, or there is
--- none, the device fails
+-- what reading one of these files gives, which is that of the number where it has the path; where it has another, or there
+-- is none, the device fails
 abbrev pub gives_loaded : List Loaded → MayRead
 gives_loaded files number path (Ok bytes) = IsSomeAnd (slice_get files number) (IsLoaded path bytes)
 gives_loaded files number path (Err Device) = IfSome (slice_get files number) (λ file. string_bytes file.path ≢ path)

@@ -109,7 +109,8 @@ fn refused_reply(
     refused: MapRefusal,
     form: Form,
 ) -> Result<Reply, Failure>
-    ensures { OrMemory (λ telling. (refused ≢ Memory) × (telling ≡ refused_telling path.now form refused))
+    ensures { OrMemory (λ telling. (refused ≢ Memory)
+        × (telling ≡ refused_telling path.now form refused))
         (telling_of result) }
 {
     let Form::Object = form else {

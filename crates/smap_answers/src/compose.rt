@@ -26,7 +26,8 @@ pub fn answer_compose<F: FileReader>(
     inner: &str,
     base: Option<&Url>,
 ) -> Result<Reply, Failure>
-    ensures { OrMemory (TellsComposed (F.gives reader.now) outer.now source inner.now (option_copied base.entry))
+    ensures { OrMemory (TellsComposed (F.gives reader.now) outer.now source inner.now
+        (option_copied base.entry))
         (telling_of result) }
 {
     let bytes = file_bytes(alloc, reader, 0, outer)?;

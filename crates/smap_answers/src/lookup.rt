@@ -11,8 +11,8 @@ use smap_positions::{lookup_as_json, lookup_text};
 use smap_record::{MapFile, Url};
 use std::alloc::{AllocError, Global};
 
-/// Looks up a generated line and column, both from 0, in the map that the file at this path is, over checkpoints at this interval: at
-/// the position or before it or, with `after`, at it or after it; as text or, with `json`, as a JSON object.
+/// Looks up a generated line and column, both from 0, in the map that the file at this path is, over checkpoints at this
+/// interval: at the position or before it or, with `after`, at it or after it; as text or, with `json`, as a JSON object.
 pub fn answer_lookup<F: FileReader>(
     alloc: Global,
     reader: &F,

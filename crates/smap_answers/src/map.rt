@@ -26,7 +26,8 @@ pub fn read_map<F: FileReader>(
 ) -> Result<MapFile, Failure>
     ensures read { IfOk result (λ map. IsStated (F.gives reader.now) number path.now
         (option_copied base.entry) interval map.stated) }
-    ensures refused { IfErr result (λ failure. OrMemory (TellsMap (F.gives reader.now) number path.now
+    ensures refused { IfErr result (λ failure. OrMemory
+        (TellsMap (F.gives reader.now) number path.now
         (option_copied base.entry) interval Never) (failure_telling failure)) }
 {
     let bytes = file_bytes(alloc, reader, number, path)?;
@@ -41,7 +42,8 @@ pub fn file_bytes<F: FileReader>(
     path: &str,
 ) -> Result<Vec<u8>, Failure>
     ensures read { IfOk result (λ bytes. F.gives reader.now number path.now (Ok bytes.items)) }
-    ensures unread { IfErr result (λ failure. OrMemory (IsUnread (F.gives reader.now) number path.now)
+    ensures unread { IfErr result (λ failure. OrMemory
+        (IsUnread (F.gives reader.now) number path.now)
         (failure_telling failure)) }
 {
     match reader.read_file(alloc, number, path) {

@@ -43,7 +43,8 @@ pub enum Failure {
     Unreadable(String),
     /// Standard input failed: status 3.
     InputFailure,
-    /// The trace is rewritten or the positions are answered up to this fault: status 1 for an input that is too long, and 3 for the others.
+    /// The trace is rewritten or the positions are answered up to this fault: status 1 for an input that is too long, and 3
+    /// for the others.
     Fault(RewriteFault),
     /// Memory ran out: status 3.
     Memory,

@@ -13,18 +13,18 @@ use crate::map::read_map;
 use crate::outcome::{Failure, Reply};
 use itoa::Buffer;
 use smap_io::{ByteSink, ByteSource};
-use smap_positions::{Summary, answer_positions};
+use smap_positions::Summary;
 use smap_record::{MapFile, Url};
 use smap_trace::RewriteFault;
 use std::alloc::Global;
 
 // How many bytes the line has at most that refuses positions.
-const MOST_LINE_BYTES: usize = 80;
+const MOST_REFUSAL_BYTES: usize = 80;
 
-/// Answers the positions on the lines of standard input from the map that the file at this path is, over checkpoints at this interval:
-/// at a position or before it or, with `after`, at it or after it; as text or, with `json`, as JSON objects. The caller
-/// gives devices that have not failed.
-pub fn answer_input<F: FileReader, R: ByteSource, W: ByteSink>(
+/// Answers the positions on the lines of standard input from the map that the file at this path is, over checkpoints at this
+/// interval: at a position or before it or, with `after`, at it or after it; as text or, with `json`, as JSON objects. The
+/// caller gives devices that have not failed.
+pub fn answer_positions<F: FileReader, R: ByteSource, W: ByteSink>(
     alloc: Global,
     reader: &F,
     path: &str,
@@ -37,7 +37,8 @@ pub fn answer_input<F: FileReader, R: ByteSource, W: ByteSink>(
 ) -> Result<Reply, Failure>
     requires input_works { (R.seen input.old).failed ≡ false }
     requires output_works { (W.seen output.old).failed ≡ false }
-    ensures { PositionsTells (F.gives reader.now) path.now (option_copied base.entry) interval after json
+    ensures { PositionsTells (F.gives reader.now) path.now (option_copied base.entry) interval
+        after json
         (devices_seen (R.seen input.old) (W.seen output.old))
         (devices_seen (R.seen input.new) (W.seen output.new))
         (telling_of result) }
@@ -62,10 +63,10 @@ fn answer_over<R: ByteSource, W: ByteSink>(
         (devices_seen (R.seen input.new) (W.seen output.new))
         (telling_of result) }
 {
-    let Ok(room) = String::with_capacity(alloc, MOST_LINE_BYTES) else {
+    let Ok(room) = String::with_capacity(alloc, MOST_REFUSAL_BYTES) else {
         return Err(Failure::Memory);
     };
-    let summary = match answer_positions(alloc, input, output, map, after, json) {
+    let summary = match smap_positions::answer_positions(alloc, input, output, map, after, json) {
         Ok(summary) => summary,
         Err(fault) => return Err(Failure::Fault(fault)),
     };

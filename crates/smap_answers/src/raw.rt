@@ -56,7 +56,8 @@ fn answer_bytes(
     interval: u32,
 ) -> Result<Reply, Failure>
     requires { is_interval interval ≡ true }
-    ensures { OrMemory (λ telling. telling ≡ raw_result bytes.items line column) (telling_of result) }
+    ensures { OrMemory (λ telling. telling ≡ raw_result bytes.items line column)
+        (telling_of result) }
 {
     answer_text(alloc, without_last_line_end(bytes), line, column, interval)
 }

@@ -9,7 +9,7 @@ use crate::check::{Form, answer_check, check_all};
 use crate::compose::answer_compose;
 use crate::files::{FileReader, Loaded, LoadedFiles};
 use crate::lookup::answer_lookup;
-use crate::positions::answer_input;
+use crate::positions::answer_positions;
 use crate::raw::answer_raw;
 use crate::show::answer_show;
 use crate::telling::tell;
@@ -113,7 +113,7 @@ pub fn run_reading<F: FileReader, R: ByteSource, W: ByteSink, E: ByteSink>(
             interval,
             after,
             json,
-        } => answer_input(
+        } => answer_positions(
             alloc,
             reader,
             path,

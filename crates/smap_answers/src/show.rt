@@ -21,7 +21,8 @@ pub fn answer_show<F: FileReader>(
     path: &str,
     base: Option<&Url>,
 ) -> Result<Reply, Failure>
-    ensures { OrMemory (TellsMap (F.gives reader.now) 0 path.now (option_copied base.entry) usual_interval
+    ensures { OrMemory (TellsMap (F.gives reader.now) 0 path.now (option_copied base.entry)
+        usual_interval
         (IsResult show_result)) (telling_of result) }
 {
     let map = read_map(alloc, reader, 0, path, base, USUAL_INTERVAL)?;

@@ -16,7 +16,8 @@ pub fn tell<W: ByteSink, E: ByteSink>(
     output: &mut W,
     errors: &mut E,
 ) -> u8
-    requires output_works { (telling_of outcome.now).is_answer ≡ true → (W.seen output.old).failed ≡ false }
+    requires output_works { (telling_of outcome.now).is_answer ≡ true
+        → (W.seen output.old).failed ≡ false }
     ensures { Ends (telling_of outcome.now) result
         (sinks_seen (W.seen output.old) (E.seen errors.old))
         (sinks_seen (W.seen output.new) (E.seen errors.new)) }
@@ -38,7 +39,8 @@ pub fn tell<W: ByteSink, E: ByteSink>(
 
 // Writes the text and flushes.
 fn print<W: ByteSink>(output: &mut W, text: &[u8]) -> Result<(), DeviceFault>
-    ensures whole { OnOk result (Takes (W.seen output.old).taken (W.seen output.new).taken text.now) }
+    ensures whole { OnOk result (Takes (W.seen output.old).taken (W.seen output.new).taken
+        text.now) }
     ensures flushed { OnOk result ((W.seen output.new).flushed ≡ true) }
     ensures no_failure { OnOk result ((W.seen output.new).failed ≡ (W.seen output.old).failed) }
     ensures front { OnErr result (TakesFront (W.seen output.old).taken (W.seen output.new).taken

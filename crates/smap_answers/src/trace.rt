@@ -104,7 +104,8 @@ fn with_map(
     base: Option<&Url>,
     interval: u32,
 ) -> Result<Table, Failure>
-    ensures { PutsNext (option_copied base.entry) interval (gathered table) url.now path.now bytes.items
+    ensures { PutsNext (option_copied base.entry) interval (gathered table) url.now path.now
+        bytes.items
         (gathered result) }
 {
     let mut table = table?;
@@ -125,7 +126,8 @@ fn read_map_at(
     base: Option<&Url>,
     interval: u32,
 ) -> Result<MapFile, Failure>
-    ensures read { IfOk result (λ map. IsReadAs (option_copied base.entry) interval url.now bytes.items
+    ensures read { IfOk result (λ map. IsReadAs (option_copied base.entry) interval url.now
+        bytes.items
         (Ok map.stated)) }
     ensures refused { IfErr result (λ failure. OrMemory
         (IsReadRefusal (option_copied base.entry) interval url.now path.now bytes.items)

@@ -21,7 +21,7 @@ use Rattle.clap.specs.declared.error.Error.{Error}
 use Rattle.clap.specs.declared.error.kind.ErrorKind.TheVariants.{DisplayHelp, DisplayVersion, OutOfMemory}
 use Rattle.smap_arguments.specs.CommandLine.{after_rule, anywhere_rule, base_rule, check, compose, hide_rule, interval_number, interval_rule, json_rule, lookup, named, number, positions, raw, rewrite, show, smap, source_number}
 use Rattle.smap_arguments.specs.declared.usage.Usage.{Usage}
-use Rattle.smap_arguments.specs.declared.usage.Usage.TheVariants.{Help, Words, Memory}
+use Rattle.smap_arguments.specs.declared.usage.Usage.TheVariants.{Help, Mistake, Memory}
 use Rattle.smap_arguments.specs.Arguments.{HasArguments, HasCommand, HasValue, HasValues, IsNamedRefusal, IsUsageOf, IsRefusalOf, SubcommandTells}
 use Rattle.smap_arguments.proofs.Rows.{AreReadRows, Keeps, first_none, flag_at, flag_default_keeps, flag_keeps, given_value, help_keeps, long_option_keeps, more_values_keeps, no_default_keeps, second_none, settle_keeps, text_value, value_keeps, walk_keeps}
 use Rattle.smap_arguments.proofs.Stops.{IsNoHelp, walk_names}
@@ -273,7 +273,7 @@ failed_smap a arguments e usage is_smap fails is = refusal_of usage (subst (λ b
       ]
       | inr among ↦ (kind_of e, among, is)
     ]
-    refusal_of (Words text) kind is = elim kind [
+    refusal_of (Mistake text) kind is = elim kind [
       | inl memory ↦ absurd (is.1 memory)
       | inr among ↦ inl (kind_of e, among, is.0)
     ]
@@ -283,5 +283,5 @@ failed_smap a arguments e usage is_smap fails is = refusal_of usage (subst (λ b
 pub named_refused : (arguments : List Text) (usage : Usage) → fault_of smap arguments ≡ [] → IsNamedRefusal (SubcommandTells (subcommand_of smap arguments)) usage
     → IsRefusalOf arguments usage
 named_refused arguments (Help text) none refused = absurd refused
-named_refused arguments (Words text) none refused = inr (none, refused)
+named_refused arguments (Mistake text) none refused = inr (none, refused)
 named_refused arguments Memory none refused = tt

@@ -15,7 +15,7 @@ use Rattle.smap_command.specs.declared.command.Command.{Command}
 use Rattle.smap_arguments.specs.CommandLine.{check, compose, interval_number, lookup, named, number, positions, raw, rewrite, show}
 use Rattle.smap_arguments.specs.Arguments.{HasArguments, HasCommand, HasValue, HasValueIfGiven, IsNamedRefusal, NamedAsksFor, SubcommandAsksFor, SubcommandTells, TellsOfBase, TellsRefusal}
 use Rattle.smap_arguments.specs.declared.usage.Usage.{Usage}
-use Rattle.smap_arguments.specs.declared.usage.Usage.TheVariants.{Help, Words, Memory}
+use Rattle.smap_arguments.specs.declared.usage.Usage.TheVariants.{Help, Mistake, Memory}
 
 -- ---- its name and its rows
 
@@ -58,12 +58,12 @@ module _ (subcommand : Option (Text × List Row)) (name : Text) (rows : List Row
 
   pub tells : (usage : Usage) → IsNamedRefusal (TellsRefusal name rows) usage → IsNamedRefusal (SubcommandTells subcommand) usage
   tells (Help text) told = told
-  tells (Words text) told = (name, rows, is, told)
+  tells (Mistake text) told = (name, rows, is, told)
   tells Memory told = tt
 
   pub tells_base : (usage : Usage) → IsNamedRefusal (TellsOfBase rows) usage → IsNamedRefusal (SubcommandTells subcommand) usage
   tells_base (Help text) told = told
-  tells_base (Words text) told = (name, rows, is, inl told)
+  tells_base (Mistake text) told = (name, rows, is, inl told)
   tells_base Memory told = tt
 
 -- ---- a name that is none of the others

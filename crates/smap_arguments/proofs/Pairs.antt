@@ -11,7 +11,7 @@ use Rattle.std.proofs.lemmas.List.{take-append-drop}
 use Rattle.clap.specs.Words.{Row, Text, all_of}
 use Rattle.smap_arguments.specs.Arguments.{ArePairs, IsNamedRefusal, IsPair, TellsBadPair, TellsNoPair, first_without, has_equals_sign}
 use Rattle.smap_arguments.specs.declared.usage.Usage.{Usage}
-use Rattle.smap_arguments.specs.declared.usage.Usage.TheVariants.{Help, Words, Memory}
+use Rattle.smap_arguments.specs.declared.usage.Usage.TheVariants.{Help, Mistake, Memory}
 
 -- ---- an argument
 
@@ -79,11 +79,11 @@ module _ {A : Type 0} where
       → Zips (take i arguments) pairs → IsNamedRefusal (TellsNoPair ((get_or arguments i d).now ∷ [])) usage
       → IsNamedRefusal (TellsNoPair (map (λ argument. argument.now) arguments)) usage
   refused_at arguments pairs i d (Help text) low zips refused = refused
-  refused_at arguments pairs i d (Words text) low zips refused = (refused.0, first_at arguments pairs i d refused.0 low zips refused.1, refused.2)
+  refused_at arguments pairs i d (Mistake text) low zips refused = (refused.0, first_at arguments pairs i d refused.0 low zips refused.1, refused.2)
   refused_at arguments pairs i d Memory low zips refused = tt
 
 pub tells_bad_pair : (rows : List Row) (arguments : List Text) → all_of (codes "URL=FILE") rows ≡ Some arguments → (usage : Usage)
     → IsNamedRefusal (TellsNoPair arguments) usage → IsNamedRefusal (TellsBadPair rows) usage
 tells_bad_pair rows arguments all (Help text) told = told
-tells_bad_pair rows arguments all (Words text) told = (arguments, all, told)
+tells_bad_pair rows arguments all (Mistake text) told = (arguments, all, told)
 tells_bad_pair rows arguments all Memory told = tt

@@ -24,7 +24,7 @@ use Rattle.smap_command.specs.declared.command.Command.{Command}
 use Rattle.smap_command.specs.declared.command.Command.TheVariants.{Raw, Check, CheckAll, Show, Lookup, Positions, Rewrite, RewriteAnywhere, Compose}
 use Rattle.smap_arguments.specs.CommandLine.{named, smap}
 use Rattle.smap_arguments.specs.declared.usage.Usage.{Usage}
-use Rattle.smap_arguments.specs.declared.usage.Usage.TheVariants.{Help, Words, Memory}
+use Rattle.smap_arguments.specs.declared.usage.Usage.TheVariants.{Help, Mistake, Memory}
 
 -- the lines and columns are ones that there can be, counted from 0
 abbrev pub HasPosition : Command → Type 0
@@ -201,7 +201,7 @@ IsRequest kind = (kind ≡ DisplayHelp) ⊎ (kind ≡ DisplayVersion)
 -- what an error of this kind comes to
 abbrev pub IsUsageOf : ErrorKind → Usage → Type 0
 IsUsageOf kind (Help text) = IsRequest kind
-IsUsageOf kind (Words text) = (¬ (IsRequest kind)) × (kind ≢ OutOfMemory)
+IsUsageOf kind (Mistake text) = (¬ (IsRequest kind)) × (kind ≢ OutOfMemory)
 IsUsageOf kind Memory = ⊤
 
 -- the base is no URL
@@ -260,7 +260,7 @@ TellsRefusal name rows text = TellsOfBase rows text
 -- where clap finds no fault, this alone may be told, or memory ran out
 abbrev pub IsNamedRefusal : (Text → Type 0) → Usage → Type 0
 IsNamedRefusal Tells (Help text) = ⊥
-IsNamedRefusal Tells (Words text) = Tells (string_bytes text)
+IsNamedRefusal Tells (Mistake text) = Tells (string_bytes text)
 IsNamedRefusal Tells Memory = ⊤
 
 -- the same, of the subcommand that the arguments name
@@ -272,7 +272,7 @@ SubcommandTells subcommand text =
 -- that the base is no URL or too long, an argument no pair, or that two flags exclude each other; or memory ran out
 abbrev pub IsRefusalOf : List Text → Usage → Type 0
 IsRefusalOf arguments (Help text) = (kind : ErrorKind) × IsAmong kind (fault_of smap arguments) × IsRequest kind
-IsRefusalOf arguments (Words text) =
+IsRefusalOf arguments (Mistake text) =
     ((kind : ErrorKind) × IsAmong kind (fault_of smap arguments) × (¬ (IsRequest kind)))
     ⊎ ((fault_of smap arguments ≡ []) × SubcommandTells (subcommand_of smap arguments) (string_bytes text))
 IsRefusalOf arguments Memory = ⊤

@@ -165,8 +165,8 @@ fn base_in(alloc: Global, matches: &ArgMatches<'_>) -> Result<Option<Url>, Usage
         Ok(url) => Ok(Some(url)),
         Err(error) => match error {
             ParseError::OutOfMemory => Err(Usage::Memory),
-            ParseError::Overflow => Err(Usage::Words(String::from_str(alloc, LONG_BASE)?)),
-            _ => Err(Usage::Words(String::from_str(alloc, BAD_BASE)?)),
+            ParseError::Overflow => Err(Usage::Mistake(String::from_str(alloc, LONG_BASE)?)),
+            _ => Err(Usage::Mistake(String::from_str(alloc, BAD_BASE)?)),
         },
     }
 }
@@ -178,7 +178,8 @@ fn check_in(
     base: Option<Url>,
 ) -> Result<Command, AllocError>
     requires paths { HasValue parser.String (rows_of (found_of matches.now)) (codes "PATH") }
-    requires interval { HasValueIfGiven interval_number (rows_of (found_of matches.now)) (codes "K") }
+    requires interval { HasValueIfGiven interval_number (rows_of (found_of matches.now))
+        (codes "K") }
     requires json { HasValueIfGiven parser.Bool (rows_of (found_of matches.now)) (codes "json") }
     requires given { GivesBase (rows_of (found_of matches.now)) base }
     ensures asked { IfOk result (NamedAsksFor (codes "check") (rows_of (found_of matches.now))) }
@@ -213,13 +214,17 @@ fn copied_texts(alloc: Global, given: &[&str]) -> Result<Vec<String>, AllocError
 // What `rewrite` is asked. Its flags exclude each other.
 fn rewrite_in(alloc: Global, matches: &ArgMatches<'_>, base: Option<Url>) -> Result<Command, Usage>
     requires pairs { HasValue parser.String (rows_of (found_of matches.now)) (codes "URL=FILE") }
-    requires interval { HasValueIfGiven interval_number (rows_of (found_of matches.now)) (codes "K") }
-    requires hide { HasValueIfGiven parser.Bool (rows_of (found_of matches.now)) (codes "hide-ignored") }
-    requires anywhere { HasValueIfGiven parser.Bool (rows_of (found_of matches.now)) (codes "anywhere") }
+    requires interval { HasValueIfGiven interval_number (rows_of (found_of matches.now))
+        (codes "K") }
+    requires hide { HasValueIfGiven parser.Bool (rows_of (found_of matches.now))
+        (codes "hide-ignored") }
+    requires anywhere { HasValueIfGiven parser.Bool (rows_of (found_of matches.now))
+        (codes "anywhere") }
     requires given { GivesBase (rows_of (found_of matches.now)) base }
     ensures asked { IfOk result (NamedAsksFor (codes "rewrite") (rows_of (found_of matches.now))) }
     ensures in_range { IfOk result IsInRange }
-    ensures refused { IfErr result (IsNamedRefusal (TellsRewrite (rows_of (found_of matches.now)))) }
+    ensures refused { IfErr result (IsNamedRefusal
+        (TellsRewrite (rows_of (found_of matches.now)))) }
 {
     let (maps, interval) = (maps_in(alloc, matches)?, interval_in(matches));
     let hide_ignored = flag_in(matches, "hide-ignored");
@@ -235,20 +240,22 @@ fn rewrite_in(alloc: Global, matches: &ArgMatches<'_>, base: Option<Url>) -> Res
             base,
             interval,
         }),
-        (true, true) => Err(Usage::Words(String::from_str(alloc, BOTH_FLAGS)?)),
+        (true, true) => Err(Usage::Mistake(String::from_str(alloc, BOTH_FLAGS)?)),
     }
 }
 
 fn maps_in(alloc: Global, matches: &ArgMatches<'_>) -> Result<Vec<(String, String)>, Usage>
     requires { HasValue parser.String (rows_of (found_of matches.now)) (codes "URL=FILE") }
     ensures given { IfOk result (λ maps. GivesPairs (rows_of (found_of matches.now)) maps.items) }
-    ensures refused { IfErr result (IsNamedRefusal (TellsBadPair (rows_of (found_of matches.now)))) }
+    ensures refused { IfErr result (IsNamedRefusal
+        (TellsBadPair (rows_of (found_of matches.now)))) }
 {
     pairs_of(alloc, texts_in(matches, "URL=FILE"))
 }
 
 fn pairs_of(alloc: Global, arguments: &[&str]) -> Result<Vec<(String, String)>, Usage>
-    ensures cut { IfOk result (λ pairs. ArePairs (map (λ argument. argument.now) arguments.now) pairs.items) }
+    ensures cut { IfOk result (λ pairs. ArePairs (map (λ argument. argument.now) arguments.now)
+        pairs.items) }
     ensures refused { IfErr result (IsNamedRefusal
         (TellsNoPair (map (λ argument. argument.now) arguments.now))) }
 {
@@ -265,7 +272,8 @@ fn pairs_of(alloc: Global, arguments: &[&str]) -> Result<Vec<(String, String)>, 
 
 // The URL and the path of an argument, which is cut at its last `=`, since a URL may have others.
 fn pair_of(alloc: Global, argument: &str) -> Result<(String, String), Usage>
-    ensures cut { IfOk result (λ pair. IsPair argument.now (string_bytes pair.0) (string_bytes pair.1)) }
+    ensures cut { IfOk result (λ pair. IsPair argument.now (string_bytes pair.0)
+        (string_bytes pair.1)) }
     ensures refused { IfErr result (IsNamedRefusal (TellsNoPair (argument.now ∷ []))) }
 {
     match argument.rsplit_once('=') {
@@ -273,6 +281,6 @@ fn pair_of(alloc: Global, argument: &str) -> Result<(String, String), Usage>
             String::from_str(alloc, url)?,
             String::from_str(alloc, path)?,
         )),
-        None => Err(Usage::Words(no_pair_line(alloc, argument)?)),
+        None => Err(Usage::Mistake(no_pair_line(alloc, argument)?)),
     }
 }

@@ -35,7 +35,7 @@ fn usage_of(alloc: Global, error: &Error) -> Usage
             let is_request = kind == ErrorKind::DisplayHelp || kind == ErrorKind::DisplayVersion;
             match format!(in alloc; "{error}") {
                 Ok(text) if is_request => Usage::Help(text),
-                Ok(text) => Usage::Words(text),
+                Ok(text) => Usage::Mistake(text),
                 Err(_) => Usage::Memory,
             }
         }

@@ -142,7 +142,7 @@ fn base_text(base: &Option<Url>) -> &str {
 fn read_usage(alloc: Global, usage: &Usage) -> Result<String, AllocError> {
     match usage {
         Usage::Help(text) => format!(in alloc; "help: {text}"),
-        Usage::Words(text) => format!(in alloc; "words: {text}"),
+        Usage::Mistake(text) => format!(in alloc; "mistake: {text}"),
         Usage::Memory => String::from_str(alloc, "memory"),
     }
 }
@@ -155,7 +155,7 @@ pub fn assert_refused(
     start: &str,
 ) -> Result<(), Fail> {
     let told = read(alloc, arguments)?;
-    let wanted = format!(in alloc; "words: {start}")?;
+    let wanted = format!(in alloc; "mistake: {start}")?;
     assert!(rt; told.starts_with(wanted.as_str()), "{arguments:?}: {told}");
     assert!(rt;
         told.ends_with("\n") && !told.ends_with("\n\n"),

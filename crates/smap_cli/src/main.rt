@@ -40,14 +40,14 @@ fn main(rt: HostRuntime) -> ExitCode {
 fn command_of(rt: &HostRuntime) -> Result<Command, Result<Reply, Failure>>
     ensures { IfOk result HasInterval }
 {
-    let words = match arguments_of(rt) {
-        Ok(words) => words,
+    let arguments = match arguments_of(rt) {
+        Ok(arguments) => arguments,
         Err(error) if error.kind() == io::ErrorKind::OutOfMemory => {
             return Err(Err(Failure::Memory));
         }
         Err(_) => return Err(Err(Failure::ArgumentNotUtf8)),
     };
-    match parse(rt.alloc(), words) {
+    match parse(rt.alloc(), arguments) {
         Ok(command) => Ok(command),
         Err(usage) => Err(outcome_of(usage)),
     }

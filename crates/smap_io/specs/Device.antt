@@ -1,5 +1,5 @@
--- What a contract sees of a device, and what a call does to the bytes that it tells: those that a source has left, and those that a sink has
--- taken. A device that tells none has `None`.
+-- What a contract sees of a device, and what a call does to the bytes that it tells: those that a source has left, and those
+-- that a sink has taken. A device that tells none has `None`.
 use Rattle.std.specs.Prelude.{◌≡◌, ℕ, ◌≤◌, Bool, List, ◌++◌, length, Option}
 use Rattle.std.specs.Io.KnownBytes.{prepend_known, append_known}
 

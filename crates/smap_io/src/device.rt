@@ -20,7 +20,8 @@ pub trait ByteSource {
         ensures fits { IfOk result (λ n. n ≤ length room.new) }
         ensures gives { IfOk result (λ n. Gives (seen self.old).left (seen self.new).left
             (take n room.new)) }
-        ensures ends { IfOk result (λ n. n ≡ 0 → 0 < length room.new → IsAtEnd (seen self.new).left) }
+        ensures ends { IfOk result (λ n. n ≡ 0 → 0 < length room.new
+            → IsAtEnd (seen self.new).left) }
         ensures no_failure { OnOk result ((seen self.new).failed ≡ (seen self.old).failed) }
 
         ensures keeps { OnErr result ((seen self.new).left ≡ (seen self.old).left) }

@@ -49,7 +49,8 @@ pub fn read_all<R: ByteSource>(
     ensures whole { IfOk result (λ bytes. vec_len bytes < most → IsAtEnd (R.seen input.new).left) }
     ensures no_failure { OnOk result ((R.seen input.new).failed ≡ (R.seen input.old).failed) }
 
-    ensures front { OnErr result (GivesAtMost (R.seen input.old).left (R.seen input.new).left most) }
+    ensures front { OnErr result (GivesAtMost (R.seen input.old).left (R.seen input.new).left
+        most) }
     ensures device { result ≡ Err ReadFailure.Device → (R.seen input.new).failed ≡ true }
     ensures memory { result ≡ Err ReadFailure.Memory
         → (R.seen input.new).failed ≡ (R.seen input.old).failed }

@@ -16,7 +16,8 @@ use std::alloc::Global;
 /// The members of the object that is the JSON value of a file, where that is not too large. No memory is taken before
 /// it is known to be so.
 pub fn file_members(alloc: Global, bytes: &[u8]) -> Result<Map<String, Value>, MapRefusal>
-    ensures members { GivesRead (λ members. members_view members.entries) result (members_in bytes.now) }
+    ensures members { GivesRead (λ members. members_view members.entries) result
+        (members_in bytes.now) }
     ensures too_large { most_file_bytes < length bytes.now → result ≡ Err TooLarge }
 {
     if bytes.len() > MOST_FILE_BYTES {

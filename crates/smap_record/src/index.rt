@@ -11,13 +11,13 @@ use smap_index::{BuildRefusal, Index, Part};
 use std::alloc::Global;
 
 /// The index of these parts.
-pub fn build_index(alloc: Global, parts: Vec<Part>, k: u32) -> Result<Index, MapRefusal>
+pub fn build_index(alloc: Global, parts: Vec<Part>, interval: u32) -> Result<Index, MapRefusal>
     requires { length parts.items ≤ most_parts }
-    ensures parts { GivesRead (λ index. index.parts) result (indexed parts.items k) }
-    ensures interval { IfOk result (λ index. index.k ≡ k) }
+    ensures parts { GivesRead (λ index. index.parts) result (indexed parts.items interval) }
+    ensures interval { IfOk result (λ index. index.k ≡ interval) }
     ensures in_range { OnOk result (list_any is_mapping_past_limit (joined parts.items) ≡ false) }
 {
-    match Index::build(alloc, parts, k) {
+    match Index::build(alloc, parts, interval) {
         Ok(index) => Ok(index),
         Err(BuildRefusal::Memory) => Err(MapRefusal::Memory),
         Err(refusal) => Err(MapRefusal::Build(refusal)),

@@ -65,8 +65,10 @@ impl MapFile {
         k: u32,
     ) -> Result<MapFile, MapRefusal>
         ensures too_large { most_file_bytes < length bytes.now → result ≡ Err refusals.TooLarge }
-        ensures stated { IfOk result (IsMapOf (record_of bytes.now (option_copied base.entry) k) k) }
-        ensures refused { IfErr result (IsRefusalOf (record_of bytes.now (option_copied base.entry) k)) }
+        ensures stated { IfOk result (IsMapOf (record_of bytes.now (option_copied base.entry) k)
+            k) }
+        ensures refused { IfErr result (IsRefusalOf
+            (record_of bytes.now (option_copied base.entry) k)) }
     {
         let members = file_members(alloc, bytes)?;
         MapFile::of_members(alloc, members, base, k)
@@ -81,8 +83,10 @@ impl MapFile {
         k: u32,
     ) -> Result<MapFile, MapRefusal>
         ensures too_large { most_file_bytes < length bytes.items → result ≡ Err refusals.TooLarge }
-        ensures stated { IfOk result (IsMapOf (record_of bytes.items (option_copied base.entry) k) k) }
-        ensures refused { IfErr result (IsRefusalOf (record_of bytes.items (option_copied base.entry) k)) }
+        ensures stated { IfOk result (IsMapOf (record_of bytes.items (option_copied base.entry) k)
+            k) }
+        ensures refused { IfErr result (IsRefusalOf
+            (record_of bytes.items (option_copied base.entry) k)) }
     {
         let members = file_members(alloc, &bytes)?;
         drop(bytes);
@@ -95,17 +99,17 @@ impl MapFile {
         alloc: Global,
         members: Map<String, Value>,
         base: Option<&Url>,
-        k: u32,
+        interval: u32,
     ) -> Result<MapFile, MapRefusal>
         ensures stated { IfOk result
-            (IsMapOf (record_in (members_view members.entries) (option_copied base.entry) k) k) }
+            (IsMapOf (record_in (members_view members.entries) (option_copied base.entry) interval) interval) }
         ensures refused { IfErr result
-            (IsRefusalOf (record_in (members_view members.entries) (option_copied base.entry) k)) }
+            (IsRefusalOf (record_in (members_view members.entries) (option_copied base.entry) interval)) }
     {
         let outer = read_outer(alloc, members)?;
         let joined = read_sections(alloc, outer.entries)?;
         let sections = joined.parts.len() as u64;
-        let index = build_index(alloc, joined.parts, k)?;
+        let index = build_index(alloc, joined.parts, interval)?;
         let sources = sources(alloc, joined.sources, base)?;
         Ok(MapFile {
             index,
@@ -252,7 +256,8 @@ impl MapFile {
         ensures text { IfOk result (λ bytes. bytes.items
             ≡ written self.now.stated.sources self.now.stated.names
             self.now.stated.file (canonical_text (joined self.now.stated.parts))) }
-        ensures too_long { most_text_bytes < length (canonical_text (joined self.now.stated.parts)) →
+        ensures too_long { most_text_bytes < length
+            (canonical_text (joined self.now.stated.parts)) →
             result ≡ Err WriteRefusal.TextTooLong }
         ensures memory { length (canonical_text (joined self.now.stated.parts)) ≤ most_text_bytes →
             IsOkUnless result WriteRefusal.Memory }

@@ -21,4 +21,4 @@ pub use running::{
     Asked, left_text, loaded, run_check, run_compose, run_compose_at, run_lookup, run_lookup_after,
     run_lookup_as_json, run_lookup_at, run_over, run_positions, run_raw, run_show, run_show_at,
 };
-pub use traces::{Word, named, run_anywhere, run_hiding, run_rewrite};
+pub use traces::{Argument, named, run_anywhere, run_hiding, run_rewrite};

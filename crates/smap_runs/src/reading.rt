@@ -78,10 +78,10 @@ pub fn run_check_all(
     json: bool,
     devices: Devices,
 ) -> Result<String, AllocError> {
-    let mut words = Vec::new(alloc);
+    let mut arguments = Vec::new(alloc);
     for path in paths {
-        words.push(String::from_str(alloc, path)?)?;
+        arguments.push(String::from_str(alloc, path)?)?;
     }
-    let command = commands::check_all(words, base, interval, json);
+    let command = commands::check_all(arguments, base, interval, json);
     run_over_held(alloc, &command, held, devices)
 }

@@ -7,17 +7,17 @@ use smap_record::Url;
 use std::alloc::{AllocError, Global};
 
 /// An argument of the command and the file that it names: the URL, the path, and the map in the file.
-pub type Word = (&'static str, &'static str, &'static str);
+pub type Argument = (&'static str, &'static str, &'static str);
 
 /// The arguments as the command has them, and their files.
 pub fn named(
     alloc: Global,
-    table: &[Word],
+    table: &[Argument],
 ) -> Result<(Vec<(String, String)>, Vec<Loaded>), AllocError> {
-    let mut words = Vec::new(alloc);
+    let mut arguments = Vec::new(alloc);
     let mut files = Vec::new(alloc);
     for (url, path, map) in table {
-        words.push((
+        arguments.push((
             String::from_str(alloc, url)?,
             String::from_str(alloc, path)?,
         ))?;
@@ -26,13 +26,13 @@ pub fn named(
             bytes: map.as_bytes().to_vec(alloc)?,
         })?;
     }
-    Ok((words, files))
+    Ok((arguments, files))
 }
 
 /// What `rewrite` leaves of a trace.
 pub fn run_rewrite(
     alloc: Global,
-    table: &[Word],
+    table: &[Argument],
     base: Option<Url>,
     trace: &[u8],
     interval: u32,
@@ -46,7 +46,7 @@ pub fn run_rewrite(
 /// What `rewrite --hide-ignored` leaves of a trace.
 pub fn run_hiding(
     alloc: Global,
-    table: &[Word],
+    table: &[Argument],
     trace: &[u8],
     interval: u32,
     devices: Devices,
@@ -59,7 +59,7 @@ pub fn run_hiding(
 /// What `rewrite --anywhere` leaves of a text.
 pub fn run_anywhere(
     alloc: Global,
-    table: &[Word],
+    table: &[Argument],
     text: &[u8],
     interval: u32,
     devices: Devices,

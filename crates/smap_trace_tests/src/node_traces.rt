@@ -3,7 +3,7 @@
 use crate::same::assert_same;
 use smap_io::{MemorySink, MemorySource};
 use smap_record::{MapFile, Url};
-use smap_runs::{ALL_SOUND, Device, Devices, MOST_TAKEN, SOUND, Word, run_hiding, run_rewrite};
+use smap_runs::{ALL_SOUND, Argument, Device, Devices, MOST_TAKEN, SOUND, run_hiding, run_rewrite};
 use smap_trace::{Table, rewrite};
 use smap_vectors::{INTERVALS, halves, hidden_trace_rows, rows_of, trace_maps, trace_rows};
 use std::alloc::{AllocError, Global};
@@ -32,15 +32,15 @@ const PIECES: &[Devices] = &[
     Devices(Device(7, 0), Device(1, 0), SOUND),
 ];
 
-// The words of all maps.
-fn words(alloc: Global) -> Result<Vec<Word>, AllocError> {
-    let mut words = Vec::new(alloc);
+// The arguments of all maps.
+fn arguments(alloc: Global) -> Result<Vec<Argument>, AllocError> {
+    let mut arguments = Vec::new(alloc);
     for row in trace_maps().trim().lines() {
         let (url, rest) = halves(row);
         let (path, map) = halves(rest);
-        words.push((url, path, map))?;
+        arguments.push((url, path, map))?;
     }
-    Ok(words)
+    Ok(arguments)
 }
 
 // What is left of a trace: status 0, this text of the rows, and nothing told.
@@ -58,13 +58,13 @@ fn texts(alloc: Global, row: &str) -> Result<(String, String), AllocError> {
 
 #[test]
 fn traces_are_rewritten(rt: HostRuntime) -> Result<(), Fail> {
-    let words = words(rt.alloc())?;
-    assert!(&rt; words.len() == 6);
+    let arguments = arguments(rt.alloc())?;
+    assert!(&rt; arguments.len() == 6);
     for row in rows_of(trace_rows(), 9)?.lines() {
         let (counts, row) = halves(row);
         let (trace, wanted) = texts(rt.alloc(), row)?;
         for devices in PIECES {
-            let left = run_rewrite(rt.alloc(), &words, None, trace.as_bytes(), 64, *devices)?;
+            let left = run_rewrite(rt.alloc(), &arguments, None, trace.as_bytes(), 64, *devices)?;
             assert_same(&rt, counts, &left, &wanted);
         }
     }
@@ -73,13 +73,13 @@ fn traces_are_rewritten(rt: HostRuntime) -> Result<(), Fail> {
 
 #[test]
 fn intervals_make_no_difference(rt: HostRuntime) -> Result<(), Fail> {
-    let words = words(rt.alloc())?;
+    let arguments = arguments(rt.alloc())?;
     for row in rows_of(trace_rows(), 9)?.lines() {
         let (counts, row) = halves(row);
         let (trace, wanted) = texts(rt.alloc(), row)?;
         for interval in INTERVALS {
             let bytes = trace.as_bytes();
-            let left = run_rewrite(rt.alloc(), &words, None, bytes, *interval, ALL_SOUND)?;
+            let left = run_rewrite(rt.alloc(), &arguments, None, bytes, *interval, ALL_SOUND)?;
             assert_same(&rt, counts, &left, &wanted);
         }
     }
@@ -88,7 +88,7 @@ fn intervals_make_no_difference(rt: HostRuntime) -> Result<(), Fail> {
 
 #[test]
 fn frames_of_traces_are_hidden(rt: HostRuntime) -> Result<(), Fail> {
-    let words = words(rt.alloc())?;
+    let arguments = arguments(rt.alloc())?;
     let hidden = rows_of(hidden_trace_rows(), 9)?;
     for (row, hidden) in rows_of(trace_rows(), 9)?.lines().zip(hidden.lines()) {
         let (_, row) = halves(row);
@@ -96,11 +96,17 @@ fn frames_of_traces_are_hidden(rt: HostRuntime) -> Result<(), Fail> {
         let (counts, wanted) = halves(hidden);
         let wanted = left_of(rt.alloc(), wanted)?;
         for devices in PIECES {
-            let left = run_hiding(rt.alloc(), &words, trace.as_bytes(), 64, *devices)?;
+            let left = run_hiding(rt.alloc(), &arguments, trace.as_bytes(), 64, *devices)?;
             assert_same(&rt, counts, &left, &wanted);
         }
         for interval in INTERVALS {
-            let left = run_hiding(rt.alloc(), &words, trace.as_bytes(), *interval, ALL_SOUND)?;
+            let left = run_hiding(
+                rt.alloc(),
+                &arguments,
+                trace.as_bytes(),
+                *interval,
+                ALL_SOUND,
+            )?;
             assert_same(&rt, counts, &left, &wanted);
         }
     }
@@ -108,9 +114,9 @@ fn frames_of_traces_are_hidden(rt: HostRuntime) -> Result<(), Fail> {
 }
 
 // The table of all maps, each of which stands at its URL, where that is one.
-fn table_of(alloc: Global, words: &[Word], interval: u32) -> Result<Table, Fail> {
+fn table_of(alloc: Global, arguments: &[Argument], interval: u32) -> Result<Table, Fail> {
     let mut table = Table::new(alloc);
-    for (url, _, map) in words {
+    for (url, _, map) in arguments {
         let base = Url::parse(alloc, url).ok();
         let map = MapFile::read(alloc, map.as_bytes(), base.as_ref(), interval)?;
         if let Err((refusal, _, _)) = table.add(String::from_str(alloc, url)?, map) {
@@ -141,9 +147,9 @@ fn counts_text(
 
 #[test]
 fn lines_and_frames_of_traces_are_counted(rt: HostRuntime) -> Result<(), Fail> {
-    let words = words(rt.alloc())?;
+    let arguments = arguments(rt.alloc())?;
     for interval in INTERVALS {
-        let table = table_of(rt.alloc(), &words, *interval)?;
+        let table = table_of(rt.alloc(), &arguments, *interval)?;
         let hidden = hidden_trace_rows().trim();
         for (row, hidden) in trace_rows().trim().lines().zip(hidden.lines()) {
             let (wanted, row) = halves(row);

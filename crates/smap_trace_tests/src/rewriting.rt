@@ -1,7 +1,7 @@
 //! `rewrite` over maps and traces in memory.
 use crate::same::assert_same;
 use smap_record::Url;
-use smap_runs::{ALL_SOUND, Device, Devices, Word, run_anywhere, run_hiding, run_rewrite};
+use smap_runs::{ALL_SOUND, Argument, Device, Devices, run_anywhere, run_hiding, run_rewrite};
 use smap_vectors::INTERVALS;
 use std::alloc::Global;
 use std::test::Fail;
@@ -17,7 +17,7 @@ const ROOTED: &str =
     r#"{"version":3,"sourceRoot":"src","sources":["a.ts","../b.ts"],"ignoreList":[1],"mappings":"AAAA,CCAC"}"#;
 
 /// The map under the URL of `app.js`.
-pub const APP: &[Word] = &[("https://ex.test/app.js", "app.map", MAP)];
+pub const APP: &[Argument] = &[("https://ex.test/app.js", "app.map", MAP)];
 
 // Traces over the one map of `app.js`, and what each leaves.
 const LINES: &[(&str, &str)] = &[
@@ -91,7 +91,7 @@ fn traces_are_rewritten_over_a_map(rt: HostRuntime) -> Result<(), Fail> {
 }
 
 // Maps of which some say to pass over a source; a trace, and what it leaves where frames are hidden.
-const HIDDEN: &[(&[Word], &str, &str)] = &[
+const HIDDEN: &[(&[Argument], &str, &str)] = &[
     (
         &[(
             "https://ex.test/app.js",
@@ -115,10 +115,10 @@ const HIDDEN: &[(&[Word], &str, &str)] = &[
 
 #[test]
 fn frames_are_hidden(rt: HostRuntime) -> Result<(), Fail> {
-    for (words, trace, wanted) in HIDDEN {
+    for (arguments, trace, wanted) in HIDDEN {
         for interval in INTERVALS {
             let bytes = trace.as_bytes();
-            let left = run_hiding(rt.alloc(), words, bytes, *interval, ALL_SOUND)?;
+            let left = run_hiding(rt.alloc(), arguments, bytes, *interval, ALL_SOUND)?;
             assert_same(&rt, trace, &left, wanted);
         }
     }
@@ -126,7 +126,7 @@ fn frames_are_hidden(rt: HostRuntime) -> Result<(), Fail> {
 }
 
 // A map or none, a text, and what it leaves where its places are rewritten anywhere in it.
-const ANYWHERE: [(&[Word], &str, &str); 3] = [
+const ANYWHERE: [(&[Argument], &str, &str); 3] = [
     (
         APP,
         "12:34 web-1 | at f (https://ex.test/app.js:1:6) {\n{\"at\":\"https://ex.test/app.js:1:6\"}\r\n",
@@ -146,9 +146,9 @@ const ANYWHERE: [(&[Word], &str, &str); 3] = [
 
 #[test]
 fn places_are_rewritten_anywhere(rt: HostRuntime) -> Result<(), Fail> {
-    for (words, text, wanted) in ANYWHERE {
+    for (arguments, text, wanted) in ANYWHERE {
         for interval in INTERVALS {
-            let left = run_anywhere(rt.alloc(), words, text.as_bytes(), *interval, ALL_SOUND)?;
+            let left = run_anywhere(rt.alloc(), arguments, text.as_bytes(), *interval, ALL_SOUND)?;
             assert_same(&rt, text, &left, wanted);
         }
     }
@@ -168,7 +168,7 @@ fn a_trace_need_not_be_utf_8(rt: HostRuntime) -> Result<(), Fail> {
 }
 
 // Words, a base or none, a trace, and what is left of it.
-const NAMES: &[(&[Word], &str, &str, &str)] = &[
+const NAMES: &[(&[Argument], &str, &str, &str)] = &[
     (
         APP,
         "https://cdn.test/s/",
@@ -227,7 +227,7 @@ const NAMES: &[(&[Word], &str, &str, &str)] = &[
         "at u:1:1\nat u:1:2",
         "0|at src/a.ts:1:1\nat src/../b.ts:1:2|",
     ),
-    // Several words, each with its map, and one of them an index map.
+    // Several arguments, each with its map, and one of them an index map.
     (
         &[
             ("https://ex.test/v", "b.map", INDEX_MAP),
@@ -252,11 +252,11 @@ fn base_of(alloc: Global, text: &str) -> Result<Option<Url>, Fail> {
 
 #[test]
 fn sources_are_resolved_against_a_base_or_the_url(rt: HostRuntime) -> Result<(), Fail> {
-    for (words, base, trace, wanted) in NAMES {
+    for (arguments, base, trace, wanted) in NAMES {
         for interval in INTERVALS {
             let base = base_of(rt.alloc(), base)?;
             let bytes = trace.as_bytes();
-            let left = run_rewrite(rt.alloc(), words, base, bytes, *interval, ALL_SOUND)?;
+            let left = run_rewrite(rt.alloc(), arguments, base, bytes, *interval, ALL_SOUND)?;
             assert_same(&rt, trace, &left, wanted);
         }
     }
@@ -265,7 +265,7 @@ fn sources_are_resolved_against_a_base_or_the_url(rt: HostRuntime) -> Result<(),
 
 // Words that are refused, and what is told. A word's map is read before the word is put into the table, and a word
 // before the next one's map is read.
-const REFUSED: &[(&[Word], &str)] = &[
+const REFUSED: &[(&[Argument], &str)] = &[
     (&[("", "app.map", MAP)], "2||usage: A1 BadUrl: =app.map\n"),
     (
         &[("u", "app.map", MAP), ("u", "app.map", MAP)],
@@ -335,9 +335,16 @@ const UNASKED: Devices = Devices(Device(1, 1), Device(1, 1), Device(7, 0));
 
 #[test]
 fn words_are_refused_one_by_one(rt: HostRuntime) -> Result<(), Fail> {
-    for (words, wanted) in REFUSED {
+    for (arguments, wanted) in REFUSED {
         for interval in INTERVALS {
-            let left = run_rewrite(rt.alloc(), words, None, b"at u:1:1\n", *interval, UNASKED)?;
+            let left = run_rewrite(
+                rt.alloc(),
+                arguments,
+                None,
+                b"at u:1:1\n",
+                *interval,
+                UNASKED,
+            )?;
             assert_same(&rt, wanted, &left, wanted);
         }
     }
