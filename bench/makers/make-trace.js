@@ -2,6 +2,10 @@
 // Makes a trace over maps: frames at random positions, from a fixed seed, each with an original.
 //
 //   node make-trace.js LINES URL=MAP.. > TRACE
+//   STACKS=2000 node make-trace.js LINES URL=MAP.. > TRACE
+//
+// With STACKS there are so many different stacks, of a line of text and 5 to 20 frames each, and they come again as errors do
+// in a log: the second half as often as the first, the third a third as often, and so on.
 'use strict';
 
 const fs = require('fs');
@@ -27,15 +31,40 @@ const FORMS = [
   (name, at) => `    at ${at}`,
 ];
 
-const lines = [];
-while (lines.length < count) {
-  const { url, names, lines: generated } = pick(maps);
-  const line = below(generated.length);
-  if (generated[line].length === 0) continue;
-  const place = randomPlace(generated[line], below);
-  if (place !== null && place.segment.length > 1) {
-    const column = place.column();
-    lines.push(pick(FORMS)(pick(names), `${url}:${line + 1}:${column + 1}`));
+function frame() {
+  for (;;) {
+    const { url, names, lines: generated } = pick(maps);
+    const line = below(generated.length);
+    if (generated[line].length === 0) continue;
+    const place = randomPlace(generated[line], below);
+    if (place === null || place.segment.length === 1) continue;
+    return pick(FORMS)(pick(names), `${url}:${line + 1}:${place.column() + 1}`);
   }
 }
-fs.writeSync(1, `${lines.join('\n')}\n`);
+
+function stack(number) {
+  return [`Error: what went wrong has number ${number}`, ...Array.from({ length: 5 + below(16) }, frame)];
+}
+
+// One of them, the first most often.
+function again(stacks, weights) {
+  const rest = below(1e9) * (weights.at(-1) / 1e9);
+  let [low, high] = [0, stacks.length - 1];
+  while (low < high) {
+    const middle = (low + high) >> 1;
+    if (weights[middle] <= rest) low = middle + 1;
+    else high = middle;
+  }
+  return stacks[low];
+}
+
+const lines = [];
+if (process.env.STACKS) {
+  const stacks = Array.from({ length: Number(process.env.STACKS) }, (_, number) => stack(number));
+  let sum = 0;
+  const weights = stacks.map((_, rank) => (sum += 1 / (rank + 1)));
+  while (lines.length < count) lines.push(...again(stacks, weights));
+} else {
+  while (lines.length < count) lines.push(frame());
+}
+fs.writeSync(1, `${lines.slice(0, count).join('\n')}\n`);

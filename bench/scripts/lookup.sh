@@ -1,10 +1,10 @@
 #!/usr/bin/env bash
 # Times `smap check` and `smap lookup` on a map of about 28 MB beside other readers of the same file:
-# node's JSON.parse, node's module.SourceMap, and @jridgewell/trace-mapping.
+# node's JSON.parse, node's module.SourceMap, @jridgewell/trace-mapping, and Go's reader, where there is one.
 #
 # The map is a real one whose mappings text stands in it many times over (repeat-map.js). Each reader
-# starts anew, reads the file, and looks one position near its end up once. The three that answer have
-# to give the same answer.
+# starts anew, reads the file, and looks one position near its end up once. Those that answer have to
+# give the same answer.
 set -euo pipefail
 
 # shellcheck source=timing.sh
@@ -24,3 +24,9 @@ report 'cat > /dev/null' plain
 report 'JSON.parse' by_json
 report 'module.SourceMap' by_source_map
 report 'trace-mapping' by_trace_mapping
+build_in_go
+by_go() {
+    measured "$in_go" "$map" "$line" "$column" >"$folder/said"
+    insist "Go's reader" "$(sed 's|^https://example.test/||' "$folder/said")" "${place#../}"
+}
+if [ -n "$in_go" ]; then report "Go's go-sourcemap" by_go; fi

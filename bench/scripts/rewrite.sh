@@ -3,7 +3,7 @@
 # and a node script that does the same line by line with @jridgewell/trace-mapping, and with Mozilla's source-map.
 #
 # The maps are made of a real one (repeat-map.js, cut-maps.js), and the places of the frames are random
-# (make-trace.js). Each program starts anew, reads the maps and the trace and writes the text to a file: with the trace,
+# (make-trace.js): each frame's own, and over the one map also those of 2,000 stacks that come again. Each program starts anew, reads the maps and the trace and writes the text to a file: with the trace,
 # and with an empty one, which is the time to read the maps alone. The lines a second are of the difference. All have to
 # write the same bytes. LINES and MAPS say how many there are.
 set -euo pipefail
@@ -26,7 +26,7 @@ by_source_map() { measured node "$readers/rewrite-trace.js" mozilla "${words[@]}
 
 # All of a trace over these maps, each of which is an argument of the command.
 over() {
-    compared "rewriting a million frames, $1"
+    compared "rewriting a million $1"
     shift
     words=("$@")
     node "$makers/make-trace.js" "$lines" "${words[@]}" >"$questions"
@@ -36,7 +36,10 @@ over() {
 }
 
 printf 'one map of %s bytes, %s maps of %s bytes together\n' "$(stat -c %s one)" "$count" "$(cat many/* | wc -c)"
-over 'one map' "$url/app.js=one"
+over 'frames, one map' "$url/app.js=one"
+export STACKS=2000
+over 'lines of stacks that come again, one map' "$url/app.js=one"
+unset STACKS
 chunks=()
 for ((i = 0; i < count; i++)); do chunks+=("$url/chunk-$i.js=many/$i"); done
-over "$count maps" "${chunks[@]}"
+over "frames, $count maps" "${chunks[@]}"

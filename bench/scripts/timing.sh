@@ -59,6 +59,16 @@ plain() { measured cat -- "$map" >/dev/null; }
 check() { measured "$program" check "$map" >/dev/null; }
 look_up() { measured "$program" lookup "$map" "$line" "$column" >/dev/null; }
 
+# Builds Go's reader of maps, where there is Go and Debian's package golang-github-go-sourcemap-sourcemap-dev; its path is
+# left in `in_go`, which is empty where there is none.
+build_in_go() {
+    in_go=''
+    if command -v go >/dev/null && [ -d "${GOPATH:-/usr/share/gocode}/src/github.com/go-sourcemap" ]; then
+        in_go=$folder/in-go
+        GO111MODULE=off GOPATH=${GOPATH:-/usr/share/gocode} GOCACHE=$folder/go-cache go build -o "$in_go" "$readers/go/positions.go"
+    fi
+}
+
 # Reads `map` by a node script, which says in how many microseconds and what it found: the time within its process is
 # left in `within`.
 by_node() {
@@ -108,6 +118,9 @@ report() {
     fi
 }
 
+# What was written is what the first command wrote.
+agree() { cmp -- "$wanted" written; }
+
 # report_both WHAT COMMAND NONE: times a command that answers the file `asked` in `written`, and adds two rows for it: where
 # that file is empty, which is called NONE and takes the time to read the maps alone, and where it is `questions`. It says
 # how many of its lines are answered in a second of the difference. All commands of a comparison have to write the same bytes.
@@ -123,8 +136,8 @@ report_both() {
     printf '%44s %9d lines a second\n' '' "$((lines * 1000000 / (least - empty)))"
     if [ -z "$wanted" ]; then
         wanted=$folder/wanted
-        mv -- written "$wanted"
+        cp -- written "$wanted"
     else
-        cmp -- "$wanted" written
+        agree
     fi
 }
