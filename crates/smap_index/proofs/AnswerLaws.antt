@@ -1,6 +1,6 @@
 -- In a list in order the last mapping up to a position decides what answers at the position or before it, and the first
 -- that is not before it what answers at it or after.
-use Rattle.std.proofs.Common.{◌≡◌, ℕ, ◌<◌, true, false, List, [], ◌∷◌, take, filter, Option, Some, None, refl, sym, ap, ◌∙◌, arith, eqb, ⊎_elim, inr}
+use Rattle.std.proofs.Common.{◌≡◌, ℕ, ◌<◌, true, false, List, [], ◌∷◌, take, filter, Option, Some, None, refl, sym, ap, ◌∙◌, arith, ⊎_elim, inr}
 use Rattle.std.specs.List.{find, last_or}
 use Rattle.std.proofs.lemmas.Bool.{cond-true, cond-false, cases_Bool, eqb-true, eq-eqb, ne_eqb, leb-true, le-leb, and_parts, and_from, and_left, both_ways, not-true, not_from_false, false_from_ne_true}
 use Rattle.smap_mappings.specs.Order.{IsAtOrBefore, IsInOrder}

@@ -1,20 +1,19 @@
 -- The last mapping at the front of a list and the first after it, one mapping of the list after another.
-use Rattle.std.proofs.Common.{◌≡◌, ℕ, ◌+◌, ◌-◌, ◌<◌, ◌≤◌, suc, zero, List, [], ◌∷◌, ◌++◌, length, take, drop, map, Option, Some, None, false, true, refl, ap, sym, ◌∙◌, arith, one-add, ⊎_elim}
+use Rattle.std.proofs.Common.{◌≡◌, ℕ, ◌+◌, suc, zero, List, [], ◌∷◌, ◌++◌, length, take, drop, Option, Some, false, true, refl, ap, sym, ◌∙◌, arith, one-add, ⊎_elim}
 use Rattle.std.specs.Prelude.{option_map}
 use Rattle.std.specs.List.{slice_get, last_or}
 use Rattle.std.specs.Option.{option_or}
-use Rattle.std.proofs.lemmas.Bool.{cond-true, cond-false, cases_Bool, ne_eqb, false_from_ne_true}
+use Rattle.std.proofs.lemmas.Bool.{cond-true, cond-false, cases_Bool}
 use Rattle.std.proofs.lemmas.Option.{slice_get-map}
-use Rattle.smap_mappings.specs.State.{IsNext, IsOnLaterLine}
+use Rattle.smap_mappings.specs.State.{IsNext}
 use Rattle.smap_mappings.specs.Counts.{segment_count}
 use Rattle.smap_mappings.specs.Mappings.{mappings_of}
 use Rattle.smap_mappings.specs.declared.cursor.Cursor.{Cursor}
 use Rattle.smap_mappings.specs.declared.mapping.Mapping.{Mapping}
 use Rattle.smap_index.specs.Parts.{placed_mapping, placed}
-use Rattle.smap_index.specs.Private.Search.{is_up_to, front_up_to, last_from, first_past, on_line}
+use Rattle.smap_index.specs.Private.Search.{is_up_to, front_up_to, last_from, first_past}
 use Rattle.smap_index.specs.declared.bound.Bound.{Bound}
 use Rattle.smap_index.specs.declared.part.Part.{Part}
-use Rattle.smap_index.proofs.BoundLaws.{line_up_to}
 use Rattle.smap_index.proofs.WalkLaws.{length-placed}
 
 module _ (bound : Bound) where

@@ -9,7 +9,7 @@ use Rattle.smap_mappings.specs.Accepted.{is_below_zero, are_in_range}
 use Rattle.smap_mappings.specs.State.{values_at, origin_of_kind, mapping_at}
 use Rattle.smap_mappings.specs.Private.Reading.{is_inside, segment_at, origin_fields, fields_in, delta_in, IsFieldAt}
 use Rattle.smap_mappings.specs.Private.Advance.{values_after, sums_fault, IsAdvanced}
-use Rattle.smap_mappings.specs.Private.Step.{cursor_name, cursor_origin, mapping_in}
+use Rattle.smap_mappings.specs.Private.Step.{cursor_origin, mapping_in}
 use Rattle.smap_mappings.specs.Private.Straight.{IsMoved, IsMovedBy, kind_named, kind_with, IsReadAfter, are_listed, is_fitting}
 use Rattle.smap_mappings.specs.Private.Walk.{IsStraightStep}
 use Rattle.smap_mappings.specs.declared.cursor.Cursor.{Cursor}

@@ -1,6 +1,7 @@
 //! The next segment of a checked text.
-ghost use Rattle.std.specs.Prelude.{◌≡◌, ◌<◌, ◌≤◌, ℕ, length, IfSome, IfNone};
+ghost use Rattle.std.specs.Prelude.{◌≡◌, ◌<◌, ◌≤◌, ℕ, length, slice_index, true, IfSome, IfNone, IsTrue};
 ghost use Rattle.smap_mappings.specs.Counts.{segment_count};
+ghost use Rattle.smap_mappings.specs.Segments.{is_semicolon};
 ghost use Rattle.smap_mappings.specs.State.{mapping_at, IsAfter, IsBetween, IsNext, IsOnLaterLine};
 ghost use Rattle.smap_mappings.specs.PackedText.{IsPacked};
 ghost use Rattle.smap_mappings.specs.Private.Step.{IsSteppedTo};
@@ -44,20 +45,19 @@ pub fn next_on_line(bytes: &[u8], cursor: &Cursor) -> Option<(Kind, Cursor)>
     if let Some(next) = next_joined(bytes, cursor) {
         return Some(next);
     }
-    further_from(bytes, *cursor)
+    if is_at_line_end(bytes, cursor.place) {
+        return None;
+    }
+    further_on_line(bytes, *cursor)
 }
 
-// The same by a copy of the state, so that a state that a loop keeps needs no place in memory.
+// Whether a `;` stands at this place.
 #[inline(always)]
-fn further_from(bytes: &[u8], cursor: Cursor) -> Option<(Kind, Cursor)>
-    requires packed { IsPacked bytes.now }
-    requires state { IsBetween bytes.now cursor }
-    ensures some { IfSome result (λ r. IsSteppedTo bytes.now cursor r.0 r.1) }
-    ensures none { IfNone result ((j : ℕ) →
-        IsAfter bytes.now j cursor → IsOnLaterLine bytes.now j cursor.line) }
+fn is_at_line_end(bytes: &[u8], place: usize) -> bool
+    ensures within { IsTrue result → place < length bytes.now }
+    ensures is { IsTrue result → is_semicolon (slice_index bytes.now place) ≡ true }
 {
-    let (kind, after) = further_on_line(bytes, &cursor)?;
-    Some((kind, after))
+    place < bytes.len() && bytes[place] == b';'
 }
 
 // The next segment, where one `,` alone joins it to the state and there is room after it. `None` says nothing.
@@ -77,18 +77,20 @@ fn next_joined(bytes: &[u8], cursor: &Cursor) -> Option<(Kind, Cursor)>
     straight_step(bytes, &at)
 }
 
-// The next segment on the line, whatever stands before it. It stands out of line, since most are joined by one `,`.
-#[inline(never)]
-fn further_on_line(bytes: &[u8], cursor: &Cursor) -> Option<(Kind, Cursor)>
+// The next segment on the line, whatever stands before it. It takes a copy of the state, so that a state that a loop keeps
+// needs no place in memory.
+#[inline(always)]
+fn further_on_line(bytes: &[u8], cursor: Cursor) -> Option<(Kind, Cursor)>
     requires packed { IsPacked bytes.now }
-    requires state { IsBetween bytes.now cursor.now }
-    ensures some { IfSome result (λ r. IsSteppedTo bytes.now cursor.now r.0 r.1) }
+    requires state { IsBetween bytes.now cursor }
+    ensures some { IfSome result (λ r. IsSteppedTo bytes.now cursor r.0 r.1) }
     ensures none { IfNone result ((j : ℕ) →
-        IsAfter bytes.now j cursor.now → IsOnLaterLine bytes.now j cursor.now.line) }
+        IsAfter bytes.now j cursor → IsOnLaterLine bytes.now j cursor.line) }
 {
-    let at = skip_separators(bytes, cursor);
+    let at = skip_separators(bytes, &cursor);
     if at.place >= bytes.len() || at.line != cursor.line {
         return None;
     }
-    Some(checked_step(bytes, &at))
+    let (kind, after) = checked_step(bytes, &at);
+    Some((kind, after))
 }

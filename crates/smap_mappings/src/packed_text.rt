@@ -154,6 +154,7 @@ impl PackedText {
     /// `most`. Where it stops at a segment on the line, it gives that one too. The caller gives a state of this text, and
     /// a meter whose count of segments leaves room for `most` more. Each segment that is passed adds one to that count,
     /// and so does the one at which the walk stops. The call takes no memory.
+    #[inline(always)]
     pub fn walk_line(&self, state: &State, end: u64, most: u32, meter: &mut Meter) -> LineWalk
         requires state { IsBetween self.now state.now }
         requires room { meter.old.segments + most ≤ u64.MAX }
@@ -200,5 +201,20 @@ fn a_text_has_these_fields_alone(rt: HostRuntime) -> Result<(), std::test::Fail>
         used_lines,
     } = &packed;
     assert!(&rt; text.as_str() == "AAAA" && *segments == 1 && *used_lines == 1);
+    Ok(())
+}
+
+#[test]
+fn a_walk_ends_at_the_column_or_with_the_line(rt: HostRuntime) -> Result<(), std::test::Fail> {
+    let packed = PackedText::check(String::from_str(rt.alloc(), "AAAA,C,C;C")?, 1, 0)?;
+    let mut meter = Meter::new(rt.alloc());
+    let before = packed.walk_line(&packed.start(), 2, 9, &mut meter);
+    assert!(&rt; before.passed == 2 && before.next.is_some() && meter.segments() == 3);
+    assert!(&rt;
+        before.state.cursor().place == 6 && matches!(before.kind, crate::kind::Kind::Unmapped)
+    );
+    let mut meter = Meter::new(rt.alloc());
+    let whole = packed.walk_line(&packed.start(), 9, 9, &mut meter);
+    assert!(&rt; whole.passed == 3 && whole.next.is_none() && meter.segments() == 3);
     Ok(())
 }

@@ -1,4 +1,4 @@
-use Rattle.std.proofs.Common.{◌≡◌, ◌<◌, ◌≤◌, length, sym, arith}
+use Rattle.std.proofs.Common.{◌<◌, length, arith}
 use Rattle.smap_mappings.proofs.CheckLaws.{all_after}
 use Rattle.smap_mappings.proofs.CountLaws.{none_past}
 use Rattle.smap_mappings.proofs.StepLaws.{on_line_of}

@@ -1,6 +1,6 @@
-use Rattle.std.proofs.Common.{◌≡◌, ◌<◌, length, arith, ap, refl, ◌∙◌, subst}
+use Rattle.std.proofs.Common.{◌<◌, length, arith, ap, refl, ◌∙◌}
 use Rattle.smap_mappings.specs.Limits.{most_indices}
-use Rattle.smap_mappings.specs.State.{values_at, IsNext}
+use Rattle.smap_mappings.specs.State.{values_at}
 use Rattle.smap_mappings.specs.Private.Reading.{delta_in}
 use Rattle.smap_mappings.specs.Private.Advance.{values_after, sums_fault, IsAdvanced}
 use Rattle.smap_mappings.proofs.CheckLaws.{no_fault_from}

@@ -1,8 +1,5 @@
-use Rattle.std.proofs.Common.{◌-◌, Some, take, drop, sym, ap, ◌∙◌, arith}
+use Rattle.std.proofs.Common.{sym, ap, ◌∙◌, arith}
 use Rattle.std.specs.Option.{option_copied}
-use Rattle.smap_index.specs.Checkpoint.{mapping_of}
-use Rattle.smap_index.specs.Parts.{placed}
-use Rattle.smap_index.specs.Private.Search.{last_checkpoint, last_from}
 use Rattle.smap_index.proofs.AnswerLaws.{through}
 use Rattle.smap_index.proofs.IndexLaws.{interval_within, index_in_order, compared, none_at_or_before, none_on_its_line, part_within, state_between, state_on_line, part_in_range, last_answers_after}
 use Rattle.smap_index.proofs.index.Index.look_up.Goals as goal
