@@ -1,13 +1,13 @@
 -- In a list in order the last mapping up to a position decides what answers at the position or before it, and the first
 -- that is not before it what answers at it or after.
-use Rattle.std.proofs.Common.{◌≡◌, ℕ, ◌<◌, true, false, List, [], ◌∷◌, take, filter, Option, Some, None, refl, sym, ap, ◌∙◌, arith, eqb, ⊎_elim, inr, if◌then◌else◌}
+use Rattle.std.proofs.Common.{◌≡◌, ℕ, ◌<◌, true, false, List, [], ◌∷◌, take, filter, Option, Some, None, refl, sym, ap, ◌∙◌, arith, ⊎_elim, inr}
 use Rattle.std.specs.List.{find, last_or}
 use Rattle.std.proofs.lemmas.Bool.{cond-true, cond-false, cases_Bool, eqb-true, eq-eqb, ne_eqb, leb-true, le-leb, and_parts, and_from, and_left, both_ways, not-true, not_from_false, false_from_ne_true}
 use Rattle.smap_mappings.specs.Order.{IsAtOrBefore, IsInOrder}
 use Rattle.smap_mappings.specs.Range.{position_at}
 use Rattle.smap_mappings.specs.declared.mapping.Mapping.{Mapping}
 use Rattle.smap_index.specs.Answer.{is_on_line_at_or_before, is_on_line_at_or_after, answer_of, answer_of_last, answer_at_or_before, answer_at_or_after}
-use Rattle.smap_index.specs.Private.Search.{is_up_to, front_up_to, last_up_to, first_past}
+use Rattle.smap_index.specs.Private.Search.{is_up_to, front_up_to, last_up_to, first_past, on_line}
 use Rattle.smap_index.specs.declared.answer.Answer.TheVariants.{Nothing}
 use Rattle.smap_index.specs.declared.bound.Bound.{Bound}
 use Rattle.smap_index.specs.declared.bound.Side.TheVariants.{Before, Through}
@@ -18,21 +18,16 @@ use Rattle.smap_index.proofs.PositionLaws.{not_before, from_not_before}
 
 -- the bounds of the two look-ups
 abbrev pub through : (line column : ℕ) → Bound
-through line column = record { position = record { line = line; column = column }; side = Through }
+through line column = record { line = line; column = column; side = Through }
 
 abbrev pub up_to : (line column : ℕ) → Bound
-up_to line column = record { position = record { line = line; column = column }; side = Before }
+up_to line column = record { line = line; column = column; side = Before }
 
 module _ (line column : ℕ) where
-  -- the mapping, where it stands on the line
-  abbrev pub on_line : Option Mapping → Option Mapping
-  on_line None = None
-  on_line (Some m) = if eqb m.line line then Some m else None
-
-  pub on_line_same : (m : Mapping) → m.line ≡ line → on_line (Some m) ≡ Some m
+  pub on_line_same : (m : Mapping) → m.line ≡ line → on_line line (Some m) ≡ Some m
   on_line_same m same = cond-true _ _ _ (eq-eqb _ _ same)
 
-  pub on_line_other : (m : Mapping) → (m.line ≡ line → ⊥) → on_line (Some m) ≡ None
+  pub on_line_other : (m : Mapping) → (m.line ≡ line → ⊥) → on_line line (Some m) ≡ None
   on_line_other m other = cond-false _ _ _ (ne_eqb _ _ other)
 
   -- ---- at the position or before it
@@ -61,7 +56,7 @@ module _ (line column : ℕ) where
       (cases_Bool (is_up_to (through line column) b))
 
   -- of a mapping before the line and those before it, none is on the line
-  on_line_none : (e : Option Mapping) (a : Mapping) (xs : List Mapping) → Precedes e (a ∷ xs) → a.line < line → on_line e ≡ None
+  on_line_none : (e : Option Mapping) (a : Mapping) (xs : List Mapping) → Precedes e (a ∷ xs) → a.line < line → on_line line e ≡ None
   on_line_none None a xs order above = refl
   on_line_none (Some m) a xs order above = on_line_other m (λ same. ⊎_elim (λ (before : m.line < a.line). omega arith) (λ equal. omega (arith, equal.0)) order.0)
 
@@ -69,28 +64,28 @@ module _ (line column : ℕ) where
   later None a xs order = order
   later (Some m) a xs order = order.1
 
-  kept_last : (e : Option Mapping) (xs : List Mapping) → Precedes e xs → last_or (on_line e) (filter (is_on_line_at_or_before line column) xs) ≡ on_line (last_or e (take (front_up_to (through line column) xs) xs))
+  kept_last : (e : Option Mapping) (xs : List Mapping) → Precedes e xs → last_or (on_line line e) (filter (is_on_line_at_or_before line column) xs) ≡ on_line line (last_or e (take (front_up_to (through line column) xs) xs))
   kept_last e [] order = refl
   kept_last e (a ∷ xs) order =
       ⊎_elim
-      (λ yes. step yes ∙ kept_last (Some a) xs (later e a xs order) ∙ ap (λ n. on_line (last_or e (take n (a ∷ xs)))) (sym (passes (through line column) a xs yes)))
-      (λ no. ap (last_or (on_line e)) (none_kept a xs (later e a xs order) no) ∙ ap (λ n. on_line (last_or e (take n (a ∷ xs)))) (sym (stops (through line column) a xs no)))
+      (λ yes. step yes ∙ kept_last (Some a) xs (later e a xs order) ∙ ap (λ n. on_line line (last_or e (take n (a ∷ xs)))) (sym (passes (through line column) a xs yes)))
+      (λ no. ap (last_or (on_line line e)) (none_kept a xs (later e a xs order) no) ∙ ap (λ n. on_line line (last_or e (take n (a ∷ xs)))) (sym (stops (through line column) a xs no)))
       (cases_Bool (is_up_to (through line column) a))
     where
-      step : is_up_to (through line column) a ≡ true → last_or (on_line e) (filter (is_on_line_at_or_before line column) (a ∷ xs)) ≡ last_or (on_line (Some a)) (filter (is_on_line_at_or_before line column) xs)
+      step : is_up_to (through line column) a ≡ true → last_or (on_line line e) (filter (is_on_line_at_or_before line column) (a ∷ xs)) ≡ last_or (on_line line (Some a)) (filter (is_on_line_at_or_before line column) xs)
       step here =
           ⊎_elim
           (λ kept.
-          ap (last_or (on_line e)) (cond-true _ _ _ kept)
+          ap (last_or (on_line line e)) (cond-true _ _ _ kept)
           ∙ ap (λ o. last_or o (filter (is_on_line_at_or_before line column) xs)) (sym (on_line_same a (eqb-true _ _ (and_parts _ _ kept).0))))
           (λ left.
           let above : a.line < line = ⊎_elim (λ above. above) (λ same. absurd (both_ways _ left (and_from _ _ (eq-eqb _ _ same.0) (le-leb _ _ same.1)))) (reached a here) in
-          ap (last_or (on_line e)) (cond-false _ _ _ left)
+          ap (last_or (on_line line e)) (cond-false _ _ _ left)
           ∙ ap (λ o. last_or o (filter (is_on_line_at_or_before line column) xs)) (on_line_none e a xs order above ∙ sym (on_line_other a (λ same. omega arith))))
           (cases_Bool (is_on_line_at_or_before line column a))
 
   -- where the last mapping up to the position stands on the line, it answers, else nothing does
-  pub last_answers : (list : List Mapping) → IsInOrder list → answer_at_or_before list line column ≡ answer_of_last (on_line (last_up_to (through line column) list))
+  pub last_answers : (list : List Mapping) → IsInOrder list → answer_at_or_before list line column ≡ answer_of_last (on_line line (last_up_to (through line column) list))
   unfolding answer_at_or_before
   last_answers list order = ap answer_of_last (kept_last None list order)
 
@@ -113,15 +108,15 @@ module _ (line column : ℕ) where
       let further : line < b.line = ⊎_elim (λ (above : a.line < b.line). omega arith) (λ same. omega (arith, same.0)) order.0 in
       cond-false _ _ _ (not_on_line a below) ∙ none_on_line b xs order.1 further
 
-  found_first : (list : List Mapping) → IsInOrder list → find (is_on_line_at_or_after line column) list ≡ on_line (first_past (up_to line column) list)
+  found_first : (list : List Mapping) → IsInOrder list → find (is_on_line_at_or_after line column) list ≡ on_line line (first_past (up_to line column) list)
   found_first [] order = refl
   found_first (a ∷ xs) order =
       ⊎_elim
-      (λ yes. cond-false _ _ _ (not_kept a yes) ∙ found_first xs (tail_in_order a xs order) ∙ ap on_line (sym (first_passes (up_to line column) a xs yes)))
-      (λ no. found no ∙ ap on_line (sym (first_stops (up_to line column) a xs no)))
+      (λ yes. cond-false _ _ _ (not_kept a yes) ∙ found_first xs (tail_in_order a xs order) ∙ ap (on_line line) (sym (first_passes (up_to line column) a xs yes)))
+      (λ no. found no ∙ ap (on_line line) (sym (first_stops (up_to line column) a xs no)))
       (cases_Bool (is_up_to (up_to line column) a))
     where
-      found : is_up_to (up_to line column) a ≡ false → find (is_on_line_at_or_after line column) (a ∷ xs) ≡ on_line (Some a)
+      found : is_up_to (up_to line column) a ≡ false → find (is_on_line_at_or_after line column) (a ∷ xs) ≡ on_line line (Some a)
       found past =
           ⊎_elim
           (λ (below : line < a.line). none_on_line a xs order below ∙ sym (on_line_other a (λ same. omega arith)))
@@ -129,13 +124,13 @@ module _ (line column : ℕ) where
           (not_before (position_at line column) a past)
 
   -- where the first mapping that is not before the position stands on the line, it answers, else nothing does
-  first_answers : (list : List Mapping) → IsInOrder list → answer_at_or_after list line column ≡ answer_of_last (on_line (first_past (up_to line column) list))
+  first_answers : (list : List Mapping) → IsInOrder list → answer_at_or_after list line column ≡ answer_of_last (on_line line (first_past (up_to line column) list))
   unfolding answer_at_or_after
   first_answers list order = ap answer_of_last (found_first list order)
 
   module _ (list : List Mapping) (order : IsInOrder list) where
-    answers : (first : Option Mapping) → first ≡ first_past (up_to line column) list → answer_of_last (on_line first) ≡ answer_at_or_after list line column
-    answers first is = ap (λ o. answer_of_last (on_line o)) is ∙ sym (first_answers list order)
+    answers : (first : Option Mapping) → first ≡ first_past (up_to line column) list → answer_of_last (on_line line first) ≡ answer_at_or_after list line column
+    answers first is = ap (λ o. answer_of_last (on_line line o)) is ∙ sym (first_answers list order)
 
     pub first_on_line : (m : Mapping) → Some m ≡ first_past (up_to line column) list → m.line ≡ line → answer_of m ≡ answer_at_or_after list line column
     first_on_line m first same = sym (ap answer_of_last (on_line_same m same)) ∙ answers (Some m) first

@@ -1,10 +1,13 @@
 -- What stands up to a bound, on either side of its position.
-use Rattle.std.proofs.Common.{◌≡◌, ◌<◌, ◌≤◌, true, false, arith, ⊎_elim, inl}
-use Rattle.std.proofs.lemmas.Bool.{cases_lt, both_ways, not-true, not_from_false}
+use Rattle.std.proofs.Common.{◌≡◌, ℕ, ◌+◌, ◌-◌, ◌<◌, ◌≤◌, Bool, true, false, cond, eqb, sym, ap, subst, ◌∙◌, arith, ⊎_elim, inl, inr}
+use Rattle.std.proofs.lemmas.Bool.{cases_lt, both_ways, not-true, not_from_false, not_from_true}
 use Rattle.smap_mappings.specs.Order.{IsAtOrBefore}
-use Rattle.smap_mappings.specs.Range.{at_position}
+use Rattle.smap_mappings.specs.Range.{position_at}
 use Rattle.smap_mappings.specs.declared.mapping.Mapping.{Mapping}
-use Rattle.smap_index.specs.Private.Search.{is_on_side, is_up_to}
+use Rattle.smap_index.specs.Private.Search.{is_on_side, is_up_to, end_on_side, end_of}
+use Rattle.smap_index.specs.Private.Walk.{end_in}
+use Rattle.smap_index.specs.Parts.{placed_mapping}
+use Rattle.smap_index.specs.declared.part.Part.{Part}
 use Rattle.smap_index.specs.declared.bound.Bound.{Bound}
 use Rattle.smap_index.specs.declared.bound.Side.{Side}
 use Rattle.smap_index.specs.declared.bound.Side.TheVariants.{Before, Through}
@@ -25,20 +28,51 @@ side_above Through p m above = not_from_false _ (from_not_before m p (inl above)
 module _ (bound : Bound) where
   -- what stands before a mapping that stands up to the bound does too
   pub passes_back : (a b : Mapping) → IsAtOrBefore a b → is_up_to bound b ≡ true → is_up_to bound a ≡ true
-  passes_back a b order is = side_passes_back bound.side (at_position bound.position) a b order is
+  passes_back a b order is = side_passes_back bound.side (position_at bound.line bound.column) a b order is
 
   -- it is on the bound's line, or on one before it
-  pub line_up_to : (m : Mapping) → is_up_to bound m ≡ true → m.line ≤ bound.position.line
-  line_up_to m is = side_line bound.side (at_position bound.position) m is
+  pub line_up_to : (m : Mapping) → is_up_to bound m ≡ true → m.line ≤ bound.line
+  line_up_to m is = side_line bound.side (position_at bound.line bound.column) m is
 
   -- and what is on a line before the bound's does
-  pub lines_above : (m : Mapping) → m.line < bound.position.line → is_up_to bound m ≡ true
-  lines_above m above = side_above bound.side (at_position bound.position) m above
+  pub lines_above : (m : Mapping) → m.line < bound.line → is_up_to bound m ≡ true
+  lines_above m above = side_above bound.side (position_at bound.line bound.column) m above
 
   -- so what does not is on the bound's line, or on one after it
-  pub line_past : (m : Mapping) → is_up_to bound m ≡ false → bound.position.line ≤ m.line
+  pub line_past : (m : Mapping) → is_up_to bound m ≡ false → bound.line ≤ m.line
   line_past m past =
       ⊎_elim
-      (λ (above : m.line < bound.position.line). absurd (both_ways _ past (lines_above m above)))
-      (λ (least : bound.position.line ≤ m.line). least)
-      (cases_lt m.line bound.position.line)
+      (λ (above : m.line < bound.line). absurd (both_ways _ past (lines_above m above)))
+      (λ (least : bound.line ≤ m.line). least)
+      (cases_lt m.line bound.line)
+
+-- ---- on the bound's line the column decides
+
+side_reaches : (side : Side) (line column : ℕ) (m : Mapping) → m.line ≡ line → m.column < end_on_side side column → is_on_side side (position_at line column) m ≡ true
+side_reaches Before line column m same less = from_before m (position_at line column) (inr (same, less))
+side_reaches Through line column m same less = not_from_false _ (from_not_before m (position_at line column) (inr (same, omega arith)))
+
+side_past : (side : Side) (line column : ℕ) (m : Mapping) → m.line ≡ line → end_on_side side column ≤ m.column → is_on_side side (position_at line column) m ≡ false
+side_past Before line column m same least = from_not_before (position_at line column) m (inr (sym same, least))
+side_past Through line column m same least = not_from_true _ (from_before (position_at line column) m (inr (sym same, omega arith)))
+
+column_before : (first : Bool) (offset column end : ℕ) → column < cond first (end - offset) end → cond first (offset + column) column < end
+column_before true offset column end less = omega arith
+column_before false offset column end less = less
+
+column_past : (first : Bool) (offset column end : ℕ) → cond first (end - offset) end ≤ column → end ≤ cond first (offset + column) column
+column_past true offset column end least = omega arith
+column_past false offset column end least = least
+
+module _ (bound : Bound) (part : Part) (m : Mapping) (line end column : ℕ) (on_line : part.line + line ≡ bound.line) (same : m.line ≡ line) (end_is : end ≡ end_in part bound line) (column_is : column ≡ m.column) where
+  there : part.line + m.line ≡ bound.line
+  there = ap (λ line. part.line + line) same ∙ on_line
+
+  end_there : end ≡ end_in part bound m.line
+  end_there = end_is ∙ ap (end_in part bound) (sym same)
+
+  pub reaches_in : column < end → is_up_to bound (placed_mapping part m) ≡ true
+  reaches_in less = side_reaches bound.side bound.line bound.column (placed_mapping part m) there (column_before (eqb m.line 0) part.column m.column (end_of bound) (subst (λ end. m.column < end) end_there (omega arith)))
+
+  pub past_in : end ≤ column → is_up_to bound (placed_mapping part m) ≡ false
+  past_in least = side_past bound.side bound.line bound.column (placed_mapping part m) there (column_past (eqb m.line 0) part.column m.column (end_of bound) (subst (λ end. end ≤ m.column) end_there (omega arith)))

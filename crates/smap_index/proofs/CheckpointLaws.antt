@@ -7,8 +7,7 @@ use Rattle.smap_mappings.specs.declared.mapping.Mapping.{Mapping}
 use Rattle.smap_mappings.specs.declared.mapping.Origin.{Origin}
 use Rattle.smap_index.specs.Parts.{placed_origin, placed_mapping}
 use Rattle.smap_index.specs.Checkpoint.{origin_of, mapping_of, state_of}
-use Rattle.smap_index.specs.Private.Walk.{checkpoint_at, kind_of, kind_with, mapping_at, origin_of_kind, walked_mapping}
-use Rattle.smap_index.specs.declared.checkpoint.Kind.{Kind}
+use Rattle.smap_index.specs.Private.Walk.{checkpoint_at, kind_of, kind_with}
 use Rattle.smap_index.specs.declared.part.Part.{Part}
 
 -- what was added is taken off
@@ -57,26 +56,3 @@ module _ (number : ℕ) (part : Part) (m : Mapping) (after : Cursor) where
         column = cond (eqb (sym at.line i) 0) (part.column + sym at.column i) (sym at.column i);
         origin = origin i;
       }
-
--- ---- the mapping of a segment is known by what it has and the state after it
-
-module _ (state : Cursor) where
-  origin_with_name : (o : Origin) (name : Option ℕ) → o.name ≡ name → IsOriginAt state o → origin_of_kind (kind_with name) state ≡ Some o
-  origin_with_name o None none at = λ i. Some (record { source = sym at.source i; line = sym at.line i; column = sym at.column i; name = sym none i })
-  origin_with_name o (Some n) some at =
-      let same : n ≡ state.name = subst (λ name. IfSome name (λ n. n ≡ state.name)) some at.name in
-      let name : Some state.name ≡ o.name = ap Some (sym same) ∙ sym some in
-      λ i. Some (record { source = sym at.source i; line = sym at.line i; column = sym at.column i; name = name i })
-
-  origin_there : (origin : Option Origin) → IfSome origin (IsOriginAt state) → origin_of_kind (kind_of origin) state ≡ origin
-  origin_there None at = refl
-  origin_there (Some o) at = origin_with_name o o.name refl at
-
-  mapping_there : (m : Mapping) → IsMappingAt state m → m ≡ mapping_at (kind_of m.origin) state
-  mapping_there m at = let origin = sym (origin_there m.origin at.origin) in λ i. record { line = at.line i; column = at.column i; origin = origin i }
-
-pub walked_there : (part : Part) (m : Mapping) (after : Cursor) → IsMappingAt after m → (kind : Kind) → kind ≡ kind_of m.origin → (state : Cursor) → after ≡ state → placed_mapping part m ≡ walked_mapping part kind state
-unfolding walked_mapping
-walked_there part m after at kind is state same =
-    ap (placed_mapping part) (mapping_there after m at) ∙ ap (λ kind. placed_mapping part (mapping_at kind after)) (sym is)
-    ∙ ap (λ state. placed_mapping part (mapping_at kind state)) same

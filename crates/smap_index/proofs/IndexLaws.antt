@@ -15,7 +15,7 @@ use Rattle.smap_index.specs.Parts.{placed, joined}
 use Rattle.smap_index.specs.Answer.{answer_of, answer_at_or_before}
 use Rattle.smap_index.specs.Faults.{most_interval}
 use Rattle.smap_index.specs.Marks.{marks, IsCheckpointOf, used_lines_in}
-use Rattle.smap_index.specs.Private.Search.{mappings_at, front_up_to, last_from, first_past, last_checkpoint, next_checkpoint}
+use Rattle.smap_index.specs.Private.Search.{mappings_at, front_up_to, last_from, first_past, on_line, last_checkpoint, next_checkpoint}
 use Rattle.smap_index.specs.Index.{IndexContents, IsIndex}
 use Rattle.smap_index.specs.declared.answer.Answer.TheVariants.{Nothing}
 use Rattle.smap_index.specs.declared.bound.Bound.{Bound}
@@ -78,7 +78,7 @@ module _ (index : IndexContents) (is : IsIndex index) where
       part_within = slice_get_within index.parts checkpoint.part found.part found.part_is
 
       -- it is so too where the last one that does stands on another line
-      pub first_elsewhere : (seen : IndexContents) → index ≡ seen → ((mapping_of checkpoint).line ≡ bound.position.line → ⊥) → option_map mapping_of (next_checkpoint bound index.checkpoints) ≡ first_past bound (joined seen.parts)
+      pub first_elsewhere : (seen : IndexContents) → index ≡ seen → ((mapping_of checkpoint).line ≡ bound.line → ⊥) → option_map mapping_of (next_checkpoint bound index.checkpoints) ≡ first_past bound (joined seen.parts)
       first_elsewhere seen same other =
           sym (slice_get-map mapping_of index.checkpoints (front_up_to bound (mappings_at index.checkpoints)))
           ∙ sym (found.first_elsewhere other)
@@ -95,18 +95,22 @@ module _ (index : IndexContents) (is : IsIndex index) where
         pub state_after : IsAfter part.text (found.segment + 1) (state_of part checkpoint)
         state_after = subst (λ (part : Part). IsAfter part.text (found.segment + 1) (state_of part checkpoint)) same_part found.state_is
 
+        -- where the checkpoint is on the bound's line, the state is too
+        pub state_on_line : (mapping_of checkpoint).line ≡ bound.line → part.line + (state_of part checkpoint).line ≡ bound.line
+        state_on_line same = ap (λ (part : Part). part.line + (state_of part checkpoint).line) (sym same_part) ∙ found.line_is ∙ same
+
         -- no mapping of its part is past the limit
         pub part_in_range : list_any is_mapping_past_limit (placed part) ≡ false
         part_in_range = all_in_range index.parts checkpoint.part part (faultless index.parts index.k is.sound).range part_within read
 
         -- the first past the bound is decoded after it, or is the next checkpoint's mapping
         pub first_after : (seen : IndexContents) → index ≡ seen → (decoded : Option Mapping)
-            → ((j : ℕ) → IsAfter part.text j (state_of part checkpoint) → decoded ≡ first_past bound (take (index.k - 1) (drop j (placed part))))
+            → ((j : ℕ) → IsAfter part.text j (state_of part checkpoint) → decoded ≡ on_line bound.line (first_past bound (take (index.k - 1) (drop j (placed part)))))
             → option_or decoded (option_map mapping_of (next_checkpoint bound index.checkpoints)) ≡ first_past bound (joined seen.parts)
         first_after seen same decoded is_first =
             let checkpoints = mappings_at index.checkpoints in
             let is_here = is_first (found.segment + 1) state_after in
-            let moved = ap (λ (part : Part). first_past bound (take (index.k - 1) (drop (found.segment + 1) (placed part)))) (sym same_part) in
+            let moved = ap (λ (part : Part). on_line bound.line (first_past bound (take (index.k - 1) (drop (found.segment + 1) (placed part))))) (sym same_part) in
             ap (option_or decoded) (sym (slice_get-map mapping_of index.checkpoints (front_up_to bound checkpoints)))
             ∙ ap (λ first. option_or first (first_past bound checkpoints)) (is_here ∙ moved)
             ∙ sym found.first_is ∙ ap (λ (i : IndexContents). first_past bound (joined i.parts)) same

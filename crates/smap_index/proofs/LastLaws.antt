@@ -1,5 +1,5 @@
 -- The last mapping at the front of a list and the first after it, one mapping of the list after another.
-use Rattle.std.proofs.Common.{◌≡◌, ℕ, ◌+◌, ◌-◌, ◌<◌, suc, zero, List, [], ◌∷◌, ◌++◌, length, take, drop, Option, Some, None, cond, false, true, refl, ap, sym, ◌∙◌, arith, one-add, ⊎_elim}
+use Rattle.std.proofs.Common.{◌≡◌, ℕ, ◌+◌, suc, zero, List, [], ◌∷◌, ◌++◌, length, take, drop, Option, Some, false, true, refl, ap, sym, ◌∙◌, arith, one-add, ⊎_elim}
 use Rattle.std.specs.Prelude.{option_map}
 use Rattle.std.specs.List.{slice_get, last_or}
 use Rattle.std.specs.Option.{option_or}
@@ -8,14 +8,13 @@ use Rattle.std.proofs.lemmas.Option.{slice_get-map}
 use Rattle.smap_mappings.specs.State.{IsNext}
 use Rattle.smap_mappings.specs.Counts.{segment_count}
 use Rattle.smap_mappings.specs.Mappings.{mappings_of}
-use Rattle.smap_mappings.specs.Range.{is_mapping_past_limit}
 use Rattle.smap_mappings.specs.declared.cursor.Cursor.{Cursor}
 use Rattle.smap_mappings.specs.declared.mapping.Mapping.{Mapping}
 use Rattle.smap_index.specs.Parts.{placed_mapping, placed}
 use Rattle.smap_index.specs.Private.Search.{is_up_to, front_up_to, last_from, first_past}
 use Rattle.smap_index.specs.declared.bound.Bound.{Bound}
 use Rattle.smap_index.specs.declared.part.Part.{Part}
-use Rattle.smap_index.proofs.WalkLaws.{length-placed, same_place}
+use Rattle.smap_index.proofs.WalkLaws.{length-placed}
 
 module _ (bound : Bound) where
   pub passes : (m : Mapping) (xs : List Mapping) → is_up_to bound m ≡ true → front_up_to bound (m ∷ xs) ≡ suc (front_up_to bound xs)
@@ -63,35 +62,3 @@ next_left part n m after next =
 -- after the last segment none is left
 pub none_left : (part : Part) (n : ℕ) → n ≡ segment_count part.text → drop n (placed part) ≡ []
 none_left part n all = ap (λ n. drop n (placed part)) (all ∙ sym (length-placed part)) ∙ drop_all (placed part)
-
-take_one : {A : Type 0} (left : ℕ) (x : A) (xs : List A) → 0 < left → take left (x ∷ xs) ≡ x ∷ take (left - 1) xs
-take_one zero x xs some = absurd (omega arith)
-take_one (suc left) x xs some = let same : left ≡ suc left - 1 = omega arith in ap (λ n. x ∷ take n xs) same
-
-take_none : (left : ℕ) → take {A = Mapping} left [] ≡ []
-take_none zero = refl
-take_none (suc left) = refl
-
-module _ (bound : Bound) (part : Part) (n left : ℕ) (e : Option Mapping) where
-  module _ (m : Mapping) (after : Cursor) (next : IsNext part.text n m after) (some : 0 < left) (there : Mapping) (is : cond (is_mapping_past_limit (placed_mapping part m)) None (Some (placed_mapping part m)) ≡ Some there) where
-    one_left : take left (drop n (placed part)) ≡ there ∷ take (left - 1) (drop (n + 1) (placed part))
-    one_left =
-        ap (take left) (next_left part n m after next) ∙ take_one left (placed_mapping part m) (drop (n + 1) (placed part)) some
-        ∙ ap (λ m. m ∷ take (left - 1) (drop (n + 1) (placed part))) (same_place (placed_mapping part m) there is)
-
-    pub goes_on : is_up_to bound there ≡ true
-        → (last_from bound e (take left (drop n (placed part))) ≡ last_from bound (Some there) (take (left - 1) (drop (n + 1) (placed part))))
-        × (first_past bound (take left (drop n (placed part))) ≡ first_past bound (take (left - 1) (drop (n + 1) (placed part))))
-    goes_on reached = (ap (last_from bound e) one_left ∙ last_passes bound e there _ reached, ap (first_past bound) one_left ∙ first_passes bound there _ reached)
-
-    pub ends : is_up_to bound there ≡ false → (last_from bound e (take left (drop n (placed part))) ≡ e) × (first_past bound (take left (drop n (placed part))) ≡ Some there)
-    ends past = (ap (last_from bound e) one_left ∙ last_stops bound e there _ past, ap (first_past bound) one_left ∙ first_stops bound there _ past)
-
-  nothing_left : (xs : List Mapping) → xs ≡ [] → (last_from bound e xs ≡ e) × (first_past bound xs ≡ None)
-  nothing_left xs none = (ap (last_from bound e) none, ap (first_past bound) none)
-
-  pub ends_with_part : n ≡ segment_count part.text → (last_from bound e (take left (drop n (placed part))) ≡ e) × (first_past bound (take left (drop n (placed part))) ≡ None)
-  ends_with_part all = nothing_left _ (ap (take left) (none_left part n all) ∙ take_none left)
-
-  pub ends_with_count : left ≡ 0 → (last_from bound e (take left (drop n (placed part))) ≡ e) × (first_past bound (take left (drop n (placed part))) ≡ None)
-  ends_with_count none = nothing_left _ (ap (λ left. take left (drop n (placed part))) none)

@@ -2,6 +2,7 @@ pub mod Halving
 pub mod PositionLaws
 pub mod BoundLaws
 pub mod LastLaws
+pub mod LineLaws
 pub mod ListLaws
 pub mod NumberLaws
 pub mod CheckpointLaws

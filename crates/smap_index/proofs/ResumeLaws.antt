@@ -1,23 +1,24 @@
 -- What stands next to a bound is found from the last checkpoint that stands up to it, in the checkpoint's tile, or it is
 -- the next checkpoint's mapping.
-use Rattle.std.proofs.Common.{◌≡◌, ℕ, ◌+◌, ◌-◌, ◌<◌, ◌≤◌, suc, zero, true, false, List, [], ◌∷◌, ◌++◌, length, take, drop, Option, Some, None, refl, sym, ap, subst, ◌∙◌, arith, ⊎_elim}
+use Rattle.std.proofs.Common.{◌≡◌, ℕ, ◌+◌, ◌-◌, ◌<◌, ◌≤◌, suc, zero, true, false, List, [], ◌∷◌, ◌++◌, length, take, drop, map, eqb, eq-eqb, Option, Some, None, refl, sym, ap, subst, ◌∙◌, arith, ⊎_elim}
 use Rattle.std.specs.List.{AllByRecursion, slice_get, last_or}
 use Rattle.std.specs.Option.{option_or}
-use Rattle.std.proofs.lemmas.Bool.{cases_Bool, cases_lt}
+use Rattle.std.proofs.lemmas.Bool.{cases_Bool, cases_lt, cond-true, cond-false, both_ways}
 use Rattle.std.proofs.Math.Seq.{take-append-add}
 use Rattle.smap_mappings.specs.Order.{IsInOrder}
+use Rattle.smap_mappings.specs.Mappings.{mappings_of}
 use Rattle.smap_mappings.specs.State.{IsAfter}
 use Rattle.smap_mappings.specs.declared.mapping.Mapping.{Mapping}
 use Rattle.smap_index.specs.Checkpoint.{mapping_of, state_of}
-use Rattle.smap_index.specs.Parts.{placed}
+use Rattle.smap_index.specs.Parts.{placed, placed_mapping}
 use Rattle.smap_index.specs.Answer.{answer_of, answer_of_last, answer_at_or_before}
-use Rattle.smap_index.specs.Private.Search.{mappings_at, is_up_to, front_up_to, last_from, first_past, last_checkpoint}
+use Rattle.smap_index.specs.Private.Search.{mappings_at, is_up_to, front_up_to, last_from, first_past, last_checkpoint, on_line}
 use Rattle.smap_index.specs.declared.answer.Answer.TheVariants.{Nothing}
 use Rattle.smap_index.specs.declared.bound.Bound.{Bound}
 use Rattle.smap_index.specs.declared.part.Part.{Part}
 use Rattle.smap_index.specs.declared.checkpoint.Checkpoint.{Checkpoint}
-use Rattle.smap_index.proofs.AnswerLaws.{through, on_line, on_line_same, on_line_other, last_answers}
-use Rattle.smap_index.proofs.BoundLaws.{line_up_to, lines_above}
+use Rattle.smap_index.proofs.AnswerLaws.{through, on_line_same, on_line_other, last_answers}
+use Rattle.smap_index.proofs.BoundLaws.{line_up_to, lines_above, line_past}
 use Rattle.smap_index.proofs.ListLaws.{tail_in_order}
 use Rattle.smap_index.proofs.LastLaws.{passes, stops, last_passes, last_stops, first_passes, first_stops, first_of_both}
 use Rattle.smap_index.proofs.MarkLaws.{slice_get-after}
@@ -44,6 +45,32 @@ below m n most other = ⊎_elim (λ less. less) (λ (least : n ≤ m). let same 
 some_last : {A : Type 0} (a : A) (xs : List A) → (m : A) × (last_or (Some a) xs ≡ Some m)
 some_last a [] = (a, refl)
 some_last a (x ∷ xs) = some_last x xs
+
+some_same : {A : Type 0} (a b : A) → Some a ≡ Some b → a ≡ b
+some_same a b same = cc
+
+none_or : {A : Type 0} (a b : Option A) (x : A) → option_or a b ≡ Some x → (a ≡ Some x → ⊥) → b ≡ Some x
+none_or None b x is not_first = is
+none_or (Some a) b x is not_first = absurd (not_first is)
+
+-- what stands on another line may be left out of the former, where it is the latter
+or_on_line : (line : ℕ) (first next whole : Option Mapping) → whole ≡ option_or first next → ((m : Mapping) → first ≡ Some m → (m.line ≡ line → ⊥) → next ≡ Some m) → whole ≡ option_or (on_line line first) next
+or_on_line line None next whole is same = is
+or_on_line line (Some m) next whole is same =
+    ⊎_elim
+    (λ here. is ∙ ap (λ o. option_or o next) (sym (cond-true (eqb m.line line) (Some m) None here)))
+    (λ other. is ∙ sym (same m refl (λ on. both_ways _ other (eq-eqb _ _ on))) ∙ ap (λ o. option_or o next) (sym (cond-false (eqb m.line line) (Some m) None other)))
+    (cases_Bool (eqb m.line line))
+
+-- the line of a mapping of a part is not before the part's
+line_of_placed : (part : Part) (ms : List Mapping) (n : ℕ) (m : Mapping) → slice_get (map (placed_mapping part) ms) n ≡ Some m → part.line ≤ m.line
+line_of_placed part [] n m there = absurd (cc)
+line_of_placed part (a ∷ ms) zero m there = let same = ap (λ (m : Mapping). m.line) (some_same (placed_mapping part a) m there) in omega arith
+line_of_placed part (a ∷ ms) (suc n) m there = line_of_placed part ms n m there
+
+line_there : (m : Mapping) (part : Part) (segment : ℕ) → slice_get (placed part) segment ≡ Some m → part.line + (m.line - part.line) ≡ m.line
+unfolding placed
+line_there m part segment there = let least = line_of_placed part (mappings_of part.text) segment m there in omega arith
 
 module _ (bound : Bound) where
   -- ---- the front
@@ -92,8 +119,32 @@ module _ (bound : Bound) where
   first_taken (suc n) [] ys after = refl
   first_taken (suc n) (x ∷ xs) ys after = ap (λ o. option_or o (first_past bound (x ∷ xs ++ ys))) (first_stops bound x (take n xs) after) ∙ sym (first_stops bound x (xs ++ ys) after)
 
+  -- and what is first there is first in the whole
+  first_later : (n : ℕ) (xs ys : List Mapping) (m : Mapping) → IsPast (xs ++ ys) → first_past bound (take n xs) ≡ Some m → first_past bound (xs ++ ys) ≡ Some m
+  first_later zero xs ys m after is = absurd (cc)
+  first_later (suc n) [] ys m after is = absurd (cc)
+  first_later (suc n) (x ∷ xs) ys m after is = first_stops bound x (xs ++ ys) after ∙ sym (first_stops bound x (take n xs) after) ∙ is
+
+  first_among : (l : ℕ) (xs : List Mapping) (m : Mapping) → AllByRecursion (λ (m : Mapping). m.line ≡ l) xs → first_past bound xs ≡ Some m → (m.line ≡ l) × (is_up_to bound m ≡ false)
+  first_among l [] m all is = absurd (cc)
+  first_among l (x ∷ xs) m all is =
+      ⊎_elim
+      (λ reached. first_among l xs m all.1 (sym (first_passes bound x xs reached) ∙ is))
+      (λ past.
+      let same : x ≡ m = some_same x m (sym (first_stops bound x xs past) ∙ is) in
+      (sym (ap (λ (m : Mapping). m.line) same) ∙ all.0, sym (ap (is_up_to bound) same) ∙ past))
+      (cases_Bool (is_up_to bound x))
+
+  -- of the mappings on the line of one that stands up to the bound, the first that does not is on the bound's line
+  past_on_line : (a : Mapping) (xs : List Mapping) (m : Mapping) → is_up_to bound a ≡ true → AllByRecursion (λ (m : Mapping). m.line ≡ a.line) xs → first_past bound xs ≡ Some m → m.line ≡ bound.line
+  past_on_line a xs m reached all is =
+      let first = first_among a.line xs m all is in
+      let most = line_up_to bound a reached in
+      let least = line_past bound m first.1 in
+      omega (arith, first.0)
+
   -- all on a line before the bound's stand up to it
-  first_above : (l : ℕ) (xs : List Mapping) → l < bound.position.line → AllByRecursion (λ (m : Mapping). m.line ≡ l) xs → first_past bound xs ≡ None
+  first_above : (l : ℕ) (xs : List Mapping) → l < bound.line → AllByRecursion (λ (m : Mapping). m.line ≡ l) xs → first_past bound xs ≡ None
   first_above l [] above all = refl
   first_above l (x ∷ xs) above all = first_passes bound x xs (lines_above bound x (let same : x.line ≡ l = all.0 in omega arith)) ∙ first_above l xs above all.1
 
@@ -121,9 +172,10 @@ module _ (bound : Bound) where
       pub part_is : slice_get parts c.part ≡ Some part
       pub state_is : IsAfter part.text (segment + 1) (state_of part c)
       pub last_is : (e : Option Mapping) → last_from bound e list ≡ last_from bound (Some (mapping_of c)) (walked part segment)
-      pub on_line : (m : Mapping) → last_from bound (Some (mapping_of c)) (walked part segment) ≡ Some m → m.line ≡ (mapping_of c).line
-      pub first_is : first_past bound list ≡ option_or (first_past bound (walked part segment)) (first_past bound (mappings_at checkpoints))
-      pub first_elsewhere : ((mapping_of c).line ≡ bound.position.line → ⊥) → first_past bound list ≡ first_past bound (mappings_at checkpoints)
+      pub last_line : (m : Mapping) → last_from bound (Some (mapping_of c)) (walked part segment) ≡ Some m → m.line ≡ (mapping_of c).line
+      pub line_is : part.line + (state_of part c).line ≡ (mapping_of c).line
+      pub first_is : first_past bound list ≡ option_or (on_line bound.line (first_past bound (walked part segment))) (first_past bound (mappings_at checkpoints))
+      pub first_elsewhere : ((mapping_of c).line ≡ bound.line → ⊥) → first_past bound list ≡ first_past bound (mappings_at checkpoints)
 
     -- a checkpoint that stands up to the bound, where the rest does not
     in_tile : (list : List Mapping) (c : Checkpoint) (rest : List Mapping) (checkpoints : List Checkpoint) → IsTile parts k list c rest → is_up_to bound (mapping_of c) ≡ true → IsPast rest → first_past bound rest ≡ first_past bound (mappings_at checkpoints) → IsResumed list (c ∷ checkpoints) c
@@ -149,13 +201,17 @@ module _ (bound : Bound) where
           last_is = λ e.
               ap (last_from bound e) tile.list_is ∙ last_passes bound e (mapping_of c) (tile.after ++ rest) reached
               ∙ last_before (Some (mapping_of c)) tile.after rest after ∙ sym short;
-          on_line = λ m last. last_on_line (mapping_of c).line (mapping_of c) tile.after (front_up_to bound tile.after) m refl tile.on_line (sym short ∙ last);
-          first_is =
+          last_line = λ m last. last_on_line (mapping_of c).line (mapping_of c) tile.after (front_up_to bound tile.after) m refl tile.on_line (sym short ∙ last);
+          line_is = line_there (mapping_of c) tile.part tile.segment tile.mapping_is;
+          first_is = or_on_line bound.line (first_past bound (walked tile.part tile.segment)) (first_past bound (mappings_at (c ∷ checkpoints))) (first_past bound list) (
               first ∙ ap (option_or (first_past bound tile.after)) (sym taken) ∙ sym (or_after (first_past bound tile.after) (first_past bound (take n tile.part_rest)) (first_past bound rest))
               ∙ ap (λ o. option_or o (first_past bound rest)) (sym (ap (first_past bound) there ∙ first_of_both bound tile.after (take n tile.part_rest)))
-              ∙ ap (option_or (first_past bound (walked tile.part tile.segment))) (sym others);
+              ∙ ap (option_or (first_past bound (walked tile.part tile.segment))) (sym others)) (λ m is other.
+              let front = sym (ap (first_past bound) there ∙ first_of_both bound tile.after (take n tile.part_rest)) ∙ is in
+              others ∙ ap (first_past bound) tile.rest_is
+              ∙ first_later n tile.part_rest tile.later m past (none_or _ _ m front (λ in_tile. other (past_on_line (mapping_of c) tile.after m reached tile.on_line in_tile))));
           first_elsewhere = λ other.
-              let above : (mapping_of c).line < bound.position.line = let line = line_up_to bound (mapping_of c) reached in below _ _ line other in
+              let above : (mapping_of c).line < bound.line = let line = line_up_to bound (mapping_of c) reached in below _ _ line other in
               first ∙ ap (λ o. option_or o (first_past bound rest)) (first_above (mapping_of c).line tile.after above tile.on_line) ∙ sym others;
         }
 
@@ -175,8 +231,9 @@ module _ (bound : Bound) where
           last_is = λ e.
               ap (last_from bound e) whole ∙ last_through e (mapping_of c ∷ tile.after) (mapping_of next) after (subst IsInOrder whole order) reached
               ∙ sym (last_passes bound None (mapping_of next) after reached) ∙ ap (last_from bound None) (sym begins) ∙ resumed.last_is None;
-          on_line = resumed.on_line;
-          first_is = first ∙ resumed.first_is ∙ ap (option_or (first_past bound (walked resumed.part resumed.segment))) (sym others);
+          last_line = resumed.last_line;
+          line_is = resumed.line_is;
+          first_is = first ∙ resumed.first_is ∙ ap (option_or (on_line bound.line (first_past bound (walked resumed.part resumed.segment)))) (sym others);
           first_elsewhere = λ other. first ∙ resumed.first_elsewhere other ∙ sym others;
         }
 
@@ -229,19 +286,19 @@ module _ (line column : ℕ) (parts : List Part) (k : ℕ) where
   -- where no checkpoint is at the position or before it, nothing answers
   pub none_answers : (list : List Mapping) (checkpoints : List Checkpoint) → IsInOrder list → IsTiled parts k list checkpoints → last_checkpoint (through line column) checkpoints ≡ None → answer_at_or_before list line column ≡ Nothing
   none_answers list checkpoints order tiled none =
-      last_answers line column list order ∙ ap (λ o. answer_of_last (on_line line column o)) (none_resumed (through line column) parts k list checkpoints tiled none).0
+      last_answers line column list order ∙ ap (λ o. answer_of_last (on_line line o)) (none_resumed (through line column) parts k list checkpoints tiled none).0
 
   module _ (list : List Mapping) (checkpoints : List Checkpoint) (c : Checkpoint) (order : IsInOrder list) (resumed : IsResumed (through line column) parts k list checkpoints c) where
     -- where the checkpoint stands on the line, the last up to the position answers
     pub last_answers_on_line : (mapping_of c).line ≡ line → (m : Mapping) → Some m ≡ last_from (through line column) (Some (mapping_of c)) (walked (through line column) parts k resumed.part resumed.segment) → answer_at_or_before list line column ≡ answer_of m
     last_answers_on_line same m is =
-        last_answers line column list order ∙ ap (λ o. answer_of_last (on_line line column o)) (resumed.last_is None ∙ sym is)
-        ∙ ap answer_of_last (on_line_same line column m (resumed.on_line m (sym is) ∙ same))
+        last_answers line column list order ∙ ap (λ o. answer_of_last (on_line line o)) (resumed.last_is None ∙ sym is)
+        ∙ ap answer_of_last (on_line_same line column m (resumed.last_line m (sym is) ∙ same))
 
     -- where it stands on another line, nothing does
     pub none_on_line : ((mapping_of c).line ≡ line → ⊥) → answer_at_or_before list line column ≡ Nothing
     none_on_line other =
         let after = walked (through line column) parts k resumed.part resumed.segment in
         let m = some_last (mapping_of c) (take (front_up_to (through line column) after) after) in
-        last_answers line column list order ∙ ap (λ o. answer_of_last (on_line line column o)) (resumed.last_is None ∙ m.1)
-        ∙ ap answer_of_last (on_line_other line column m.0 (λ same. other (sym (resumed.on_line m.0 m.1) ∙ same)))
+        last_answers line column list order ∙ ap (λ o. answer_of_last (on_line line o)) (resumed.last_is None ∙ m.1)
+        ∙ ap answer_of_last (on_line_other line column m.0 (λ same. other (sym (resumed.last_line m.0 m.1) ∙ same)))

@@ -96,7 +96,7 @@ module _ (part : Part) (j n : ℕ) (m : Mapping) (after : Cursor) (next : IsNext
       ∙ or_from _ _ none (or_from _ _ within refl)
 
 -- an element of a list in which none passes a test does not pass it
-none_at : (test : Mapping → Bool) (list : List Mapping) (j : ℕ) (m : Mapping) → list_any test list ≡ false → slice_get list j ≡ Some m → test m ≡ false
+pub none_at : (test : Mapping → Bool) (list : List Mapping) (j : ℕ) (m : Mapping) → list_any test list ≡ false → slice_get list j ≡ Some m → test m ≡ false
 none_at test [] j m none there = absurd (cc)
 none_at test (x ∷ list) zero m none there = let e : x ≡ m = cc in sym (ap test e) ∙ (or_parts _ _ none).0
 none_at test (x ∷ list) (suc j) m none there = none_at test list j m (or_parts _ _ none).1 there

@@ -5,8 +5,8 @@ use Rattle.smap_mappings.specs.declared.cursor.Cursor.{Cursor}
 use Rattle.smap_mappings.specs.declared.mapping.Mapping.{Mapping}
 use Rattle.smap_mappings.specs.declared.mapping.Origin.{Origin}
 use Rattle.smap_index.specs.declared.checkpoint.Checkpoint.{Checkpoint}
-use Rattle.smap_index.specs.declared.checkpoint.Kind.{Kind}
-use Rattle.smap_index.specs.declared.checkpoint.Kind.TheVariants.{Unmapped, Mapped, Named}
+use Rattle.smap_mappings.specs.declared.kind.Kind.{Kind}
+use Rattle.smap_mappings.specs.declared.kind.Kind.TheVariants.{Unmapped, Mapped, Named}
 use Rattle.smap_index.specs.declared.part.Part.{Part}
 
 -- the origin that the running values are, with this name

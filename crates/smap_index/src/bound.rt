@@ -1,8 +1,7 @@
 //! The bound of a search: a position, and whether the mappings at it are before the bound or after it.
 
 ghost use Rattle.std.specs.Prelude.{◌≡◌};
-ghost use Rattle.smap_mappings.specs.Range.{at_position};
-ghost use Rattle.smap_index.specs.Private.Search.{is_up_to};
+ghost use Rattle.smap_index.specs.Private.Search.{end_of, is_up_to};
 
 use smap_mappings::{Mapping, Position};
 
@@ -13,46 +12,42 @@ pub enum Side {
     Through,
 }
 
-// Where a search ends. It finds what stands next to the bound, on either side.
+// Where a search ends: next to the position of this line and column, on either side of it.
 #[derive(Clone, Copy)]
 pub struct Bound {
-    pub position: Position,
+    pub line: u32,
+    pub column: u32,
     pub side: Side,
 }
 
 impl Bound {
-    // The bound at a position, which this side of it reaches.
-    #[inline(always)]
-    pub fn new(line: u32, column: u32, side: Side) -> Bound
-        ensures { result
-            ≡ record { position = record { line = line; column = column }; side = side } }
-    {
-        let position = Position {
-            line: line as u64,
-            column: column as u64,
-        };
-        Bound { position, side }
-    }
-
     // Whether the mapping stands up to the bound.
     #[inline(always)]
     pub fn reaches(&self, mapping: &Mapping) -> bool
         ensures { result ≡ is_up_to self.now mapping.now }
     {
-        self.reaches_position(&Position {
+        let end = Position {
+            line: self.line as u64,
+            column: self.column as u64,
+        };
+        let there = Position {
             line: mapping.line as u64,
             column: mapping.column as u64,
-        })
+        };
+        match self.side {
+            Side::Before => there.is_before(&end),
+            Side::Through => !end.is_before(&there),
+        }
     }
 
-    // Whether what stands at the position does so up to the bound.
+    // The column on the bound's line before which a mapping stands up to the bound.
     #[inline(always)]
-    pub fn reaches_position(&self, position: &Position) -> bool
-        ensures { result ≡ is_up_to self.now (at_position position.now) }
+    pub fn end(&self) -> u64
+        ensures { result ≡ end_of self.now }
     {
         match self.side {
-            Side::Before => position.is_before(&self.position),
-            Side::Through => !self.position.is_before(position),
+            Side::Before => self.column as u64,
+            Side::Through => self.column as u64 + 1,
         }
     }
 }

@@ -8,15 +8,7 @@ ghost use Rattle.smap_index.specs.Checkpoint.{origin_with, mapping_of, state_of}
 ghost use Rattle.smap_index.specs.Private.Walk.{checkpoint_at, kind_of, IsFitting};
 
 use crate::part::Part;
-use smap_mappings::{Cursor, Mapping, Origin, State};
-
-// What a segment has: a generated position alone, an origin too, or an origin with a name.
-#[derive(Clone, Copy)]
-pub enum Kind {
-    Unmapped,
-    Mapped,
-    Named,
-}
+use smap_mappings::{Cursor, Kind, Mapping, Origin, State};
 
 // A segment from which a look-up can begin: the number of its part, from 0, and what it has, which share a word; the byte
 // place after it in the part's text; and the running values there, at their place in the joined list. Of these the

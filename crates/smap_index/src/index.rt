@@ -111,7 +111,11 @@ impl Index {
         ensures onward { (meter.old.comparisons ≤ meter.new.comparisons)
             × (meter.old.segments ≤ meter.new.segments) }
     {
-        let through = Bound::new(line, column, Side::Through);
+        let through = Bound {
+            line,
+            column,
+            side: Side::Through,
+        };
         let nearest = nearest_checkpoints(&self.table, &through, meter);
         match nearest.last {
             Some(checkpoint) if checkpoint.line == line => {
@@ -136,7 +140,11 @@ impl Index {
         ensures onward { (meter.old.comparisons ≤ meter.new.comparisons)
             × (meter.old.segments ≤ meter.new.segments) }
     {
-        let before = Bound::new(line, column, Side::Before);
+        let before = Bound {
+            line,
+            column,
+            side: Side::Before,
+        };
         match self.first_past(&before, meter) {
             Some(mapping) if mapping.line == line => answer_of(&mapping),
             Some(_) => Answer::Nothing,
@@ -159,7 +167,7 @@ impl Index {
         let nearest = nearest_checkpoints(&self.table, bound, meter);
         let next = mapping_at(nearest.next);
         match nearest.last {
-            Some(checkpoint) if checkpoint.line as u64 == bound.position.line => {
+            Some(checkpoint) if checkpoint.line == bound.line => {
                 let part = &self.parts[checkpoint.part as usize];
                 let decoded = decode_after(part, checkpoint, self.k - 1, bound, meter);
                 decoded.next.or(next)

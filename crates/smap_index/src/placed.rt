@@ -43,7 +43,7 @@ fn placed_origin(part: &Part, origin: &Origin) -> Option<Origin>
 
 // What is added to the columns of this line of a part's text: the offset's column moves the text's first line alone.
 #[inline(always)]
-fn added_column(part: &Part, line: u32) -> u32
+pub fn added_column(part: &Part, line: u32) -> u32
     ensures { result ≡ (if line == 0 then part.now.column else 0) }
 {
     if line == 0 { part.column } else { 0 }

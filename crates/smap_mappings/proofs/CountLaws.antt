@@ -66,6 +66,15 @@ pub length-mappings_of : (text : List ℕ) → length (mappings_of text) ≡ seg
 unfolding mappings_of deltas_of
 length-mappings_of text = length-mappings_after [] (deltas_of text) ∙ length-map (segments_of text) delta_of
 
+past_end : {X : Type 0} (xs : List X) (j : ℕ) (x : X) → j ≡ length xs → slice_get xs j ≡ Some x → ⊥
+past_end [] j x all there = absurd (cc)
+past_end (y ∷ xs) zero x all there = omega arith
+past_end (y ∷ xs) (suc j) x all there = past_end xs j x (omega arith) there
+
+-- after the last segment there is no mapping
+pub none_past : (text : List ℕ) (j : ℕ) (mapping : Mapping) → j ≡ segment_count text → slice_get (mappings_of text) j ≡ Some mapping → ⊥
+none_past text j mapping all there = past_end (mappings_of text) j mapping (all ∙ sym (length-mappings_of text)) there
+
 pub decodes_start : (text : List ℕ) → DecodesUpTo text START []
 decodes_start text = record { j = 0; after = after_none text; list_is = refl }
 

@@ -18,6 +18,7 @@ pub mod Ranges
 pub mod ValueFaultLaws
 pub mod StepLaws
 pub mod StraightLaws
+pub mod LineWalkLaws
 pub mod Checking
 pub mod CheckLaws
 pub mod CountLaws

@@ -1,13 +1,17 @@
 -- The mappings of an accepted text are in order.
-use Rattle.std.proofs.Common.{◌≡◌, ℕ, ◌+◌, ◌≤◌, true, false, eqb, List, [], ◌∷◌, ◌++◌, length, map, filter, sym, ap, ◌∙◌, arith, eq-eqb, ⊎_elim, inl, inr}
+use Rattle.std.proofs.Common.{◌≡◌, ℕ, ◌+◌, ◌≤◌, suc, zero, true, false, eqb, List, [], ◌∷◌, ◌++◌, length, drop, map, filter, Some, sym, ap, subst, ◌∙◌, arith, eq-eqb, ⊎_elim, inl, inr}
 use Rattle.std.specs.Prelude.{ℤ, pos, negsuc, ◌+ℤ◌, int_lt}
-use Rattle.std.specs.List.{list_any, slice_split}
+use Rattle.std.specs.List.{list_any, slice_get, slice_split}
 use Rattle.std.proofs.lemmas.Bool.{and_parts, or_cases, or_left, or_right, not-true, both_ways, cases_order}
 use Rattle.std.proofs.lemmas.Int.{ints}
+use Rattle.std.proofs.lemmas.List.{drop-map}
 use Rattle.smap_mappings.specs.Segments.{TextSegment, is_nonempty, is_comma, is_semicolon, parts_from, segment_on, segments_on, segments_of_lines, segments_from, segments_of}
 use Rattle.smap_mappings.specs.Mappings.{Delta, RunningValues, delta_of, deltas_of, difference, natural, values_on, mapping_after, mappings_after, mappings_of}
 use Rattle.smap_mappings.specs.Accepted.{is_accepted_after, are_accepted_after, is_accepted, IsAccepted}
 use Rattle.smap_mappings.specs.Order.{IsAtOrBefore, IsInOrder}
+use Rattle.smap_mappings.specs.State.{IsAfter}
+use Rattle.smap_mappings.specs.declared.cursor.Cursor.{Cursor}
+use Rattle.smap_mappings.specs.declared.mapping.Mapping.{Mapping}
 use Rattle.smap_mappings.proofs.DeltaLaws.{values-push}
 use Rattle.smap_mappings.proofs.Ranges.{in_range_natural, each_in_range}
 
@@ -79,3 +83,25 @@ module _ (sources names : ℕ) where
 pub mappings_in_order : (text : List ℕ) (sources names : ℕ) → IsAccepted text sources names → IsInOrder (mappings_of text)
 unfolding is_accepted mappings_of
 mappings_in_order text sources names accepted = in_order sources names [] (deltas_of text) 0 (deltas_rise text) accepted
+
+-- ---- the next mapping after a state
+
+rises_at : (line : ℕ) (before deltas : List Delta) (j : ℕ) (m : Mapping) → LinesRise line (drop j deltas) → slice_get (mappings_after before deltas) j ≡ Some m → line ≤ m.line
+unfolding mapping_after
+rises_at line before [] j m rise there = absurd (cc)
+rises_at line before (delta ∷ deltas) zero m rise there = let same : delta.line ≡ m.line = some_line (mapping_after before delta) m there in omega (arith, rise.0)
+  where
+    some_line : (a b : Mapping) → Some a ≡ Some b → a.line ≡ b.line
+    some_line a b same = let e : a ≡ b = cc in ap (λ (m : Mapping). m.line) e
+rises_at line before (delta ∷ deltas) (suc j) m rise there = rises_at line (before ++ delta ∷ []) deltas j m rise there
+
+rises_from : (line place : ℕ) (text : List ℕ) → LinesRise line (map delta_of (segments_from line place text))
+unfolding segments_from
+rises_from line place text = lines_rise line place (slice_split is_semicolon text)
+
+-- it stands on the state's line, or on one after it
+pub not_above : (text : List ℕ) (j : ℕ) (cursor : Cursor) (m : Mapping) → IsAfter text j cursor → slice_get (mappings_of text) j ≡ Some m → cursor.line ≤ m.line
+unfolding deltas_of mappings_of
+not_above text j cursor m after there =
+    let left = drop-map delta_of j (segments_of text) ∙ ap (map delta_of) (sym after.rest) in
+    rises_at cursor.line [] (deltas_of text) j m (subst (LinesRise cursor.line) (sym left) (rises_from cursor.line cursor.place (drop cursor.place text))) there

@@ -14,6 +14,7 @@ use Rattle.smap_mappings.specs.Private.Advance.{values_after, sums_fault, IsAdva
 use Rattle.smap_mappings.specs.Private.Step.{fault_from, fault_at, IsStep, cursor_name, cursor_origin, mapping_in}
 use Rattle.smap_mappings.specs.declared.cursor.Cursor.{Cursor}
 use Rattle.smap_mappings.specs.declared.fault.FaultKind.{FaultKind}
+use Rattle.smap_mappings.specs.declared.mapping.Mapping.{Mapping}
 use Rattle.smap_mappings.specs.declared.segment.Segment.{Segment}
 use Rattle.smap_mappings.specs.declared.segment.OriginFields.{OriginFields}
 use Rattle.smap_mappings.proofs.SegmentLaws.{segments_at_segment, segments_at_line_end, segments_at_comma}
@@ -62,6 +63,18 @@ mapping_at_place before (m ∷ deltas) zero delta is =
     let same : m ≡ delta = cc in ap (λ x. Some (mapping_after before x)) same ∙ ap (λ ms. Some (mapping_after ms delta)) (sym (append-nil before))
 mapping_at_place before (m ∷ deltas) (suc j) delta is =
     mapping_at_place (before ++ m ∷ []) deltas j delta is ∙ ap (λ ms. Some (mapping_after ms delta)) (append_assoc before (m ∷ []) (take j deltas))
+
+-- the mapping of the segment at the state's place stands on the state's line
+pub on_line_of : (text : List ℕ) (j : ℕ) (cursor : Cursor) (mapping : Mapping) → IsAfter text j cursor → cursor.place < length text → is_inside (get_or text cursor.place 0) ≡ true → slice_get (mappings_of text) j ≡ Some mapping → mapping.line ≡ cursor.line
+unfolding mappings_of mapping_after
+on_line_of text j cursor mapping after within inside there =
+    let seg = at_segment text j cursor after within inside in
+    let is = mapping_at_place [] (deltas_of text) j _ seg.next in
+    let same : Some mapping ≡ Some (mapping_after (take j (deltas_of text)) (record { line = cursor.line; fields = known_fields text cursor.place })) = sym there ∙ is in
+    some_line mapping _ same
+  where
+    some_line : (a b : Mapping) → Some a ≡ Some b → a.line ≡ b.line
+    some_line a b same = let e : a ≡ b = cc in ap (λ (m : Mapping). m.line) e
 
 origin_named : (column source line original_column : ℤ) (name : Option ℤ) (cursor : Cursor) → origin_in (column ∷ source ∷ line ∷ original_column ∷ name_fields name) (values_at cursor)
     ≡ Some (record { source = cursor.source; line = cursor.original_line; column = cursor.original_column; name = cursor_name name cursor })

@@ -1,20 +1,20 @@
 -- A segment that was read in one go, its differences added as they were read: it is the segment at the place, and the
 -- state after it is the one that the sums give, where these are in range.
-use Rattle.std.proofs.Common.{◌≡◌, ℕ, ◌<◌, true, false, not, ◌&&◌, ltb, List, ◌∷◌, length, Option, Some, None, refl, sym, ap, ◌∙◌, arith}
+use Rattle.std.proofs.Common.{◌≡◌, ℕ, ◌<◌, true, false, not, ◌&&◌, ltb, List, ◌∷◌, length, get_or, Option, Some, None, refl, sym, ap, ◌∙◌, arith}
 use Rattle.std.specs.Prelude.{ℤ, pos}
 use Rattle.std.proofs.lemmas.Bool.{and_parts, not-true, not_from_true}
 use Rattle.std.proofs.lemmas.Int.{ints}
 use Rattle.smap_mappings.specs.Segment.{has_origin, has_name}
 use Rattle.smap_mappings.specs.Accepted.{is_below_zero, are_in_range}
-use Rattle.smap_mappings.specs.State.{values_at}
-use Rattle.smap_mappings.specs.Private.Reading.{segment_at, origin_fields, fields_in, delta_in, IsFieldAt}
+use Rattle.smap_mappings.specs.State.{values_at, origin_of_kind, mapping_at}
+use Rattle.smap_mappings.specs.Private.Reading.{is_inside, segment_at, origin_fields, fields_in, delta_in, IsFieldAt}
 use Rattle.smap_mappings.specs.Private.Advance.{values_after, sums_fault, IsAdvanced}
-use Rattle.smap_mappings.specs.Private.Step.{cursor_name, cursor_origin, mapping_in}
-use Rattle.smap_mappings.specs.Private.Straight.{IsMoved, IsMovedBy, fields_named, fields_with, IsReadAfter, are_listed, is_fitting, name_of, origin_of, mapping_of}
+use Rattle.smap_mappings.specs.Private.Step.{cursor_origin, mapping_in}
+use Rattle.smap_mappings.specs.Private.Straight.{IsMoved, IsMovedBy, kind_named, kind_with, IsReadAfter, are_listed, is_fitting}
 use Rattle.smap_mappings.specs.Private.Walk.{IsStraightStep}
 use Rattle.smap_mappings.specs.declared.cursor.Cursor.{Cursor}
 use Rattle.smap_mappings.specs.declared.segment.OriginFields.{OriginFields}
-use Rattle.smap_mappings.specs.declared.straight.Fields.TheVariants.{One, Four, Five}
+use Rattle.smap_mappings.specs.declared.kind.Kind.TheVariants.{Unmapped, Mapped, Named}
 use Rattle.smap_mappings.specs.declared.straight.StraightSegment.{StraightSegment}
 use Rattle.smap_mappings.proofs.FieldLaws.{one_field, four_fields, five_fields, field_is_inside}
 use Rattle.smap_mappings.proofs.Ranges.{each_in_range}
@@ -29,11 +29,11 @@ stays : (value : ℕ) → IsMoved value (pos 0) value
 stays value = record { sum = λ range. omega (arith, ints); both = λ range moved. omega (arith, ints) }
 
 module _ (text : List ℕ) (cursor : Cursor) (p1 column : ℕ) (a : ℤ) (first : IsFieldAt text cursor.place a p1) (moved : IsMoved cursor.column a column) where
-  pub reads_one : length (segment_at text p1) ≡ 0 → IsReadAfter text cursor (record { fields = One; first = a; after = record cursor { place = p1; column = column } })
+  pub reads_one : length (segment_at text p1) ≡ 0 → IsReadAfter text cursor (record { kind = Unmapped; first = a; after = record cursor { place = p1; column = column } })
   reads_one end = record {
     segment = record { column = a; origin = None };
     reads = one_field text cursor.place p1 a first end;
-    fields = refl;
+    kind = refl;
     first = refl;
     line = refl;
     moved = record { column = moved; source = stays cursor.source; original_line = stays cursor.original_line; original_column = stays cursor.original_column; name = stays cursor.name };
@@ -41,22 +41,22 @@ module _ (text : List ℕ) (cursor : Cursor) (p1 column : ℕ) (a : ℤ) (first 
 
   module _ (p2 p3 p4 source line original_column : ℕ) (second : IsMovedBy text p1 cursor.source source p2) (third : IsMovedBy text p2 cursor.original_line line p3) (fourth : IsMovedBy text p3 cursor.original_column original_column p4) where
     pub reads_four : length (segment_at text p4) ≡ 0
-        → IsReadAfter text cursor (record { fields = Four; first = a; after = record cursor { place = p4; column = column; source = source; original_line = line; original_column = original_column } })
+        → IsReadAfter text cursor (record { kind = Mapped; first = a; after = record cursor { place = p4; column = column; source = source; original_line = line; original_column = original_column } })
     reads_four end = record {
       segment = record { column = a; origin = Some (record { source = second.difference; line = third.difference; column = fourth.difference; name = None }) };
       reads = four_fields text cursor.place p1 p2 p3 p4 a second.difference third.difference fourth.difference first second.field third.field fourth.field end;
-      fields = refl;
+      kind = refl;
       first = refl;
       line = refl;
       moved = record { column = moved; source = second.is_moved; original_line = third.is_moved; original_column = fourth.is_moved; name = stays cursor.name };
     }
 
     pub reads_five : (p5 name : ℕ) → IsMovedBy text p4 cursor.name name p5 → length (segment_at text p5) ≡ 0
-        → IsReadAfter text cursor (record { fields = Five; first = a; after = record cursor { place = p5; column = column; source = source; original_line = line; original_column = original_column; name = name } })
+        → IsReadAfter text cursor (record { kind = Named; first = a; after = record cursor { place = p5; column = column; source = source; original_line = line; original_column = original_column; name = name } })
     reads_five p5 name fifth end = record {
       segment = record { column = a; origin = Some (record { source = second.difference; line = third.difference; column = fourth.difference; name = Some fifth.difference }) };
       reads = five_fields text cursor.place p1 p2 p3 p4 p5 a second.difference third.difference fourth.difference fifth.difference first second.field third.field fourth.field fifth.field end;
-      fields = refl;
+      kind = refl;
       first = refl;
       line = refl;
       moved = record { column = moved; source = second.is_moved; original_line = third.is_moved; original_column = fourth.is_moved; name = fifth.is_moved };
@@ -64,23 +64,19 @@ module _ (text : List ℕ) (cursor : Cursor) (p1 column : ℕ) (a : ℤ) (first 
 
 -- ---- the mapping
 
-name_same : (name : Option ℤ) (after : Cursor) → name_of (fields_named name) after ≡ cursor_name name after
-name_same None after = refl
-name_same (Some name) after = refl
-
-origin_same : (origin : Option OriginFields) (after : Cursor) → origin_of (fields_with origin) after ≡ cursor_origin origin after
+pub origin_same : (origin : Option OriginFields) (after : Cursor) → origin_of_kind (kind_with origin) after ≡ cursor_origin origin after
 origin_same None after = refl
 origin_same (Some origin) after = named origin.source origin.line origin.column origin.name
   where
-    named : (source line column : ℤ) (name : Option ℤ) → origin_of (fields_named name) after ≡ cursor_origin (Some (record { source = source; line = line; column = column; name = name })) after
+    named : (source line column : ℤ) (name : Option ℤ) → origin_of_kind (kind_named name) after ≡ cursor_origin (Some (record { source = source; line = line; column = column; name = name })) after
     named source line column None = refl
     named source line column (Some name) = refl
 
 -- ---- the state after it
 
 module _ (text : List ℕ) (cursor : Cursor) (straight : StraightSegment) (read : IsReadAfter text cursor straight) where
-  pub mapping_same : mapping_of straight ≡ mapping_in read.segment straight.after
-  mapping_same = ap (λ origin. record { line = straight.after.line; column = straight.after.column; origin = origin }) (ap (λ fields. origin_of fields straight.after) read.fields ∙ origin_same read.segment.origin straight.after)
+  pub mapping_same : mapping_at straight.kind straight.after ≡ mapping_in read.segment straight.after
+  mapping_same = ap (λ origin. record { line = straight.after.line; column = straight.after.column; origin = origin }) (ap (λ kind. origin_of_kind kind straight.after) read.kind ∙ origin_same read.segment.origin straight.after)
 
   -- where the sums are in range, the values after are these
   pub values_from_sums : are_in_range (values_after (values_at cursor) (delta_in cursor.line read.segment)) ≡ true → values_at straight.after ≡ values_after (values_at cursor) (delta_in cursor.line read.segment)
@@ -107,37 +103,40 @@ module _ (text : List ℕ) (cursor : Cursor) (straight : StraightSegment) (read 
         name = read.moved.name.both old.name new.name i;
       }
 
+  pub read_inside : cursor.place < length text → is_inside (get_or text cursor.place 0) ≡ true
+  read_inside within = field_is_inside text cursor.place read.segment.column (origin_fields read.segment.origin) within read.reads.fields
+
   pub at_segment_byte : cursor.place < length text → (cursor.place < straight.after.place)
   at_segment_byte within =
-      let inside = field_is_inside text cursor.place read.segment.column (origin_fields read.segment.origin) within read.reads.fields in
+      let inside = read_inside within in
       omega (arith, read.reads.ends, ap length (segment_begins text straight.after.line cursor.place within inside))
 
 -- ---- a sound segment has no fault
 
-listed_source : (sources names : ℕ) (column : ℤ) (origin : Option OriginFields) (after : Cursor) → are_listed sources names (fields_with origin) after ≡ true → (has_origin (column ∷ origin_fields origin) && not (ltb after.source sources)) ≡ false
+listed_source : (sources names : ℕ) (column : ℤ) (origin : Option OriginFields) (after : Cursor) → are_listed sources names (kind_with origin) after ≡ true → (has_origin (column ∷ origin_fields origin) && not (ltb after.source sources)) ≡ false
 listed_source sources names column None after listed = refl
 listed_source sources names column (Some origin) after listed = named origin.source origin.line origin.column origin.name listed
   where
-    named : (source line original_column : ℤ) (name : Option ℤ) → are_listed sources names (fields_named name) after ≡ true
+    named : (source line original_column : ℤ) (name : Option ℤ) → are_listed sources names (kind_named name) after ≡ true
         → (has_origin (column ∷ origin_fields (Some (record { source = source; line = line; column = original_column; name = name }))) && not (ltb after.source sources)) ≡ false
     named source line original_column None listed = not_from_true _ listed
     named source line original_column (Some name) listed = not_from_true _ (and_parts _ _ listed).0
 
-listed_name : (sources names : ℕ) (column : ℤ) (origin : Option OriginFields) (after : Cursor) → are_listed sources names (fields_with origin) after ≡ true → (has_name (column ∷ origin_fields origin) && not (ltb after.name names)) ≡ false
+listed_name : (sources names : ℕ) (column : ℤ) (origin : Option OriginFields) (after : Cursor) → are_listed sources names (kind_with origin) after ≡ true → (has_name (column ∷ origin_fields origin) && not (ltb after.name names)) ≡ false
 listed_name sources names column None after listed = refl
 listed_name sources names column (Some origin) after listed = named origin.source origin.line origin.column origin.name listed
   where
-    named : (source line original_column : ℤ) (name : Option ℤ) → are_listed sources names (fields_named name) after ≡ true
+    named : (source line original_column : ℤ) (name : Option ℤ) → are_listed sources names (kind_named name) after ≡ true
         → (has_name (column ∷ origin_fields (Some (record { source = source; line = line; column = original_column; name = name }))) && not (ltb after.name names)) ≡ false
     named source line original_column None listed = refl
     named source line original_column (Some name) listed = not_from_true _ (and_parts _ _ listed).1
 
-module _ (text : List ℕ) (sources names : ℕ) (cursor : Cursor) (straight : StraightSegment) (read : IsReadAfter text cursor straight) (fits : is_fitting straight ≡ true) (listed : are_listed sources names straight.fields straight.after ≡ true) where
+module _ (text : List ℕ) (sources names : ℕ) (cursor : Cursor) (straight : StraightSegment) (read : IsReadAfter text cursor straight) (fits : is_fitting straight ≡ true) (listed : are_listed sources names straight.kind straight.after ≡ true) where
   sound_has_no_fault : sums_fault sources names read.segment (values_at straight.after) ≡ None
   sound_has_no_fault =
       let parts = and_parts _ _ fits in
       let each = each_in_range (values_at straight.after) parts.1 in
-      let there = ap (λ fields. are_listed sources names fields straight.after) (sym read.fields) ∙ listed in
+      let there = ap (λ kind. are_listed sources names kind straight.after) (sym read.kind) ∙ listed in
       no_fault_from sources names (is_below_zero read.segment.column) (fields_in read.segment) (values_at straight.after) (record {
         below = none_below (values_at straight.after) each;
         past = none_past (values_at straight.after) each;
@@ -149,7 +148,7 @@ module _ (text : List ℕ) (sources names : ℕ) (cursor : Cursor) (straight : S
   -- so it leads to the state after it
   pub sound_steps : cursor.place < length text → are_in_range (values_at cursor) ≡ true → IsStraightStep text sources names cursor straight.after
   sound_steps within range =
-      let inside = field_is_inside text cursor.place read.segment.column (origin_fields read.segment.origin) within read.reads.fields in
+      let inside = read_inside text cursor straight read within in
       let fitting = (and_parts _ _ fits).1 in
       let values = values_from_both text cursor straight read range fitting in
       let advances : IsAdvanced cursor read.segment straight.after.place sources names straight.after = record { place = refl; line = read.line; values = values; allowed = sound_has_no_fault } in

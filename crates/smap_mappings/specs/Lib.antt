@@ -1,4 +1,5 @@
 pub mod Limits
+pub mod LineWalk
 pub mod Exact
 pub mod Base64
 pub mod Vlq

@@ -1,4 +1,9 @@
 //! A place in a text with all running values there.
+ghost use Rattle.std.specs.Prelude.{◌≡◌};
+ghost use Rattle.smap_mappings.specs.State.{origin_at, mapping_at};
+
+use crate::kind::Kind;
+use crate::mapping::{Mapping, Origin};
 
 /// A place between two segments of a text, in bytes from 0, the generated line at that place, from 0, and the
 /// running values there (ECMA-426, Mappings structure): the generated column is that on this line, and the others
@@ -25,4 +30,33 @@ impl Cursor {
         original_column: 0,
         name: 0,
     };
+
+    /// The mapping of a segment that has this much, where these are the place and the values after it.
+    #[inline(always)]
+    pub fn mapping(&self, kind: Kind) -> Mapping
+        ensures { result ≡ mapping_at kind self.now }
+    {
+        Mapping {
+            line: self.line,
+            column: self.column,
+            origin: match kind {
+                Kind::Unmapped => None,
+                Kind::Mapped => Some(self.origin(None)),
+                Kind::Named => Some(self.origin(Some(self.name))),
+            },
+        }
+    }
+
+    // The origin of these values, with this name.
+    #[inline(always)]
+    fn origin(&self, name: Option<u32>) -> Origin
+        ensures { result ≡ origin_at self.now name }
+    {
+        Origin {
+            source: self.source,
+            line: self.original_line,
+            column: self.original_column,
+            name,
+        }
+    }
 }

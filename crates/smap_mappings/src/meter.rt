@@ -1,5 +1,5 @@
 //! What look-ups have cost so far.
-ghost use Rattle.std.specs.Prelude.{◌≡◌, ◌+◌, ◌<◌, ◌↔◌, IsTrue};
+ghost use Rattle.std.specs.Prelude.{◌≡◌, ◌+◌, ◌<◌, ◌≤◌, ◌↔◌, IsTrue};
 
 use std::alloc::Global;
 use std::marker::Model;
@@ -58,11 +58,11 @@ impl Meter {
         self.comparisons += 1;
     }
 
-    pub(crate) fn count_segment(&mut self)
-        requires { self.old.segments < u64.MAX }
-        ensures { self.new ≡ record self.old { segments = self.old.segments + 1 } }
+    pub(crate) fn count_segments(&mut self, count: u32)
+        requires { self.old.segments + count ≤ u64.MAX }
+        ensures { self.new ≡ record self.old { segments = self.old.segments + count } }
     {
-        self.segments += 1;
+        self.segments += count as u64;
     }
 
     /// Whether both counts leave room for a look-up, which is 8192 in each.

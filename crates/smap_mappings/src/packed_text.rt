@@ -8,18 +8,19 @@ ghost use Rattle.smap_mappings.specs.Faults.{first_fault};
 ghost use Rattle.smap_mappings.specs.Counts.{segment_count, used_lines_of};
 ghost use Rattle.smap_mappings.specs.Order.{IsInOrder};
 ghost use Rattle.smap_mappings.specs.Within.{IsWithin};
-ghost use Rattle.smap_mappings.specs.State.{IsAfter, IsBetween, IsMappingAt, IsNext};
+ghost use Rattle.smap_mappings.specs.State.{mapping_at, IsAfter, IsBetween, IsMappingAt, IsNext};
+ghost use Rattle.smap_mappings.specs.LineWalk.{decoded_in, IsWalked};
 ghost use Rattle.smap_mappings.specs.PackedText.{IsPacked};
 
 use crate::check::check_segments;
 use crate::cursor::Cursor;
 use crate::fault::Fault;
 use crate::limits::MOST_BYTES;
+use crate::line_walk::{LineWalk, walk_line};
 use crate::mapping::Mapping;
 use crate::meter::Meter;
+use crate::next::next_segment;
 use crate::state::State;
-use crate::step::{checked_step, checked_straight_step, skip_separators};
-use crate::straight::is_joined_by_one;
 use std::alloc::{AllocError, Global};
 use std::marker::Model;
 
@@ -141,12 +142,31 @@ impl PackedText {
             else meter.old) }
     {
         match next_segment(self.text.as_bytes(), &state.cursor()) {
-            Some((mapping, after)) => {
-                meter.count_segment();
-                Some((mapping, State::new(after)))
+            Some((kind, after)) => {
+                meter.count_segments(1);
+                Some((after.mapping(kind), State::new(after)))
             }
             None => None,
         }
+    }
+
+    /// Walks along the line of a state, from the state on: over its segments before this column, but over no more than
+    /// `most`. Where it stops at a segment on the line, it gives that one too. The caller gives a state of this text, and
+    /// a meter whose count of segments leaves room for `most` more. Each segment that is passed adds one to that count,
+    /// and so does the one at which the walk stops. The call takes no memory.
+    #[inline(always)]
+    pub fn walk_line(&self, state: &State, end: u64, most: u32, meter: &mut Meter) -> LineWalk
+        requires state { IsBetween self.now state.now }
+        requires room { meter.old.segments + most ≤ u64.MAX }
+        ensures walked { (j : ℕ) →
+            IsAfter self.now j state.now → IsWalked self.now j state.now end most result }
+        ensures few { decoded_in result ≤ most }
+        ensures counted { meter.new
+            ≡ record meter.old { segments = meter.old.segments + decoded_in result } }
+    {
+        let walk = walk_line(self.text.as_bytes(), &state.cursor(), end, most);
+        meter.count_segments(walk.decoded());
+        walk
     }
 
     /// The mappings of the text, in order.
@@ -164,38 +184,11 @@ fn decode_segments(alloc: Global, bytes: &[u8], expected: usize) -> Result<Vec<M
 {
     let mut list = Vec::with_capacity(alloc, expected)?;
     let mut at = Cursor::START;
-    while let Some((mapping, after)) = next_segment(bytes, &at) {
-        list.push(mapping)?;
+    while let Some((kind, after)) = next_segment(bytes, &at) {
+        list.push(after.mapping(kind))?;
         at = after;
     }
     Ok(list)
-}
-
-// The mapping of the next segment of a checked text and the state after it, or `None` at the end.
-#[inline(always)]
-fn next_segment(bytes: &[u8], cursor: &Cursor) -> Option<(Mapping, Cursor)>
-    requires packed { IsPacked bytes.now }
-    requires state { IsBetween bytes.now cursor.now }
-    ensures ahead { IfSome result (λ r.
-        (cursor.now.place < r.1.place) × (r.1.place ≤ length bytes.now)) }
-    ensures some { IfSome result (λ r. (j : ℕ) →
-        IsAfter bytes.now j cursor.now → IsNext bytes.now j r.0 r.1) }
-    ensures values { IfSome result (λ r. IsMappingAt r.1 r.0) }
-    ensures none { IfNone result ((j : ℕ) →
-        IsAfter bytes.now j cursor.now → j ≡ segment_count bytes.now) }
-{
-    if is_joined_by_one(bytes, cursor.place) {
-        let at = Cursor {
-            place: cursor.place + 1,
-            ..*cursor
-        };
-        return Some(checked_straight_step(bytes, &at));
-    }
-    let at = skip_separators(bytes, cursor);
-    if at.place >= bytes.len() {
-        return None;
-    }
-    Some(checked_step(bytes, &at))
 }
 
 // A further field would not compile.
@@ -208,5 +201,20 @@ fn a_text_has_these_fields_alone(rt: HostRuntime) -> Result<(), std::test::Fail>
         used_lines,
     } = &packed;
     assert!(&rt; text.as_str() == "AAAA" && *segments == 1 && *used_lines == 1);
+    Ok(())
+}
+
+#[test]
+fn a_walk_ends_at_the_column_or_with_the_line(rt: HostRuntime) -> Result<(), std::test::Fail> {
+    let packed = PackedText::check(String::from_str(rt.alloc(), "AAAA,C,C;C")?, 1, 0)?;
+    let mut meter = Meter::new(rt.alloc());
+    let before = packed.walk_line(&packed.start(), 2, 9, &mut meter);
+    assert!(&rt; before.passed == 2 && before.next.is_some() && meter.segments() == 3);
+    assert!(&rt;
+        before.state.cursor().place == 6 && matches!(before.kind, crate::kind::Kind::Unmapped)
+    );
+    let mut meter = Meter::new(rt.alloc());
+    let whole = packed.walk_line(&packed.start(), 9, 9, &mut meter);
+    assert!(&rt; whole.passed == 3 && whole.next.is_none() && meter.segments() == 3);
     Ok(())
 }

@@ -1,18 +1,19 @@
 //! From a state to the next: over separators, and over one segment.
-ghost use Rattle.std.specs.Prelude.{◌≡◌, ◌+◌, ◌<◌, ◌≤◌, ℕ, Some, false, true, length, slice_index, IfOk, IfErr};
+ghost use Rattle.std.specs.Prelude.{◌≡◌, ◌+◌, ◌<◌, ◌≤◌, ℕ, Some, false, true, length, slice_index, IfOk, IfErr, IfSome};
 ghost use Rattle.smap_mappings.specs.Limits.{most_text_bytes};
 ghost use Rattle.smap_mappings.specs.Segment.{has_known_length};
 ghost use Rattle.smap_mappings.specs.Accepted.{are_in_range};
 ghost use Rattle.smap_mappings.specs.Faults.{spelling_fault};
-ghost use Rattle.smap_mappings.specs.State.{values_at, IsAfter, IsBetween, IsMappingAt, IsNext};
+ghost use Rattle.smap_mappings.specs.State.{values_at, IsAfter, IsBetween};
 ghost use Rattle.smap_mappings.specs.PackedText.{IsPacked};
 ghost use Rattle.smap_mappings.specs.Private.Reading.{is_inside, segment_at, known_fields};
-ghost use Rattle.smap_mappings.specs.Private.Step.{IsStep, fault_at, fault_from, mapping_in};
-ghost use Rattle.smap_mappings.specs.Private.Straight.{most_segment_digits};
+ghost use Rattle.smap_mappings.specs.Private.Step.{IsStep, IsSteppedTo, fault_at, fault_from, mapping_in};
+ghost use Rattle.smap_mappings.specs.Private.Straight.{kind_with, most_segment_digits};
 
 use crate::advance::{advance, advance_checked};
 use crate::cursor::Cursor;
 use crate::fault::FaultKind;
+use crate::kind::Kind;
 use crate::mapping::{Mapping, Origin};
 use crate::segment::{Segment, is_inside, read_segment};
 use crate::spelling::spelling_fault;
@@ -80,43 +81,51 @@ pub fn step(
     }
 }
 
-// Reads the segment at the state's place in a checked text, where nothing needs to be asked: its mapping and the state
+// Reads the segment at the state's place in a checked text, where nothing needs to be asked: what it has and the state
 // after it. It stands out of line, so that the straight way over most segments is inlined where a text is gone through.
 #[inline(never)]
-pub fn checked_step(bytes: &[u8], cursor: &Cursor) -> (Mapping, Cursor)
+pub fn checked_step(bytes: &[u8], cursor: &Cursor) -> (Kind, Cursor)
     requires packed { IsPacked bytes.now }
     requires state { IsBetween bytes.now cursor.now }
     requires within { cursor.now.place < length bytes.now }
     requires inside { is_inside (slice_index bytes.now cursor.now.place) ≡ true }
-    ensures ahead { (cursor.now.place < result.1.place) × (result.1.place ≤ length bytes.now) }
-    ensures next { (j : ℕ) → IsAfter bytes.now j cursor.now → IsNext bytes.now j result.0 result.1 }
-    ensures values { IsMappingAt result.1 result.0 }
+    ensures { IsSteppedTo bytes.now cursor.now result.0 result.1 }
 {
-    if has_room(bytes, cursor.place) {
-        return checked_straight_step(bytes, cursor);
+    if has_room(bytes, cursor.place)
+        && let Some(stepped) = straight_step(bytes, cursor)
+    {
+        return stepped;
     }
     let Some((segment, end)) = read_segment(bytes, cursor.place) else {
         unreachable!("each segment of a checked text can be read");
     };
-    let after = advance_checked(cursor, &segment, end);
-    (mapping_in(&segment, &after), after)
+    (kind_of(&segment), advance_checked(cursor, &segment, end))
 }
 
-// The same where there is room for the longest segment.
+// The same where there is room for the longest segment; `None` where no segment stands at the state's place.
 #[inline(always)]
-pub fn checked_straight_step(bytes: &[u8], cursor: &Cursor) -> (Mapping, Cursor)
+pub fn straight_step(bytes: &[u8], cursor: &Cursor) -> Option<(Kind, Cursor)>
     requires packed { IsPacked bytes.now }
     requires state { IsBetween bytes.now cursor.now }
     requires room { cursor.now.place + most_segment_digits < length bytes.now }
-    requires inside { is_inside (slice_index bytes.now cursor.now.place) ≡ true }
-    ensures ahead { (cursor.now.place < result.1.place) × (result.1.place ≤ length bytes.now) }
-    ensures next { (j : ℕ) → IsAfter bytes.now j cursor.now → IsNext bytes.now j result.0 result.1 }
-    ensures values { IsMappingAt result.1 result.0 }
+    ensures { IfSome result (λ r. IsSteppedTo bytes.now cursor.now r.0 r.1) }
 {
-    let Some(straight) = read_straight(bytes, cursor) else {
-        unreachable!("each segment of a checked text can be read");
-    };
-    (straight.mapping(), straight.after)
+    let straight = read_straight(bytes, cursor)?;
+    Some((straight.kind, straight.after))
+}
+
+// What a segment has.
+#[inline(always)]
+fn kind_of(segment: &Segment) -> Kind
+    ensures { result ≡ kind_with segment.now.origin }
+{
+    match &segment.origin {
+        None => Kind::Unmapped,
+        Some(origin) => match origin.name {
+            None => Kind::Mapped,
+            Some(_) => Kind::Named,
+        },
+    }
 }
 
 // Why no segment could be read at a place.

@@ -4,28 +4,19 @@ ghost use Rattle.std.specs.Prelude.{◌≡◌, ◌+◌, ◌<◌, ◌≤◌, leng
 ghost use Rattle.smap_mappings.specs.Limits.{most_digits, most_text_bytes};
 ghost use Rattle.smap_mappings.specs.Segment.{has_known_length};
 ghost use Rattle.smap_mappings.specs.Segments.{is_comma};
-ghost use Rattle.smap_mappings.specs.Private.Reading.{HasNoField, is_inside, known_fields};
-ghost use Rattle.smap_mappings.specs.Private.Straight.{most_segment_digits, IsMoved, IsMovedBy, IsReadAfter, is_fitting, are_listed, is_name_listed, name_of, mapping_of};
+ghost use Rattle.smap_mappings.specs.Private.Reading.{HasNoField, known_fields};
+ghost use Rattle.smap_mappings.specs.Private.Straight.{most_segment_digits, IsMoved, IsMovedBy, IsReadAfter, is_fitting, are_listed, is_name_listed};
 
-use crate::base64::number_of_one;
 use crate::cursor::Cursor;
+use crate::kind::Kind;
 use crate::limits::{LIMIT, MOST_SEGMENT_DIGITS};
-use crate::mapping::{Mapping, Origin};
 use crate::segment::{is_at_inner_end, read_inner_field};
 
-// How many fields a segment has.
-#[derive(Clone, Copy)]
-pub enum Fields {
-    One,
-    Four,
-    Five,
-}
-
-// A segment that was read: how many fields it has, the first of them, and the state after it, of whose values it is not
-// known yet whether they are in range.
+// A segment that was read: what it has, its first field, and the state after it, of whose values it is not known yet
+// whether they are in range.
 #[derive(Clone, Copy)]
 pub struct StraightSegment {
-    pub fields: Fields,
+    pub kind: Kind,
     pub first: i32,
     pub after: Cursor,
 }
@@ -51,18 +42,6 @@ pub fn is_joined(bytes: &[u8], place: usize) -> bool
     place + 1 + MOST_SEGMENT_DIGITS < bytes.len() && bytes[place] == b','
 }
 
-// The same, with a number of one digit after the `,`, as most segments begin.
-#[inline(always)]
-pub fn is_joined_by_one(bytes: &[u8], place: usize) -> bool
-    requires short { length bytes.now ≤ most_text_bytes }
-    requires inside { place ≤ length bytes.now }
-    ensures room { IsTrue result → place + 1 + most_segment_digits < length bytes.now }
-    ensures comma { IsTrue result → is_comma (slice_index bytes.now place) ≡ true }
-    ensures inside { IsTrue result → is_inside (slice_index bytes.now (place + 1)) ≡ true }
-{
-    is_joined(bytes, place) && number_of_one(bytes[place + 1]).is_some()
-}
-
 // The segment at the state's place; `None` where its bytes spell no fields, or not one, four or five.
 #[inline(always)]
 pub fn read_straight(bytes: &[u8], cursor: &Cursor) -> Option<StraightSegment>
@@ -83,7 +62,7 @@ pub fn read_straight(bytes: &[u8], cursor: &Cursor) -> Option<StraightSegment>
             ..*cursor
         };
         return Some(StraightSegment {
-            fields: Fields::One,
+            kind: Kind::Unmapped,
             first,
             after,
         });
@@ -100,7 +79,7 @@ pub fn read_straight(bytes: &[u8], cursor: &Cursor) -> Option<StraightSegment>
     };
     if is_at_inner_end(bytes, place) {
         return Some(StraightSegment {
-            fields: Fields::Four,
+            kind: Kind::Mapped,
             first,
             after,
         });
@@ -110,7 +89,7 @@ pub fn read_straight(bytes: &[u8], cursor: &Cursor) -> Option<StraightSegment>
         return None;
     }
     Some(StraightSegment {
-        fields: Fields::Five,
+        kind: Kind::Named,
         first,
         after: Cursor {
             place,
@@ -146,7 +125,7 @@ impl StraightSegment {
     pub fn is_sound(&self, sources: u32, names: u32) -> bool
         ensures fits { IsTrue result → is_fitting self.now ≡ true }
         ensures listed { IsTrue result →
-            are_listed sources names self.now.fields self.now.after ≡ true }
+            are_listed sources names self.now.kind self.now.after ≡ true }
     {
         // A segment without an origin leaves the source as it was.
         self.is_fitting() && self.after.source < sources && self.is_name_listed(names)
@@ -167,41 +146,11 @@ impl StraightSegment {
 
     #[inline(always)]
     fn is_name_listed(&self, names: u32) -> bool
-        ensures { result ≡ is_name_listed names self.now.fields self.now.after }
+        ensures { result ≡ is_name_listed names self.now.kind self.now.after }
     {
-        match self.fields {
-            Fields::Five => self.after.name < names,
+        match self.kind {
+            Kind::Named => self.after.name < names,
             _ => true,
-        }
-    }
-
-    #[inline(always)]
-    fn name(&self) -> Option<u32>
-        ensures { result ≡ name_of self.now.fields self.now.after }
-    {
-        match self.fields {
-            Fields::Five => Some(self.after.name),
-            _ => None,
-        }
-    }
-
-    #[inline(always)]
-    pub fn mapping(&self) -> Mapping
-        ensures { result ≡ mapping_of self.now }
-    {
-        let origin = match self.fields {
-            Fields::One => None,
-            _ => Some(Origin {
-                source: self.after.source,
-                line: self.after.original_line,
-                column: self.after.original_column,
-                name: self.name(),
-            }),
-        };
-        Mapping {
-            line: self.after.line,
-            column: self.after.column,
-            origin,
         }
     }
 }

@@ -1,7 +1,7 @@
 -- What the search over a table in order finds on either side of a bound, and so the walk after a checkpoint.
-use Rattle.std.specs.Prelude.{ℕ, List, Option, None, Bool, not, map, take, slice_get}
+use Rattle.std.specs.Prelude.{ℕ, ◌+◌, List, Option, Some, None, Bool, not, ◌==◌, if◌then◌else◌, map, take, slice_get}
 use Rattle.std.specs.List.{last_or, prefix_len}
-use Rattle.smap_mappings.specs.Range.{at_position, stands_before}
+use Rattle.smap_mappings.specs.Range.{position_at, stands_before}
 use Rattle.smap_mappings.specs.declared.mapping.Mapping.{Mapping}
 use Rattle.smap_index.specs.declared.bound.Bound.{Bound}
 use Rattle.smap_index.specs.declared.bound.Side.{Side}
@@ -20,7 +20,21 @@ is_on_side Through position mapping = not (stands_before position mapping)
 
 -- the mapping stands up to the bound
 abbrev pub is_up_to : Bound → Mapping → Bool
-is_up_to bound mapping = is_on_side bound.side (at_position bound.position) mapping
+is_up_to bound mapping = is_on_side bound.side (position_at bound.line bound.column) mapping
+
+-- the column before which a mapping on the position's line is on this side of it
+abbrev pub end_on_side : Side → ℕ → ℕ
+end_on_side Before column = column
+end_on_side Through column = column + 1
+
+-- the column on the bound's line before which a mapping stands up to the bound
+abbrev pub end_of : Bound → ℕ
+end_of bound = end_on_side bound.side bound.column
+
+-- the mapping, where it stands on this line
+abbrev pub on_line : ℕ → Option Mapping → Option Mapping
+on_line line None = None
+on_line line (Some mapping) = if mapping.line == line then Some mapping else None
 
 -- how many mappings at the front stand up to the bound
 abbrev pub front_up_to : Bound → List Mapping → ℕ

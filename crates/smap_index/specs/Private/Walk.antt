@@ -1,5 +1,5 @@
 -- What a walk through the parts finds, and how it counts the segments of a line.
-use Rattle.std.specs.Prelude.{◌≡◌, ℕ, ◌+◌, ◌^◌, ◌<◌, ◌≤◌, Option, Some, None, Bool, false, ◌&&◌, ◌==◌, nat_lt, if◌then◌else◌}
+use Rattle.std.specs.Prelude.{◌≡◌, ℕ, ◌+◌, ◌-◌, ◌^◌, ◌<◌, ◌≤◌, Option, Some, None, Bool, false, ◌&&◌, ◌==◌, nat_lt, if◌then◌else◌}
 use Rattle.smap_mappings.specs.Limits.{most_text_bytes}
 use Rattle.smap_mappings.specs.Mappings.{mappings_of}
 use Rattle.smap_mappings.specs.Order.{IsInOrder}
@@ -9,10 +9,11 @@ use Rattle.smap_mappings.specs.declared.mapping.Origin.{Origin}
 use Rattle.smap_mappings.specs.declared.cursor.Cursor.{Cursor}
 use Rattle.smap_index.specs.declared.part.Part.{Part}
 use Rattle.smap_index.specs.declared.checkpoint.Checkpoint.{Checkpoint}
-use Rattle.smap_index.specs.declared.checkpoint.Kind.{Kind}
-use Rattle.smap_index.specs.declared.checkpoint.Kind.TheVariants.{Unmapped, Mapped, Named}
-use Rattle.smap_index.specs.Checkpoint.{mapping_of}
+use Rattle.smap_mappings.specs.declared.kind.Kind.{Kind}
+use Rattle.smap_mappings.specs.declared.kind.Kind.TheVariants.{Unmapped, Mapped, Named}
 use Rattle.smap_index.specs.Parts.{placed_mapping}
+use Rattle.smap_index.specs.Private.Search.{end_of}
+use Rattle.smap_index.specs.declared.bound.Bound.{Bound}
 use Rattle.smap_index.specs.Faults.{is_overlapping}
 
 -- what a segment has whose origin has this name
@@ -59,29 +60,10 @@ position_of values = position_at values.line values.column
 abbrev pub IsPlacedInRange : Part → Mapping → Type 0
 IsPlacedInRange part mapping = is_mapping_past_limit (placed_mapping part mapping) ≡ false
 
--- the origin of these values, with this name
-abbrev pub origin_at : Cursor → Option ℕ → Origin
-origin_at values name = record { source = values.source; line = values.original_line; column = values.original_column; name = name }
-
--- the origin of a segment that has this much, where these are the values after it
-abbrev pub origin_of_kind : Kind → Cursor → Option Origin
-origin_of_kind Unmapped values = None
-origin_of_kind Mapped values = Some (origin_at values None)
-origin_of_kind Named values = Some (origin_at values (Some values.name))
-
--- the mapping of a segment that has this much, where these are the values after it
-abbrev pub mapping_at : Kind → Cursor → Mapping
-mapping_at kind values = record { line = values.line; column = values.column; origin = origin_of_kind kind values }
-
--- the mapping of a segment of the part's text that has this much and this state after it, at its place
-unfoldable pub walked_mapping : Part → Kind → Cursor → Mapping
-walked_mapping part kind state = placed_mapping part (mapping_at kind state)
-
--- the last mapping of a walk after a checkpoint: of the last segment, which has this much and this state after it, and
--- where there is none, the checkpoint's
-abbrev pub last_walked : Part → Checkpoint → Option Kind → Cursor → Mapping
-last_walked part checkpoint None state = mapping_of checkpoint
-last_walked part checkpoint (Some kind) state = walked_mapping part kind state
+-- the column on this line of the part's text before which a mapping stands up to the bound, where that is the bound's
+-- line
+abbrev pub end_in : Part → Bound → ℕ → ℕ
+end_in part bound line = if line == 0 then end_of bound - part.column else end_of bound
 
 -- the mappings of the part's text are in order
 abbrev pub IsTextInOrder : Part → Type 0

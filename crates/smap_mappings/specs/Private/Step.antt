@@ -1,12 +1,13 @@
 -- What a step from a state gives, one segment more.
-use Rattle.std.specs.Prelude.{◌≡◌, ℕ, ℤ, ◌+◌, List, [], ◌∷◌, ◌++◌, Option, Some, None, take, drop}
+use Rattle.std.specs.Prelude.{◌≡◌, ℕ, ℤ, ◌+◌, ◌<◌, ◌≤◌, List, [], ◌∷◌, ◌++◌, Option, Some, None, length, take, drop}
 use Rattle.smap_mappings.specs.Segments.{segments_of}
 use Rattle.smap_mappings.specs.Mappings.{deltas_of}
 use Rattle.smap_mappings.specs.Faults.{first_fault_after}
-use Rattle.smap_mappings.specs.State.{IsNext}
+use Rattle.smap_mappings.specs.State.{IsAfter, IsNext, mapping_at}
 use Rattle.smap_mappings.specs.declared.cursor.Cursor.{Cursor}
 use Rattle.smap_mappings.specs.declared.fault.Fault.{Fault}
 use Rattle.smap_mappings.specs.declared.fault.FaultKind.{FaultKind}
+use Rattle.smap_mappings.specs.declared.kind.Kind.{Kind}
 use Rattle.smap_mappings.specs.declared.mapping.Mapping.{Mapping}
 use Rattle.smap_mappings.specs.declared.mapping.Origin.{Origin}
 use Rattle.smap_mappings.specs.declared.segment.Segment.{Segment}
@@ -40,3 +41,11 @@ cursor_origin (Some origin) cursor = Some (record { source = cursor.source; line
 -- the mapping of a segment, from the state after it
 abbrev pub mapping_in : Segment → Cursor → Mapping
 mapping_in segment cursor = record { line = cursor.line; column = cursor.column; origin = cursor_origin segment.origin cursor }
+
+-- a segment that has this much stands at the state's place, or is joined to the state, on its line, and the other state
+-- is the one after it
+pub record IsSteppedTo (text : List ℕ) (cursor : Cursor) (kind : Kind) (after : Cursor) : Type 0 where
+  pub ahead : cursor.place < after.place
+  pub inside : after.place ≤ length text
+  pub line : after.line ≡ cursor.line
+  pub next : (j : ℕ) → IsAfter text j cursor → IsNext text j (mapping_at kind after) after

@@ -2,8 +2,8 @@ use Rattle.std.proofs.Common.{◌-◌, length}
 use Rattle.smap_mappings.proofs.Checking.{DecodesUpTo}
 use Rattle.smap_mappings.proofs.packed_text.decode_segments.Given as goal
 
-abbrev pub invariant-loop-mapping : goal.invariant-loop-mapping
-invariant-loop-mapping l = DecodesUpTo l.bytes l.at l.list.items
+abbrev pub invariant-loop-kind : goal.invariant-loop-kind
+invariant-loop-kind l = DecodesUpTo l.bytes l.at l.list.items
 
-abbrev pub decreases-loop-mapping : goal.decreases-loop-mapping
-decreases-loop-mapping l = length l.bytes - l.at.place
+abbrev pub decreases-loop-kind : goal.decreases-loop-kind
+decreases-loop-kind l = length l.bytes - l.at.place

@@ -1,14 +1,11 @@
-use Rattle.std.proofs.Common.{◌≡◌, refl, Option, Some, None}
-use Rattle.std.specs.Prelude.{ℤ, IfSome}
+use Rattle.std.proofs.Common.{◌≡◌, None, length, ap, arith}
 use Rattle.std.proofs.lemmas.Bool.{both_ways}
 use Rattle.smap_mappings.specs.Limits.{most_indices}
-use Rattle.smap_mappings.specs.State.{IsOriginAt, IsMappingAt}
-use Rattle.smap_mappings.specs.Private.Step.{fault_from, cursor_name, cursor_origin, mapping_in}
-use Rattle.smap_mappings.specs.declared.cursor.Cursor.{Cursor}
-use Rattle.smap_mappings.specs.declared.segment.Segment.{Segment}
-use Rattle.smap_mappings.specs.declared.segment.OriginFields.{OriginFields}
+use Rattle.smap_mappings.specs.Private.Step.{fault_from}
 use Rattle.smap_mappings.proofs.CheckLaws.{no_fault_from}
+use Rattle.smap_mappings.proofs.SegmentLaws.{segment_begins}
 use Rattle.smap_mappings.proofs.StepLaws.{steps_to, can_be_read, clean_values}
+use Rattle.smap_mappings.proofs.StraightLaws.{origin_same}
 use Rattle.smap_mappings.proofs.step.checked_step.Goals as goal
 use Rattle.smap_mappings.proofs.step.checked_step.Goals.{Start}
 
@@ -21,27 +18,23 @@ unreachable-requires c =
     both_ways _ c.in_default.ensures.none
     (can_be_read c.args.bytes.now c.requires.state.0 c.args.cursor.now most_indices most_indices (none (goal.at.unreachable-requires c).Start) c.requires.state.1 c.requires.within c.requires.inside)
 
-pub advance_checked-after-requires : goal.advance_checked-after-requires
-advance_checked-after-requires c =
-    clean_values c.args.bytes.now c.requires.state.0 c.args.cursor.now most_indices most_indices (none (goal.at.advance_checked-after-requires c).Start) c.requires.state.1 c.requires.within c.requires.inside
-    c.in-Some.segment c.in-Some.end c.in-Some.ensures.some
+pub advance_checked-requires : goal.advance_checked-requires
+advance_checked-requires c =
+    clean_values c.args.bytes.now c.requires.state.0 c.args.cursor.now most_indices most_indices (none (goal.at.advance_checked-requires c).Start) c.requires.state.1 c.requires.within c.requires.inside
+    c.in-Some-read_segment.segment c.in-Some-read_segment.end c.in-Some-read_segment.ensures.some
 
-pub returns-clause-next : goal.returns-clause-next
-returns-clause-next c j after =
-    let steps = steps_to c.args.bytes.now j c.args.cursor.now c.in-Some.segment c.in-Some.end after c.requires.within c.requires.inside c.in-Some.ensures.some most_indices most_indices c.advance_checked-after.result c.advance_checked-after.ensures in
-    rw c.mapping_in.ensures steps.next
-
--- a mapping that is made from a state has the state's values
-name_at : (name : Option ℤ) (after : Cursor) → IfSome (cursor_name name after) (λ name. name ≡ after.name)
-name_at None after = tt
-name_at (Some name) after = refl
-
-origin_at : (origin : Option OriginFields) (after : Cursor) → IfSome (cursor_origin origin after) (IsOriginAt after)
-origin_at None after = tt
-origin_at (Some origin) after = record { source = refl; line = refl; column = refl; name = name_at origin.name after }
-
-mapping_at : (segment : Segment) (after : Cursor) → IsMappingAt after (mapping_in segment after)
-mapping_at segment after = record { line = refl; column = refl; origin = origin_at segment.origin after }
-
-pub returns-clause-values : goal.returns-clause-values
-returns-clause-values c = rw c.mapping_in.ensures (mapping_at c.in-Some.segment c.advance_checked-after.result)
+pub returns-2 : goal.returns-2
+returns-2 c =
+    let text = c.args.bytes.now in
+    let cursor = c.args.cursor.now in
+    let segment = c.in-Some-read_segment.segment in
+    let advances = c.advance_checked.ensures in
+    let at = segment_begins text cursor.line cursor.place c.requires.within c.requires.inside in
+    record {
+      ahead = omega (arith, c.in-Some-read_segment.ensures.some.ends, advances.place, ap length at);
+      inside = omega (arith, c.in-Some-read_segment.ensures.some.inside, advances.place);
+      line = advances.line;
+      next = λ j after.
+          let steps = steps_to text j cursor segment c.in-Some-read_segment.end after c.requires.within c.requires.inside c.in-Some-read_segment.ensures.some most_indices most_indices c.advance_checked.result advances in
+          rw (c.kind_of.ensures, origin_same segment.origin c.advance_checked.result) steps.next;
+    }

@@ -2,7 +2,7 @@ use Rattle.std.proofs.Common.{sym, ap, ◌∙◌, arith}
 use Rattle.std.specs.Prelude.{option_map}
 use Rattle.std.specs.Option.{option_or, option_copied}
 use Rattle.smap_index.specs.Checkpoint.{mapping_of}
-use Rattle.smap_index.proofs.IndexLaws.{interval_within, index_in_order, mappings_in_order, compared, part_within, state_between, part_in_range, first_after, first_elsewhere, first_of_checkpoints}
+use Rattle.smap_index.proofs.IndexLaws.{interval_within, index_in_order, mappings_in_order, compared, part_within, state_between, state_on_line, part_in_range, first_after, first_elsewhere, first_of_checkpoints}
 use Rattle.smap_index.proofs.index.Index.first_past.Goals as goal
 
 pub nearest_checkpoints-nearest-requires-clause-ordered : goal.nearest_checkpoints-nearest-requires-clause-ordered
@@ -16,6 +16,9 @@ overflow_sub-self-inside c = (interval_within _ c.self.invariant).0
 
 pub decode_after-decoded-requires-clause-state : goal.decode_after-decoded-requires-clause-state
 decode_after-decoded-requires-clause-state c = state_between _ c.self.invariant c.args.bound.now _ (ap option_copied (sym c.in-Some.is) ∙ c.nearest_checkpoints-nearest.ensures.last) c.index-part.result.now c.index-part.ensures
+
+pub decode_after-decoded-requires-clause-on_line : goal.decode_after-decoded-requires-clause-on_line
+decode_after-decoded-requires-clause-on_line c = state_on_line _ c.self.invariant c.args.bound.now _ (ap option_copied (sym c.in-Some.is) ∙ c.nearest_checkpoints-nearest.ensures.last) c.index-part.result.now c.index-part.ensures c.if-checkpoint-bound.true
 
 pub decode_after-decoded-requires-clause-in_range : goal.decode_after-decoded-requires-clause-in_range
 decode_after-decoded-requires-clause-in_range c = part_in_range _ c.self.invariant c.args.bound.now _ (ap option_copied (sym c.in-Some.is) ∙ c.nearest_checkpoints-nearest.ensures.last) c.index-part.result.now c.index-part.ensures
