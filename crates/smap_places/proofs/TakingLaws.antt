@@ -46,17 +46,17 @@ module _ (table : List (List ℕ × MapRecord)) (line : List ℕ) (first : Optio
   pub record IsPut (from : ℕ) (now : Option (List ℕ)) (waiting : List ℕ) : Type 0 where
     pub done : List ℕ
     pub handed_on : HandsOn first now (before ++ done) waiting
-    pub rest : parts_text table (parts_of table line) ≡ done ++ parts_text table (parts_at table line from)
+    pub rest : parts_text (parts_of table line) ≡ done ++ parts_text (parts_at table line from)
 
   pub nothing_put : IsPut 0 first before
-  nothing_put = record { done = []; handed_on = ([], takes_none first, append-nil before); rest = ap (parts_text table) (from_start table line) }
+  nothing_put = record { done = []; handed_on = ([], takes_none first, append-nil before); rest = ap parts_text (from_start table line) }
 
   module _ (from : ℕ) (now : Option (List ℕ)) (waiting : List ℕ) (is : IsPut from now waiting) (new : Option (List ℕ)) where
     module _ (place : Place) (next : IsNext table line from place) where
-      rest_after : parts_text table (parts_of table line) ≡ (is.done ++ put_text table line from place next) ++ parts_text table (parts_at table line place.end)
+      rest_after : parts_text (parts_of table line) ≡ (is.done ++ put_text table line from place next) ++ parts_text (parts_at table line place.end)
       rest_after =
           is.rest ∙ ap (λ text. is.done ++ text) (next_text table line from place next)
-          ∙ sym (append_assoc is.done (put_text table line from place next) (parts_text table (parts_at table line place.end)))
+          ∙ sym (append_assoc is.done (put_text table line from place next) (parts_text (parts_at table line place.end)))
 
       pub place_put : (after : List ℕ) → HandsOn now new (waiting ++ put_text table line from place next) after → IsPut place.end new after
       place_put after put = record {
@@ -68,14 +68,14 @@ module _ (table : List (List ℕ × MapRecord)) (line : List ℕ) (first : Optio
       pub place_front : (is_ended : Bool) → TakesFront now new (waiting ++ put_text table line from place next) →
           TakesFront first new (before ++ placed_line table (record { bytes = line; is_ended = is_ended }))
       place_front is_ended took =
-          let more : List ℕ = parts_text table (parts_at table line place.end) ++ end_in is_ended in
-          let whole : (is.done ++ put_text table line from place next) ++ more ≡ parts_text table (parts_of table line) ++ end_in is_ended =
-          sym (append_assoc (is.done ++ put_text table line from place next) (parts_text table (parts_at table line place.end)) (end_in is_ended)) ∙ ap (λ l. l ++ end_in is_ended) (sym rest_after) in
+          let more : List ℕ = parts_text (parts_at table line place.end) ++ end_in is_ended in
+          let whole : (is.done ++ put_text table line from place next) ++ more ≡ parts_text (parts_of table line) ++ end_in is_ended =
+          sym (append_assoc (is.done ++ put_text table line from place next) (parts_text (parts_at table line place.end)) (end_in is_ended)) ∙ ap (λ l. l ++ end_in is_ended) (sym rest_after) in
           subst (λ l. TakesFront first new (before ++ l)) whole
           (on_front first now new before waiting is.done (put_text table line from place next) more is.handed_on took)
 
     module _ (within : from ≤ length line) (none : NoNext table line from) (is_ended : Bool) where
-      whole_line : is.done ++ (drop from line ++ end_in is_ended) ≡ parts_text table (parts_of table line) ++ end_in is_ended
+      whole_line : is.done ++ (drop from line ++ end_in is_ended) ≡ parts_text (parts_of table line) ++ end_in is_ended
       whole_line = sym (append_assoc is.done (drop from line) (end_in is_ended)) ∙ ap (λ l. l ++ end_in is_ended) (sym (is.rest ∙ ap (λ text. is.done ++ text) (last_text table line from within none)))
 
       pub line_put : (after : List ℕ) → HandsOn now new (waiting ++ (drop from line ++ end_in is_ended)) after → HandsOn first new (before ++ placed_line table (record { bytes = line; is_ended = is_ended })) after

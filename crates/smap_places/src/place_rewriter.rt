@@ -13,7 +13,6 @@ use crate::replacement::find_replacement;
 use itoa::Buffer;
 use smap_io::{ByteSink, DeviceFault};
 use smap_lines::{Gathered, LineEditor};
-use smap_trace::Table;
 use std::alloc::Global;
 
 /// Rewrites the places in the lines of a text, and counts them and those that are replaced.
@@ -44,10 +43,9 @@ impl LineEditor for PlaceRewriter<'_> {
         gathered: &mut Gathered,
         output: &mut W,
     ) -> Result<(), DeviceFault> {
-        let table = self.finder.table();
         let mut from = 0;
         while let Some(place) = self.finder.next(line, from) {
-            let is_mapped = put_place(self.alloc, table, line, from, &place, gathered, output)?;
+            let is_mapped = put_place(self.alloc, line, from, &place, gathered, output)?;
             self.places += 1;
             self.mapped += u64::from(is_mapped);
             from = place.end;
@@ -64,10 +62,9 @@ impl LineEditor for PlaceRewriter<'_> {
 // is replaced.
 fn put_place<W: ByteSink>(
     alloc: Global,
-    table: &Table,
     line: &[u8],
     from: usize,
-    place: &Place<'_>,
+    place: &Place<'_, '_>,
     gathered: &mut Gathered,
     output: &mut W,
 ) -> Result<bool, DeviceFault>
@@ -75,18 +72,18 @@ fn put_place<W: ByteSink>(
     requires some { place.now.start < place.now.end }
     requires within { place.now.end ≤ length line.now }
     ensures put { OnOk result (HandsOn (W.seen output.old).taken (W.seen output.new).taken (gathered.old
-        ++ (slice_range line.now from place.now.start ++ part_text table.now
+        ++ (slice_range line.now from place.now.start ++ part_text
         (found (place_seen place.now) (slice_range line.now place.now.start place.now.end)))) gathered.new) }
     ensures mapped { IfOk result (λ mapped.
-        mapped ≡ is_some (replacement (place_seen place.now) table.now)) }
+        mapped ≡ is_some (replacement (place_seen place.now))) }
     ensures no_failure { OnOk result ((W.seen output.new).failed ≡ (W.seen output.old).failed) }
 
     ensures front { OnErr result (TakesFront (W.seen output.old).taken (W.seen output.new).taken (gathered.old
-        ++ (slice_range line.now from place.now.start ++ part_text table.now
+        ++ (slice_range line.now from place.now.start ++ part_text
         (found (place_seen place.now) (slice_range line.now place.now.start place.now.end))))) }
     ensures failure { OnErr result ((W.seen output.new).failed ≡ true) }
 {
-    let Some(replacement) = find_replacement(alloc, table, place) else {
+    let Some(replacement) = find_replacement(alloc, place) else {
         gathered.put(&line[from..place.end], output)?;
         return Ok(false);
     };
@@ -94,10 +91,8 @@ fn put_place<W: ByteSink>(
     let pieces = pieces_of(
         &line[from..place.start],
         replacement.name.as_bytes(),
-        original_line.format(replacement.original.line).as_bytes(),
-        original_column
-            .format(replacement.original.column)
-            .as_bytes(),
+        original_line.format(replacement.line).as_bytes(),
+        original_column.format(replacement.column).as_bytes(),
     );
     gathered.put_all(&pieces, output)?;
     Ok(true)

@@ -14,7 +14,7 @@ loop-place-init g c = record {
   put = nothing_put c.args.self.now.finder c.args.line.now (g.W.ByteSink.seen c.args.output.now).taken c.args.gathered.now;
   works = refl;
   places = ap (λ parts. c.args.self.now.places + length (filter is_place parts)) (sym (from_start c.args.self.now.finder c.args.line.now));
-  mapped = ap (λ parts. c.args.self.now.mapped + length (filter (is_replaced c.args.self.now.finder) parts)) (sym (from_start c.args.self.now.finder c.args.line.now));
+  mapped = ap (λ parts. c.args.self.now.mapped + length (filter is_replaced parts)) (sym (from_start c.args.self.now.finder c.args.line.now));
   alloc = refl;
   finder = refl;
 }
@@ -22,9 +22,8 @@ loop-place-init g c = record {
 pub returns-in_err-is_mapped-clause-front : goal.returns-in_err-is_mapped-clause-front
 returns-in_err-is_mapped-clause-front g c =
     let next = subst (λ t. IsNext t c.args.line.now c.loop-place.from c.in-Some.place) c.loop-place.invariant.finder c.in-Some.ensures in
-    let front = rw c.table-table.ensures at c.in_err-is_mapped.ensures.front in
     let p = err_from_is_err_and c.from_residual.result c.from_residual.ensures.1 in
-    rw p.1 (place_front c.args.self.now.finder c.args.line.now (g.W.ByteSink.seen c.args.output.now).taken c.args.gathered.now c.loop-place.from _ _ c.loop-place.invariant.put _ c.in-Some.place next c.args.is_ended front)
+    rw p.1 (place_front c.args.self.now.finder c.args.line.now (g.W.ByteSink.seen c.args.output.now).taken c.args.gathered.now c.loop-place.from _ _ c.loop-place.invariant.put _ c.in-Some.place next c.args.is_ended c.in_err-is_mapped.ensures.front)
 
 pub overflow_add-self : goal.overflow_add-self
 overflow_add-self g c =
@@ -41,8 +40,8 @@ overflow_add-self g c =
 pub overflow_add-self-in-Some : goal.overflow_add-self-in-Some
 overflow_add-self-in-Some g c =
     let next = subst (λ t. IsNext t c.args.line.now c.loop-place.from c.in-Some.place) c.loop-place.invariant.finder c.in-Some.ensures in
-    let one : ◌≡◌ {A = ℕ} c.from.result (cond (is_some (replacement (place_seen c.in-Some.place) c.args.self.now.finder)) 1 0) =
-    c.from.ensures ∙ byte_is c.in_ok-is_mapped.is_mapped ∙ ap (λ b. cond b 1 0) (rw c.table-table.ensures at c.in_ok-is_mapped.ensures.mapped) in
+    let one : ◌≡◌ {A = ℕ} c.from.result (cond (is_some (replacement (place_seen c.in-Some.place))) 1 0) =
+    c.from.ensures ∙ byte_is c.in_ok-is_mapped.is_mapped ∙ ap (λ b. cond b 1 0) c.in_ok-is_mapped.ensures.mapped in
     omega (
       arith,
       one,
@@ -50,18 +49,17 @@ overflow_add-self-in-Some g c =
       c.requires.short,
       c.loop-place.invariant.mapped,
       next_replaced c.args.self.now.finder c.args.line.now c.loop-place.from c.in-Some.place next,
-      filtered_few c.args.self.now.finder (record { bytes = c.args.line.now; is_ended = c.args.is_ended }) (is_replaced c.args.self.now.finder),
+      filtered_few c.args.self.now.finder (record { bytes = c.args.line.now; is_ended = c.args.is_ended }) is_replaced,
     )
 
 pub loop-place-preserved : goal.loop-place-preserved
 loop-place-preserved g c =
     let next = subst (λ t. IsNext t c.args.line.now c.loop-place.from c.in-Some.place) c.loop-place.invariant.finder c.in-Some.ensures in
-    let put = rw c.table-table.ensures at c.in_ok-is_mapped.ensures.put in
-    let one : ◌≡◌ {A = ℕ} c.from.result (cond (is_some (replacement (place_seen c.in-Some.place) c.args.self.now.finder)) 1 0) =
-    c.from.ensures ∙ byte_is c.in_ok-is_mapped.is_mapped ∙ ap (λ b. cond b 1 0) (rw c.table-table.ensures at c.in_ok-is_mapped.ensures.mapped) in
+    let one : ◌≡◌ {A = ℕ} c.from.result (cond (is_some (replacement (place_seen c.in-Some.place))) 1 0) =
+    c.from.ensures ∙ byte_is c.in_ok-is_mapped.is_mapped ∙ ap (λ b. cond b 1 0) c.in_ok-is_mapped.ensures.mapped in
     record {
       within = next.within;
-      put = place_put c.args.self.now.finder c.args.line.now (g.W.ByteSink.seen c.args.output.now).taken c.args.gathered.now c.loop-place.from _ _ c.loop-place.invariant.put _ c.in-Some.place next _ put;
+      put = place_put c.args.self.now.finder c.args.line.now (g.W.ByteSink.seen c.args.output.now).taken c.args.gathered.now c.loop-place.from _ _ c.loop-place.invariant.put _ c.in-Some.place next _ c.in_ok-is_mapped.ensures.put;
       works = c.in_ok-is_mapped.ensures.no_failure ∙ c.loop-place.invariant.works;
       places = omega (arith, c.loop-place.invariant.places, next_found c.args.self.now.finder c.args.line.now c.loop-place.from c.in-Some.place next);
       mapped = omega (arith, one, c.loop-place.invariant.mapped, next_replaced c.args.self.now.finder c.args.line.now c.loop-place.from c.in-Some.place next);

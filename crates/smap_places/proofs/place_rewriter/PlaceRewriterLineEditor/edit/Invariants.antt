@@ -12,8 +12,8 @@ invariant-loop-place g l = record {
   put : IsPut l.initial.self.finder l.line (g.W.ByteSink.seen l.initial.output).taken l.initial.gathered l.from (g.W.ByteSink.seen l.output).taken l.gathered;
   works : (g.W.ByteSink.seen l.output).failed ≡ (g.W.ByteSink.seen l.initial.output).failed;
   places : l.self.places + length (filter is_place (parts_at l.initial.self.finder l.line l.from)) ≡ l.initial.self.places + length (filter is_place (parts_of l.initial.self.finder l.line));
-  mapped : l.self.mapped + length (filter (is_replaced l.initial.self.finder) (parts_at l.initial.self.finder l.line l.from))
-      ≡ l.initial.self.mapped + length (filter (is_replaced l.initial.self.finder) (parts_of l.initial.self.finder l.line));
+  mapped : l.self.mapped + length (filter is_replaced (parts_at l.initial.self.finder l.line l.from))
+      ≡ l.initial.self.mapped + length (filter is_replaced (parts_of l.initial.self.finder l.line));
   alloc : l.self.alloc ≡ l.initial.self.alloc;
   finder : l.self.finder ≡ l.initial.self.finder;
 }
