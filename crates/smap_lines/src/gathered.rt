@@ -3,9 +3,7 @@ ghost use Rattle.std.specs.Prelude.{◌≡◌, ◌-◌, ◌≤◌, ◌++◌, [],
 ghost use Rattle.std.specs.List.{concat};
 ghost use Rattle.smap_io.specs.Device.{Takes, TakesFront};
 ghost use Rattle.smap_lines.specs.Gathered.{HandsOn, most_gathered};
-ghost use Rattle.smap_lines.specs.Lines.{end_in};
 
-use crate::line_end::end_of_line;
 use smap_io::{ByteSink, DeviceFault, write_all};
 use std::alloc::{AllocError, Global};
 use std::marker::Model;
@@ -89,25 +87,6 @@ impl Gathered {
         if self.bytes.extend_from_slice(bytes).is_err() {
             unreachable!("what fits takes no memory");
         }
-    }
-
-    /// Puts a line after the bytes that wait, with an LF where it has one.
-    pub fn put_line<W: ByteSink>(
-        &mut self,
-        line: &[u8],
-        is_ended: bool,
-        output: &mut W,
-    ) -> Result<(), DeviceFault>
-        ensures put { OnOk result (HandsOn (W.seen output.old).taken (W.seen output.new).taken
-            (self.old ++ (line.now ++ end_in is_ended)) self.new) }
-        ensures no_failure { OnOk result ((W.seen output.new).failed ≡ (W.seen output.old).failed) }
-
-        ensures front { OnErr result (TakesFront (W.seen output.old).taken (W.seen output.new).taken
-            (self.old ++ (line.now ++ end_in is_ended))) }
-        ensures failure { OnErr result ((W.seen output.new).failed ≡ true) }
-    {
-        self.put(line, output)?;
-        self.put(end_of_line(is_ended), output)
     }
 
     /// Puts pieces after the bytes that wait, one after another.

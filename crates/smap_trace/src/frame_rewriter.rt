@@ -1,8 +1,7 @@
 //! The frames of a trace, rewritten line by line.
-ghost use Rattle.std.specs.Prelude.{◌≡◌, ◌++◌, true, codes, map, OnErr, OnOk};
+ghost use Rattle.std.specs.Prelude.{◌≡◌, ◌++◌, codes, map};
 ghost use Rattle.std.specs.List.{concat};
-ghost use Rattle.smap_io.specs.Device.{TakesFront};
-ghost use Rattle.smap_lines.specs.Gathered.{HandsOn};
+ghost use Rattle.smap_lines.specs.LineOutput.{IsPut};
 ghost use Rattle.smap_lines.specs.Lines.{end_in};
 ghost use Rattle.smap_trace.specs.SightSeen.{replaced_frame};
 
@@ -12,7 +11,7 @@ use crate::sight::{Sight, look_at};
 use crate::table::Table;
 use itoa::Buffer;
 use smap_io::{ByteSink, DeviceFault};
-use smap_lines::{Gathered, LineEditor, end_of_line};
+use smap_lines::{LineEditor, LineOutput, end_of_line};
 use std::alloc::Global;
 
 /// Rewrites the frames among the lines of a trace, and counts those that stay, those that are replaced and those that
@@ -43,17 +42,16 @@ impl LineEditor for FrameRewriter<'_> {
         &mut self,
         line: &[u8],
         is_ended: bool,
-        gathered: &mut Gathered,
-        output: &mut W,
+        output: &mut LineOutput<'_, W>,
     ) -> Result<(), DeviceFault> {
         match look_at(self.alloc, self.table, self.hide_ignored, line) {
-            Sight::Other => gathered.put_line(line, is_ended, output)?,
+            Sight::Other => output.put_line(line, is_ended)?,
             Sight::Staying => {
-                gathered.put_line(line, is_ended, output)?;
+                output.put_line(line, is_ended)?;
                 self.staying += 1;
             }
             Sight::Replaced(frame, replacement) => {
-                put_frame(&frame, &replacement, is_ended, gathered, output)?;
+                put_frame(&frame, &replacement, is_ended, output)?;
                 self.mapped += 1;
             }
             Sight::Hidden => self.hidden += 1,
@@ -71,15 +69,10 @@ fn put_frame<W: ByteSink>(
     frame: &Frame<'_>,
     replacement: &Replacement<'_>,
     is_ended: bool,
-    gathered: &mut Gathered,
-    output: &mut W,
+    output: &mut LineOutput<'_, W>,
 ) -> Result<(), DeviceFault>
-    ensures put { OnOk result (HandsOn (W.seen output.old).taken (W.seen output.new).taken
-        (gathered.old ++ (replaced_frame frame.now replacement.now ++ end_in is_ended)) gathered.new) }
-    ensures no_failure { OnOk result ((W.seen output.new).failed ≡ (W.seen output.old).failed) }
-    ensures front { OnErr result (TakesFront (W.seen output.old).taken (W.seen output.new).taken
-        (gathered.old ++ (replaced_frame frame.now replacement.now ++ end_in is_ended))) }
-    ensures failure { OnErr result ((W.seen output.new).failed ≡ true) }
+    ensures { IsPut W.seen output.old output.new
+        (replaced_frame frame.now replacement.now ++ end_in is_ended) result }
 {
     let (mut line, mut column) = (Buffer::new(), Buffer::new());
     let pieces = pieces_of(
@@ -90,7 +83,7 @@ fn put_frame<W: ByteSink>(
         frame.tail,
         end_of_line(is_ended),
     );
-    gathered.put_all(&pieces, output)
+    output.put_all(&pieces)
 }
 
 // What a frame is joined of.
