@@ -78,5 +78,10 @@ fn printable_name(source: Option<&SourceEntry>) -> Option<&str>
 pub fn has_control(text: &[u8]) -> bool
     ensures { result ≡ list_any is_ascii_control text.now }
 {
-    text.iter().any(|byte| byte.is_ascii_control())
+    // No byte is asked whether to stop, so that many are tested at once.
+    let mut found = false;
+    for byte in text {
+        found |= byte.is_ascii_control();
+    }
+    found
 }
