@@ -62,6 +62,7 @@ module _ {W : Type 0} {seen : W → SinkSeen} where
     }
 
     -- a piece, and then a second one, in which a write fails or not
-    pub put_then : {T : Type 0} (new : LineOutput W) (second : List ℕ) (result : Result T DeviceFault) → IsPut seen mid new second result → IsPut seen old new (first ++ second) result
+    pub put_then : {T : Type 0} (new : LineOutput W) (second : List ℕ) (result : Result T DeviceFault) →
+        IsPut seen mid new second result → IsPut seen old new (first ++ second) result
     put_then new second (Ok done) two = puts_both two
     put_then new second (Err fault) fails = fails_second fails

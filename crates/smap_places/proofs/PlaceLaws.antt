@@ -38,7 +38,8 @@ placed_none : (url : List ℕ) (bytes : ℕ) (stated : Option MapRecord) → pla
 placed_none url bytes None = refl
 placed_none url bytes (Some stated) = refl
 
-placed_unknown : (url : List ℕ) (bytes : ℕ) (stated : Option MapRecord) (numbers : Option (ℕ × ℕ × ℕ)) → is_some stated ≡ false → placed url bytes stated numbers ≡ None
+placed_unknown : (url : List ℕ) (bytes : ℕ) (stated : Option MapRecord) (numbers : Option (ℕ × ℕ × ℕ)) → is_some stated ≡ false →
+    placed url bytes stated numbers ≡ None
 placed_unknown url bytes None numbers none = refl
 placed_unknown url bytes (Some stated) numbers none = cc
 

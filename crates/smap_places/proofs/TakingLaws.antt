@@ -42,7 +42,8 @@ module _ {W : Type 0} (seen : W → SinkSeen) (table : List (List ℕ × MapReco
           subst (λ l. FailsToPut seen first new l) whole (fails_first (more ++ end_in is_ended) (fails_second is.puts fails))
 
     pub line_done : {T : Type 0} (result : Result T DeviceFault) → from ≤ length line → NoNext table line from → (is_ended : _) →
-        IsPut seen now new (drop from line ++ end_in is_ended) result → IsPut seen first new (placed_line table (record { bytes = line; is_ended = is_ended })) result
+        IsPut seen now new (drop from line ++ end_in is_ended) result →
+        IsPut seen first new (placed_line table (record { bytes = line; is_ended = is_ended })) result
     line_done result within none is_ended put =
         let whole : is.done ++ (drop from line ++ end_in is_ended) ≡ parts_text (parts_of table line) ++ end_in is_ended =
         sym (append_assoc is.done (drop from line) (end_in is_ended))

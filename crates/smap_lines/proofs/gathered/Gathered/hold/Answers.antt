@@ -15,7 +15,8 @@ pub returns : goal.returns
 returns c =
     let room = c.deref_mut.result.now in
     let whole : length c.self.inside.room.items ≡ 65536 = c.self.invariant.1 in
-    let size : length c.args.self.now ≡ c.self.inside.len = ap length (sym c.self.view_is) ∙ length-take-le c.self.inside.len _ (omega (arith, c.self.invariant)) in
+    let size : length c.args.self.now ≡ c.self.inside.len =
+    ap length (sym c.self.view_is) ∙ length-take-le c.self.inside.len _ (omega (arith, c.self.invariant)) in
     let same = ap length c.deref_mut.ensures.value in
     rw c.copy_from_slice.ensures.after
     (held c.self.inside.len c.self.inside.room.len room c.args.bytes.now _ _

@@ -26,7 +26,8 @@ pub returns-in_err-is_mapped-clause-put : goal.returns-in_err-is_mapped-clause-p
 returns-in_err-is_mapped-clause-put g c =
     let next = subst (λ t. IsNext t c.args.line.now c.loop-place.from c.in-Some.place) c.loop-place.invariant.finder c.in-Some.ensures in
     let p = err_from_is_err_and c.from_residual.result c.from_residual.ensures.1 in
-    rw p.1 (place_fails g.W.ByteSink.seen c.args.self.now.finder c.args.line.now c.args.output.now c.loop-place.from _ c.loop-place.invariant.put _ c.in-Some.place next c.args.is_ended c.in_err-is_mapped.ensures.put)
+    rw p.1 (place_fails g.W.ByteSink.seen c.args.self.now.finder c.args.line.now c.args.output.now c.loop-place.from _
+    c.loop-place.invariant.put _ c.in-Some.place next c.args.is_ended c.in_err-is_mapped.ensures.put)
 
 pub overflow_add-self : goal.overflow_add-self
 overflow_add-self g c =
@@ -62,7 +63,8 @@ loop-place-preserved g c =
     c.from.ensures ∙ byte_is c.in_ok-is_mapped.is_mapped ∙ ap (λ b. cond b 1 0) c.in_ok-is_mapped.ensures.mapped in
     record {
       within = next.within;
-      put = place_done g.W.ByteSink.seen c.args.self.now.finder c.args.line.now c.args.output.now c.loop-place.from _ c.loop-place.invariant.put _ c.in-Some.place next c.in_ok-is_mapped.ensures.put;
+      put = place_done g.W.ByteSink.seen c.args.self.now.finder c.args.line.now c.args.output.now c.loop-place.from _
+          c.loop-place.invariant.put _ c.in-Some.place next c.in_ok-is_mapped.ensures.put;
       places = omega (arith, c.loop-place.invariant.places, next_found c.args.self.now.finder c.args.line.now c.loop-place.from c.in-Some.place next);
       mapped = omega (arith, one, c.loop-place.invariant.mapped, next_replaced c.args.self.now.finder c.args.line.now c.loop-place.from c.in-Some.place next);
       alloc = c.loop-place.invariant.alloc;
@@ -72,7 +74,8 @@ loop-place-preserved g c =
 pub returns-clause-put : goal.returns-clause-put
 returns-clause-put g c =
     let none = subst (λ t. NoNext t c.args.line.now c.loop-place.from) c.loop-place.invariant.finder c.in_default.ensures in
-    line_done g.W.ByteSink.seen c.args.self.now.finder c.args.line.now c.args.output.now c.loop-place.from _ c.loop-place.invariant.put _ c.put_line.result c.loop-place.invariant.within none c.args.is_ended
+    line_done g.W.ByteSink.seen c.args.self.now.finder c.args.line.now c.args.output.now c.loop-place.from _
+    c.loop-place.invariant.put _ c.put_line.result c.loop-place.invariant.within none c.args.is_ended
     (rw (take_rest c.args.line.now c.loop-place.from) at c.put_line.ensures)
 
 pub returns-clause-after : goal.returns-clause-after
