@@ -1,22 +1,14 @@
 -- What a sink took, one piece after another.
-use Rattle.std.proofs.Common.{ℕ, List, [], ◌++◌, Option, Some, None, Result, Ok, Err, refl, sym, ap, ◌∙◌, append_assoc, append-nil}
+use Rattle.std.proofs.Common.{ℕ, List, [], ◌++◌, Option, Result, Ok, Err, sym, ap, ◌∙◌, append_assoc, append-nil}
 use Rattle.std.specs.Result.{OnOk}
-use Rattle.std.specs.Io.KnownBytes.{append_known}
 use Rattle.smap_io.specs.Device.{Takes, TakesFront}
 use Rattle.smap_lines.specs.Gathered.{HandsOn}
+use Rattle.smap_lines.specs.PutLaws.{takes_both}
 
 -- two facts of one result
 pub on_both : {T E : Type 0} (P Q : Type 0) (r : Result T E) → OnOk r P → OnOk r Q → OnOk r (P × Q)
 on_both P Q (Ok x) p q = (p, q)
 on_both P Q (Err e) p q = tt
-
-pub takes_none : (old : Option (List ℕ)) → Takes old old []
-takes_none None = refl
-takes_none (Some bytes) = ap Some (sym (append-nil bytes))
-
-pub takes_both : (old mid new : Option (List ℕ)) (first second : List ℕ) → Takes old mid first → Takes mid new second → Takes old new (first ++ second)
-takes_both None mid new first second p q = q ∙ ap (λ o. append_known o second) p
-takes_both (Some bytes) mid new first second p q = q ∙ ap (λ o. append_known o second) p ∙ ap Some (append_assoc bytes first second)
 
 -- a front of some bytes is one of these and more
 pub front_of_more : (old new : Option (List ℕ)) (bytes more : List ℕ) → TakesFront old new bytes → TakesFront old new (bytes ++ more)
@@ -46,15 +38,6 @@ module _ (old mid : Option (List ℕ)) (before between first second : List ℕ) 
     takes_both old mid new one.0 two.0 one.1 two.1,
     sym (append_assoc before first second) ∙ ap (λ l. l ++ second) one.2 ∙ append_assoc one.0 between second
         ∙ ap (λ l. one.0 ++ l) two.2 ∙ sym (append_assoc one.0 two.0 after),
-  )
-
-  -- a piece of which a front was taken, before a second one
-  pub front_of_both : TakesFront old mid (before ++ first) → TakesFront old mid (before ++ (first ++ second))
-  front_of_both took = (
-    took.0,
-    took.1 ++ second,
-    sym (append_assoc before first second) ∙ ap (λ l. l ++ second) took.2 ∙ append_assoc took.0 took.1 second,
-    took.3,
   )
 
   -- a piece, and a front of a second one

@@ -8,7 +8,7 @@ use Rattle.smap_lines.specs.Private.OpenLine.{OpenState, after_ended, after_last
 use Rattle.smap_lines.specs.Private.Passage.{IsOpen, IsThrough, Now, passed}
 use Rattle.smap_lines.proofs.LineLaws.{after_both, after_ended_line, after_none, edited_both, edited_ended, edited_none, ended, few_lines, first_line, lines_of_both, no_end_in_both, whole_begins}
 use Rattle.smap_lines.proofs.StateLaws.{begins_at, after_at, after_last_at, counted_at, ended_at, goes_on, last_at}
-use Rattle.smap_lines.proofs.TakingLaws.{takes_both, takes_none}
+use Rattle.smap_lines.specs.PutLaws.{takes_both, takes_none}
 
 -- more was put after what was handed on of a text
 handed : (written waiting front rest whole part more all : List ℕ) → written ++ waiting ≡ whole ++ part → waiting ++ more ≡ front ++ rest → part ++ more ≡ all →

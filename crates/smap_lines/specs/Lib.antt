@@ -4,3 +4,5 @@ pub mod Edited
 pub mod Editing
 pub mod Gathered
 pub mod Private
+pub mod LineOutput
+pub mod PutLaws

@@ -7,6 +7,7 @@ ghost use Rattle.smap_lines.specs.declared.fault.LineFault.TheVariants.{Memory};
 use crate::editor::LineEditor;
 use crate::fault::LineFault;
 use crate::gathered::Gathered;
+use crate::line_output::LineOutput;
 use crate::open_line::OpenLine;
 use crate::passage::edit_bytes;
 use smap_io::{ByteSink, ByteSource, DeviceFault};
@@ -63,14 +64,22 @@ pub fn edit_lines<R: ByteSource, W: ByteSink, E: LineEditor>(
             return Err(LineFault::TooMuch);
         }
         let bytes = &room[..count];
-        let Ok(()) = edit_bytes(bytes, &mut line, &mut lines, editor, &mut gathered, output) else {
+        let mut lent = LineOutput {
+            gathered: &mut gathered,
+            sink: output,
+        };
+        let Ok(()) = edit_bytes(bytes, &mut line, &mut lines, editor, &mut lent) else {
             return Err(LineFault::Write);
         };
     }
-    let Ok(is_line) = line.finish(editor, &mut gathered, output) else {
+    let mut lent = LineOutput {
+        gathered: &mut gathered,
+        sink: output,
+    };
+    let Ok(is_line) = line.finish(editor, &mut lent) else {
         return Err(LineFault::Write);
     };
-    match gathered.write(output) {
+    match lent.write() {
         Ok(()) => Ok(lines + u64::from(is_line)),
         Err(DeviceFault) => Err(LineFault::Write),
     }

@@ -3,9 +3,7 @@ ghost use Rattle.std.specs.Prelude.{◌≡◌, ◌-◌, ◌≤◌, ◌++◌, [],
 ghost use Rattle.std.specs.List.{concat};
 ghost use Rattle.smap_io.specs.Device.{Takes, TakesFront};
 ghost use Rattle.smap_lines.specs.Gathered.{HandsOn, most_gathered};
-ghost use Rattle.smap_lines.specs.Lines.{end_in};
 
-use crate::line_end::end_of_line;
 use smap_io::{ByteSink, DeviceFault, write_all};
 use std::alloc::{AllocError, Global};
 use std::marker::Model;
@@ -13,21 +11,24 @@ use std::marker::Model;
 // How many bytes wait at most.
 const MOST_GATHERED: usize = 65536;
 
-/// Bytes that wait to be written. Its room is made once, so that to put bytes into it takes no memory.
+/// Bytes that wait to be written: the first `len` of a room that is made once, so that to put bytes into it takes no
+/// memory.
 #[derive(Drop)]
 pub struct Gathered {
-    bytes: Vec<u8>,
+    room: Vec<u8>,
+    len: usize,
 }
 
 impl Model for Gathered {
-    ghost use Rattle.std.specs.Prelude.{ℕ, ◌≤◌, List, vec_capacity};
+    ghost use Rattle.std.specs.Prelude.{◌≡◌, ℕ, ◌≤◌, List, length, take};
     ghost use Rattle.smap_lines.specs.Gathered.{most_gathered};
 
     ghost Value = { List ℕ };
 
-    ghost view = { λ gathered. gathered.bytes.items };
+    ghost view = { λ gathered. take gathered.len gathered.room.items };
 
-    ghost invariant = { λ gathered. most_gathered ≤ vec_capacity gathered.bytes };
+    ghost invariant = { λ gathered.
+        (gathered.len ≤ most_gathered) × (length gathered.room.items ≡ most_gathered) };
 }
 
 impl Gathered {
@@ -36,7 +37,8 @@ impl Gathered {
         ensures { IfOk result (λ gathered. gathered ≡ []) }
     {
         Ok(Gathered {
-            bytes: Vec::with_capacity(alloc, MOST_GATHERED)?,
+            room: vec![in alloc; 0; MOST_GATHERED]?,
+            len: 0,
         })
     }
 
@@ -53,7 +55,7 @@ impl Gathered {
             (TakesFront (W.seen output.old).taken (W.seen output.new).taken (self.old ++ bytes.now)) }
         ensures failure { OnErr result ((W.seen output.new).failed ≡ true) }
     {
-        if bytes.len() > MOST_GATHERED.saturating_sub(self.bytes.len()) {
+        if bytes.len() > MOST_GATHERED - self.len {
             return self.put_anew(bytes, output);
         }
         self.hold(bytes);
@@ -86,28 +88,9 @@ impl Gathered {
         requires { length bytes.now ≤ most_gathered - length self.old }
         ensures { self.new ≡ self.old ++ bytes.now }
     {
-        if self.bytes.extend_from_slice(bytes).is_err() {
-            unreachable!("what fits takes no memory");
-        }
-    }
-
-    /// Puts a line after the bytes that wait, with an LF where it has one.
-    pub fn put_line<W: ByteSink>(
-        &mut self,
-        line: &[u8],
-        is_ended: bool,
-        output: &mut W,
-    ) -> Result<(), DeviceFault>
-        ensures put { OnOk result (HandsOn (W.seen output.old).taken (W.seen output.new).taken
-            (self.old ++ (line.now ++ end_in is_ended)) self.new) }
-        ensures no_failure { OnOk result ((W.seen output.new).failed ≡ (W.seen output.old).failed) }
-
-        ensures front { OnErr result (TakesFront (W.seen output.old).taken (W.seen output.new).taken
-            (self.old ++ (line.now ++ end_in is_ended))) }
-        ensures failure { OnErr result ((W.seen output.new).failed ≡ true) }
-    {
-        self.put(line, output)?;
-        self.put(end_of_line(is_ended), output)
+        let len = self.len;
+        self.room[len..len + bytes.len()].copy_from_slice(bytes);
+        self.len = len + bytes.len();
     }
 
     /// Puts pieces after the bytes that wait, one after another.
@@ -142,8 +125,8 @@ impl Gathered {
             self.old) }
         ensures failure { OnErr result ((W.seen output.new).failed ≡ true) }
     {
-        write_all(output, &self.bytes)?;
-        self.bytes.clear();
+        write_all(output, &self.room[..self.len])?;
+        self.len = 0;
         Ok(())
     }
 }

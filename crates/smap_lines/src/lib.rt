@@ -14,6 +14,7 @@ mod fault;
 mod gathered;
 pub mod laws;
 mod line_end;
+mod line_output;
 mod open_line;
 mod passage;
 
@@ -22,4 +23,5 @@ pub use editor::LineEditor;
 pub use fault::LineFault;
 pub use gathered::Gathered;
 pub use line_end::end_of_line;
+pub use line_output::LineOutput;
 pub use open_line::MOST_LINE_BYTES;

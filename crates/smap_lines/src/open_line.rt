@@ -1,14 +1,13 @@
 //! The line that is not yet ended.
-ghost use Rattle.std.specs.Prelude.{◌≡◌, ◌<◌, ◌≤◌, ◌+◌, ◌++◌, [], false, true, length, IfOk, OnErr, OnOk};
-ghost use Rattle.smap_io.specs.Device.{TakesFront};
-ghost use Rattle.smap_lines.specs.Gathered.{HandsOn};
+ghost use Rattle.std.specs.Prelude.{◌≡◌, ◌<◌, ◌≤◌, ◌+◌, ◌++◌, [], false, true, length, IfOk, OnOk};
+ghost use Rattle.smap_lines.specs.LineOutput.{IsPut};
 ghost use Rattle.smap_lines.specs.Lines.{has_line_end};
 ghost use Rattle.smap_lines.specs.Limits.{most_line_bytes};
 ghost use Rattle.smap_lines.specs.Private.OpenLine.{after_ended, after_last, continued, continued_text, ended_text};
 ghost use Rattle.smap_lines.specs.Private.OpenLine.{has_last, is_kept, last_text, nothing_open};
 
 use crate::editor::LineEditor;
-use crate::gathered::Gathered;
+use crate::line_output::LineOutput;
 use smap_io::{ByteSink, DeviceFault};
 use std::alloc::{AllocError, Global};
 use std::marker::Model;
@@ -54,32 +53,26 @@ impl OpenLine {
         &mut self,
         bytes: &[u8],
         editor: &mut E,
-        gathered: &mut Gathered,
-        output: &mut W,
+        output: &mut LineOutput<'_, W>,
     ) -> Result<(), DeviceFault>
         requires one { has_line_end bytes.now ≡ false }
         requires room { 0 < E.room editor.old }
-        ensures put { OnOk result (HandsOn (W.seen output.old).taken (W.seen output.new).taken
-            (gathered.old ++ ended_text (E.becomes editor.old) self.old bytes.now) gathered.new) }
+        ensures put { IsPut W.seen output.old output.new
+            (ended_text (E.becomes editor.old) self.old bytes.now) result }
         ensures after { OnOk result (editor.new
             ≡ after_ended E.step editor.old self.old bytes.now) }
         ensures none { OnOk result (self.new ≡ nothing_open) }
-        ensures no_failure { OnOk result ((W.seen output.new).failed ≡ (W.seen output.old).failed) }
-
-        ensures front { OnErr result (TakesFront (W.seen output.old).taken (W.seen output.new).taken
-            (gathered.old ++ ended_text (E.becomes editor.old) self.old bytes.now)) }
-        ensures failure { OnErr result ((W.seen output.new).failed ≡ true) }
     {
         if !self.fits(bytes) {
-            self.pass(bytes, gathered, output)?;
+            self.pass(bytes, output)?;
             self.is_passing = false;
-            return gathered.put(b"\n", output);
+            return output.put(b"\n");
         }
         if self.kept.is_empty() {
-            return editor.edit(bytes, true, gathered, output);
+            return editor.edit(bytes, true, output);
         }
         self.keep(bytes);
-        editor.edit(&self.kept, true, gathered, output)?;
+        editor.edit(&self.kept, true, output)?;
         self.kept.clear();
         Ok(())
     }
@@ -88,21 +81,15 @@ impl OpenLine {
     pub fn go_on<W: ByteSink>(
         &mut self,
         bytes: &[u8],
-        gathered: &mut Gathered,
-        output: &mut W,
+        output: &mut LineOutput<'_, W>,
     ) -> Result<(), DeviceFault>
         requires { has_line_end bytes.now ≡ false }
-        ensures put { OnOk result (HandsOn (W.seen output.old).taken (W.seen output.new).taken
-            (gathered.old ++ continued_text self.old bytes.now) gathered.new) }
+        ensures put { IsPut W.seen output.old output.new
+            (continued_text self.old bytes.now) result }
         ensures begun { OnOk result (self.new ≡ continued self.old bytes.now) }
-        ensures no_failure { OnOk result ((W.seen output.new).failed ≡ (W.seen output.old).failed) }
-
-        ensures front { OnErr result (TakesFront (W.seen output.old).taken (W.seen output.new).taken
-            (gathered.old ++ continued_text self.old bytes.now)) }
-        ensures failure { OnErr result ((W.seen output.new).failed ≡ true) }
     {
         if !self.fits(bytes) {
-            return self.pass(bytes, gathered, output);
+            return self.pass(bytes, output);
         }
         self.keep(bytes);
         Ok(())
@@ -112,24 +99,18 @@ impl OpenLine {
     pub fn finish<E: LineEditor, W: ByteSink>(
         &mut self,
         editor: &mut E,
-        gathered: &mut Gathered,
-        output: &mut W,
+        output: &mut LineOutput<'_, W>,
     ) -> Result<bool, DeviceFault>
         requires { 0 < E.room editor.old }
         ensures is_line { IfOk result (λ is_line. is_line ≡ has_last self.old) }
-        ensures put { OnOk result (HandsOn (W.seen output.old).taken (W.seen output.new).taken
-            (gathered.old ++ last_text (E.becomes editor.old) self.old) gathered.new) }
+        ensures put { IsPut W.seen output.old output.new
+            (last_text (E.becomes editor.old) self.old) result }
         ensures after { OnOk result (editor.new ≡ after_last E.step editor.old self.old) }
-        ensures no_failure { OnOk result ((W.seen output.new).failed ≡ (W.seen output.old).failed) }
-
-        ensures front { OnErr result (TakesFront (W.seen output.old).taken (W.seen output.new).taken
-            (gathered.old ++ last_text (E.becomes editor.old) self.old)) }
-        ensures failure { OnErr result ((W.seen output.new).failed ≡ true) }
     {
         if self.kept.is_empty() {
             return Ok(self.is_passing);
         }
-        editor.edit(&self.kept, false, gathered, output)?;
+        editor.edit(&self.kept, false, output)?;
         Ok(true)
     }
 
@@ -156,21 +137,14 @@ impl OpenLine {
     fn pass<W: ByteSink>(
         &mut self,
         bytes: &[u8],
-        gathered: &mut Gathered,
-        output: &mut W,
+        output: &mut LineOutput<'_, W>,
     ) -> Result<(), DeviceFault>
-        ensures put { OnOk result (HandsOn (W.seen output.old).taken (W.seen output.new).taken
-            (gathered.old ++ (self.old.kept ++ bytes.now)) gathered.new) }
+        ensures put { IsPut W.seen output.old output.new (self.old.kept ++ bytes.now) result }
         ensures begun { OnOk result (self.new ≡ record { kept = []; is_passing = true }) }
-        ensures no_failure { OnOk result ((W.seen output.new).failed ≡ (W.seen output.old).failed) }
-
-        ensures front { OnErr result (TakesFront (W.seen output.old).taken (W.seen output.new).taken
-            (gathered.old ++ (self.old.kept ++ bytes.now))) }
-        ensures failure { OnErr result ((W.seen output.new).failed ≡ true) }
     {
-        gathered.put(&self.kept, output)?;
+        output.put(&self.kept)?;
         self.kept.clear();
         self.is_passing = true;
-        gathered.put(bytes, output)
+        output.put(bytes)
     }
 }

@@ -56,16 +56,16 @@ module _ (table : List (List ℕ × MapRecord)) (line : Line) where
   places_few = short_few is_place
 
   pub replaced_few : replaced_in table line ≤ 65536
-  replaced_few = short_few (is_replaced table)
+  replaced_few = short_few is_replaced
 
   places_short : length line.bytes ≤ 65536 → min (places_in table line) 65536 ≡ length (filter is_place (parts_of table line.bytes))
   places_short short = omega (arith, cond-true (is_short line) (length (filter is_place (parts_of table line.bytes))) 0 (le-leb (length line.bytes) 65536 short), filtered_few is_place, short)
 
-  replaced_short : length line.bytes ≤ 65536 → min (replaced_in table line) 65536 ≡ length (filter (is_replaced table) (parts_of table line.bytes))
-  replaced_short short = omega (arith, cond-true (is_short line) (length (filter (is_replaced table) (parts_of table line.bytes))) 0 (le-leb (length line.bytes) 65536 short), filtered_few (is_replaced table), short)
+  replaced_short : length line.bytes ≤ 65536 → min (replaced_in table line) 65536 ≡ length (filter is_replaced (parts_of table line.bytes))
+  replaced_short short = omega (arith, cond-true (is_short line) (length (filter is_replaced (parts_of table line.bytes))) 0 (le-leb (length line.bytes) 65536 short), filtered_few is_replaced, short)
 
   pub after_is : (rewriter : PlaceRewriter) (new : PlaceRewriter) → rewriter.finder ≡ table → length line.bytes ≤ 65536 → new.alloc ≡ rewriter.alloc → new.finder ≡ rewriter.finder →
-      new.places ≡ rewriter.places + length (filter is_place (parts_of table line.bytes)) → new.mapped ≡ rewriter.mapped + length (filter (is_replaced table) (parts_of table line.bytes)) →
+      new.places ≡ rewriter.places + length (filter is_place (parts_of table line.bytes)) → new.mapped ≡ rewriter.mapped + length (filter is_replaced (parts_of table line.bytes)) →
       new ≡ after_places rewriter line
   after_is rewriter new over short alloc finder places mapped =
       let one : new.places ≡ rewriter.places + min (places_in rewriter.finder line) 65536 = places ∙ ap (λ n. rewriter.places + n) (sym (places_short short)) ∙ ap (λ t. rewriter.places + min (places_in t line) 65536) (sym over) in
@@ -95,7 +95,7 @@ module _ (table : List (List ℕ × MapRecord)) where
       (λ long. (
         over,
         omega (arith, cond-false (is_short line) (length (filter is_place (parts_of table line.bytes))) 0 long),
-        omega (arith, cond-false (is_short line) (length (filter (is_replaced table) (parts_of table line.bytes))) 0 long),
+        omega (arith, cond-false (is_short line) (length (filter is_replaced (parts_of table line.bytes))) 0 long),
       ))
 
   abbrev Counted : PlaceRewriter → List Line → PlaceRewriter → Type 0

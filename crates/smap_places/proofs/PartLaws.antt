@@ -1,9 +1,7 @@
 -- How a line is cut into its places and the bytes between them, one place after another.
 use Rattle.std.proofs.Common.{◌≡◌, ◌≢◌, ◌+◌, ◌-◌, ◌<◌, ◌≤◌, ℕ, zero, suc, true, List, [], ◌∷◌, ◌++◌, length, take, drop, get_or, filter, map, Some, None, is_some, refl, sym, ap, ◌∙◌, arith, append_assoc, append-nil, cond, length-drop}
-use Rattle.std.specs.Fmt.{decimal}
-use Rattle.std.specs.Prelude.{codes, slice_range, unwrap_or}
+use Rattle.std.specs.Prelude.{slice_range, unwrap_or}
 use Rattle.std.proofs.Math.Seq.{drop-length, take-add}
-use Rattle.smap_trace.specs.Rewritten.{SourceLocation, frame_text}
 use Rattle.std.proofs.lemmas.List.{drop-drop, drop_more, take-append-drop, take_rest}
 use Rattle.std.proofs.lemmas.Bool.{false_from_ne_true}
 use Rattle.smap_lines.specs.Lines.{Line, end_in, line_text}
@@ -12,7 +10,7 @@ use Rattle.smap_places.proofs.PlaceLaws.{none_known, not_begun}
 use Rattle.smap_record.specs.Record.{MapRecord}
 use Rattle.smap_places.specs.Places.{Part, PlaceParts, begun_at, found, other, parts_by, parts_from, parts_of, place_at}
 use Rattle.smap_places.specs.PlaceSeen.{IsNext, NoNext, place_seen}
-use Rattle.smap_places.specs.PlacesRewritten.{bare_frame, is_place, is_replaced, part_text, parts_text, placed_line, replacement}
+use Rattle.smap_places.specs.PlacesRewritten.{is_place, is_replaced, part_text, parts_text, placed_line, replacement}
 use Rattle.smap_places.specs.declared.place.Place.{Place}
 use Rattle.smap_places.proofs.CountLaws.{one_more}
 
@@ -73,18 +71,17 @@ module _ (table : List (List ℕ × MapRecord)) (line : List ℕ) where
 
 -- ---- what comes of bytes between places
 
-module _ (table : List (List ℕ × MapRecord)) where
-  pub others_text : (bytes : List ℕ) (parts : List Part) → parts_text table (map other bytes ++ parts) ≡ bytes ++ parts_text table parts
-  others_text [] parts = refl
-  others_text (byte ∷ bytes) parts = ap (λ text. byte ∷ text) (others_text bytes parts)
+pub others_text : (bytes : List ℕ) (parts : List Part) → parts_text (map other bytes ++ parts) ≡ bytes ++ parts_text parts
+others_text [] parts = refl
+others_text (byte ∷ bytes) parts = ap (λ text. byte ∷ text) (others_text bytes parts)
 
-  pub others_found : (bytes : List ℕ) (parts : List Part) → filter is_place (map other bytes ++ parts) ≡ filter is_place parts
-  others_found [] parts = refl
-  others_found (byte ∷ bytes) parts = others_found bytes parts
+pub others_found : (bytes : List ℕ) (parts : List Part) → filter is_place (map other bytes ++ parts) ≡ filter is_place parts
+others_found [] parts = refl
+others_found (byte ∷ bytes) parts = others_found bytes parts
 
-  pub others_replaced : (bytes : List ℕ) (parts : List Part) → filter (is_replaced table) (map other bytes ++ parts) ≡ filter (is_replaced table) parts
-  others_replaced [] parts = refl
-  others_replaced (byte ∷ bytes) parts = others_replaced bytes parts
+pub others_replaced : (bytes : List ℕ) (parts : List Part) → filter is_replaced (map other bytes ++ parts) ≡ filter is_replaced parts
+others_replaced [] parts = refl
+others_replaced (byte ∷ bytes) parts = others_replaced bytes parts
 
 -- ---- the next place, and what is after it
 
@@ -102,26 +99,26 @@ module _ (table : List (List ℕ × MapRecord)) (line : List ℕ) where
 
     -- the bytes before it, and what becomes of it
     abbrev pub put_text : List ℕ
-    put_text = slice_range line from place.start ++ part_text table (found (place_seen place) (slice_range line place.start place.end))
+    put_text = slice_range line from place.start ++ part_text (found (place_seen place) (slice_range line place.start place.end))
 
-    pub next_text : parts_text table (parts_at table line from) ≡ put_text ++ parts_text table (parts_at table line place.end)
+    pub next_text : parts_text (parts_at table line from) ≡ put_text ++ parts_text (parts_at table line place.end)
     next_text =
-        ap (parts_text table) next_parts
-        ∙ others_text table (slice_range line from place.start) (found (place_seen place) (slice_range line place.start place.end) ∷ parts_at table line place.end)
-        ∙ sym (append_assoc (slice_range line from place.start) (part_text table (found (place_seen place) (slice_range line place.start place.end))) (parts_text table (parts_at table line place.end)))
+        ap parts_text next_parts
+        ∙ others_text (slice_range line from place.start) (found (place_seen place) (slice_range line place.start place.end) ∷ parts_at table line place.end)
+        ∙ sym (append_assoc (slice_range line from place.start) (part_text (found (place_seen place) (slice_range line place.start place.end))) (parts_text (parts_at table line place.end)))
 
     pub next_found : length (filter is_place (parts_at table line from)) ≡ 1 + length (filter is_place (parts_at table line place.end))
     next_found =
         ap (λ parts. length (filter is_place parts)) next_parts
-        ∙ ap length (others_found table (slice_range line from place.start) (found (place_seen place) (slice_range line place.start place.end) ∷ parts_at table line place.end))
+        ∙ ap length (others_found (slice_range line from place.start) (found (place_seen place) (slice_range line place.start place.end) ∷ parts_at table line place.end))
         ∙ omega arith
 
-    pub next_replaced : length (filter (is_replaced table) (parts_at table line from))
-        ≡ cond (is_some (replacement (place_seen place) table)) 1 0 + length (filter (is_replaced table) (parts_at table line place.end))
+    pub next_replaced : length (filter is_replaced (parts_at table line from))
+        ≡ cond (is_some (replacement (place_seen place))) 1 0 + length (filter is_replaced (parts_at table line place.end))
     next_replaced =
-        ap (λ parts. length (filter (is_replaced table) parts)) next_parts
-        ∙ ap length (others_replaced table (slice_range line from place.start) (found (place_seen place) (slice_range line place.start place.end) ∷ parts_at table line place.end))
-        ∙ one_more (is_some (replacement (place_seen place) table)) (found (place_seen place) (slice_range line place.start place.end)) (filter (is_replaced table) (parts_at table line place.end))
+        ap (λ parts. length (filter is_replaced parts)) next_parts
+        ∙ ap length (others_replaced (slice_range line from place.start) (found (place_seen place) (slice_range line place.start place.end) ∷ parts_at table line place.end))
+        ∙ one_more (is_some (replacement (place_seen place))) (found (place_seen place) (slice_range line place.start place.end)) (filter is_replaced (parts_at table line place.end))
 
   -- ---- and the last one's end
 
@@ -134,37 +131,30 @@ module _ (table : List (List ℕ × MapRecord)) (line : List ℕ) where
         ∙ ap (λ rest. map other (take (length line - from) (drop from line)) ++ parts_from table line (length line) 0 rest) (drop-length line)
         ∙ ap (λ bytes. map other bytes ++ []) (take_rest line from)
 
-    pub last_text : parts_text table (parts_at table line from) ≡ drop from line
-    last_text = ap (parts_text table) last_parts ∙ others_text table (drop from line) [] ∙ append-nil (drop from line)
+    pub last_text : parts_text (parts_at table line from) ≡ drop from line
+    last_text = ap parts_text last_parts ∙ others_text (drop from line) [] ∙ append-nil (drop from line)
 
     pub last_found : length (filter is_place (parts_at table line from)) ≡ 0
-    last_found = ap (λ parts. length (filter is_place parts)) last_parts ∙ ap length (others_found table (drop from line) [])
+    last_found = ap (λ parts. length (filter is_place parts)) last_parts ∙ ap length (others_found (drop from line) [])
 
-    pub last_replaced : length (filter (is_replaced table) (parts_at table line from)) ≡ 0
-    last_replaced = ap (λ parts. length (filter (is_replaced table) parts)) last_parts ∙ ap length (others_replaced table (drop from line) [])
+    pub last_replaced : length (filter is_replaced (parts_at table line from)) ≡ 0
+    last_replaced = ap (λ parts. length (filter is_replaced parts)) last_parts ∙ ap length (others_replaced (drop from line) [])
 
 -- ---- what is put for a place
 
 -- one that stays is put with the bytes before it
-pub text_stays : (table : List (List ℕ × MapRecord)) (line : List ℕ) (from start end : ℕ) (place : PlaceParts) → from ≤ start → start ≤ end → None ≡ replacement place table →
-    slice_range line from end ≡ slice_range line from start ++ part_text table (found place (slice_range line start end))
-text_stays table line from start end place after some none =
+pub text_stays : (line : List ℕ) (from start end : ℕ) (place : PlaceParts) → from ≤ start → start ≤ end → None ≡ replacement place →
+    slice_range line from end ≡ slice_range line from start ++ part_text (found place (slice_range line start end))
+text_stays line from start end place after some none =
     let both : end - from ≡ (start - from) + (end - start) = omega (arith, after, some) in
     let here : from + (start - from) ≡ start = omega (arith, after) in
     ap (λ n. take n (drop from line)) both ∙ take-add (start - from) (end - start) (drop from line)
     ∙ ap (λ rest. slice_range line from start ++ take (end - start) rest) (drop-drop (start - from) from line ∙ ap (λ k. drop k line) here)
     ∙ ap (λ o. slice_range line from start ++ unwrap_or o (slice_range line start end)) none
 
-bare_text : (place : PlaceParts) (original : SourceLocation) (name : List ℕ) → name ++ codes ":" ++ decimal original.line ++ codes ":" ++ decimal original.column ≡ frame_text (bare_frame place) original name
-bare_text place original name = sym (append-nil (name ++ codes ":" ++ decimal original.line ++ codes ":" ++ decimal original.column))
-
 -- one that is replaced
-pub text_replaced : (table : List (List ℕ × MapRecord)) (front text : List ℕ) (place : PlaceParts) (original : SourceLocation) (name : List ℕ) → Some (frame_text (bare_frame place) original name) ≡ replacement place table →
-    front ++ (name ++ codes ":" ++ decimal original.line ++ codes ":" ++ decimal original.column) ≡ front ++ part_text table (found place text)
-text_replaced table front text place original name is =
-    let new : List ℕ = frame_text (bare_frame place) original name in
-    let same : unwrap_or (Some new) text ≡ unwrap_or (replacement place table) text = ap (λ o. unwrap_or o text) is in
-    ap (λ l. front ++ l) (bare_text place original name) ∙ ap (λ l. front ++ l) same
+pub text_replaced : (front text new : List ℕ) (place : PlaceParts) → Some new ≡ replacement place → front ++ new ≡ front ++ part_text (found place text)
+text_replaced front text new place is = ap (λ o. front ++ unwrap_or o text) is
 
 -- ---- a line without URLs
 
@@ -174,4 +164,4 @@ without_urls table line none =
     false_from_ne_true _ (λ some. none (take bytes (drop start line.bytes)) (take start line.bytes) (drop bytes (drop start line.bytes)) some
     (sym (take-append-drop start line.bytes) ∙ ap (λ rest. take start line.bytes ++ rest) (sym (take-append-drop bytes (drop start line.bytes)))
     ∙ sym (append_assoc (take start line.bytes) (take bytes (drop start line.bytes)) (drop bytes (drop start line.bytes)))))) in
-    ap (λ text. text ++ end_in line.is_ended) (ap (parts_text table) (from_start table line.bytes) ∙ last_text table line.bytes 0 (omega arith) (λ start _. not_begun table line.bytes start (unknown start)))
+    ap (λ text. text ++ end_in line.is_ended) (ap parts_text (from_start table line.bytes) ∙ last_text table line.bytes 0 (omega arith) (λ start _. not_begun table line.bytes start (unknown start)))

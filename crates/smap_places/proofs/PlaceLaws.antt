@@ -34,12 +34,21 @@ both_none : (t : Bool) → ◌≡◌ {A = Option PlaceParts} (cond t None None) 
 both_none true = refl
 both_none false = refl
 
+placed_none : (url : List ℕ) (bytes : ℕ) (stated : Option MapRecord) → placed url bytes stated None ≡ None
+placed_none url bytes None = refl
+placed_none url bytes (Some stated) = refl
+
+placed_unknown : (url : List ℕ) (bytes : ℕ) (stated : Option MapRecord) (numbers : Option (ℕ × ℕ × ℕ)) → is_some stated ≡ false →
+    placed url bytes stated numbers ≡ None
+placed_unknown url bytes None numbers none = refl
+placed_unknown url bytes (Some stated) numbers none = cc
+
 module _ (table : List (List ℕ × MapRecord)) (text : List ℕ) where
   pub without_numbers : (bytes : ℕ) → numbers_after (drop bytes text) ≡ None → place_with table text bytes ≡ None
-  without_numbers bytes none = ap (λ numbers. cond (is_some (record_for (take bytes text) table)) (placed (take bytes text) bytes numbers) None) none ∙ both_none _
+  without_numbers bytes none = ap (placed (take bytes text) bytes (record_for (take bytes text) table)) none ∙ placed_none (take bytes text) bytes _
 
   pub without_url : (bytes : ℕ) → is_some (record_for (take bytes text) table) ≡ false → place_with table text bytes ≡ None
-  without_url bytes none = cond-false _ _ None none
+  without_url bytes none = placed_unknown (take bytes text) bytes _ _ none
 
   pub past_end : (bytes : ℕ) → length text ≤ bytes → place_with table text bytes ≡ None
   past_end bytes past = without_numbers bytes (ap numbers_after (drop_all bytes text past) ∙ no_numbers)

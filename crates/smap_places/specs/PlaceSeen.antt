@@ -6,7 +6,13 @@ use Rattle.smap_places.specs.declared.place.Place.{Place}
 
 -- what a place is made of
 abbrev pub place_seen : Place → PlaceParts
-place_seen place = record { url = place.url.now; line = place.line; column = place.column; size = place.end - place.start }
+place_seen place = record {
+  url = place.url.now;
+  stated = place.map.now.stated;
+  line = place.line;
+  column = place.column;
+  size = place.end - place.start;
+}
 
 -- it is the first of a line's places that begin at byte `from` or after it
 pub record IsNext (table : List (List ℕ × MapRecord)) (line : List ℕ) (from : ℕ) (place : Place) : Type 0 where

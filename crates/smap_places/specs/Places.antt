@@ -1,7 +1,7 @@
 -- The places in a line, anywhere in it (this project's own): a URL of a table, `:`, a line, `:` and a column, in decimal
 -- without leading zeros, from 1 to 2147483648, and no digit after them. No place begins after a byte of a word. Places
 -- are taken from the left; of those that begin at one byte, the one with the longest URL; the next is sought after it.
-use Rattle.std.specs.Prelude.{ℕ, zero, suc, ◌+◌, ◌-◌, ◌==◌, ◌||◌, Bool, true, not, nat_le, List, [], ◌∷◌, Option, Some, None, is_some, codes, length, take, drop, slice_index, if◌then◌else◌, option_map}
+use Rattle.std.specs.Prelude.{ℕ, zero, suc, ◌+◌, ◌-◌, ◌==◌, ◌||◌, Bool, true, not, nat_le, List, [], ◌∷◌, Option, Some, None, codes, length, take, drop, slice_index, if◌then◌else◌, option_map}
 use Rattle.std.specs.Char.{is_ascii_digit, is_ascii_alphanumeric}
 use Rattle.std.specs.List.{list_any, prefix_len}
 use Rattle.smap_record.specs.Record.{MapRecord}
@@ -33,21 +33,24 @@ numbers_after text = with_line text (number_after text)
 
 -- ---- a place at the beginning of a text
 
--- a place, and how many bytes it is; the line and the column count from 1
+-- a place: its URL, the record of the map under it, its line and its column, which count from 1, and how many bytes it is
 pub record PlaceParts : Type 0 where
   pub url : List ℕ
+  pub stated : MapRecord
   pub line : ℕ
   pub column : ℕ
   pub size : ℕ
 
-abbrev pub placed : (url : List ℕ) → (bytes : ℕ) → Option (ℕ × ℕ × ℕ) → Option PlaceParts
-placed url bytes None = None
-placed url bytes (Some (line, column, size)) = Some (record { url = url; line = line; column = column; size = bytes + size })
+-- the place with this URL of so many bytes, where the table has it and numbers stand after it
+abbrev pub placed : (url : List ℕ) → (bytes : ℕ) → Option MapRecord → (numbers : Option (ℕ × ℕ × ℕ)) → Option PlaceParts
+placed url bytes None numbers = None
+placed url bytes (Some stated) None = None
+placed url bytes (Some stated) (Some (line, column, size)) =
+    Some (record { url = url; stated = stated; line = line; column = column; size = bytes + size })
 
 -- the one whose URL is this many bytes
 abbrev pub place_with : List (List ℕ × MapRecord) → (text : List ℕ) → (bytes : ℕ) → Option PlaceParts
-place_with table text bytes =
-    if is_some (record_for (take bytes text) table) then placed (take bytes text) bytes (numbers_after (drop bytes text)) else None
+place_with table text bytes = placed (take bytes text) bytes (record_for (take bytes text) table) (numbers_after (drop bytes text))
 
 abbrev pub or_else : Option PlaceParts → Option PlaceParts → Option PlaceParts
 or_else (Some place) other = Some place

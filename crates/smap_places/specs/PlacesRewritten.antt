@@ -5,8 +5,7 @@ use Rattle.std.specs.List.{flat_map, list_any, sum_by}
 use Rattle.smap_lines.specs.Edited.{edited, is_short}
 use Rattle.smap_lines.specs.Lines.{Line, end_in, lines_with_ends}
 use Rattle.smap_record.specs.Record.{MapRecord}
-use Rattle.smap_trace.specs.Frame.{FrameParts}
-use Rattle.smap_trace.specs.Rewritten.{Counts, SourceLocation, frame_text, name_in, original_of}
+use Rattle.smap_trace.specs.Rewritten.{Counts, SourceLocation, location_text, original_at}
 use Rattle.smap_places.specs.Places.{Part, PlaceParts, found, other, parts_of}
 
 -- ---- a place
@@ -20,37 +19,33 @@ abbrev pub quotable : Option (List ℕ) → Option (List ℕ)
 quotable None = None
 quotable (Some name) = if list_any is_quoting name then None else Some name
 
--- a place as a frame of nothing else
-abbrev pub bare_frame : PlaceParts → FrameParts
-bare_frame place = record { head = []; url = place.url; line = place.line; column = place.column; tail = [] }
+-- what stands in the stead of a place from this location, if its source has this name
+abbrev pub text_named : SourceLocation → (name : Option (List ℕ)) → Option (List ℕ)
+text_named original None = None
+text_named original (Some name) = Some (location_text name original.line original.column)
 
--- what stands in its stead where its original is in a source of this name
-abbrev pub text_named : PlaceParts → SourceLocation → (name : Option (List ℕ)) → Option (List ℕ)
-text_named place original None = None
-text_named place original (Some name) = Some (frame_text (bare_frame place) original name)
+abbrev pub text_of_original : Option SourceLocation → Option (List ℕ)
+text_of_original None = None
+text_of_original (Some original) = text_named original (quotable original.name)
 
-abbrev pub text_of_original : PlaceParts → Option SourceLocation → Option (List ℕ)
-text_of_original place None = None
-text_of_original place (Some original) = text_named place original (quotable (name_in original.source))
-
--- what stands in its stead, if the maps have an original for it, in a source whose name can stand anywhere: the name, `:`,
+-- what stands in its stead, if its map has an original for it, in a source whose name can stand anywhere: the name, `:`,
 -- the line, `:`, the column
-unfoldable pub replacement : PlaceParts → List (List ℕ × MapRecord) → Option (List ℕ)
-replacement place table = text_of_original place (original_of (bare_frame place) table)
+unfoldable pub replacement : PlaceParts → Option (List ℕ)
+replacement place = text_of_original (original_at place.stated place.line place.column)
 
 -- ---- a line
 
 -- what becomes of a part of a line
-abbrev pub part_text : List (List ℕ × MapRecord) → Part → List ℕ
-part_text table (other byte) = byte ∷ []
-part_text table (found place text) = unwrap_or (replacement place table) text
+abbrev pub part_text : Part → List ℕ
+part_text (other byte) = byte ∷ []
+part_text (found place text) = unwrap_or (replacement place) text
 
-abbrev pub parts_text : List (List ℕ × MapRecord) → List Part → List ℕ
-parts_text table parts = flat_map (part_text table) parts
+abbrev pub parts_text : List Part → List ℕ
+parts_text parts = flat_map part_text parts
 
 -- a line, with what stands in its places' stead
 abbrev pub placed_line : List (List ℕ × MapRecord) → Line → List ℕ
-placed_line table line = parts_text table (parts_of table line.bytes) ++ end_in line.is_ended
+placed_line table line = parts_text (parts_of table line.bytes) ++ end_in line.is_ended
 
 -- a text, rewritten
 abbrev pub placed_text : List ℕ → List (List ℕ × MapRecord) → List ℕ
@@ -63,16 +58,16 @@ is_place (other byte) = false
 is_place (found place text) = is_some (Some place)
 
 -- the place is replaced
-abbrev pub is_replaced : List (List ℕ × MapRecord) → Part → Bool
-is_replaced table (other byte) = false
-is_replaced table (found place text) = is_some (replacement place table)
+abbrev pub is_replaced : Part → Bool
+is_replaced (other byte) = false
+is_replaced (found place text) = is_some (replacement place)
 
 -- how many places a line has, and how many of them are replaced; a longer one, which stays, has none
 abbrev pub places_in : List (List ℕ × MapRecord) → Line → ℕ
 places_in table line = if is_short line then length (filter is_place (parts_of table line.bytes)) else 0
 
 abbrev pub replaced_in : List (List ℕ × MapRecord) → Line → ℕ
-replaced_in table line = if is_short line then length (filter (is_replaced table) (parts_of table line.bytes)) else 0
+replaced_in table line = if is_short line then length (filter is_replaced (parts_of table line.bytes)) else 0
 
 -- the lines of a text, its places in place of frames, those that are replaced, and none that is hidden
 unfoldable pub place_counts : List ℕ → List (List ℕ × MapRecord) → Counts

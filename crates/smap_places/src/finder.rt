@@ -1,6 +1,5 @@
 //! The places in a line.
-ghost use Rattle.std.specs.Prelude.{◌≡◌, ◌<◌, ◌≤◌, ◌∷◌, ℕ, IfOk, IfSome, IsNone, Some, None, MatchOption, codes, drop, length, option_map};
-ghost use Rattle.std.specs.List.{list_any};
+ghost use Rattle.std.specs.Prelude.{◌≡◌, ◌<◌, ◌≤◌, ℕ, IfOk, IfSome, Some, None, MatchOption, drop, length, option_map};
 ghost use Rattle.smap_places.specs.Places.{begun_at, is_word, may_begin, place_at, place_with};
 ghost use Rattle.smap_places.specs.PlaceSeen.{IsNext, NoNext, place_seen};
 
@@ -54,16 +53,10 @@ impl<'t> PlaceFinder<'t> {
         })
     }
 
-    pub(crate) fn table(&self) -> &'t Table
-        ensures { result.now ≡ self.now }
-    {
-        self.table
-    }
-
     /// The first place of a line that begins at byte `from` or after it. What stands before `from` is asked only for
     /// whether a place may begin there: so the places of a line are found one after the end of another, from 0. The
     /// line comes without its LF. The call takes no memory.
-    pub fn next<'l>(&self, line: &'l [u8], from: usize) -> Option<Place<'l>>
+    pub fn next<'l>(&self, line: &'l [u8], from: usize) -> Option<Place<'l, 't>>
         requires { from ≤ length line.now }
         ensures { MatchOption result
             (NoNext self.now line.now from) (IsNext self.now line.now from) }
@@ -82,7 +75,7 @@ impl<'t> PlaceFinder<'t> {
     }
 
     // The first place that begins from `low` on and before `high`.
-    fn first_between<'l>(&self, line: &'l [u8], low: usize, high: usize) -> Option<Place<'l>>
+    fn first_between<'l>(&self, line: &'l [u8], low: usize, high: usize) -> Option<Place<'l, 't>>
         requires { high ≤ length line.now }
         ensures { MatchOption result
             ((i : ℕ) → low ≤ i → i < high → begun_at self.now line.now i ≡ None)
@@ -100,7 +93,7 @@ impl<'t> PlaceFinder<'t> {
 
     // The place with the longest URL that begins at `start`.
     #[tactic(auto, unfolding(crate::specs::Places::place_at))]
-    fn place_at<'l>(&self, line: &'l [u8], start: usize) -> Option<Place<'l>>
+    fn place_at<'l>(&self, line: &'l [u8], start: usize) -> Option<Place<'l, 't>>
         requires { start ≤ length line.now }
         ensures place { option_map place_seen result ≡ place_at self.now (drop start line.now) }
         ensures here { IfSome result (λ place.
@@ -120,7 +113,7 @@ impl<'t> PlaceFinder<'t> {
     }
 
     // The place that begins at `start` with a URL of this many bytes.
-    fn place_with<'l>(&self, line: &'l [u8], start: usize, bytes: usize) -> Option<Place<'l>>
+    fn place_with<'l>(&self, line: &'l [u8], start: usize, bytes: usize) -> Option<Place<'l, 't>>
         requires start { start ≤ length line.now }
         requires some { 0 < bytes }
         ensures place { option_map place_seen result
@@ -134,11 +127,11 @@ impl<'t> PlaceFinder<'t> {
         }
         let (url, rest) = text.split_at(bytes);
         let (line, column, size) = numbers_after(rest)?;
-        self.table.map_for(url)?;
         Some(Place {
             start,
             end: start + bytes + size,
             url,
+            map: self.table.map_for(url)?,
             line,
             column,
         })

@@ -1,9 +1,9 @@
 //! The numbers of a place.
-ghost use Rattle.std.specs.Prelude.{◌≡◌, ◌<◌, ◌≤◌, ℕ, IfSome, IsNone, Some, None, is_some, true, length, drop, option_map};
-ghost use Rattle.smap_places.specs.Places.{digits, number_after, numbers_after};
+ghost use Rattle.std.specs.Prelude.{◌≡◌, ◌<◌, ◌≤◌, ℕ, IfSome, IsNone, Some, None, is_some, length, drop};
+ghost use Rattle.smap_places.specs.Places.{number_after, numbers_after};
 
 use memchr::memchr;
-use smap_trace::number;
+use smap_trace::{digits, number};
 
 /// The line and the column after a URL, and how many bytes they are with the `:` before each.
 #[tactic(auto, unfolding(crate::specs::Places::numbers_after))]
@@ -46,12 +46,4 @@ fn number_after(text: &[u8]) -> Option<(u32, usize)>
     }
     let count = digits(rest);
     Some((number(&rest[..count])?, count + 1))
-}
-
-// How many digits a text begins with.
-fn digits(text: &[u8]) -> usize
-    ensures count { result ≡ digits text.now }
-    ensures within { result ≤ length text.now }
-{
-    text.iter().take_while(|byte| byte.is_ascii_digit()).count()
 }

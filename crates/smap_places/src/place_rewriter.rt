@@ -1,8 +1,7 @@
 //! The places of a text, rewritten line by line.
-ghost use Rattle.std.specs.Prelude.{◌≡◌, ◌<◌, ◌≤◌, ◌++◌, true, codes, is_some, length, map, slice_range, IfOk, OnErr, OnOk};
+ghost use Rattle.std.specs.Prelude.{◌≡◌, ◌<◌, ◌≤◌, ◌++◌, codes, is_some, length, map, slice_range, IfOk};
 ghost use Rattle.std.specs.List.{concat};
-ghost use Rattle.smap_io.specs.Device.{TakesFront};
-ghost use Rattle.smap_lines.specs.Gathered.{HandsOn};
+ghost use Rattle.smap_lines.specs.LineOutput.{IsPut};
 ghost use Rattle.smap_places.specs.Places.{found};
 ghost use Rattle.smap_places.specs.PlaceSeen.{place_seen};
 ghost use Rattle.smap_places.specs.PlacesRewritten.{part_text, replacement};
@@ -12,8 +11,7 @@ use crate::place::Place;
 use crate::replacement::find_replacement;
 use itoa::Buffer;
 use smap_io::{ByteSink, DeviceFault};
-use smap_lines::{Gathered, LineEditor};
-use smap_trace::Table;
+use smap_lines::{LineEditor, LineOutput};
 use std::alloc::Global;
 
 /// Rewrites the places in the lines of a text, and counts them and those that are replaced.
@@ -41,18 +39,16 @@ impl LineEditor for PlaceRewriter<'_> {
         &mut self,
         line: &[u8],
         is_ended: bool,
-        gathered: &mut Gathered,
-        output: &mut W,
+        output: &mut LineOutput<'_, W>,
     ) -> Result<(), DeviceFault> {
-        let table = self.finder.table();
         let mut from = 0;
         while let Some(place) = self.finder.next(line, from) {
-            let is_mapped = put_place(self.alloc, table, line, from, &place, gathered, output)?;
+            let is_mapped = put_place(self.alloc, line, from, &place, output)?;
             self.places += 1;
             self.mapped += u64::from(is_mapped);
             from = place.end;
         }
-        gathered.put_line(&line[from..], is_ended, output)
+        output.put_line(&line[from..], is_ended)
     }
 
     ghost same = { λ rewriter line other. refl };
@@ -64,42 +60,32 @@ impl LineEditor for PlaceRewriter<'_> {
 // is replaced.
 fn put_place<W: ByteSink>(
     alloc: Global,
-    table: &Table,
     line: &[u8],
     from: usize,
-    place: &Place<'_>,
-    gathered: &mut Gathered,
-    output: &mut W,
+    place: &Place<'_, '_>,
+    output: &mut LineOutput<'_, W>,
 ) -> Result<bool, DeviceFault>
     requires after { from ≤ place.now.start }
     requires some { place.now.start < place.now.end }
     requires within { place.now.end ≤ length line.now }
-    ensures put { OnOk result (HandsOn (W.seen output.old).taken (W.seen output.new).taken (gathered.old
-        ++ (slice_range line.now from place.now.start ++ part_text table.now
-        (found (place_seen place.now) (slice_range line.now place.now.start place.now.end)))) gathered.new) }
+    ensures put { IsPut W.seen output.old output.new
+        (slice_range line.now from place.now.start ++ part_text
+        (found (place_seen place.now) (slice_range line.now place.now.start place.now.end))) result }
     ensures mapped { IfOk result (λ mapped.
-        mapped ≡ is_some (replacement (place_seen place.now) table.now)) }
-    ensures no_failure { OnOk result ((W.seen output.new).failed ≡ (W.seen output.old).failed) }
-
-    ensures front { OnErr result (TakesFront (W.seen output.old).taken (W.seen output.new).taken (gathered.old
-        ++ (slice_range line.now from place.now.start ++ part_text table.now
-        (found (place_seen place.now) (slice_range line.now place.now.start place.now.end))))) }
-    ensures failure { OnErr result ((W.seen output.new).failed ≡ true) }
+        mapped ≡ is_some (replacement (place_seen place.now))) }
 {
-    let Some(replacement) = find_replacement(alloc, table, place) else {
-        gathered.put(&line[from..place.end], output)?;
+    let Some(replacement) = find_replacement(alloc, place) else {
+        output.put(&line[from..place.end])?;
         return Ok(false);
     };
     let (mut original_line, mut original_column) = (Buffer::new(), Buffer::new());
     let pieces = pieces_of(
         &line[from..place.start],
         replacement.name.as_bytes(),
-        original_line.format(replacement.original.line).as_bytes(),
-        original_column
-            .format(replacement.original.column)
-            .as_bytes(),
+        original_line.format(replacement.line).as_bytes(),
+        original_column.format(replacement.column).as_bytes(),
     );
-    gathered.put_all(&pieces, output)?;
+    output.put_all(&pieces)?;
     Ok(true)
 }
 

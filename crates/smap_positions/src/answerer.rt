@@ -11,7 +11,7 @@ use crate::putting::put;
 use crate::reading::read_position;
 use crate::text_lines::put_answer_line;
 use smap_io::{ByteSink, DeviceFault};
-use smap_lines::{Gathered, LineEditor};
+use smap_lines::{Gathered, LineEditor, LineOutput};
 use smap_record::MapFile;
 use std::alloc::Global;
 
@@ -42,15 +42,14 @@ impl LineEditor for PositionAnswerer<'_> {
         &mut self,
         line: &[u8],
         _is_ended: bool,
-        gathered: &mut Gathered,
-        output: &mut W,
+        output: &mut LineOutput<'_, W>,
     ) -> Result<(), DeviceFault> {
         let position = read_position(line);
         self.lines += 1;
         if position.is_none() && self.first_bad.is_none() {
             self.first_bad = Some(self.lines);
         }
-        self.put_line(position, gathered, output)
+        self.put_line(position, output.gathered, output.sink)
     }
 
     ghost same = { λ answerer line other. refl };

@@ -2,14 +2,13 @@
 ghost use Rattle.std.specs.Prelude.{◌≡◌, ◌≤◌, ◌↔◌, Some, length};
 ghost use Rattle.std.specs.Char.{is_ascii_digit};
 ghost use Rattle.std.specs.List.{prefix_len};
-ghost use Rattle.smap_trace.specs.Frame.{is_blank};
 ghost use Rattle.smap_positions.specs.Position.{IsPosition};
 ghost use Rattle.smap_positions.specs.PositionOf.{column_after, column_of, first_number, is_line_end, position_of, separator_len};
 ghost use Rattle.smap_positions.specs.declared.position.Position.{Position};
 
 use crate::position::Position;
 use smap_trace::laws::numbers_are_read_as_printed;
-use smap_trace::number;
+use smap_trace::{blanks, digits, number};
 
 /// The position that a line, without its LF, is: a line and a column without signs or leading zeros, between them blanks
 /// (spaces and tabs) or one `:` alone. Blanks before and after them, and a CR at the end, are passed over. The call takes
@@ -58,24 +57,6 @@ fn first_number(text: &[u8]) -> (Option<u32>, usize)
 {
     let count = digits(text);
     (number(&text[..count]), count)
-}
-
-// How many digits a text begins with.
-fn digits(text: &[u8]) -> usize
-    ensures count { result ≡ prefix_len is_ascii_digit text.now }
-    ensures within { result ≤ length text.now }
-{
-    text.iter().take_while(|byte| byte.is_ascii_digit()).count()
-}
-
-// How many blanks a text begins with.
-fn blanks(text: &[u8]) -> usize
-    ensures count { result ≡ prefix_len is_blank text.now }
-    ensures within { result ≤ length text.now }
-{
-    text.iter()
-        .take_while(|byte| **byte == b' ' || **byte == b'\t')
-        .count()
 }
 
 // How many bytes a text begins with that separate a line and a column.

@@ -8,7 +8,7 @@ use Rattle.smap_record.specs.Record.{MapRecord}
 use Rattle.smap_trace.specs.Frame.{FrameParts, has_cr_within, is_line}
 use Rattle.smap_trace.specs.FrameOf.{frame_of}
 use Rattle.smap_trace.specs.Private.FrameRewriter.{after_frame, hidden_in, mapped_in, staying_in}
-use Rattle.smap_trace.specs.Rewritten.{Fate, SourceLocation, counts_of, fate, fate_at, fate_of, hidden, is_frame_line, is_hidden, is_hidden_line, is_ignored, is_mapped, is_mapped_line, name_in, named_fate, no_frame, original_of, replaced, stays}
+use Rattle.smap_trace.specs.Rewritten.{Fate, SourceLocation, counts_of, fate, fate_at, fate_of, hidden, is_frame_line, is_hidden, is_hidden_line, is_mapped, is_mapped_line, named_fate, no_frame, original_of, replaced, stays}
 use Rattle.smap_trace.specs.declared.frame_rewriter.FrameRewriter.{FrameRewriter}
 
 -- ---- a line
@@ -30,8 +30,8 @@ named_frame parts location (Some name) = refl
 
 one_frame : (hide : Bool) (parts : FrameParts) (location : Option SourceLocation) → frames_in (fate_at hide parts location) ≡ 1
 one_frame hide parts None = refl
-one_frame hide parts (Some location) = cond_both (hide && is_ignored location.source) hidden (named_fate parts location (name_in location.source)) (λ met. frames_in met ≡ 1)
-    (λ _. refl) (λ _. named_frame parts location (name_in location.source))
+one_frame hide parts (Some location) = cond_both (hide && location.ignored) hidden (named_fate parts location location.name) (λ met. frames_in met ≡ 1)
+    (λ _. refl) (λ _. named_frame parts location location.name)
 
 frames_of : (hide : Bool) (table : List (List ℕ × MapRecord)) (parts : Option FrameParts) → frames_in (fate_of hide table parts) ≡ cond (is_some parts) 1 0
 frames_of hide table None = refl

@@ -1,9 +1,9 @@
 -- Worked examples of the definitions: each holds by computing both sides.
-use Rattle.std.proofs.Common.{◌≡◌, true, false, [], ◌∷◌, Option, Some, None, refl, codes}
+use Rattle.std.proofs.Common.{◌≡◌, true, false, [], ◌∷◌, ◌++◌, Option, Some, None, refl, codes}
 use Rattle.smap_resolve.specs.SourceName.{Name, kept}
 use Rattle.smap_trace.specs.Frame.{FrameParts}
 use Rattle.smap_trace.specs.FrameOf.{frame_of, decimal_number}
-use Rattle.smap_trace.specs.Rewritten.{SourceLocation, fate_at, frame_text, hidden, line_after, replaced, stays}
+use Rattle.smap_trace.specs.Rewritten.{SourceLocation, fate_at, hidden, line_after, location_text, printable, replaced, stays}
 use Rattle.smap_trace.specs.Table.{is_bad_url}
 
 a_call : frame_of (codes "  at async f (a.js:1:6)") ≡ Some (record { head = codes "  at async f ("; url = codes "a.js"; line = 1; column = 6; tail = codes ")" })
@@ -50,7 +50,7 @@ urls = refl
 
 -- a frame of an ignored source is hidden where that is asked, also where the source has no name; else it stays there
 abbrev of_ignored : Option Name → SourceLocation
-of_ignored name = record { source = Some (record { name = name; content = None; ignored = true }); line = 1; column = 2 }
+of_ignored name = record { name = printable name; ignored = true; line = 1; column = 2 }
 
 abbrev a_parts : FrameParts
 a_parts = record { head = codes "f@"; url = codes "u"; line = 1; column = 6; tail = [] }
@@ -59,7 +59,7 @@ hiding : fate_at true a_parts (Some (of_ignored None)) ∷ fate_at true a_parts 
 hiding = refl
 
 not_hiding : fate_at false a_parts (Some (of_ignored None)) ∷ fate_at false a_parts (Some (of_ignored (Some (kept (codes "a"))))) ∷ []
-    ≡ stays ∷ replaced (frame_text a_parts (of_ignored (Some (kept (codes "a")))) (codes "a")) ∷ []
+    ≡ stays ∷ replaced (codes "f@" ++ location_text (codes "a") 1 2 ++ []) ∷ []
 not_hiding = refl
 
 -- a hidden line goes with its LF

@@ -4,5 +4,4 @@ pub mod NumberLaws
 pub mod FrameLaws
 pub mod TableLaws
 pub mod CountLaws
-pub mod SightLaws
 pub mod Examples

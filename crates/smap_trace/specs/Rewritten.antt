@@ -1,6 +1,7 @@
 -- What a trace becomes: each of its lines by itself, over a table of the maps and their URLs, with the frames of sources
 -- that a map says to ignore hidden or not (this project's own).
-use Rattle.std.specs.Prelude.{ℕ, ◌+◌, ◌-◌, ◌==◌, ◌||◌, ◌&&◌, Bool, true, false, List, [], ◌++◌, Option, Some, None, is_some, codes, length, nat_lt, if◌then◌else◌, slice_get, filter}
+use Rattle.std.specs.Prelude.{ℕ, ◌+◌, ◌-◌, ◌==◌, ◌||◌, ◌&&◌, Bool, true, false, List, [], ◌++◌, Option, Some, None, is_some, codes, length, if◌then◌else◌, option_and_then, slice_get, filter}
+use Rattle.std.specs.Char.{is_ascii_control}
 use Rattle.std.specs.Fmt.{decimal}
 use Rattle.std.specs.List.{list_any}
 use Rattle.smap_index.specs.declared.answer.Answer.{Answer}
@@ -14,26 +15,30 @@ use Rattle.smap_trace.specs.Frame.{FrameParts}
 use Rattle.smap_trace.specs.FrameOf.{frame_of}
 use Rattle.smap_trace.specs.Table.{record_for}
 
--- ---- names
+-- ---- a source
 
--- a byte is a control character of ASCII, which could break a line of a trace or steer a terminal
-abbrev pub is_control : ℕ → Bool
-is_control byte = nat_lt byte 32 || byte == 127
-
--- a name that a frame can print: it has a byte, and none is a control character
+-- a name that a frame can print: it has a byte, and none is a control character of ASCII, which could break a line of a
+-- trace or steer a terminal
 abbrev pub printable : Option Name → Option (List ℕ)
 printable None = None
-printable (Some name) = if length (name_text name) == 0 || list_any is_control (name_text name) then None else Some (name_text name)
+printable (Some name) = if length (name_text name) == 0 || list_any is_ascii_control (name_text name) then None else Some (name_text name)
 
 abbrev pub name_in : Option StatedSource → Option (List ℕ)
 name_in None = None
 name_in (Some source) = printable source.name
 
--- ---- a frame
+-- the map says to ignore the source
+abbrev pub is_ignored : Option StatedSource → Bool
+is_ignored None = false
+is_ignored (Some source) = source.ignored
 
--- where a frame comes from: a source, and a location in it; the line and the column count from 1
+-- ---- a place
+
+-- where a place comes from: the name of a source, if it has one that prints, whether its map says to ignore it, and a
+-- location in it; the line and the column count from 1
 pub record SourceLocation : Type 0 where
-  pub source : Option StatedSource
+  pub name : Option (List ℕ)
+  pub ignored : Bool
   pub line : ℕ
   pub column : ℕ
 
@@ -42,19 +47,20 @@ abbrev pub location_of_answer : MapRecord → Answer → Option SourceLocation
 location_of_answer stated Nothing = None
 location_of_answer stated (Unmapped column) = None
 location_of_answer stated (Found column origin) =
-    Some (record { source = slice_get stated.sources origin.source; line = origin.line + 1; column = origin.column + 1 })
+    let source = slice_get stated.sources origin.source in
+    Some (record { name = name_in source; ignored = is_ignored source; line = origin.line + 1; column = origin.column + 1 })
 
-abbrev pub location_in_map : FrameParts → Option MapRecord → Option SourceLocation
-location_in_map parts None = None
-location_in_map parts (Some stated) = location_of_answer stated (answer_of_map stated (parts.line - 1) (parts.column - 1))
+-- where a place comes from, if its map has an origin for it; the line and the column count from 1
+abbrev pub original_at : MapRecord → (line column : ℕ) → Option SourceLocation
+original_at stated line column = location_of_answer stated (answer_of_map stated (line - 1) (column - 1))
 
 -- where a frame comes from, if the table has its map, and that an origin for it
 abbrev pub original_of : FrameParts → List (List ℕ × MapRecord) → Option SourceLocation
-original_of parts table = location_in_map parts (record_for parts.url table)
+original_of parts table = option_and_then (λ stated. original_at stated parts.line parts.column) (record_for parts.url table)
 
--- the frame at a location in a source of this name
-abbrev pub frame_text : FrameParts → SourceLocation → (name : List ℕ) → List ℕ
-frame_text parts location name = parts.head ++ name ++ codes ":" ++ decimal location.line ++ codes ":" ++ decimal location.column ++ parts.tail
+-- a location in a source of this name, as it is printed
+abbrev pub location_text : (name : List ℕ) (line column : ℕ) → List ℕ
+location_text name line column = name ++ codes ":" ++ decimal line ++ codes ":" ++ decimal column
 
 -- ---- a line
 
@@ -65,20 +71,15 @@ pub data Fate : Type 0 where
   replaced : List ℕ → Fate
   hidden : Fate
 
--- the map says to ignore the source
-abbrev pub is_ignored : Option StatedSource → Bool
-is_ignored None = false
-is_ignored (Some source) = source.ignored
-
--- the fate of a frame at a location in a source of this name, if it has one that prints
+-- the fate of a frame from this location, if its source has this name
 abbrev pub named_fate : FrameParts → SourceLocation → (name : Option (List ℕ)) → Fate
 named_fate parts location None = stays
-named_fate parts location (Some name) = replaced (frame_text parts location name)
+named_fate parts location (Some name) = replaced (parts.head ++ location_text name location.line location.column ++ parts.tail)
 
 -- that of a frame from this location, with the frames of ignored sources hidden or not; a hidden one needs no name
 abbrev pub fate_at : (hide : Bool) → FrameParts → Option SourceLocation → Fate
 fate_at hide parts None = stays
-fate_at hide parts (Some location) = if hide && is_ignored location.source then hidden else named_fate parts location (name_in location.source)
+fate_at hide parts (Some location) = if hide && location.ignored then hidden else named_fate parts location location.name
 
 abbrev pub fate_of : (hide : Bool) → List (List ℕ × MapRecord) → Option FrameParts → Fate
 fate_of hide table None = no_frame

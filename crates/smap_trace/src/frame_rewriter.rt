@@ -1,16 +1,17 @@
 //! The frames of a trace, rewritten line by line.
-ghost use Rattle.std.specs.Prelude.{◌≡◌, ◌++◌, true, codes, map, OnErr, OnOk};
+ghost use Rattle.std.specs.Prelude.{◌≡◌, ◌++◌, codes, map};
 ghost use Rattle.std.specs.List.{concat};
-ghost use Rattle.smap_io.specs.Device.{TakesFront};
-ghost use Rattle.smap_lines.specs.Gathered.{HandsOn};
+ghost use Rattle.smap_lines.specs.LineOutput.{IsPut};
 ghost use Rattle.smap_lines.specs.Lines.{end_in};
-ghost use Rattle.smap_trace.specs.SightSeen.{replacement_seen};
+ghost use Rattle.smap_trace.specs.SightSeen.{replaced_frame};
 
-use crate::sight::{Replacement, Sight, look_at};
+use crate::original::Replacement;
+use crate::parts::Frame;
+use crate::sight::{Sight, look_at};
 use crate::table::Table;
 use itoa::Buffer;
 use smap_io::{ByteSink, DeviceFault};
-use smap_lines::{Gathered, LineEditor, end_of_line};
+use smap_lines::{LineEditor, LineOutput, end_of_line};
 use std::alloc::Global;
 
 /// Rewrites the frames among the lines of a trace, and counts those that stay, those that are replaced and those that
@@ -41,17 +42,16 @@ impl LineEditor for FrameRewriter<'_> {
         &mut self,
         line: &[u8],
         is_ended: bool,
-        gathered: &mut Gathered,
-        output: &mut W,
+        output: &mut LineOutput<'_, W>,
     ) -> Result<(), DeviceFault> {
         match look_at(self.alloc, self.table, self.hide_ignored, line) {
-            Sight::Other => gathered.put_line(line, is_ended, output)?,
+            Sight::Other => output.put_line(line, is_ended)?,
             Sight::Staying => {
-                gathered.put_line(line, is_ended, output)?;
+                output.put_line(line, is_ended)?;
                 self.staying += 1;
             }
-            Sight::Replaced(replacement) => {
-                put_frame(&replacement, is_ended, gathered, output)?;
+            Sight::Replaced(frame, replacement) => {
+                put_frame(&frame, &replacement, is_ended, output)?;
                 self.mapped += 1;
             }
             Sight::Hidden => self.hidden += 1,
@@ -66,28 +66,24 @@ impl LineEditor for FrameRewriter<'_> {
 
 // Puts a frame with its original in place of its place, and with the end of its line.
 fn put_frame<W: ByteSink>(
-    replacement: &Replacement<'_, '_>,
+    frame: &Frame<'_>,
+    replacement: &Replacement<'_>,
     is_ended: bool,
-    gathered: &mut Gathered,
-    output: &mut W,
+    output: &mut LineOutput<'_, W>,
 ) -> Result<(), DeviceFault>
-    ensures put { OnOk result (HandsOn (W.seen output.old).taken (W.seen output.new).taken
-        (gathered.old ++ (replacement_seen replacement.now ++ end_in is_ended)) gathered.new) }
-    ensures no_failure { OnOk result ((W.seen output.new).failed ≡ (W.seen output.old).failed) }
-    ensures front { OnErr result (TakesFront (W.seen output.old).taken (W.seen output.new).taken
-        (gathered.old ++ (replacement_seen replacement.now ++ end_in is_ended))) }
-    ensures failure { OnErr result ((W.seen output.new).failed ≡ true) }
+    ensures { IsPut W.seen output.old output.new
+        (replaced_frame frame.now replacement.now ++ end_in is_ended) result }
 {
     let (mut line, mut column) = (Buffer::new(), Buffer::new());
     let pieces = pieces_of(
-        replacement.frame.head,
+        frame.head,
         replacement.name.as_bytes(),
-        line.format(replacement.original.line).as_bytes(),
-        column.format(replacement.original.column).as_bytes(),
-        replacement.frame.tail,
+        line.format(replacement.line).as_bytes(),
+        column.format(replacement.column).as_bytes(),
+        frame.tail,
         end_of_line(is_ended),
     );
-    gathered.put_all(&pieces, output)
+    output.put_all(&pieces)
 }
 
 // What a frame is joined of.
@@ -100,7 +96,7 @@ fn pieces_of<'a>(
     end: &'a [u8],
 ) -> [&'a [u8]; 8]
     ensures { concat (map (λ piece. piece.now) result)
-        ≡ (head.now ++ name.now ++ codes ":" ++ line.now ++ codes ":" ++ column.now ++ tail.now) ++
+        ≡ (head.now ++ (name.now ++ codes ":" ++ line.now ++ codes ":" ++ column.now) ++ tail.now) ++
         end.now }
 {
     [head, name, b":", line, b":", column, tail, end]

@@ -77,8 +77,8 @@ fn frame_before(line: &[u8], end: usize) -> Option<Frame<'_>>
     }
 }
 
-// How many blanks a text begins with.
-fn blanks(text: &[u8]) -> usize
+/// How many blanks, which are spaces and tabs, a text begins with.
+pub fn blanks(text: &[u8]) -> usize
     ensures count { result ≡ prefix_len is_blank text.now }
     ensures within { result ≤ length text.now }
 {

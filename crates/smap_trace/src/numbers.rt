@@ -1,5 +1,7 @@
 //! The lines and columns of frames.
-ghost use Rattle.std.specs.Prelude.{◌≡◌};
+ghost use Rattle.std.specs.Prelude.{◌≡◌, ◌≤◌, length};
+ghost use Rattle.std.specs.Char.{is_ascii_digit};
+ghost use Rattle.std.specs.List.{prefix_len};
 ghost use Rattle.smap_trace.specs.FrameOf.{decimal_number};
 
 // The largest line or column that a frame may print: a map's largest, counted from 1.
@@ -24,4 +26,12 @@ pub fn number(text: &[u8]) -> Option<u32>
         }
     }
     Some(value as u32)
+}
+
+/// How many digits a text begins with.
+pub fn digits(text: &[u8]) -> usize
+    ensures count { result ≡ prefix_len is_ascii_digit text.now }
+    ensures within { result ≤ length text.now }
+{
+    text.iter().take_while(|byte| byte.is_ascii_digit()).count()
 }

@@ -1,17 +1,9 @@
 -- Of private contracts only: the editor that rewrites the places of lines, and counts them.
-use Rattle.std.specs.Prelude.{ℕ, ◌+◌, ◌-◌, ◌*◌, ◌/◌, ◌^◌, List, min}
+use Rattle.std.specs.Prelude.{ℕ, ◌+◌, ◌-◌, ◌*◌, ◌/◌, ◌^◌, min}
 use Rattle.smap_lines.specs.Limits.{most_line_bytes}
 use Rattle.smap_lines.specs.Lines.{Line}
-use Rattle.smap_trace.specs.Rewritten.{frame_text}
-use Rattle.smap_trace.specs.SightSeen.{original_seen}
-use Rattle.smap_places.specs.Places.{PlaceParts}
-use Rattle.smap_places.specs.PlacesRewritten.{bare_frame, places_in, replaced_in}
-use Rattle.smap_places.specs.declared.replacement.Replacement.{Replacement}
+use Rattle.smap_places.specs.PlacesRewritten.{places_in, replaced_in}
 use Rattle.smap_places.specs.declared.place_rewriter.PlaceRewriter.{PlaceRewriter}
-
--- the text that stands in a place's stead
-abbrev pub replacement_seen : PlaceParts → Replacement → List ℕ
-replacement_seen place replacement = frame_text (bare_frame place) (original_seen replacement.original) replacement.name.now
 
 -- the editor after a line, which has no more places than bytes
 abbrev pub after_places : PlaceRewriter → Line → PlaceRewriter

@@ -1,4 +1,4 @@
-use Rattle.std.proofs.Common.{◌∙◌, ◌++◌, [], arith, ap, cond, refl, take, length-append, length-take, append-nil}
+use Rattle.std.proofs.Common.{◌≡◌, rules, ◌∙◌, ◌++◌, [], arith, ap, cond, refl, take, length-append, length-take, append-nil}
 use Rattle.smap_lines.proofs.EditingLaws.{byte_few, byte_is, gives_both, gives_none, read_fails, too_much, write_fails}
 use Rattle.smap_lines.proofs.LineLaws.{few_lines}
 use Rattle.smap_lines.proofs.ThroughLaws.{through_after, through_counted, through_end, through_end_front, through_few, through_last_front, through_read, through_start}
@@ -48,7 +48,9 @@ pub loop-count-preserved : goal.loop-count-preserved
 loop-count-preserved g c =
     let read = c.loop-count.invariant.read in
     let bytes = take c.in-Ok.count c.read.new.room in
-    record {
+    let sink : c.output-1.given.0 ≡ c.edit_bytes.new.output.sink.now = search rules in
+    let room : c.gathered-in-loop-count-2-1.given.0 ≡ c.edit_bytes.new.output.gathered.now = search rules in
+    rw (sink, room) (record {
       read = (
         read.0 ++ bytes,
         gives_both _ _ _ _ _ read.1 c.in-Ok.ensures.gives,
@@ -60,15 +62,16 @@ loop-count-preserved g c =
       fits = omega (arith, c.if-total-gt-MOST_TEXT_BYTES.false);
       input_works = c.in-Ok.ensures.no_failure ∙ c.loop-count.invariant.input_works;
       output_works = c.in-Ok-edit_bytes.ensures.no_failure ∙ c.loop-count.invariant.output_works;
-    }
+    })
 
 pub returns-in_default-edit_bytes-clause-front : goal.returns-in_default-edit_bytes-clause-front
 returns-in_default-edit_bytes-clause-front g c =
     let read = c.loop-count.invariant.read in
     let bytes = take c.in-Ok.count c.read.new.room in
-    write_fails _ _ _ (read.0 ++ bytes) (gives_both _ _ _ _ _ read.1 c.in-Ok.ensures.gives)
+    let sink : c.output-1.given.0 ≡ c.edit_bytes.new.output.sink.now = search rules in
+    rw sink (write_fails _ _ _ (read.0 ++ bytes) (gives_both _ _ _ _ _ read.1 c.in-Ok.ensures.gives)
     (c.in_default-edit_bytes.ensures.front _ _ _
-    (through_read g.row.E.Denot g.E.LineEditor.becomes g.E.LineEditor.step g.E.LineEditor.room g.met.E.LineEditor.same g.met.E.LineEditor.room_for_one _ _ read.0 bytes _ read.3))
+    (through_read g.row.E.Denot g.E.LineEditor.becomes g.E.LineEditor.step g.E.LineEditor.room g.met.E.LineEditor.same g.met.E.LineEditor.room_for_one _ _ read.0 bytes _ read.3)))
 
 pub finish-requires : goal.finish-requires
 finish-requires g c =
@@ -80,8 +83,9 @@ pub returns-in_default-finish-clause-front : goal.returns-in_default-finish-clau
 returns-in_default-finish-clause-front g c =
     let read = c.loop-count.invariant.read in
     let gives = rw c.if-count-eq0.true at c.in-Ok.ensures.gives in
-    write_fails _ _ _ read.0 (rw (append-nil read.0) at (gives_both _ _ _ _ [] read.1 gives))
-    (through_last_front g.row.E.Denot g.E.LineEditor.becomes g.E.LineEditor.step g.E.LineEditor.room g.met.E.LineEditor.same g.met.E.LineEditor.room_for_one _ _ read.0 _ _ read.3 c.in_default-finish.ensures.front)
+    let sink : c.output-in_default-finish-1.given.0 ≡ c.finish.new.output.sink.now = search rules in
+    rw sink (write_fails _ _ _ read.0 (rw (append-nil read.0) at (gives_both _ _ _ _ [] read.1 gives))
+    (through_last_front g.row.E.Denot g.E.LineEditor.becomes g.E.LineEditor.step g.E.LineEditor.room g.met.E.LineEditor.same g.met.E.LineEditor.room_for_one _ _ read.0 _ _ read.3 c.in_default-finish.ensures.put.front))
 
 pub overflow_add-result : goal.overflow_add-result
 overflow_add-result g c =
@@ -94,13 +98,15 @@ returns-in-Ok-write-clause-edits g c =
     let read = c.loop-count.invariant.read in
     let gives = rw c.if-count-eq0.true at c.in-Ok.ensures.gives in
     let counted = through_counted g.row.E.Denot g.E.LineEditor.becomes g.E.LineEditor.step g.E.LineEditor.room g.met.E.LineEditor.same g.met.E.LineEditor.room_for_one _ _ read.0 _ read.3 in
-    let is_line = byte_is c.in-Ok-finish.is_line ∙ ap (λ b. cond b 1 0) c.in-Ok-finish.ensures.is_line in (
+    let is_line = byte_is c.in-Ok-finish.is_line ∙ ap (λ b. cond b 1 0) c.in-Ok-finish.ensures.is_line in
+    let sink : c.output-2-1.given.0 ≡ c.write.new.self.sink.now = search rules in
+    rw sink (
       read.0,
       record {
         read = rw (append-nil read.0) at (gives_both _ _ _ _ [] read.1 gives);
         ended = c.in-Ok.ensures.ends c.if-count-eq0.true (omega (arith, c.read.auto.room));
         fits = omega (arith, read.2, c.loop-count.invariant.fits);
-        written = through_end g.row.E.Denot g.E.LineEditor.becomes g.E.LineEditor.step g.E.LineEditor.room g.met.E.LineEditor.same g.met.E.LineEditor.room_for_one _ _ read.0 _ _ _ _ read.3 c.in-Ok-finish.ensures.put c.in-Ok-write.ensures.written;
+        written = through_end g.row.E.Denot g.E.LineEditor.becomes g.E.LineEditor.step g.E.LineEditor.room g.met.E.LineEditor.same g.met.E.LineEditor.room_for_one _ _ read.0 _ _ _ _ read.3 c.in-Ok-finish.ensures.put.put c.in-Ok-write.ensures.written;
         counted = omega (arith, counted, c.from.ensures, is_line);
       },
       through_after g.row.E.Denot g.E.LineEditor.becomes g.E.LineEditor.step g.E.LineEditor.room g.met.E.LineEditor.same g.met.E.LineEditor.room_for_one _ (g.W.ByteSink.seen c.args.output.now).taken read.0 _ _ read.3 c.in-Ok-finish.ensures.after,
@@ -110,8 +116,9 @@ pub returns-clause-front : goal.returns-clause-front
 returns-clause-front g c =
     let read = c.loop-count.invariant.read in
     let gives = rw c.if-count-eq0.true at c.in-Ok.ensures.gives in
-    write_fails _ _ _ read.0 (rw (append-nil read.0) at (gives_both _ _ _ _ [] read.1 gives))
-    (through_end_front g.row.E.Denot g.E.LineEditor.becomes g.E.LineEditor.step g.E.LineEditor.room g.met.E.LineEditor.same g.met.E.LineEditor.room_for_one _ _ read.0 _ _ _ _ read.3 c.in-Ok-finish.ensures.put c.in-Err.ensures.front)
+    let sink : c.output-2-1.given.0 ≡ c.write.new.self.sink.now = search rules in
+    rw sink (write_fails _ _ _ read.0 (rw (append-nil read.0) at (gives_both _ _ _ _ [] read.1 gives))
+    (through_end_front g.row.E.Denot g.E.LineEditor.becomes g.E.LineEditor.step g.E.LineEditor.room g.met.E.LineEditor.same g.met.E.LineEditor.room_for_one _ _ read.0 _ _ _ _ read.3 c.in-Ok-finish.ensures.put.put c.in-Err.ensures.front))
 
 pub returns-in-Ok-write-clause-few : goal.returns-in-Ok-write-clause-few
 returns-in-Ok-write-clause-few g c =
