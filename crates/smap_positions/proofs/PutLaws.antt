@@ -72,3 +72,39 @@ pub put_none : (start old : Output) (front bytes : List ℕ) (done : Result Unit
     IsPut start old front done → IsPut start old (front ++ bytes) done
 put_none start old front bytes (Ok done) failed before = cc
 put_none start old front bytes (Err fault) failed before = fails_first start old front bytes before
+
+-- ---- with a short text that waits too
+
+abbrev pub holding : Output → (short : List ℕ) → Output
+holding output short = record output { waiting = output.waiting ++ short }
+
+-- a piece that is put behind the short text, unless an earlier one failed
+pub put_short : (start output : Output) (short front bytes : List ℕ) (done : Result Unit DeviceFault) →
+    IsPut start (holding output short) front done → IsPut start (holding output (short ++ bytes)) (front ++ bytes) done
+put_short start output short front bytes (Ok done) before = record {
+  put = (
+    before.put.0,
+    before.put.1,
+    joined start (holding output short) front bytes before.put.0 before.put.2 ∙ ap (λ l. before.put.0 ++ l) (append_assoc output.waiting short bytes),
+  );
+  works = before.works;
+}
+put_short start output short front bytes (Err fault) before =
+    let fails = fails_first start (holding output short) front bytes before in
+    record { front = fails.front; failed = fails.failed }
+
+-- the short text that is put
+pub put_held : (start old new : Output) (short front : List ℕ) (done result : Result Unit DeviceFault) → is_ok done ≡ true →
+    IsPut old new short result → IsPut start (holding old short) front done → IsPut start (holding new []) (front ++ []) result
+put_held start old new short front done (Ok whole) works put before =
+    rw (append-nil new.waiting) (put_more start (holding old short) new front [] done (Ok whole) works
+    (record { put = (put.put.0, put.put.1, append-nil (old.waiting ++ short) ∙ put.put.2); works = put.works }) before)
+put_held start old new short front done (Err fault) works put before =
+    rw (append-nil new.waiting) (put_more start (holding old short) new front [] done (Err fault) works
+    (record { front = (put.front.0, put.front.1, append-nil (old.waiting ++ short) ∙ put.front.2, put.front.3); failed = put.failed }) before)
+
+-- a piece that is put where the short text is empty
+pub put_behind : (start old new : Output) (front bytes : List ℕ) (done result : Result Unit DeviceFault) → is_ok done ≡ true →
+    IsPut old new bytes result → IsPut start (holding old []) front done → IsPut start (holding new []) (front ++ bytes) result
+put_behind start old new front bytes done result works put before =
+    rw (append-nil new.waiting) (put_more start old new front bytes done result works put (rw (append-nil old.waiting) at before))

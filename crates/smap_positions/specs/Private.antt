@@ -3,6 +3,7 @@ pub mod Answerer
 pub mod AnswererLaws
 pub mod Putting
 pub mod GrowingText
+pub mod ShortText
 pub mod GatheredLine
 pub mod Escapes
 pub mod ExcerptMember

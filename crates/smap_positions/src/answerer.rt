@@ -9,6 +9,7 @@ use crate::json_form::{put_answer_object, put_bad_position};
 use crate::output::Output;
 use crate::printed_position::PrintedPosition;
 use crate::reading::read_position;
+use crate::short_text::ShortText;
 use crate::text_form::{BAD_POSITION, put_answer_line};
 use smap_io::{ByteSink, DeviceFault};
 use smap_lines::{Gathered, LineEditor};
@@ -73,9 +74,11 @@ impl PositionAnswerer<'_> {
         let mut line = GatheredLine {
             gathered,
             output,
+            text: ShortText::new(),
             done: Ok(()),
         };
         self.put_line(position, &mut line);
+        line.hand_on();
         line.done
     }
 

@@ -21,6 +21,7 @@ mod map_text;
 mod output;
 mod printed_position;
 mod reading;
+mod short_text;
 mod text_form;
 
 pub use answer::from_one;

@@ -20,6 +20,7 @@ pub trait Output {
 }
 
 /// Puts a number behind what stands before it.
+#[inline(always)]
 pub fn put_number<O: Output>(front: &[u8], number: u64, output: &mut O)
     ensures { O.Puts output.old output.new (front.now ++ decimal number) }
 {

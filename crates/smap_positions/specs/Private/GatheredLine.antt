@@ -5,8 +5,9 @@ use Rattle.smap_io.specs.Device.{SinkSeen}
 use Rattle.smap_positions.specs.Private.Putting.{IsPut, Output, output_seen}
 use Rattle.smap_positions.specs.declared.gathered_line.GatheredLine.{GatheredLine}
 
+-- the output, for which the line's short text waits too
 abbrev pub line_output : {W : Type 0} (seen : W → SinkSeen) → GatheredLine W → Output
-line_output seen line = output_seen (seen line.output.now) line.gathered.now
+line_output seen line = output_seen (seen line.output.now) (line.gathered.now ++ line.text)
 
 -- if these bytes are what was put before, since the output was like this, then with the new ones behind them they are
 -- what was put after that

@@ -1,17 +1,12 @@
-use Rattle.std.proofs.Common.{refl, sym, ◌∙◌}
-use Rattle.smap_positions.proofs.PutLaws.{put_more, put_none}
+use Rattle.std.proofs.Common.{◌≡◌, ◌++◌, rules, refl}
+use Rattle.smap_positions.proofs.PutLaws.{put_short}
 use Rattle.smap_positions.proofs.gathered_line.GatheredLineOutput.put.Goals as goal
 
-pub returns-then-is_ok : goal.returns-then-is_ok
-returns-then-is_ok g c = record {
-  same_gathered = refl;
-  same_output = refl;
-  puts = λ start front before. put_more _ _ _ _ _ _ _ (sym c.is_ok.ensures.value ∙ c.if-is_ok.true) c.put_gathered-self.ensures before;
-}
-
-pub returns-else-is_ok : goal.returns-else-is_ok
-returns-else-is_ok g c = record {
-  same_gathered = refl;
-  same_output = refl;
-  puts = λ start front before. put_none _ _ _ _ _ (sym c.is_ok.ensures.value ∙ c.if-is_ok.false) before;
-}
+pub returns-else-not-add : goal.returns-else-not-add
+returns-else-not-add g c =
+    let added : c.add.new.self ≡ c.args.self.now.text ++ c.args.bytes.now = search rules in
+    record {
+      same_gathered = refl;
+      same_output = refl;
+      puts = λ start front before. rw added (put_short start _ c.args.self.now.text front c.args.bytes.now c.args.self.now.done before);
+    }
