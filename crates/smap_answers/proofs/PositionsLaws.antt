@@ -7,7 +7,7 @@ use Rattle.smap_lines.specs.declared.fault.LineFault.{LineFault}
 use Rattle.smap_lines.specs.declared.fault.LineFault.TheVariants.{Read, Write, TooMuch, Memory}
 use Rattle.smap_positions.specs.Answering.{Answers}
 use Rattle.smap_positions.specs.Positions.{answered_line}
-use Rattle.smap_positions.specs.declared.answering.Summary.{Summary}
+use Rattle.smap_positions.specs.declared.answering.PositionsSummary.{PositionsSummary}
 use Rattle.smap_record.specs.Record.{MapRecord, record_of}
 use Rattle.smap_record.specs.declared.refusal.MapRefusal.{MapRefusal}
 use Rattle.smap_answers.specs.Files.{MayRead}
@@ -17,7 +17,7 @@ use Rattle.smap_answers.specs.Positions.{AnsweredTells, PositionsTells, position
 use Rattle.url.specs.Parts.{Parts}
 
 -- all of it was written, but not flushed
-pub written_front : (before : DevicesSeen) (input : SourceSeen) (mid after : SinkSeen) (stated : MapRecord) (from json : Bool) (summary : Summary) →
+pub written_front : (before : DevicesSeen) (input : SourceSeen) (mid after : SinkSeen) (stated : MapRecord) (from json : Bool) (summary : PositionsSummary) →
     Answers before (devices_seen input mid) stated from json summary → after.taken ≡ mid.taken → EditsFront (answered_line stated from json) before (devices_seen input after) Write
 written_front before input mid after stated from json summary answers kept = record {
   bytes = answers.bytes;
@@ -66,7 +66,7 @@ pub answered_works : (stated : MapRecord) (from json : Bool) (before after : Dev
     telling.is_answer ≡ true → after.output.failed ≡ false
 answered_works stated from json before after telling tells done = go tells.result tells.output_failed tells.told
   where
-    go : (result : Result Summary LineFault) → after.output.failed ≡ is_write_fault result → telling ≡ positions_telling result → after.output.failed ≡ false
+    go : (result : Result PositionsSummary LineFault) → after.output.failed ≡ is_write_fault result → telling ≡ positions_telling result → after.output.failed ≡ false
     go (Ok summary) failed told = failed
     go (Err Read) failed told = failed
     go (Err Write) failed told = let bad : ◌≡◌ {A = Bool} true false = sym done ∙ ap (λ (t : Telling). t.is_answer) told in cc

@@ -47,7 +47,7 @@ fault_telling Memory = out_of_memory
 -- an answer
 abbrev pub reply_telling : Reply → Telling
 reply_telling (replies.Text text) = answer (string_bytes text)
-reply_telling (replies.Map bytes) = answer bytes.items
+reply_telling (replies.Bytes bytes) = answer bytes.items
 reply_telling (replies.Refused text) = refused_answer (string_bytes text)
 reply_telling replies.Rewritten = answer []
 

@@ -6,7 +6,7 @@ use Rattle.smap_lines.specs.declared.fault.LineFault.TheVariants.{TooMuch, Memor
 use Rattle.smap_record.specs.Record.{MapRecord}
 use Rattle.smap_positions.specs.Answering.{Answers}
 use Rattle.smap_positions.specs.Positions.{answered_line}
-use Rattle.smap_positions.specs.declared.answering.Summary.{Summary}
+use Rattle.smap_positions.specs.declared.answering.PositionsSummary.{PositionsSummary}
 use Rattle.smap_answers.specs.Files.{MayRead}
 use Rattle.smap_answers.specs.Lines.{bad_position_refused_line, long_position_line}
 use Rattle.smap_answers.specs.Map.{IsStated, Never, TellsMap}
@@ -22,24 +22,24 @@ bad_telling (Some number) = refusal (bad_position_refused_line number)
 
 -- of what was answered to its end: where each line is short enough to be answered the first bad one decides, and else a
 -- long one
-abbrev pub summary_telling : Summary → Telling
+abbrev pub summary_telling : PositionsSummary → Telling
 summary_telling summary = if summary.answered == summary.lines then bad_telling summary.first_bad else refusal long_position_line
 
-abbrev pub positions_telling : Result Summary LineFault → Telling
+abbrev pub positions_telling : Result PositionsSummary LineFault → Telling
 positions_telling (Ok summary) = summary_telling summary
 positions_telling (Err fault) = fault_telling fault
 
 -- ---- the positions
 
 -- the positions are answered to their end, or up to a fault
-abbrev pub IsAnswered : MapRecord → (from json : Bool) → (before after : DevicesSeen) → Result Summary LineFault → Type 0
+abbrev pub IsAnswered : MapRecord → (from json : Bool) → (before after : DevicesSeen) → Result PositionsSummary LineFault → Type 0
 IsAnswered stated from json before after (Ok summary) = Answers before after stated from json summary
 IsAnswered stated from json before after (Err fault) = EditsFront (answered_line stated from json) before after fault
 
 -- answering the positions on standard input from this map tells this; a refusal for a bad line or a long one comes after
 -- their answers, which are flushed
 pub record AnsweredTells (stated : MapRecord) (from json : Bool) (before after : DevicesSeen) (telling : Telling) : Type 0 where
-  pub result : Result Summary LineFault
+  pub result : Result PositionsSummary LineFault
   pub answered : IsAnswered stated from json before after result
   pub input_failed : after.input.failed ≡ is_read_fault result
   pub output_failed : after.output.failed ≡ is_write_fault result

@@ -49,7 +49,7 @@ fn composed_map(
         (telling_of result) }
 {
     match compose(alloc, outer, source, inner) {
-        Ok(composed) => Ok(Reply::Map(line_of(composed.write(alloc)?)?)),
+        Ok(composed) => Ok(Reply::Bytes(line_of(composed.write(alloc)?)?)),
         Err(ComposeRefusal::SourceIndex) => Err(refused(alloc, lines::NO_SOURCE)),
         Err(ComposeRefusal::TooLarge) => Err(refused(alloc, lines::COMPOSED_TOO_LARGE)),
         Err(ComposeRefusal::Memory) => Err(Failure::Memory),

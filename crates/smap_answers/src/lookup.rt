@@ -1,5 +1,5 @@
 //! Looking a position up in a map file.
-ghost use Rattle.std.specs.Prelude.{◌≡◌, string_bytes, option_copied, IfOk};
+ghost use Rattle.std.specs.Prelude.{◌≡◌, option_copied, IfOk};
 ghost use Rattle.smap_answers.specs.Lookup.{lookup_print};
 ghost use Rattle.smap_answers.specs.Map.{IsLine, TellsMap};
 ghost use Rattle.smap_answers.specs.Outcome.{OrMemory, telling_of};
@@ -29,8 +29,8 @@ pub fn answer_lookup<F: FileReader>(
         (IsLine (lookup_print after json line column))) (telling_of result) }
 {
     let map = read_map(alloc, reader, 0, path, base, interval)?;
-    let text = lookup_print(alloc, &map, line, column, after, json)?;
-    Ok(Reply::Text(text))
+    let answer = lookup_print(alloc, &map, line, column, after, json)?;
+    Ok(Reply::Bytes(answer))
 }
 
 // What is printed for what a map answers for a position.
@@ -41,9 +41,8 @@ fn lookup_print(
     column: u32,
     after: bool,
     json: bool,
-) -> Result<String, AllocError>
-    ensures { IfOk result (λ text. string_bytes text ≡ lookup_print after json line column
-        map.now.stated) }
+) -> Result<Vec<u8>, AllocError>
+    ensures { IfOk result (λ text. text.items ≡ lookup_print after json line column map.now.stated) }
 {
     if json {
         lookup_as_json(alloc, map, line, column, after)

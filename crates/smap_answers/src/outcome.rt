@@ -21,8 +21,8 @@ pub const FAILED: u8 = 3;
 pub enum Reply {
     /// The text that was asked for, whole, with its last LF.
     Text(String),
-    /// The map that was asked for, with an LF.
-    Map(Vec<u8>),
+    /// The bytes that were asked for, whole, with their last LF: a map, or what a map answers.
+    Bytes(Vec<u8>),
     /// Why a map is refused, where the answer was asked for in JSON: whole, with its last LF. Its status is 1, and that of
     /// all others 0.
     Refused(String),
@@ -65,7 +65,7 @@ impl Reply {
     {
         match self {
             Reply::Refused(_) => REFUSED,
-            Reply::Text(_) | Reply::Map(_) | Reply::Rewritten => DONE,
+            Reply::Text(_) | Reply::Bytes(_) | Reply::Rewritten => DONE,
         }
     }
 
@@ -75,7 +75,7 @@ impl Reply {
     {
         match self {
             Reply::Text(text) => text.as_bytes(),
-            Reply::Map(bytes) => bytes,
+            Reply::Bytes(bytes) => bytes,
             Reply::Refused(text) => text.as_bytes(),
             Reply::Rewritten => &[],
         }

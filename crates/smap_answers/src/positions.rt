@@ -13,7 +13,7 @@ use crate::map::read_map;
 use crate::outcome::{Failure, Reply};
 use itoa::Buffer;
 use smap_io::{ByteSink, ByteSource};
-use smap_positions::Summary;
+use smap_positions::PositionsSummary;
 use smap_record::{MapFile, Url};
 use smap_trace::RewriteFault;
 use std::alloc::Global;
@@ -80,7 +80,7 @@ fn answer_over<R: ByteSource, W: ByteSink>(
 }
 
 // The line for positions that were answered to their end, where they are refused: put into the room, which takes no memory.
-fn refusing_line(room: String, summary: Summary) -> Option<String>
+fn refusing_line(room: String, summary: PositionsSummary) -> Option<String>
     requires { IsRoom room }
     ensures { MatchOption result (summary_telling summary ≡ answer [])
         (λ line. summary_telling summary ≡ refusal (string_bytes line)) }

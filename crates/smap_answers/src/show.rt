@@ -34,7 +34,7 @@ fn written_map(alloc: Global, map: &MapFile) -> Result<Reply, Failure>
     ensures { OrMemory (IsResult show_result map.now.stated) (telling_of result) }
 {
     match map.write(alloc) {
-        Ok(bytes) => Ok(Reply::Map(line_of(bytes)?)),
+        Ok(bytes) => Ok(Reply::Bytes(line_of(bytes)?)),
         Err(WriteRefusal::TextTooLong) => Err(refused(alloc, lines::WRITTEN_TEXT_TOO_LONG)),
         Err(WriteRefusal::Memory) => Err(Failure::Memory),
     }

@@ -1,5 +1,5 @@
 //! Lines that are positions, and lines that are none.
-use smap_positions::{Position, read_position};
+use smap_positions::{PrintedPosition, read_position};
 use std::test::Fail;
 
 // A line, and its line and column, where it is a position.
@@ -52,7 +52,7 @@ const LINES: &[(&[u8], Option<(u32, u32)>)] = &[
 fn lines_are_read(rt: HostRuntime) -> Result<(), Fail> {
     for (line, wanted) in LINES {
         let wanted = match wanted {
-            Some((line, column)) => Some(Position {
+            Some((line, column)) => Some(PrintedPosition {
                 line: *line,
                 column: *column,
             }),

@@ -1,6 +1,4 @@
 mod PutLaws
 mod EscapeLaws
 mod PositionLaws
-mod JsonLaws
 mod CountLaws
-mod TextLaws

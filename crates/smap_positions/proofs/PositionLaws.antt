@@ -9,7 +9,7 @@ use Rattle.smap_trace.specs.Frame.{IsLineEnd, IsPrinted, is_blank}
 use Rattle.smap_trace.specs.FrameOf.{decimal_number, read_on}
 use Rattle.smap_positions.specs.Position.{AreBlanks, IsPosition, IsSeparator}
 use Rattle.smap_positions.specs.PositionOf.{after_blanks, after_digits, column_after, column_of, first_number, is_line_end, position_in, position_of, position_with, separator_len}
-use Rattle.smap_positions.specs.declared.position.Position.{Position}
+use Rattle.smap_positions.specs.declared.printed_position.PrintedPosition.{PrintedPosition}
 
 none_else : {A : Type 0} (b : Bool) (o : Option A) (y : A) → cond b o None ≡ Some y → (b ≡ true) × (o ≡ Some y)
 none_else true o y e = (refl, e)
@@ -151,7 +151,7 @@ ends_line (byte ∷ next ∷ text) is = cc
 
 -- ---- the position
 
-with_is : (l c : Option ℕ) (position : Position) → position_with l c ≡ Some position → (l ≡ Some position.line) × (c ≡ Some position.column)
+with_is : (l c : Option ℕ) (position : PrintedPosition) → position_with l c ≡ Some position → (l ≡ Some position.line) × (c ≡ Some position.column)
 with_is None c position is = cc
 with_is (Some l) None position is = cc
 with_is (Some l) (Some c) position is =
@@ -179,7 +179,7 @@ separates (byte ∷ rest) n stops is = go (byte == 58) refl is
         inr (some_taken byte rest (prefix_len is_blank (byte ∷ rest)) many, passes is_blank (byte ∷ rest))
 
 module _ (numbers : (text : List ℕ) (n : ℕ) → (decimal_number text ≡ Some n) ↔ ((text ≡ decimal n) × IsPrinted n)) where
-  pub position_has_form : (line : List ℕ) (position : Position) → position_of line ≡ Some position → IsPosition line position
+  pub position_has_form : (line : List ℕ) (position : PrintedPosition) → position_of line ≡ Some position → IsPosition line position
   unfolding position_of
   position_has_form line position is =
       let text : List ℕ = after_blanks line in
@@ -211,7 +211,7 @@ module _ (numbers : (text : List ℕ) (n : ℕ) → (decimal_number text ≡ Som
         column_printed = column_is.1;
       }
 
-  pub form_is_position : (line : List ℕ) (position : Position) → IsPosition line position → position_of line ≡ Some position
+  pub form_is_position : (line : List ℕ) (position : PrintedPosition) → IsPosition line position → position_of line ≡ Some position
   unfolding position_of
   form_is_position line position form =
       let l = (numbers (decimal position.line) position.line).1 (refl, form.line_printed) in

@@ -1,8 +1,7 @@
 -- What is put piece by piece.
-use Rattle.std.proofs.Common.{◌≡◌, ◌+◌, ◌<◌, ◌≤◌, ℕ, List, [], ◌∷◌, ◌++◌, Option, Some, None, Result, Ok, Err, length, get_or, take, drop, flat_map, refl, sym, ap, ◌∙◌, subst, append_assoc, append-nil}
+use Rattle.std.proofs.Common.{◌≡◌, ℕ, true, false, List, [], ◌++◌, Option, Some, None, Result, Ok, Err, refl, sym, ap, ◌∙◌, append_assoc, append-nil}
+use Rattle.std.specs.Prelude.{is_ok}
 use Rattle.std.specs.Io.KnownBytes.{append_known}
-use Rattle.std.proofs.lemmas.Grind.{flat_map-append}
-use Rattle.std.proofs.lemmas.List.{take-append-drop, take_all, take_more}
 use Rattle.smap_io.specs.Device.{Takes}
 use Rattle.smap_io.specs.declared.device.DeviceFault.{DeviceFault}
 use Rattle.smap_positions.specs.Private.Putting.{FailsToPut, IsPut, Output, Puts}
@@ -62,29 +61,50 @@ module _ (old mid : Output) (first second : List ℕ) where
   put_after new (Ok done) one two = puts_both new one two
   put_after new (Err fault) one two = fails_second new one two
 
--- the same bytes
-pub put_as : (old new : Output) (first second : List ℕ) (result : Result Unit DeviceFault) → first ≡ second → IsPut old new first result → IsPut old new second result
-put_as old new first second result same put = subst (λ l. IsPut old new l result) same put
+-- a piece, unless an earlier one failed
+pub put_more : (start old new : Output) (front bytes : List ℕ) (done result : Result Unit DeviceFault) → is_ok done ≡ true →
+    IsPut old new bytes result → IsPut start old front done → IsPut start new (front ++ bytes) result
+put_more start old new front bytes (Ok done) result works put before = put_after start old front bytes new result before put
+put_more start old new front bytes (Err fault) result works put before = cc
 
-pub fails_as : (old new : Output) (first second : List ℕ) → first ≡ second → FailsToPut old new first → FailsToPut old new second
-fails_as old new first second same fails = subst (λ l. FailsToPut old new l) same fails
+-- a piece that stays out, since an earlier one failed
+pub put_none : (start old : Output) (front bytes : List ℕ) (done : Result Unit DeviceFault) → is_ok done ≡ false →
+    IsPut start old front done → IsPut start old (front ++ bytes) done
+put_none start old front bytes (Ok done) failed before = cc
+put_none start old front bytes (Err fault) failed before = fails_first start old front bytes before
 
--- ---- what stands for each byte of a text
+-- ---- with a short text that waits too
 
-module _ (f : ℕ → List ℕ) (text : List ℕ) (i : ℕ) (within : i < length text) (none : ℕ) where
-  next : flat_map f (take (i + 1) text) ≡ flat_map f (take i text) ++ f (get_or text i none)
-  next = ap (flat_map f) (take_more text i none within) ∙ flat_map-append f (take i text) (get_or text i none ∷ []) ∙ ap (λ l. flat_map f (take i text) ++ l) (append-nil (f (get_or text i none)))
+abbrev pub holding : Output → (short : List ℕ) → Output
+holding output short = record output { waiting = output.waiting ++ short }
 
-  pub puts_next : (old mid new : Output) → Puts old mid (flat_map f (take i text)) → Puts mid new (f (get_or text i none)) → Puts old new (flat_map f (take (i + 1) text))
-  puts_next old mid new one two = subst (λ l. Puts old new l) (sym next) (puts_both old mid (flat_map f (take i text)) (f (get_or text i none)) new one two)
+-- a piece that is put behind the short text, unless an earlier one failed
+pub put_short : (start output : Output) (short front bytes : List ℕ) (done : Result Unit DeviceFault) →
+    IsPut start (holding output short) front done → IsPut start (holding output (short ++ bytes)) (front ++ bytes) done
+put_short start output short front bytes (Ok done) before = record {
+  put = (
+    before.put.0,
+    before.put.1,
+    joined start (holding output short) front bytes before.put.0 before.put.2 ∙ ap (λ l. before.put.0 ++ l) (append_assoc output.waiting short bytes),
+  );
+  works = before.works;
+}
+put_short start output short front bytes (Err fault) before =
+    let fails = fails_first start (holding output short) front bytes before in
+    record { front = fails.front; failed = fails.failed }
 
-  pub fails_next : (old mid new : Output) → Puts old mid (flat_map f (take i text)) → FailsToPut mid new (f (get_or text i none)) → FailsToPut old new (flat_map f text)
-  fails_next old mid new one fails =
-      let upto : FailsToPut old new (flat_map f (take (i + 1) text)) =
-      subst (λ l. FailsToPut old new l) (sym next) (fails_second old mid (flat_map f (take i text)) (f (get_or text i none)) new one fails) in
-      fails_as old new _ _ (sym (flat_map-append f (take (i + 1) text) (drop (i + 1) text)) ∙ ap (flat_map f) (take-append-drop (i + 1) text))
-      (fails_first old new (flat_map f (take (i + 1) text)) (flat_map f (drop (i + 1) text)) upto)
+-- the short text that is put
+pub put_held : (start old new : Output) (short front : List ℕ) (done result : Result Unit DeviceFault) → is_ok done ≡ true →
+    IsPut old new short result → IsPut start (holding old short) front done → IsPut start (holding new []) (front ++ []) result
+put_held start old new short front done (Ok whole) works put before =
+    rw (append-nil new.waiting) (put_more start (holding old short) new front [] done (Ok whole) works
+    (record { put = (put.put.0, put.put.1, append-nil (old.waiting ++ short) ∙ put.put.2); works = put.works }) before)
+put_held start old new short front done (Err fault) works put before =
+    rw (append-nil new.waiting) (put_more start (holding old short) new front [] done (Err fault) works
+    (record { front = (put.front.0, put.front.1, append-nil (old.waiting ++ short) ∙ put.front.2, put.front.3); failed = put.failed }) before)
 
--- where no byte is left, it is all of it
-pub whole_put : (f : ℕ → List ℕ) (text : List ℕ) (i : ℕ) → length text ≤ i → (old new : Output) → Puts old new (flat_map f (take i text)) → Puts old new (flat_map f text)
-whole_put f text i all old new puts = subst (λ l. Puts old new (flat_map f l)) (take_all i text all) puts
+-- a piece that is put where the short text is empty
+pub put_behind : (start old new : Output) (front bytes : List ℕ) (done result : Result Unit DeviceFault) → is_ok done ≡ true →
+    IsPut old new bytes result → IsPut start (holding old []) front done → IsPut start (holding new []) (front ++ bytes) result
+put_behind start old new front bytes done result works put before =
+    rw (append-nil new.waiting) (put_more start old new front bytes done result works put (rw (append-nil old.waiting) at before))

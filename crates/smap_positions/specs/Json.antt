@@ -1,6 +1,6 @@
 -- What is answered as JSON: an object a line, its keys in the order of their bytes. Lines and columns count from 1, indices
 -- from 0.
-use Rattle.std.specs.Prelude.{ℕ, ◌+◌, Bool, List, [], ◌∷◌, ◌++◌, Option, None, codes, nat_eq, option_and_then, option_map, slice_get}
+use Rattle.std.specs.Prelude.{ℕ, ◌+◌, Bool, List, [], ◌∷◌, ◌++◌, Option, codes, nat_eq, option_and_then, option_map, slice_get}
 use Rattle.std.specs.List.{after_first, before_first}
 use Rattle.serde_json.specs.Data.{Data, boolean, number, string, array, object, unsigned, no_items, item, no_members, member}
 use Rattle.serde_json.specs.Written.{compact_text}
@@ -9,9 +9,9 @@ use Rattle.smap_index.specs.declared.answer.Answer.{Answer}
 use Rattle.smap_index.specs.declared.answer.Answer.TheVariants.{Nothing, Unmapped, Found}
 use Rattle.smap_record.specs.Record.{MapRecord}
 use Rattle.smap_record.specs.Sources.{StatedSource}
-use Rattle.smap_record.specs.Written.{member_where, text_of_source, value_of_text}
-use Rattle.smap_positions.specs.Lookup.{is_ignored, lookup_answer, source_excerpt}
-use Rattle.smap_positions.specs.declared.position.Position.{Position}
+use Rattle.smap_record.specs.Written.{member_where, value_of_text}
+use Rattle.smap_positions.specs.Lookup.{answer_excerpt, is_ignored, lookup_answer, source_name}
+use Rattle.smap_positions.specs.declared.printed_position.PrintedPosition.{PrintedPosition}
 
 abbrev pub count : ℕ → Data
 count n = number (unsigned n)
@@ -23,30 +23,32 @@ abbrev pub bad_position_value : Data
 bad_position_value = object (member (codes "answer") (string (codes "bad position")) no_members)
 
 -- no mapping answers for this position
-abbrev pub none_value : Position → Data
+abbrev pub none_value : PrintedPosition → Data
 none_value position = object (
     member (codes "answer") (string (codes "none"))
     (member (codes "column") (count position.column)
     (member (codes "line") (count position.line) no_members)))
 
 -- the mapping that answers stands at this column, and has no original
-abbrev pub unmapped_value : Position → (column : ℕ) → Data
+abbrev pub unmapped_value : PrintedPosition → (column : ℕ) → Data
 unmapped_value position column = object (
     member (codes "answer") (string (codes "unmapped"))
     (member (codes "column") (count position.column)
     (member (codes "generatedColumn") (count (column + 1))
     (member (codes "line") (count position.line) no_members))))
 
--- the name of a source, where it has one
-abbrev pub source_name : Option StatedSource → Option (List ℕ)
-source_name source = option_and_then text_of_source source
+-- the two lines of an excerpt
+abbrev pub excerpt_value : List ℕ → Data
+excerpt_value excerpt = array (
+    item (string (before_first (λ byte. nat_eq byte 10) excerpt))
+    (item (string (after_first (λ byte. nat_eq byte 10) excerpt)) no_items))
 
 -- where the mapping comes from that answers and stands at this column; and the excerpt that shows it, where there is one
-abbrev pub found_value : (excerpt : Option Data) → Position → (column : ℕ) → Origin → Option StatedSource → (name : Option (List ℕ)) → Data
+abbrev pub found_value : (excerpt : Option (List ℕ)) → PrintedPosition → (column : ℕ) → Origin → Option StatedSource → (name : Option (List ℕ)) → Data
 found_value excerpt position column origin source name = object (
     member (codes "answer") (string (codes "found"))
     (member (codes "column") (count position.column)
-    (member_where (codes "excerpt") excerpt
+    (member_where (codes "excerpt") (option_map excerpt_value excerpt)
     (member (codes "generatedColumn") (count (column + 1))
     (member (codes "ignored") (boolean (is_ignored source))
     (member (codes "line") (count position.line)
@@ -56,25 +58,12 @@ found_value excerpt position column origin source name = object (
     (member (codes "source") (value_of_text (source_name source))
     (member (codes "sourceIndex") (count origin.source) no_members)))))))))))
 
--- the two lines of an excerpt
-abbrev pub excerpt_value : List ℕ → Data
-excerpt_value excerpt = array (
-    item (string (before_first (λ byte. nat_eq byte 10) excerpt))
-    (item (string (after_first (λ byte. nat_eq byte 10) excerpt)) no_items))
-
--- what a map answers for a position, with excerpts or without
-abbrev pub answer_value : (excerpt_of : Option StatedSource → Origin → Option Data) → MapRecord → Position → Answer → Data
-answer_value excerpt_of stated position Nothing = none_value position
-answer_value excerpt_of stated position (Unmapped column) = unmapped_value position column
-answer_value excerpt_of stated position (Found column origin) =
-    let source = slice_get stated.sources origin.source in
-    found_value (excerpt_of source origin) position column origin source (option_and_then (slice_get stated.names) origin.name)
-
-abbrev pub no_excerpt : Option StatedSource → Origin → Option Data
-no_excerpt source origin = None
-
-abbrev pub shown_excerpt : Option StatedSource → Origin → Option Data
-shown_excerpt source origin = option_map excerpt_value (source_excerpt source origin)
+-- what a map answers for a position, with the excerpt that shows it, where there is one
+abbrev pub answer_value : (excerpt : Option (List ℕ)) → MapRecord → PrintedPosition → Answer → Data
+answer_value excerpt stated position Nothing = none_value position
+answer_value excerpt stated position (Unmapped column) = unmapped_value position column
+answer_value excerpt stated position (Found column origin) =
+    found_value excerpt position column origin (slice_get stated.sources origin.source) (option_and_then (slice_get stated.names) origin.name)
 
 -- ---- the lines
 
@@ -84,4 +73,5 @@ json_line value = compact_text value ++ 10 ∷ []
 -- what is answered for a generated line and column, from 0, with the excerpt
 abbrev pub lookup_json : (after : Bool) (line column : ℕ) → MapRecord → List ℕ
 lookup_json after line column stated =
-    json_line (answer_value shown_excerpt stated (record { line = line + 1; column = column + 1 }) (lookup_answer after line column stated))
+    let answer = lookup_answer after line column stated in
+    json_line (answer_value (answer_excerpt stated answer) stated (record { line = line + 1; column = column + 1 }) answer)

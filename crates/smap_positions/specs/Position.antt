@@ -4,7 +4,7 @@ use Rattle.std.specs.Prelude.{◌≡◌, ◌≢◌, ◌⊎◌, ℕ, List, [], �
 use Rattle.std.specs.Fmt.{decimal}
 use Rattle.std.specs.List.{AllByRecursion}
 use Rattle.smap_trace.specs.Frame.{IsLineEnd, IsPrinted, is_blank}
-use Rattle.smap_positions.specs.declared.position.Position.{Position}
+use Rattle.smap_positions.specs.declared.printed_position.PrintedPosition.{PrintedPosition}
 
 -- spaces and tabs
 abbrev pub AreBlanks : List ℕ → Type 0
@@ -15,7 +15,7 @@ abbrev pub IsSeparator : List ℕ → Type 0
 IsSeparator between = (between ≡ codes ":") ⊎ ((between ≢ []) × AreBlanks between)
 
 -- the line is that of this position
-pub record IsPosition (line : List ℕ) (position : Position) : Type 0 where
+pub record IsPosition (line : List ℕ) (position : PrintedPosition) : Type 0 where
   pub before : List ℕ
   pub between : List ℕ
   pub after : List ℕ

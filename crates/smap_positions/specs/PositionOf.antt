@@ -4,7 +4,7 @@ use Rattle.std.specs.Char.{is_ascii_digit}
 use Rattle.std.specs.List.{prefix_len}
 use Rattle.smap_trace.specs.Frame.{is_blank}
 use Rattle.smap_trace.specs.FrameOf.{decimal_number}
-use Rattle.smap_positions.specs.declared.position.Position.{Position}
+use Rattle.smap_positions.specs.declared.printed_position.PrintedPosition.{PrintedPosition}
 
 -- what stands after the blanks that a text begins with
 abbrev pub after_blanks : List ℕ → List ℕ
@@ -33,7 +33,7 @@ after_digits text = drop (prefix_len is_ascii_digit text) text
 abbrev pub column_of : List ℕ → Option ℕ
 column_of text = if is_line_end (after_blanks (after_digits text)) then first_number text else None
 
-abbrev pub position_with : (line column : Option ℕ) → Option Position
+abbrev pub position_with : (line column : Option ℕ) → Option PrintedPosition
 position_with None column = None
 position_with (Some line) None = None
 position_with (Some line) (Some column) = Some (record { line = line; column = column })
@@ -43,9 +43,9 @@ abbrev pub column_after : List ℕ → Option ℕ
 column_after text = column_of (drop (separator_len text) text)
 
 -- the position of a text that begins with its line
-abbrev pub position_in : List ℕ → Option Position
+abbrev pub position_in : List ℕ → Option PrintedPosition
 position_in text = position_with (first_number text) (column_after (after_digits text))
 
 -- the position that a line, without its LF, is
-unfoldable pub position_of : List ℕ → Option Position
+unfoldable pub position_of : List ℕ → Option PrintedPosition
 position_of line = position_in (after_blanks line)

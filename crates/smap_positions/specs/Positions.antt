@@ -2,34 +2,27 @@
 -- bytes is none that is answered: it stays as it is.
 use Rattle.std.specs.Prelude.{ℕ, ◌+◌, ◌-◌, Bool, List, [], ◌∷◌, Option, Some, None, is_some, if◌then◌else◌, filter}
 use Rattle.smap_index.specs.declared.answer.Answer.{Answer}
-use Rattle.smap_index.specs.declared.answer.Answer.TheVariants.{Nothing, Unmapped, Found}
 use Rattle.smap_lines.specs.Edited.{edited, is_short}
 use Rattle.smap_lines.specs.Lines.{Line, lines_with_ends}
 use Rattle.smap_record.specs.Record.{MapRecord}
-use Rattle.smap_positions.specs.Json.{answer_value, bad_position_value, json_line, no_excerpt}
-use Rattle.smap_positions.specs.Lines.{bad_position_line, none_line, unmapped_line}
-use Rattle.smap_positions.specs.Lookup.{lookup_answer, origin_line}
+use Rattle.smap_positions.specs.Json.{answer_value, bad_position_value, json_line}
+use Rattle.smap_positions.specs.Lines.{bad_position_line}
+use Rattle.smap_positions.specs.Lookup.{answer_line, lookup_answer}
 use Rattle.smap_positions.specs.PositionOf.{position_of}
-use Rattle.smap_positions.specs.declared.position.Position.{Position}
+use Rattle.smap_positions.specs.declared.printed_position.PrintedPosition.{PrintedPosition}
 
 -- ---- a line
 
--- the first line of what is printed for an answer
-abbrev pub answer_line : MapRecord → Answer → List ℕ
-answer_line stated Nothing = none_line
-answer_line stated (Unmapped column) = unmapped_line
-answer_line stated (Found column origin) = origin_line stated origin
-
 -- what a map answers for a position: at it or before it or, where that is asked, at it or after it
-abbrev pub position_answer : (after : Bool) → MapRecord → Position → Answer
+abbrev pub position_answer : (after : Bool) → MapRecord → PrintedPosition → Answer
 position_answer after stated position = lookup_answer after (position.line - 1) (position.column - 1) stated
 
 -- the line for a position, as JSON or as text; and for what is none
-abbrev pub position_line : (after json : Bool) → MapRecord → Option Position → List ℕ
+abbrev pub position_line : (after json : Bool) → MapRecord → Option PrintedPosition → List ℕ
 position_line after json stated None = if json then json_line bad_position_value else bad_position_line
 position_line after json stated (Some position) =
     let answer = position_answer after stated position in
-    if json then json_line (answer_value no_excerpt stated position answer) else answer_line stated answer
+    if json then json_line (answer_value None stated position answer) else answer_line stated answer
 
 abbrev pub answered_line : MapRecord → (after json : Bool) → Line → List ℕ
 answered_line stated after json line = position_line after json stated (position_of line.bytes)

@@ -2,5 +2,8 @@
 pub mod Answerer
 pub mod AnswererLaws
 pub mod Putting
-pub mod JsonPieces
-pub mod Backward
+pub mod GrowingText
+pub mod ShortText
+pub mod GatheredLine
+pub mod Escapes
+pub mod ExcerptMember

@@ -3,13 +3,14 @@ ghost use Rattle.std.specs.Prelude.{None, Some};
 ghost use Rattle.smap_positions.specs.Positions.{position_line};
 ghost use Rattle.smap_positions.specs.Private.Putting.{IsPut, output_seen};
 
-use crate::json_lines::{put_answer_json, put_bad_position};
-use crate::lines::BAD_POSITION;
-use crate::lookup::lookup_answer;
-use crate::position::Position;
-use crate::putting::put;
+use crate::answer::lookup_answer;
+use crate::gathered_line::GatheredLine;
+use crate::json_form::{put_answer_object, put_bad_position};
+use crate::output::Output;
+use crate::printed_position::PrintedPosition;
 use crate::reading::read_position;
-use crate::text_lines::put_answer_line;
+use crate::short_text::ShortText;
+use crate::text_form::{BAD_POSITION, put_answer_line};
 use smap_io::{ByteSink, DeviceFault};
 use smap_lines::{Gathered, LineEditor, LineOutput};
 use smap_record::MapFile;
@@ -49,7 +50,7 @@ impl LineEditor for PositionAnswerer<'_> {
         if position.is_none() && self.first_bad.is_none() {
             self.first_bad = Some(self.lines);
         }
-        self.put_line(position, output.gathered, output.sink)
+        self.put_gathered(position, output.gathered, output.sink)
     }
 
     ghost same = { λ answerer line other. refl };
@@ -58,10 +59,10 @@ impl LineEditor for PositionAnswerer<'_> {
 }
 
 impl PositionAnswerer<'_> {
-    // Puts the line for a position, and for what is none.
-    fn put_line<W: ByteSink>(
+    // Puts the line for a position, and for what is none, after the bytes that wait.
+    fn put_gathered<W: ByteSink>(
         &self,
-        position: Option<Position>,
+        position: Option<PrintedPosition>,
         gathered: &mut Gathered,
         output: &mut W,
     ) -> Result<(), DeviceFault>
@@ -69,48 +70,53 @@ impl PositionAnswerer<'_> {
             (output_seen (W.seen output.new) gathered.new)
             (position_line self.now.after self.now.json self.now.map.now.stated position) result }
     {
+        let mut line = GatheredLine {
+            gathered,
+            output,
+            text: ShortText::new(),
+            done: Ok(()),
+        };
+        self.put_line(position, &mut line);
+        line.hand_on();
+        line.done
+    }
+
+    // Puts the line for a position, and for what is none.
+    fn put_line<O: Output>(&self, position: Option<PrintedPosition>, output: &mut O)
+        ensures { O.Puts output.old output.new
+            (position_line self.now.after self.now.json self.now.map.now.stated position) }
+    {
         match position {
-            Some(position) => self.put_answer(position, gathered, output),
-            None => self.put_bad(gathered, output),
+            Some(position) => self.put_answer(position, output),
+            None => self.put_bad(output),
         }
     }
 
     // Puts the line for what is no position.
-    fn put_bad<W: ByteSink>(
-        &self,
-        gathered: &mut Gathered,
-        output: &mut W,
-    ) -> Result<(), DeviceFault>
-        ensures { IsPut (output_seen (W.seen output.old) gathered.old)
-            (output_seen (W.seen output.new) gathered.new)
-            (position_line self.now.after self.now.json self.now.map.now.stated None) result }
+    fn put_bad<O: Output>(&self, output: &mut O)
+        ensures { O.Puts output.old output.new
+            (position_line self.now.after self.now.json self.now.map.now.stated None) }
     {
         if self.json {
-            put_bad_position(gathered, output)
+            put_bad_position(output)
         } else {
-            put(BAD_POSITION.as_bytes(), gathered, output)
+            output.put(BAD_POSITION.as_bytes())
         }
     }
 
     // Puts the line for a position.
-    fn put_answer<W: ByteSink>(
-        &self,
-        position: Position,
-        gathered: &mut Gathered,
-        output: &mut W,
-    ) -> Result<(), DeviceFault>
-        ensures { IsPut (output_seen (W.seen output.old) gathered.old)
-            (output_seen (W.seen output.new) gathered.new)
-            (position_line self.now.after self.now.json self.now.map.now.stated (Some position))
-            result }
+    fn put_answer<O: Output>(&self, position: PrintedPosition, output: &mut O)
+        ensures { O.Puts output.old output.new
+            (position_line self.now.after self.now.json self.now.map.now.stated (Some position)) }
     {
         let line = position.line.saturating_sub(1);
         let column = position.column.saturating_sub(1);
         let answer = lookup_answer(self.alloc, self.map, line, column, self.after);
         if self.json {
-            put_answer_json(self.map, position, &answer, gathered, output)
+            let (line, column) = (u64::from(position.line), u64::from(position.column));
+            put_answer_object(self.map, line, column, &answer, None, output)
         } else {
-            put_answer_line(self.map, &answer, gathered, output)
+            put_answer_line(self.map, &answer, output)
         }
     }
 }

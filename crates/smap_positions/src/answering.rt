@@ -13,7 +13,7 @@ use std::alloc::Global;
 
 /// What was in a text of positions that was answered.
 #[derive(Clone, Copy, Debug, PartialEq, Eq)]
-pub struct Summary {
+pub struct PositionsSummary {
     /// How many lines it had: those that an LF ends, and a rest that is not empty.
     pub lines: u64,
     /// How many of them were answered: all but those of more than 65,536 bytes, their LF aside, which stay as they are.
@@ -37,7 +37,7 @@ pub fn answer_positions<R: ByteSource, W: ByteSink>(
     map: &MapFile,
     after: bool,
     json: bool,
-) -> Result<Summary, LineFault>
+) -> Result<PositionsSummary, LineFault>
     requires input_works { (R.seen input.old).failed ≡ false }
     requires output_works { (W.seen output.old).failed ≡ false }
     ensures answers { IfOk result (λ summary. Answers
@@ -60,7 +60,7 @@ pub fn answer_positions<R: ByteSource, W: ByteSink>(
         first_bad: None,
     };
     let lines = edit_lines(alloc, input, output, &mut answerer)?;
-    Ok(Summary {
+    Ok(PositionsSummary {
         lines,
         answered: answerer.lines,
         first_bad: answerer.first_bad,

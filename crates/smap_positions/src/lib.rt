@@ -10,22 +10,24 @@
 //! ```
 #![tactic(auto)]
 
+mod answer;
 mod answerer;
 mod answering;
-mod backward;
-mod json_lines;
-mod lines;
+mod gathered_line;
+mod growing_text;
+mod json_form;
 mod lookup;
-mod lookup_json;
-mod position;
-mod putting;
+mod map_text;
+mod output;
+mod printed_position;
 mod reading;
-mod text_lines;
+mod short_text;
+mod text_form;
 
-pub use answering::{Summary, answer_positions};
-pub use lines::{NONE, UNMAPPED, from_one};
-pub use lookup::lookup_text;
-pub use lookup_json::lookup_as_json;
-pub use position::Position;
+pub use answer::from_one;
+pub use answering::{PositionsSummary, answer_positions};
+pub use lookup::{lookup_as_json, lookup_text};
+pub use printed_position::PrintedPosition;
 pub use reading::read_position;
 pub use smap_lines::LineFault;
+pub use text_form::{NONE, UNMAPPED};

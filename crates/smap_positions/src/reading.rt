@@ -4,9 +4,9 @@ ghost use Rattle.std.specs.Char.{is_ascii_digit};
 ghost use Rattle.std.specs.List.{prefix_len};
 ghost use Rattle.smap_positions.specs.Position.{IsPosition};
 ghost use Rattle.smap_positions.specs.PositionOf.{column_after, column_of, first_number, is_line_end, position_of, separator_len};
-ghost use Rattle.smap_positions.specs.declared.position.Position.{Position};
+ghost use Rattle.smap_positions.specs.declared.printed_position.PrintedPosition.{PrintedPosition};
 
-use crate::position::Position;
+use crate::printed_position::PrintedPosition;
 use smap_trace::laws::numbers_are_read_as_printed;
 use smap_trace::{blanks, digits, number};
 
@@ -14,16 +14,16 @@ use smap_trace::{blanks, digits, number};
 /// (spaces and tabs) or one `:` alone. Blanks before and after them, and a CR at the end, are passed over. The call takes
 /// no memory.
 #[tactic(auto, unfolding(crate::specs::PositionOf::position_of))]
-pub fn read_position(line: &[u8]) -> Option<Position>
+pub fn read_position(line: &[u8]) -> Option<PrintedPosition>
     ensures position { result ≡ position_of line.now }
-    ensures form { (position : Position) → (position_of line.now ≡ Some position) ↔ IsPosition
+    ensures form { (position : PrintedPosition) → (position_of line.now ≡ Some position) ↔ IsPosition
         line.now position }
 {
     numbers_are_read_as_printed();
     let text = &line[blanks(line)..];
     let (printed_line, after) = first_number(text);
     let column = column_after(&text[after..]);
-    Some(Position {
+    Some(PrintedPosition {
         line: printed_line?,
         column: column?,
     })

@@ -1,0 +1,12 @@
+use Rattle.std.proofs.Common.{◌≡◌, ◌++◌, rules, refl}
+use Rattle.smap_positions.proofs.PutLaws.{put_short}
+use Rattle.smap_positions.proofs.gathered_line.GatheredLineOutput.put.Goals as goal
+
+pub returns-else-not-add : goal.returns-else-not-add
+returns-else-not-add g c =
+    let added : c.add.new.self ≡ c.args.self.now.text ++ c.args.bytes.now = search rules in
+    record {
+      same_gathered = refl;
+      same_output = refl;
+      puts = λ start front before. rw added (put_short start _ c.args.self.now.text front c.args.bytes.now c.args.self.now.done before);
+    }

@@ -1,0 +1,89 @@
+//! What a map answers for a position, and what the map tells of the source and the name in it.
+ghost use Rattle.std.specs.Prelude.{◌≡◌, ◌+◌, option_and_then, option_map, slice_get, string_bytes, IfOk};
+ghost use Rattle.smap_record.specs.Sources.{source_of};
+ghost use Rattle.smap_positions.specs.Lookup.{answer_excerpt, is_ignored, lookup_answer, source_excerpt, source_name};
+
+use smap_record::{Answer, MapFile, Meter, Origin, SourceEntry};
+use smap_text::excerpt;
+use std::alloc::{AllocError, Global};
+
+/// What a map answers for a position, at it or before it or, with `after`, at it or after it. The call takes no memory.
+pub fn lookup_answer(alloc: Global, map: &MapFile, line: u32, column: u32, after: bool) -> Answer
+    ensures { result ≡ lookup_answer after line column map.now.stated }
+{
+    let mut meter = Meter::new(alloc);
+    if after {
+        map.look_up_from(line, column, &mut meter)
+    } else {
+        map.look_up(line, column, &mut meter)
+    }
+}
+
+/// The excerpt that shows the place that was found, where there is one.
+pub fn answer_excerpt(
+    alloc: Global,
+    map: &MapFile,
+    answer: &Answer,
+) -> Result<Option<String>, AllocError>
+    ensures { IfOk result (λ text. option_map string_bytes text
+        ≡ answer_excerpt map.now.stated answer.now) }
+{
+    match answer {
+        Answer::Found { origin, .. } => source_excerpt(alloc, map.source(origin.source), origin),
+        _ => Ok(None),
+    }
+}
+
+// The excerpt of the source's content that shows a place, where there is one.
+fn source_excerpt(
+    alloc: Global,
+    entry: Option<&SourceEntry>,
+    origin: &Origin,
+) -> Result<Option<String>, AllocError>
+    ensures { IfOk result (λ text. option_map string_bytes text
+        ≡ source_excerpt (option_map (λ entry. source_of entry.now) entry.entry) origin.now) }
+{
+    match entry {
+        Some(
+            SourceEntry {
+                content: Some(content),
+                ..
+            },
+        ) => excerpt(alloc, content, origin.line, origin.column),
+        _ => Ok(None),
+    }
+}
+
+/// Whether the map says to ignore a source.
+pub fn is_ignored(entry: Option<&SourceEntry>) -> bool
+    ensures { result ≡ is_ignored (option_map (λ entry. source_of entry.now) entry.entry) }
+{
+    match entry {
+        Some(entry) => entry.ignored,
+        None => false,
+    }
+}
+
+pub fn source_name(entry: Option<&SourceEntry>) -> Option<&str>
+    ensures { option_map (λ name. name.now) result
+        ≡ source_name (option_map (λ entry. source_of entry.now) entry.entry) }
+{
+    Some(entry?.name.as_ref()?.text())
+}
+
+pub fn name_at(map: &MapFile, index: Option<u32>) -> Option<&str>
+    ensures { option_map (λ name. name.now) result
+        ≡ option_and_then (slice_get map.now.stated.names) index }
+{
+    match index {
+        Some(index) => map.name(index),
+        None => None,
+    }
+}
+
+/// A number that counts from 0, counted from 1.
+pub fn from_one(number: u32) -> u64
+    ensures { result ≡ number + 1 }
+{
+    u64::from(number) + 1
+}

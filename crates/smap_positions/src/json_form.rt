@@ -1,0 +1,148 @@
+//! Answers as lines of JSON, each with its LF.
+ghost use Rattle.std.specs.Prelude.{◌≡◌, nat_eq, option_and_then, option_map, slice_get};
+ghost use Rattle.std.specs.List.{after_first, before_first};
+ghost use Rattle.serde_json.specs.Data.{boolean};
+ghost use Rattle.serde_json.specs.Written.{compact_text};
+ghost use Rattle.smap_positions.specs.Json.{answer_value, bad_position_value, excerpt_value, found_value, json_line};
+ghost use Rattle.smap_positions.specs.Json.{none_value, unmapped_value};
+ghost use Rattle.smap_positions.specs.Private.ExcerptMember.{excerpt_member};
+
+use crate::answer::{from_one, is_ignored, name_at, source_name};
+use crate::map_text::put_json_text;
+use crate::output::{Output, put_number};
+use smap_record::{Answer, MapFile, Origin};
+
+#[tactic(auto, unfolding(json::specs::Print::escape_byte))]
+pub fn put_bad_position<O: Output>(output: &mut O)
+    ensures { O.Puts output.old output.new (json_line bad_position_value) }
+{
+    output.put(b"{\"answer\":\"bad position\"}\n");
+}
+
+/// Puts the line for what a map answers for a line and a column, both from 1, with this excerpt of what was found.
+pub fn put_answer_object<O: Output>(
+    map: &MapFile,
+    line: u64,
+    column: u64,
+    answer: &Answer,
+    excerpt: Option<&str>,
+    output: &mut O,
+)
+    ensures { O.Puts output.old output.new (json_line
+        (answer_value (option_map (λ excerpt. excerpt.now) excerpt.entry) map.now.stated
+        (record { line = line; column = column }) answer.now)) }
+{
+    match answer {
+        Answer::Nothing => put_none(line, column, output),
+        Answer::Unmapped {
+            column: generated_column,
+        } => put_unmapped(line, column, *generated_column, output),
+        Answer::Found {
+            column: generated_column,
+            origin,
+        } => put_found(
+            map,
+            line,
+            column,
+            *generated_column,
+            origin,
+            excerpt,
+            output,
+        ),
+    }
+    output.put(b"\n");
+}
+
+// Puts that no mapping answers.
+fn put_none<O: Output>(line: u64, column: u64, output: &mut O)
+    ensures { O.Puts output.old output.new
+        (compact_text (none_value (record { line = line; column = column }))) }
+{
+    put_number(b"{\"answer\":\"none\",\"column\":", column, output);
+    put_number(b",\"line\":", line, output);
+    output.put(b"}");
+}
+
+// Puts that the mapping that answers, which stands at this column, has no original.
+fn put_unmapped<O: Output>(line: u64, column: u64, generated_column: u32, output: &mut O)
+    ensures { O.Puts output.old output.new
+        (compact_text (unmapped_value (record { line = line; column = column }) generated_column)) }
+{
+    put_number(b"{\"answer\":\"unmapped\",\"column\":", column, output);
+    put_number(b",\"generatedColumn\":", from_one(generated_column), output);
+    put_number(b",\"line\":", line, output);
+    output.put(b"}");
+}
+
+// Puts where the mapping that answers, which stands at this column, comes from.
+fn put_found<O: Output>(
+    map: &MapFile,
+    line: u64,
+    column: u64,
+    generated_column: u32,
+    origin: &Origin,
+    excerpt: Option<&str>,
+    output: &mut O,
+)
+    ensures { O.Puts output.old output.new (compact_text
+        (found_value (option_map (λ excerpt. excerpt.now) excerpt.entry)
+        (record { line = line; column = column }) generated_column origin.now
+        (slice_get map.now.stated.sources origin.now.source)
+        (option_and_then (slice_get map.now.stated.names) origin.now.name))) }
+{
+    let entry = map.source(origin.source);
+    put_number(b"{\"answer\":\"found\",\"column\":", column, output);
+    put_excerpt(excerpt, output);
+    put_number(b",\"generatedColumn\":", from_one(generated_column), output);
+    output.put(b",\"ignored\":");
+    output.put(bool_text(is_ignored(entry)));
+    put_number(b",\"line\":", line, output);
+    output.put(b",\"name\":");
+    put_json_text(name_at(map, origin.name), output);
+    put_number(b",\"originalColumn\":", from_one(origin.column), output);
+    put_number(b",\"originalLine\":", from_one(origin.line), output);
+    output.put(b",\"source\":");
+    put_json_text(source_name(entry), output);
+    put_number(b",\"sourceIndex\":", u64::from(origin.source), output);
+    output.put(b"}");
+}
+
+// A truth value as JSON.
+fn bool_text(value: bool) -> &'static [u8]
+    ensures { result.now ≡ compact_text (boolean value) }
+{
+    if value { b"true" } else { b"false" }
+}
+
+// Puts the member that holds an excerpt, where there is one.
+fn put_excerpt<O: Output>(excerpt: Option<&str>, output: &mut O)
+    ensures { O.Puts output.old output.new
+        (excerpt_member (option_map (λ excerpt. excerpt.now) excerpt.entry)) }
+{
+    if let Some(excerpt) = excerpt {
+        output.put(b",\"excerpt\":");
+        put_lines(excerpt, output);
+    }
+}
+
+// Puts the two lines of an excerpt.
+fn put_lines<O: Output>(excerpt: &str, output: &mut O)
+    ensures { O.Puts output.old output.new (compact_text (excerpt_value excerpt.now)) }
+{
+    let (line, caret) = lines_of(excerpt);
+    output.put(b"[");
+    put_json_text(Some(line), output);
+    output.put(b",");
+    put_json_text(Some(caret), output);
+    output.put(b"]");
+}
+
+fn lines_of(excerpt: &str) -> (&str, &str)
+    ensures line { result.0.now ≡ before_first (λ byte. nat_eq byte 10) excerpt.now }
+    ensures caret { result.1.now ≡ after_first (λ byte. nat_eq byte 10) excerpt.now }
+{
+    match excerpt.split_once('\n') {
+        Some(cut) => cut,
+        None => (excerpt, ""),
+    }
+}

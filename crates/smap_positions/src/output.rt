@@ -1,0 +1,30 @@
+//! Where an answer is put, piece by piece.
+ghost use Rattle.std.specs.Prelude.{◌++◌, [], ℕ, List, decimal};
+
+use itoa::Buffer;
+
+/// An output that takes pieces. It keeps its first failure, and takes nothing from then on: whoever made it asks at the end
+/// what became of it.
+pub trait Output {
+    // These bytes were put after those before.
+    ghost Puts: { (old new : Self) → List ℕ → Type 0 };
+
+    fn put(&mut self, bytes: &[u8])
+        ensures { Puts self.old self.new bytes.now };
+
+    // An output that stays as it is takes nothing.
+    ghost puts_none: { (output : Self) → Puts output output [] };
+
+    // Two pieces, one after the other, are one.
+    ghost puts_both: { (old mid new : Self) (first second : List ℕ) → Puts old mid first → Puts mid new second → Puts old new (first ++ second) };
+}
+
+/// Puts a number behind what stands before it.
+#[inline(always)]
+pub fn put_number<O: Output>(front: &[u8], number: u64, output: &mut O)
+    ensures { O.Puts output.old output.new (front.now ++ decimal number) }
+{
+    let mut digits = Buffer::new();
+    output.put(front);
+    output.put(digits.format(number).as_bytes());
+}

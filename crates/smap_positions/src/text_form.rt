@@ -1,0 +1,75 @@
+//! Answers as lines of text, each with its LF.
+ghost use Rattle.std.specs.Prelude.{◌++◌, codes, option_map};
+ghost use Rattle.smap_positions.specs.Lines.{ignored_text, name_suffix};
+ghost use Rattle.smap_positions.specs.Lookup.{answer_line, origin_line, source_text};
+
+use crate::answer::{from_one, is_ignored, name_at, source_name};
+use crate::map_text::put_shown;
+use crate::output::{Output, put_number};
+use smap_record::{Answer, MapFile, Origin};
+
+/// No mapping stands at the position or before it on its line.
+pub const NONE: &str = "none\n";
+
+/// The position stands in generated code without an original.
+pub const UNMAPPED: &str = "unmapped\n";
+
+pub const BAD_POSITION: &str = "bad position\n";
+
+/// Puts the line for what a map answers.
+pub fn put_answer_line<O: Output>(map: &MapFile, answer: &Answer, output: &mut O)
+    ensures { O.Puts output.old output.new (answer_line map.now.stated answer.now) }
+{
+    match answer {
+        Answer::Nothing => output.put(NONE.as_bytes()),
+        Answer::Unmapped { .. } => output.put(UNMAPPED.as_bytes()),
+        Answer::Found { origin, .. } => put_origin_line(map, origin, output),
+    }
+}
+
+// Puts the line for a place in a source.
+fn put_origin_line<O: Output>(map: &MapFile, origin: &Origin, output: &mut O)
+    ensures { O.Puts output.old output.new (origin_line map.now.stated origin.now) }
+{
+    let entry = map.source(origin.source);
+    put_source(source_name(entry), origin.source, output);
+    put_number(b":", from_one(origin.line), output);
+    put_number(b":", from_one(origin.column), output);
+    put_name(name_at(map, origin.name), output);
+    put_line_end(is_ignored(entry), output);
+}
+
+// Puts how a source of this name and index prints.
+fn put_source<O: Output>(name: Option<&str>, index: u32, output: &mut O)
+    ensures { O.Puts output.old output.new
+        (source_text (option_map (λ name. name.now) name.entry) index) }
+{
+    match name {
+        Some(name) => put_shown(name, output),
+        None => {
+            put_number(b"[", u64::from(index), output);
+            output.put(b"]");
+        }
+    }
+}
+
+fn put_name<O: Output>(name: Option<&str>, output: &mut O)
+    ensures { O.Puts output.old output.new
+        (name_suffix (option_map (λ name. name.now) name.entry)) }
+{
+    if let Some(name) = name {
+        output.put(b" name ");
+        put_shown(name, output);
+    }
+}
+
+// Puts whether a source is ignored, and the end of the line.
+fn put_line_end<O: Output>(ignored: bool, output: &mut O)
+    ensures { O.Puts output.old output.new (ignored_text ignored ++ codes "\n") }
+{
+    if ignored {
+        output.put(b" ignored\n");
+    } else {
+        output.put(b"\n");
+    }
+}
