@@ -5,6 +5,7 @@ ghost use Rattle.smap_positions.specs.Private.Putting.{IsPut, output_seen};
 
 use crate::output::Output;
 use crate::short_text::ShortText;
+use itoa::Buffer;
 use smap_io::{ByteSink, DeviceFault};
 use smap_lines::Gathered;
 
@@ -27,6 +28,14 @@ impl<W: ByteSink> Output for GatheredLine<'_, W> {
     fn put(&mut self, bytes: &[u8]) {
         if !self.text.add(bytes) {
             self.put_long(bytes);
+        }
+    }
+
+    #[inline(always)]
+    fn put_decimal(&mut self, number: u64) {
+        if !self.text.add_number(number) {
+            let mut digits = Buffer::new();
+            self.put_long(digits.format(number).as_bytes());
         }
     }
 

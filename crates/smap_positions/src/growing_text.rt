@@ -2,6 +2,7 @@
 ghost use Rattle.std.specs.Prelude.{◌≡◌, [], IfOk, is_ok, true};
 
 use crate::output::Output;
+use itoa::Buffer;
 use std::alloc::{AllocError, Global};
 
 /// A text that grows until memory runs out.
@@ -21,6 +22,11 @@ impl Output for GrowingText {
         if self.done.is_ok() {
             self.done = self.bytes.extend_from_slice(bytes);
         }
+    }
+
+    fn put_decimal(&mut self, number: u64) {
+        let mut digits = Buffer::new();
+        self.put(digits.format(number).as_bytes());
     }
 
     ghost puts_none = { grows_none };

@@ -1,8 +1,6 @@
 //! Where an answer is put, piece by piece.
 ghost use Rattle.std.specs.Prelude.{◌++◌, [], ℕ, List, decimal};
 
-use itoa::Buffer;
-
 /// An output that takes pieces. It keeps its first failure, and takes nothing from then on: whoever made it asks at the end
 /// what became of it.
 pub trait Output {
@@ -11,6 +9,10 @@ pub trait Output {
 
     fn put(&mut self, bytes: &[u8])
         ensures { Puts self.old self.new bytes.now };
+
+    /// Puts the digits of a number.
+    fn put_decimal(&mut self, number: u64)
+        ensures { Puts self.old self.new (decimal number) };
 
     // An output that stays as it is takes nothing.
     ghost puts_none: { (output : Self) → Puts output output [] };
@@ -24,7 +26,6 @@ pub trait Output {
 pub fn put_number<O: Output>(front: &[u8], number: u64, output: &mut O)
     ensures { O.Puts output.old output.new (front.now ++ decimal number) }
 {
-    let mut digits = Buffer::new();
     output.put(front);
-    output.put(digits.format(number).as_bytes());
+    output.put_decimal(number);
 }

@@ -1,10 +1,14 @@
 //! A short text in a room of fixed size.
-ghost use Rattle.std.specs.Prelude.{◌≡◌, ◌++◌, [], false, true};
+ghost use Rattle.std.specs.Prelude.{◌≡◌, ◌++◌, [], decimal, false, true};
 
+use itoa::write_digits;
 use std::marker::Model;
 
 // How many bytes such a text has at most.
 const MOST_SHORT: usize = 256;
+
+// How many digits a number has at most.
+const MOST_DIGITS: usize = 20;
 
 /// A text of at most 256 bytes.
 #[derive(Drop)]
@@ -55,6 +59,24 @@ impl ShortText {
         let end = self.length + piece.len();
         self.bytes[self.length..end].copy_from_slice(piece);
         self.length = end;
+        true
+    }
+
+    /// Puts a number behind the text, if there is room for any, and says whether there is.
+    #[inline(always)]
+    pub fn add_number(&mut self, number: u64) -> bool
+        ensures added { result ≡ true → self.new ≡ self.old ++ decimal number }
+        ensures full { result ≡ false → self.new ≡ self.old }
+    {
+        if MOST_SHORT - self.length < MOST_DIGITS {
+            return false;
+        }
+        // The digits end in the middle of a room of twice their greatest count, so that a piece of fixed size can be copied.
+        let mut digits = [0; 2 * MOST_DIGITS];
+        let start = write_digits(number, &mut digits, MOST_DIGITS);
+        let end = self.length + MOST_DIGITS;
+        self.bytes[self.length..end].copy_from_slice(&digits[start..start + MOST_DIGITS]);
+        self.length = end - start;
         true
     }
 

@@ -1,0 +1,12 @@
+use Rattle.std.proofs.Common.{◌≡◌, ◌++◌, decimal, rules, refl}
+use Rattle.smap_positions.proofs.PutLaws.{put_short}
+use Rattle.smap_positions.proofs.gathered_line.GatheredLineOutput.put_decimal.Goals as goal
+
+pub returns-else-not-add_number : goal.returns-else-not-add_number
+returns-else-not-add_number g c =
+    let added : c.add_number.new.self ≡ c.args.self.now.text ++ decimal c.args.number = search rules in
+    record {
+      same_gathered = refl;
+      same_output = refl;
+      puts = λ start front before. rw added (put_short start _ c.args.self.now.text front (decimal c.args.number) c.args.self.now.done before);
+    }
