@@ -1,5 +1,6 @@
 -- What checking several files comes to, file by file.
-use Rattle.std.proofs.Common.{◌≡◌, ℕ, ◌+◌, ◌≤◌, true, false, List, ◌∷◌, Option, drop, length, map, max, string_bytes, String, add-one, refl, sym, subst, inl, inr, arith}
+use Rattle.std.proofs.Common.{◌≡◌, ℕ, ◌+◌, ◌≤◌, true, false, List, ◌∷◌, Option, drop, length, map, max, string_bytes, String, add-one, refl, sym}
+use Rattle.std.proofs.Common.{subst, inl, inr, arith}
 use Rattle.std.proofs.lemmas.List.{drop_all}
 use Rattle.std.specs.declared.alloc.Global.{Global}
 use Rattle.smap_answers.specs.Check.{ChecksAll, ChecksFile}
@@ -16,7 +17,8 @@ module _ (Reads : MayRead) (base : Option Parts) (k : ℕ) (form : Form) where
   -- what the files of the paths that are left come to makes what those of all come to
   abbrev pub Makes : (paths left : List (List ℕ)) (number status : ℕ) (before now : Sinks) → Type 0
   Makes paths left number status before now =
-      (others : ℕ) (after : Sinks) → ChecksAll Reads base k form number left others now after → ChecksAll Reads base k form 0 paths (max status others) before after
+      (others : ℕ) (after : Sinks) → ChecksAll Reads base k form number left others now after
+      → ChecksAll Reads base k form 0 paths (max status others) before after
 
   module _ (paths left rest : List (List ℕ)) (path : List ℕ) (number status first : ℕ) (before now between : Sinks) (telling : Telling)
       (is : left ≡ path ∷ rest) (makes : Makes paths left number status before now)
@@ -35,7 +37,8 @@ module _ (Reads : MayRead) (base : Option Parts) (k : ℕ) (form : Form) where
 
   -- no path is left
   pub all_told : (paths : List (String Global)) (i status : ℕ) (before now : Sinks) → length paths ≤ i
-      → Makes (map string_bytes paths) (map string_bytes (drop i paths)) i status before now → ChecksAll Reads base k form 0 (map string_bytes paths) status before now
+      → Makes (map string_bytes paths) (map string_bytes (drop i paths)) i status before now
+      → ChecksAll Reads base k form 0 (map string_bytes paths) status before now
   all_told paths i status before now end makes =
       subst (λ s. ChecksAll Reads base k form 0 (map string_bytes paths) s before now) (omega arith)
       (makes 0 now (subst (λ left. ChecksAll Reads base k form i (map string_bytes left) 0 now now) (sym (drop_all i paths end)) (refl, refl)))

@@ -15,9 +15,19 @@ refused_so refusal_of (Err refused) Tells telling told = told
 refused_so refusal_of (Ok stated) Tells telling (inl told) = inl told
 refused_so refusal_of (Ok stated) Tells telling (inr never) = absurd never
 
-pub inner_refused : (Reads : MayRead) (outer : List ℕ) (source : ℕ) (inner : List ℕ) (base : Option Parts) (first second : List ℕ) (stated : MapRecord) (telling : Telling)
+pub inner_refused : (Reads : MayRead) (outer : List ℕ) (source : ℕ) (inner : List ℕ) (base : Option Parts) (first second : List ℕ)
+    (stated : MapRecord) (telling : Telling)
     → Reads 0 outer (Ok first) → record_of first base usual_interval ≡ Ok stated → Reads 1 inner (Ok second)
-    → OrMemory (TellsFound (refusal_result inner) (record_of second base usual_interval) Never) telling → OrMemory (TellsComposed Reads outer source inner base) telling
+    → OrMemory (TellsFound (refusal_result inner) (record_of second base usual_interval) Never) telling
+    → OrMemory (TellsComposed Reads outer source inner base) telling
 inner_refused Reads outer source inner base first second stated telling one is other (inl no_memory) = inl no_memory
 inner_refused Reads outer source inner base first second stated telling one is other (inr told) =
-    inr (inr (first, one, inr (second, other, (rw is (inr (refused_so (refusal_result inner) (record_of second base usual_interval) (IsResult (compose_result stated source)) telling told))))))
+    inr (inr (
+      first,
+      one,
+      inr (
+        second,
+        other,
+        (rw is (inr (refused_so (refusal_result inner) (record_of second base usual_interval) (IsResult (compose_result stated source)) telling told))),
+      ),
+    ))

@@ -18,7 +18,8 @@ use Rattle.url.specs.Parts.{Parts}
 
 -- all of it was written, but not flushed
 pub written_front : (before : DevicesSeen) (input : SourceSeen) (mid after : SinkSeen) (stated : MapRecord) (from json : Bool) (summary : PositionsSummary) →
-    Answers before (devices_seen input mid) stated from json summary → after.taken ≡ mid.taken → EditsFront (answered_line stated from json) before (devices_seen input after) Write
+    Answers before (devices_seen input mid) stated from json summary → after.taken ≡ mid.taken
+    → EditsFront (answered_line stated from json) before (devices_seen input after) Write
 written_front before input mid after stated from json summary answers kept = record {
   bytes = answers.bytes;
   written = edited (answered_line stated from json) answers.bytes;
@@ -62,11 +63,13 @@ no_room stated from json now input_works output_works = record {
 }
 
 -- an answer is told where standard output works
-pub answered_works : (stated : MapRecord) (from json : Bool) (before after : DevicesSeen) (telling : Telling) → AnsweredTells stated from json before after telling →
+pub answered_works : (stated : MapRecord) (from json : Bool) (before after : DevicesSeen) (telling : Telling)
+    → AnsweredTells stated from json before after telling →
     telling.is_answer ≡ true → after.output.failed ≡ false
 answered_works stated from json before after telling tells done = go tells.result tells.output_failed tells.told
   where
-    go : (result : Result PositionsSummary LineFault) → after.output.failed ≡ is_write_fault result → telling ≡ positions_telling result → after.output.failed ≡ false
+    go : (result : Result PositionsSummary LineFault) → after.output.failed ≡ is_write_fault result → telling ≡ positions_telling result
+        → after.output.failed ≡ false
     go (Ok summary) failed told = failed
     go (Err Read) failed told = failed
     go (Err Write) failed told = let bad : ◌≡◌ {A = Bool} true false = sym done ∙ ap (λ (t : Telling). t.is_answer) told in cc
@@ -77,12 +80,14 @@ answered_works stated from json before after telling tells done = go tells.resul
 untold : (text : List ℕ) (status : ℕ) (telling : Telling) → telling ≡ record { status = status; is_answer = false; text = text } → telling.is_answer ≡ true → ⊥
 untold text status telling told done = let bad : ◌≡◌ {A = Bool} true false = sym done ∙ ap (λ (t : Telling). t.is_answer) told in cc
 
-no_map_found : (path : List ℕ) (found : Result MapRecord MapRefusal) (telling : Telling) → TellsFound (refusal_result path) found Never telling → telling.is_answer ≡ true → ⊥
+no_map_found : (path : List ℕ) (found : Result MapRecord MapRefusal) (telling : Telling)
+    → TellsFound (refusal_result path) found Never telling → telling.is_answer ≡ true → ⊥
 no_map_found path (Err refused) telling told done = untold _ _ telling told done
 no_map_found path (Ok stated) telling (inl told) done = untold _ _ telling told done
 no_map_found path (Ok stated) telling (inr never) done = never
 
-no_map : (Reads : MayRead) (path : List ℕ) (base : Option Parts) (k : ℕ) (telling : Telling) → OrMemory (TellsMap Reads 0 path base k Never) telling → telling.is_answer ≡ true → ⊥
+no_map : (Reads : MayRead) (path : List ℕ) (base : Option Parts) (k : ℕ) (telling : Telling)
+    → OrMemory (TellsMap Reads 0 path base k Never) telling → telling.is_answer ≡ true → ⊥
 no_map Reads path base k telling (inl told) done = untold _ _ telling told done
 no_map Reads path base k telling (inr (inl unread)) done = untold _ _ telling unread.1 done
 no_map Reads path base k telling (inr (inr (bytes, reads, found))) done = no_map_found path (record_of bytes base k) telling found done

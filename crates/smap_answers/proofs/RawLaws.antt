@@ -1,5 +1,6 @@
 -- What `raw` tells of a text, by the tests that it passes.
-use Rattle.std.proofs.Common.{◌≡◌, ℕ, ◌+◌, ◌-◌, ◌<◌, ◌≤◌, not, eqb, List, ◌++◌, length, get_or, Option, Some, None, sym, ap, ◌∙◌, arith, le-ltb, lt-ltb, subst, length-append, ⊎_elim}
+use Rattle.std.proofs.Common.{◌≡◌, ℕ, ◌+◌, ◌-◌, ◌<◌, ◌≤◌, not, eqb, List, ◌++◌, length, get_or, Option, Some, None, sym, ap, ◌∙◌, arith, le-ltb}
+use Rattle.std.proofs.Common.{lt-ltb, subst, length-append, ⊎_elim}
 use Rattle.std.specs.Prelude.{IfSome}
 use Rattle.std.specs.Io.KnownBytes.{IsAtEnd}
 use Rattle.smap_io.specs.Device.{Gives}
@@ -25,7 +26,8 @@ text_not_utf8 text line column short not_text =
     cond-false _ _ _ (le-ltb most_text_bytes (length text) short)
     ∙ cond-true _ _ _ (ap not (false_from_ne_true (is_utf8 text) (λ is. not_text (IsUtf8-from_is_utf8 text is))))
 
-pub text_is_utf8 : (text : List ℕ) (line column : ℕ) → length text ≤ most_text_bytes → IsUtf8 text → text_result text line column ≡ fault_or_answer (first_fault text most_indices most_indices) (answer_at_or_before (mappings_of text) line column)
+pub text_is_utf8 : (text : List ℕ) (line column : ℕ) → length text ≤ most_text_bytes → IsUtf8 text
+    → text_result text line column ≡ fault_or_answer (first_fault text most_indices most_indices) (answer_at_or_before (mappings_of text) line column)
 text_is_utf8 text line column short is_text =
     cond-false _ _ _ (le-ltb most_text_bytes (length text) short) ∙ cond-false _ _ _ (ap not (is_utf8-from_IsUtf8 text is_text))
 
@@ -34,7 +36,8 @@ text_is_utf8 text line column short is_text =
 length_without : (bytes : List ℕ) → length bytes ≤ length (without_last_line_end bytes) + 1
 length_without bytes =
     ⊎_elim
-    (λ yes. let cut : length (without_last_line_end bytes) ≡ length bytes - 1 = ap length (cond-true _ _ _ yes) ∙ length-take-le (length bytes - 1) bytes (omega arith) in omega (arith, cut))
+    (λ yes. let cut : length (without_last_line_end bytes) ≡ length bytes - 1 = ap length (cond-true _ _ _ yes)
+    ∙ length-take-le (length bytes - 1) bytes (omega arith) in omega (arith, cut))
     (λ kept. let all : length (without_last_line_end bytes) ≡ length bytes = ap length (cond-false _ _ _ kept) in omega (arith, all))
     (cases_Bool (eqb (get_or bytes (length bytes - 1) 0) 10))
 
@@ -44,11 +47,16 @@ unfolding raw_result
 raw_too_long bytes line column long = text_too_long (without_last_line_end bytes) line column (omega (arith, length_without bytes))
 
 -- what was read decides the answer to the whole input
-pub raw_of_read : (before after : Option (List ℕ)) (bytes : List ℕ) (line column : ℕ) → Gives before after bytes → length bytes ≤ (most_text_bytes + 2) → (length bytes < (most_text_bytes + 2) → IsAtEnd after) → IfSome before (λ all. raw_result all line column ≡ raw_result bytes line column)
-raw_of_read before None bytes line column gives short whole_read = subst (λ b. IfSome b (λ all. raw_result all line column ≡ raw_result bytes line column)) (sym gives) tt
+pub raw_of_read : (before after : Option (List ℕ)) (bytes : List ℕ) (line column : ℕ) → Gives before after bytes
+    → length bytes ≤ (most_text_bytes + 2) → (length bytes < (most_text_bytes + 2) → IsAtEnd after)
+    → IfSome before (λ all. raw_result all line column ≡ raw_result bytes line column)
+raw_of_read before None bytes line column gives short whole_read =
+    subst (λ b. IfSome b (λ all. raw_result all line column ≡ raw_result bytes line column)) (sym gives) tt
 raw_of_read before (Some rest) bytes line column gives short whole_read =
     subst (λ b. IfSome b (λ all. raw_result all line column ≡ raw_result bytes line column)) (sym gives)
     (⊎_elim
-    (λ (less : length bytes < (most_text_bytes + 2)). ap (λ r. raw_result (bytes ++ r) line column) (whole_read less) ∙ ap (λ b. raw_result b line column) (append-nil bytes))
-    (λ (long : (most_text_bytes + 2) ≤ length bytes). raw_too_long (bytes ++ rest) line column (omega (arith, length-append bytes rest)) ∙ sym (raw_too_long bytes line column long))
+    (λ (less : length bytes < (most_text_bytes + 2)). ap (λ r. raw_result (bytes ++ r) line column) (whole_read less)
+    ∙ ap (λ b. raw_result b line column) (append-nil bytes))
+    (λ (long : (most_text_bytes + 2) ≤ length bytes). raw_too_long (bytes ++ rest) line column (omega (arith, length-append bytes rest))
+    ∙ sym (raw_too_long bytes line column long))
     (cases_lt (length bytes) (most_text_bytes + 2)))

@@ -28,7 +28,8 @@ some_input None = ([], tt)
 some_input (Some all) = (all, refl)
 
 -- the input of `raw`: what was read of it decides what the whole of it gives
-pub raw_input : (before after : Option (List ℕ)) (bytes : List ℕ) (line column : ℕ) → Gives before after bytes → length bytes ≤ (most_text_bytes + 2) → (length bytes < (most_text_bytes + 2) → IsAtEnd after)
+pub raw_input : (before after : Option (List ℕ)) (bytes : List ℕ) (line column : ℕ) → Gives before after bytes
+    → length bytes ≤ (most_text_bytes + 2) → (length bytes < (most_text_bytes + 2) → IsAtEnd after)
     → (input : List ℕ) × IfSome before (λ all. all ≡ input) × (raw_result bytes line column ≡ raw_result input line column)
 raw_input before after bytes line column gives short whole_read = go before (raw_of_read before after bytes line column gives short whole_read)
   where
@@ -41,6 +42,7 @@ raw_input before after bytes line column gives short whole_read = go before (raw
 
 -- what a command comes to is told
 pub runs_one : (Tells : (before after : DevicesSeen) → Telling → Type 0) (status : ℕ) (before after : Streams) (telling : Telling) (written : SinkSeen)
-    → Tells (devices_seen before.input before.sinks.output) (devices_seen after.input written) telling → Ends telling status (sinks_seen written before.sinks.errors) after.sinks
+    → Tells (devices_seen before.input before.sinks.output) (devices_seen after.input written) telling
+    → Ends telling status (sinks_seen written before.sinks.errors) after.sinks
     → RunsOne Tells status before after
 runs_one Tells status before after telling written tells ends = record { telling = telling; written = written; tells = tells; ends = ends }

@@ -23,24 +23,28 @@ puts_taken maps more url path stated (Some refused) is never = absurd never
 puts_taken maps more url path stated None is free = (more, is, refl)
 
 -- and one that it did not take
-pub puts_refused : (maps : Maps) (url path : List ℕ) (stated : MapRecord) (refusal : Option TableRefusal) (refused : TableRefusal) (telling : Telling) (result : Result Maps Telling)
+pub puts_refused : (maps : Maps) (url path : List ℕ) (stated : MapRecord) (refusal : Option TableRefusal) (refused : TableRefusal)
+    (telling : Telling) (result : Result Maps Telling)
     → result ≡ Err telling → MatchOption refusal (refused ≡ Memory) (λ first. refused ≡ first) → OrMemory (λ t. t ≡ url_refusal_result refused url path) telling
     → (result ≡ Err out_of_memory) ⊎ Puts maps url path stated refusal result
 puts_refused maps url path stated refusal refused telling result given is (inl no_memory) = inl (given ∙ ap Err no_memory)
 puts_refused maps url path stated None refused telling result given is (inr told) = inl (given ∙ ap Err (told ∙ ap (λ r. url_refusal_result r url path) is))
-puts_refused maps url path stated (Some first) refused telling result given is (inr told) = inr (given ∙ ap Err (told ∙ ap (λ r. url_refusal_result r url path) is))
+puts_refused maps url path stated (Some first) refused telling result given is (inr told) =
+    inr (given ∙ ap Err (told ∙ ap (λ r. url_refusal_result r url path) is))
 
 -- ---- a file
 
 -- it gives a map, which the table takes or refuses
-pub puts_read : (base : Option Parts) (k : ℕ) (maps : Maps) (url path bytes : List ℕ) (stated : MapRecord) (result : Result Maps Telling) → IsReadAs base k url bytes (Ok stated)
+pub puts_read : (base : Option Parts) (k : ℕ) (maps : Maps) (url path bytes : List ℕ) (stated : MapRecord) (result : Result Maps Telling)
+    → IsReadAs base k url bytes (Ok stated)
     → (result ≡ Err out_of_memory) ⊎ Puts maps url path stated (url_refusal maps url) result → PutsMap base k maps url path bytes result
 puts_read base k maps url path bytes stated result read (inl no_memory) = inl no_memory
 puts_read base k maps url path bytes stated result read (inr puts) =
     inr (read.0, read.1, subst (λ found. PutsFound maps url path found result) (sym read.2) (inr puts))
 
 -- or it is refused
-pub puts_unread : (base : Option Parts) (k : ℕ) (maps : Maps) (url path bytes : List ℕ) (telling : Telling) → OrMemory (IsReadRefusal base k url path bytes) telling
+pub puts_unread : (base : Option Parts) (k : ℕ) (maps : Maps) (url path bytes : List ℕ) (telling : Telling)
+    → OrMemory (IsReadRefusal base k url path bytes) telling
     → PutsMap base k maps url path bytes (Err telling)
 puts_unread base k maps url path bytes telling (inl no_memory) = inl (ap Err no_memory)
 puts_unread base k maps url path bytes telling (inr (used, is, refused)) = inr (used, is, go (record_of bytes used k) refused)
@@ -51,7 +55,8 @@ puts_unread base k maps url path bytes telling (inr (used, is, refused)) = inr (
     go (Ok stated) (inr never) = absurd never
 
 -- after the arguments before, none of which was refused
-pub puts_after : (base : Option Parts) (k : ℕ) (before : Result Maps Failure) (maps : Maps) (url path bytes : List ℕ) (result : Result Maps Telling) → before ≡ Ok maps
+pub puts_after : (base : Option Parts) (k : ℕ) (before : Result Maps Failure) (maps : Maps) (url path bytes : List ℕ)
+    (result : Result Maps Telling) → before ≡ Ok maps
     → PutsMap base k maps url path bytes result → PutsNext base k (gathered before) url path bytes result
 puts_after base k before maps url path bytes result is puts = subst (λ b. PutsNext base k (gathered b) url path bytes result) (sym is) puts
 

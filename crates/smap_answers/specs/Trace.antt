@@ -106,7 +106,8 @@ rewrite_telling (Ok summary) = answer []
 rewrite_telling (Err fault) = fault_telling fault
 
 -- rewriting the text on standard input over these maps tells this; where memory was wanting, neither stream was asked
-pub record TextTells (IsRewritten : Maps → (before after : DevicesSeen) → Result Summary LineFault → Type 0) (maps : Maps) (before after : DevicesSeen) (telling : Telling) : Type 0 where
+pub record TextTells (IsRewritten : Maps → (before after : DevicesSeen) → Result Summary LineFault → Type 0) (maps : Maps)
+    (before after : DevicesSeen) (telling : Telling) : Type 0 where
   pub result : Result Summary LineFault
   pub rewritten : IsRewritten maps before after result
   pub input_failed : after.input.failed ≡ is_read_fault result

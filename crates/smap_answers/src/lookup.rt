@@ -42,7 +42,8 @@ fn lookup_print(
     after: bool,
     json: bool,
 ) -> Result<Vec<u8>, AllocError>
-    ensures { IfOk result (λ text. text.items ≡ lookup_print after json line column map.now.stated) }
+    ensures { IfOk result (λ text. text.items
+        ≡ lookup_print after json line column map.now.stated) }
 {
     if json {
         lookup_as_json(alloc, map, line, column, after)

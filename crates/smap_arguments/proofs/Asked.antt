@@ -1,5 +1,6 @@
 -- What the arguments ask for, where clap finds no fault in them.
-use Rattle.std.proofs.Common.{◌≡◌, ◌∙◌, ◌||◌, ◌&&◌, ◌⊎◌, ⊎_elim, ℕ, Bool, true, false, refl, sym, subst, inl, inr, List, [], ◌∷◌, not, fold, find, Option, Some, None, true≢false, codes, cond, is_some}
+use Rattle.std.proofs.Common.{◌≡◌, ◌∙◌, ◌||◌, ◌&&◌, ◌⊎◌, ⊎_elim, ℕ, Bool, true, false, refl, sym, subst, inl, inr, List, [], ◌∷◌, not, fold, find}
+use Rattle.std.proofs.Common.{Option, Some, None, true≢false, codes, cond, is_some}
 use Rattle.std.specs.Prelude.{⊤, option_map, unwrap_or}
 use Rattle.std.specs.List.{list_any}
 use Rattle.std.proofs.lemmas.Slice.Eq.{bytes_eq-Decides}
@@ -7,7 +8,8 @@ use Rattle.std.specs.Option.{option_map_or}
 use Rattle.std.specs.Str.{bytes_eq}
 use Rattle.clap.specs.Walk.{Row, Rule, Text, answers_to, finished, nothing_held, rows_after, settled, stop_after, walk, walk_from, with_default}
 use Rattle.clap.specs.declared.parser.matches.ArgMatches.{ArgMatches}
-use Rattle.clap.specs.Simple.{App, HasMatchesOf, subcommand_rows_of, Shape, argument_words, built, built_leaf, entered, filled, help_rule, is_simple, label_of, names_of, new_rule, rows_at, subcommand_of, with_index}
+use Rattle.clap.specs.Simple.{App, HasMatchesOf, subcommand_rows_of, Shape, argument_words, built, built_leaf, entered, filled, help_rule, is_simple}
+use Rattle.clap.specs.Simple.{label_of, names_of, new_rule, rows_at, subcommand_of, with_index}
 use Rattle.clap.specs.Kinds.{HasKind, check_kinds}
 use Rattle.clap.specs.Faults.{check_fault, is_simple_and_free, entered_fault, fault_of, defaults_fault, level_fault, settle_fault, walk_fault}
 use Rattle.clap.specs.Takes.{is_given}
@@ -19,11 +21,14 @@ use Rattle.clap.specs.declared.builder.value_parser.ValueParser.{ValueParser}
 use Rattle.clap.specs.declared.builder.value_parser.ValueParser.TheVariants as parser
 use Rattle.clap.specs.declared.error.Error.{Error}
 use Rattle.clap.specs.declared.error.kind.ErrorKind.TheVariants.{DisplayHelp, DisplayVersion, OutOfMemory}
-use Rattle.smap_arguments.specs.CommandLine.{after_rule, anywhere_rule, base_rule, check, compose, hide_rule, interval_number, interval_rule, json_rule, lookup, named, number, positions, raw, rewrite, show, smap, source_number}
+use Rattle.smap_arguments.specs.CommandLine.{after_rule, anywhere_rule, base_rule, check, compose, hide_rule, interval_number, interval_rule}
+use Rattle.smap_arguments.specs.CommandLine.{json_rule, lookup, named, number, positions, raw, rewrite, show, smap, source_number}
 use Rattle.smap_arguments.specs.declared.usage.Usage.{Usage}
 use Rattle.smap_arguments.specs.declared.usage.Usage.TheVariants.{Help, Mistake, Memory}
 use Rattle.smap_arguments.specs.Arguments.{HasArguments, HasCommand, HasValue, HasValues, IsNamedRefusal, IsUsageOf, IsRefusalOf, SubcommandTells}
-use Rattle.smap_arguments.proofs.Rows.{AreReadRows, Keeps, first_none, flag_at, flag_default_keeps, flag_keeps, given_value, help_keeps, long_option_keeps, more_values_keeps, no_default_keeps, second_none, settle_keeps, text_value, value_keeps, walk_keeps}
+use Rattle.smap_arguments.proofs.Rows.{AreReadRows, Keeps, first_none, flag_at, flag_default_keeps, flag_keeps, given_value, help_keeps}
+use Rattle.smap_arguments.proofs.Rows.{long_option_keeps, more_values_keeps, no_default_keeps, second_none, settle_keeps, text_value, value_keeps}
+use Rattle.smap_arguments.proofs.Rows.{walk_keeps}
 use Rattle.smap_arguments.proofs.Stops.{IsNoHelp, walk_names}
 
 -- ---- the rules of a level
@@ -67,7 +72,8 @@ module _ (parser_at : Text → ValueParser) where
   default_keeps : (rows : List Row) (a : Rule) → IsPlain a → AreReadRows parser_at rows → AreReadRows parser_at (with_default rows a)
   default_keeps rows a plain good = ⊎_elim (λ none. no_default_keeps parser_at rows a none good) (λ keeps. keeps rows good) plain.1
 
-  finished_keeps : (rules : List Rule) (rows : List Row) → Each IsPlain rules → AreReadRows parser_at rows → AreReadRows parser_at (fold with_default rows rules)
+  finished_keeps : (rules : List Rule) (rows : List Row) → Each IsPlain rules → AreReadRows parser_at rows
+      → AreReadRows parser_at (fold with_default rows rules)
   finished_keeps [] rows plain good = good
   finished_keeps (a ∷ rest) rows plain good = finished_keeps rest (with_default rows a) plain.1 (default_keeps rows a plain.0 good)
 
@@ -90,7 +96,8 @@ module _ (parser_at : Text → ValueParser) where
   level_gives : (s : Shape) → Each IsPlain s.rules → (words : List Text) → level_fault s [] nothing_held words false [] ≡ []
       → HasValues s.rules (rows_after s.rules [] words)
   level_gives s plain words none =
-      let keeps : (p : Rule → Bool) (a : Rule) → find p s.rules ≡ Some a → Keeps parser_at a = λ p a is. found_in (Keeps parser_at) p s.rules a (each_keeps s.rules p plain) is in
+      let keeps : (p : Rule → Bool) (a : Rule) → find p s.rules ≡ Some a
+      → Keeps parser_at a = λ p a is. found_in (Keeps parser_at) p s.rules a (each_keeps s.rules p plain) is in
       let end = (walk s.rules [] nothing_held words).held in
       let walked_none = first_none (walk_fault s [] (walk_from nothing_held) words) _ none in
       let later = second_none (walk_fault s [] (walk_from nothing_held) words) _ none in
@@ -105,7 +112,8 @@ module _ (parser_at : Text → ValueParser) where
   value : (i : ℕ) (id : Text) → IsPlain (with_index i (filled (record (new_rule id) { required = true; parser = Some (parser_at id) })))
   value i id = (value_keeps parser_at i id true, inl refl, refl)
 
-  more_values : (i : ℕ) (id : Text) → IsPlain (with_index i (filled (record (new_rule id) { required = true; action = Some Append; parser = Some (parser_at id) })))
+  more_values : (i : ℕ) (id : Text) → IsPlain
+      (with_index i (filled (record (new_rule id) { required = true; action = Some Append; parser = Some (parser_at id) })))
   more_values i id = (more_values_keeps parser_at i id true, inl refl, refl)
 
   option : (i : ℕ) (id long : Text) → IsPlain (with_index i (filled (record (new_rule id) { long = Some long; parser = Some (parser_at id) })))
@@ -255,7 +263,8 @@ unfolding clap_on_literals
 smap_is_simple = (refl, refl)
 
 -- what a parse by a command that is `smap` gives
-pub parsed_smap : (a : App) (arguments : List Text) (m : ArgMatches) → a ≡ smap → (is_simple_and_free a ≡ true → fault_of a arguments ≡ []) → HasMatchesOf a arguments m
+pub parsed_smap : (a : App) (arguments : List Text) (m : ArgMatches) → a ≡ smap → (is_simple_and_free a ≡ true → fault_of a arguments ≡ [])
+    → HasMatchesOf a arguments m
     → (fault_of smap arguments ≡ []) × (subcommand_of smap arguments ≡ subcommand_rows_of m)
 parsed_smap a arguments m is none matches =
     let found = subst (λ b. HasMatchesOf b arguments m) is matches in
@@ -263,7 +272,8 @@ parsed_smap a arguments m is none matches =
 
 pub failed_smap : (a : App) (arguments : List Text) (e : Error) (usage : Usage) → a ≡ smap → (is_simple_and_free a ≡ true → HasKind (fault_of a arguments) e)
     → IsUsageOf (kind_of e) usage → IsRefusalOf arguments usage
-failed_smap a arguments e usage is_smap fails is = refusal_of usage (subst (λ b. is_simple_and_free b ≡ true → HasKind (fault_of b arguments) e) is_smap fails smap_is_simple.0) is
+failed_smap a arguments e usage is_smap fails is =
+    refusal_of usage (subst (λ b. is_simple_and_free b ≡ true → HasKind (fault_of b arguments) e) is_smap fails smap_is_simple.0) is
   where
     refusal_of : (usage : Usage) → HasKind (fault_of smap arguments) e → IsUsageOf (kind_of e) usage → IsRefusalOf arguments usage
     refusal_of (Help text) kind is = elim kind [
@@ -280,7 +290,8 @@ failed_smap a arguments e usage is_smap fails is = refusal_of usage (subst (λ b
     refusal_of Memory kind is = tt
 
 -- where clap finds no fault in the arguments, but the base or an argument of `rewrite` is refused
-pub named_refused : (arguments : List Text) (usage : Usage) → fault_of smap arguments ≡ [] → IsNamedRefusal (SubcommandTells (subcommand_of smap arguments)) usage
+pub named_refused : (arguments : List Text) (usage : Usage) → fault_of smap arguments ≡ []
+    → IsNamedRefusal (SubcommandTells (subcommand_of smap arguments)) usage
     → IsRefusalOf arguments usage
 named_refused arguments (Help text) none refused = absurd refused
 named_refused arguments (Mistake text) none refused = inr (none, refused)

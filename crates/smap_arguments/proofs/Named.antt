@@ -13,7 +13,8 @@ use Rattle.clap.specs.declared.parser.matches.ArgMatches.TheViews.{out-ArgMatche
 use Rattle.clap.specs.declared.parser.matches.SubCommand.{SubCommand}
 use Rattle.smap_command.specs.declared.command.Command.{Command}
 use Rattle.smap_arguments.specs.CommandLine.{check, compose, interval_number, lookup, named, number, positions, raw, rewrite, show}
-use Rattle.smap_arguments.specs.Arguments.{HasArguments, HasCommand, HasValue, HasValueIfGiven, IsNamedRefusal, NamedAsksFor, SubcommandAsksFor, SubcommandTells, TellsOfBase, TellsRefusal}
+use Rattle.smap_arguments.specs.Arguments.{HasArguments, HasCommand, HasValue, HasValueIfGiven, IsNamedRefusal, NamedAsksFor, SubcommandAsksFor}
+use Rattle.smap_arguments.specs.Arguments.{SubcommandTells, TellsOfBase, TellsRefusal}
 use Rattle.smap_arguments.specs.declared.usage.Usage.{Usage}
 use Rattle.smap_arguments.specs.declared.usage.Usage.TheVariants.{Help, Mistake, Memory}
 
@@ -68,7 +69,8 @@ module _ (subcommand : Option (Text × List Row)) (name : Text) (rows : List Row
 
 -- ---- a name that is none of the others
 
-passed : (name : Text) (s : Shape) (rest : List Shape) → (name ≡ s.name → ⊥) → find (λ c. bytes_eq c.name name) (s ∷ rest) ≡ find (λ c. bytes_eq c.name name) rest
+passed : (name : Text) (s : Shape) (rest : List Shape) → (name ≡ s.name → ⊥)
+    → find (λ c. bytes_eq c.name name) (s ∷ rest) ≡ find (λ c. bytes_eq c.name name) rest
 passed name s rest other = go (bytes_eq s.name name) refl
   where
     go : (b : Bool) → bytes_eq s.name name ≡ b → cond b (Some s) (find (λ c. bytes_eq c.name name) rest) ≡ find (λ c. bytes_eq c.name name) rest
@@ -79,7 +81,8 @@ abbrev pub IsRaw : Text → List Row → Type 0
 IsRaw name rows = (name ≡ codes "raw") × HasValue number rows (codes "LINE") × HasValue number rows (codes "COLUMN")
     × HasValueIfGiven interval_number rows (codes "K")
 
-pub only_raw : (name : Text) (rows : List Row) → (name ≡ codes "lookup" → ⊥) → (name ≡ codes "positions" → ⊥) → (name ≡ codes "rewrite" → ⊥) → (name ≡ codes "check" → ⊥)
+pub only_raw : (name : Text) (rows : List Row) → (name ≡ codes "lookup" → ⊥) → (name ≡ codes "positions" → ⊥) → (name ≡ codes "rewrite" → ⊥)
+    → (name ≡ codes "check" → ⊥)
     → (name ≡ codes "show" → ⊥) → (name ≡ codes "compose" → ⊥) → HasArguments (named name) rows → IsRaw name rows
 only_raw name rows no_lookup no_positions no_rewrite no_check no_show no_compose has =
     go (bytes_eq (codes "raw") name) refl (subst (λ o. HasArguments o rows) past has)

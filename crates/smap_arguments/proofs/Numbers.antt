@@ -21,7 +21,8 @@ abbrev pub ReadsU32 : Text → Result ℕ ParseIntError → Type 0
 ReadsU32 text r = ParsesUnsigned 32 10 text r × ExplainsUnsignedError 10 text r × HasUnsignedDigitsIfOk text r
 
 -- an argument whose numbers lie between these has one of them
-pub number_read : (low high : ℕ) → high < 2 ^ 32 → (found : Found) (name : Text) (result : Option ℕ) → HasValue (Signed (pos low) (pos high)) (rows_of found) name
+pub number_read : (low high : ℕ) → high < 2 ^ 32 → (found : Found) (name : Text) (result : Option ℕ)
+    → HasValue (Signed (pos low) (pos high)) (rows_of found) name
     → ((t : Text) → one_text found name ≡ Some t → ReadsOne ReadsU32 t result)
     → (n : ℕ) × (result ≡ Some n) × (low ≤ n) × (n ≤ high) × GivesNumber (rows_of found) name n
 number_read low high fits found name result has reads =

@@ -1,5 +1,6 @@
 -- The arguments of `rewrite`.
-use Rattle.std.proofs.Common.{◌≡◌, ◌∙◌, ◌≢◌, ◌++◌, ◌<◌, ◌||◌, ◌==◌, ℕ, zero, suc, Bool, true, false, not, cond, List, [], ◌∷◌, length, map, take, drop, Some, None, refl, sym, ap, subst, arith, codes, get_or}
+use Rattle.std.proofs.Common.{◌≡◌, ◌∙◌, ◌≢◌, ◌++◌, ◌<◌, ◌||◌, ◌==◌, ℕ, zero, suc, Bool, true, false, not, cond, List, [], ◌∷◌, length, map, take}
+use Rattle.std.proofs.Common.{drop, Some, None, refl, sym, ap, subst, arith, codes, get_or}
 use Rattle.std.specs.Borrow.{Bor}
 use Rattle.std.specs.List.{AllZip}
 use Rattle.std.specs.Prelude.{String, string_bytes}
@@ -35,11 +36,13 @@ pub cut_at_last : (argument url path : Text) → SplitsAroundMatch (RFindsChar 6
 cut_at_last argument url path split =
     let back : drop split.0 argument ≡ 61 ∷ path = drop_at_char 61 argument split.0 split.1 split.2.1 (omega arith) ∙ ap (λ l. 61 ∷ l) (sym split.4) in (
       sym (take-append-drop split.0 argument) ∙ (λ k. sym split.3 k ++ back k),
-      subst (λ l. has_equals_sign l ≡ false) (sym split.4) (has_none (drop split.1 argument) (λ i low. NoCharPasses-char 61 (drop split.1 argument) i split.2.0 (omega arith) low)),
+      subst (λ l. has_equals_sign l ≡ false) (sym split.4)
+          (has_none (drop split.1 argument) (λ i low. NoCharPasses-char 61 (drop split.1 argument) i split.2.0 (omega arith) low)),
     )
 
 pub none_to_cut : (argument : Text) → RFindsChar 61 argument None → first_without (argument ∷ []) ≡ Some argument
-none_to_cut argument none = ap (λ has. cond (not has) (Some argument) None) (has_none argument (λ i low. NoCharPasses-char 61 argument i none (omega arith) low))
+none_to_cut argument none = ap (λ has. cond (not has) (Some argument) None)
+    (has_none argument (λ i low. NoCharPasses-char 61 argument i none (omega arith) low))
 
 -- ---- a list of arguments
 
@@ -47,14 +50,16 @@ module _ {A : Type 0} where
   abbrev pub Zips : List (Bor Text) → List (String A × String A) → Type 0
   Zips = AllZip (λ argument pair. IsPair argument.now (string_bytes pair.0) (string_bytes pair.1))
 
-  pub pairs_of_zip : (arguments : List (Bor Text)) (pairs : List (String A × String A)) → Zips arguments pairs → ArePairs (map (λ argument. argument.now) arguments) pairs
+  pub pairs_of_zip : (arguments : List (Bor Text)) (pairs : List (String A × String A)) → Zips arguments pairs
+      → ArePairs (map (λ argument. argument.now) arguments) pairs
   pairs_of_zip [] [] zips = tt
   pairs_of_zip [] (p ∷ ps) zips = absurd zips
   pairs_of_zip (w ∷ ws) [] zips = absurd zips
   pairs_of_zip (w ∷ ws) (p ∷ ps) zips = (zips.0, pairs_of_zip ws ps zips.1)
 
   pub zips_more : (arguments : List (Bor Text)) (pairs : List (String A × String A)) (i : ℕ) (d : Bor Text) (pair : String A × String A) → i < length arguments
-      → Zips (take i arguments) pairs → IsPair (get_or arguments i d).now (string_bytes pair.0) (string_bytes pair.1) → Zips (take (suc i) arguments) (pairs ++ pair ∷ [])
+      → Zips (take i arguments) pairs → IsPair (get_or arguments i d).now (string_bytes pair.0) (string_bytes pair.1)
+      → Zips (take (suc i) arguments) (pairs ++ pair ∷ [])
   zips_more [] pairs i d pair low zips cut = absurd (omega arith)
   zips_more (w ∷ ws) [] zero d pair low zips cut = (cut, tt)
   zips_more (w ∷ ws) (p ∷ ps) zero d pair low zips cut = absurd zips
@@ -62,11 +67,13 @@ module _ {A : Type 0} where
   zips_more (w ∷ ws) (p ∷ ps) (suc i) d pair low zips cut = (zips.0, zips_more ws ps i d pair (omega arith) zips.1 cut)
 
   first_at : (arguments : List (Bor Text)) (pairs : List (String A × String A)) (i : ℕ) (d : Bor Text) (first : Text) → i < length arguments
-      → Zips (take i arguments) pairs → first_without ((get_or arguments i d).now ∷ []) ≡ Some first → first_without (map (λ argument. argument.now) arguments) ≡ Some first
+      → Zips (take i arguments) pairs → first_without ((get_or arguments i d).now ∷ []) ≡ Some first
+      → first_without (map (λ argument. argument.now) arguments) ≡ Some first
   first_at [] pairs i d first low zips found = absurd (omega arith)
   first_at (w ∷ ws) pairs zero d first low zips found = go (has_equals_sign w.now) found
     where
-      go : (has : Bool) → cond (not has) (Some w.now) None ≡ Some first → cond (not has) (Some w.now) (first_without (map (λ argument. argument.now) ws)) ≡ Some first
+      go : (has : Bool) → cond (not has) (Some w.now) None ≡ Some first
+          → cond (not has) (Some w.now) (first_without (map (λ argument. argument.now) ws)) ≡ Some first
       go true found = cc
       go false found = found
   first_at (w ∷ ws) [] (suc i) d first low zips found = absurd zips

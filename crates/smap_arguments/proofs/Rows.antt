@@ -1,16 +1,23 @@
 -- What the rows of a walk hold where clap finds no fault in the arguments.
-use Rattle.std.proofs.Common.{◌≡◌, ◌++◌, ◌&&◌, ℕ, Bool, zero, suc, true, false, refl, sym, ap, subst, List, [], ◌∷◌, length, drop, not, fold, find, Option, Some, None, codes, cond, is_some}
+use Rattle.std.proofs.Common.{◌≡◌, ◌++◌, ◌&&◌, ℕ, Bool, zero, suc, true, false, refl, sym, ap, subst, List, [], ◌∷◌, length, drop, not, fold, find}
+use Rattle.std.proofs.Common.{Option, Some, None, codes, cond, is_some}
 use Rattle.std.specs.Prelude.{⊤, encode_utf8, option_and_then, slice_get}
 use Rattle.std.proofs.lemmas.Slice.Eq.{bytes_eq-Decides}
 use Rattle.std.specs.Option.{IsSome, option_map_or}
 use Rattle.std.specs.Str.{bytes_eq, chars}
 use Rattle.clap.specs.ValueTests.{accepts}
-use Rattle.clap.specs.Walk.{Held, Names, Outcome, Row, Rule, Step, Text, Waiting, Walk, after_flag, after_step, arg_by_id, arg_by_index, arg_by_long, arg_by_short, at_row, attached_value, bundle_met, bundle_step, default_rows, has_row, is_pending, long_met, long_or_other, more_values, one_of, option_met, option_word, plain_word, positional_held, reacted, reading_by, row_text, settled, settled_rows, short_met, short_or_plain, subcommand_met, subcommand_or_other, takes_several, takes_values, to_positional, used, used_by_id, walk, walked, walked_from, with_default, with_values, without, word_met}
+use Rattle.clap.specs.Walk.{Held, Names, Outcome, Row, Rule, Step, Text, Waiting, Walk, after_flag, after_step, arg_by_id, arg_by_index, arg_by_long}
+use Rattle.clap.specs.Walk.{arg_by_short, at_row, attached_value, bundle_met, bundle_step, default_rows, has_row, is_pending, long_met, long_or_other}
+use Rattle.clap.specs.Walk.{more_values, one_of, option_met, option_word, plain_word, positional_held, reacted, reading_by, row_text, settled}
+use Rattle.clap.specs.Walk.{settled_rows, short_met, short_or_plain, subcommand_met, subcommand_or_other, takes_several, takes_values, to_positional}
+use Rattle.clap.specs.Walk.{used, used_by_id, walk, walked, walked_from, with_default, with_values, without, word_met}
 use Rattle.clap.specs.Walk as w
 use Rattle.clap.specs.Simple.{Shape, new_rule, filled, help_rule, with_index}
 use Rattle.clap.specs.Kinds.{Kinds, or_else, values_kinds}
 use Rattle.clap.specs.declared.builder.action.ArgAction.TheVariants.{Append, SetTrue}
-use Rattle.clap.specs.Faults.{values_fault, bundle_step_fault, flags_fault, flag_word_fault, long_fault, option_fault, other_fault, positional_fault, react_fault, repeat_fault, set_fault, stray_fault, bundle_fault, settle_fault, short_fault, step_fault, turn_fault, use_fault, walk_fault, word_fault}
+use Rattle.clap.specs.Faults.{values_fault, bundle_step_fault, flags_fault, flag_word_fault, long_fault, option_fault, other_fault, positional_fault}
+use Rattle.clap.specs.Faults.{react_fault, repeat_fault, set_fault, stray_fault, bundle_fault, settle_fault, short_fault, step_fault, turn_fault}
+use Rattle.clap.specs.Faults.{use_fault, walk_fault, word_fault}
 use Rattle.clap.specs.Lexer.{short_of, long_of}
 use Rattle.clap.specs.Takes.{is_given}
 use Rattle.clap.specs.Facts.{explicit_source}
@@ -89,7 +96,8 @@ module _ (parser_at : Text → ValueParser) where
       go false none = cc
 
   -- a positional argument of one value
-  pub value_keeps : (i : ℕ) (id : Text) (required : Bool) → Keeps (with_index i (filled (record (new_rule id) { required = required; parser = Some (parser_at id) })))
+  pub value_keeps : (i : ℕ) (id : Text) (required : Bool)
+      → Keeps (with_index i (filled (record (new_rule id) { required = required; parser = Some (parser_at id) })))
   value_keeps i id required again [] rows none good = cc
   value_keeps i id required again (v ∷ vs) rows none good = go (second_none _ (set_fault again a (v ∷ vs) rows) none)
     where
@@ -128,14 +136,16 @@ module _ (parser_at : Text → ValueParser) where
   abbrev pub flag_at : (i : ℕ) (id long : Text) → Rule
   flag_at i id long = with_index i (filled (record (new_rule id) { long = Some long; action = Some SetTrue; parser = Some (parser_at id) }))
 
-  flag_value_keeps : (i : ℕ) (id long : Text) (again : Bool) (v : Text) (vs : List Text) (rows : List Row) → set_fault again (flag_at i id long) (v ∷ vs) rows ≡ [] → AreReadRows rows
+  flag_value_keeps : (i : ℕ) (id long : Text) (again : Bool) (v : Text) (vs : List Text) (rows : List Row)
+      → set_fault again (flag_at i id long) (v ∷ vs) rows ≡ [] → AreReadRows rows
       → AreReadRows (with_values id (reading_of (parser_at id)) CommandLine (v ∷ vs) (without id rows))
   flag_value_keeps i id long again v vs rows none good = with_values_keeps id CommandLine (v ∷ vs) (without id rows)
       (accepted_values id v vs (second_none (repeat_fault again id rows) _ none)) (without_keeps id rows good)
 
   pub flag_keeps : (i : ℕ) (id long : Text) → Keeps (flag_at i id long)
   flag_keeps i id long again [] rows none good = flag_value_keeps i id long again (codes "true") [] rows none good
-  flag_keeps i id long again (v ∷ vs) rows none good = flag_value_keeps i id long again v vs rows (second_none _ (set_fault again (flag_at i id long) (v ∷ vs) rows) none) good
+  flag_keeps i id long again (v ∷ vs) rows none good =
+      flag_value_keeps i id long again v vs rows (second_none _ (set_fault again (flag_at i id long) (v ∷ vs) rows) none) good
 
   pub help_keeps : Keeps (filled help_rule)
   help_keeps again values rows none good = good
@@ -285,13 +295,15 @@ module _ (parser_at : Text → ValueParser) where
     after_flag_keeps waiting word h w.plain good = plain_keeps waiting word h good
     after_flag_keeps waiting word h w.refused good = plain_keeps waiting word h good
 
-    short_word_keeps : (waiting : Waiting) (word : Text) (o : Option Text) (h : Held) → option_map_or (λ flags. bundle_fault c again flags h) o [] ≡ [] → AreReadRows h.rows
+    short_word_keeps : (waiting : Waiting) (word : Text) (o : Option Text) (h : Held)
+        → option_map_or (λ flags. bundle_fault c again flags h) o [] ≡ [] → AreReadRows h.rows
         → AreReadRows (short_or_plain c waiting word o h).0.rows
     short_word_keeps waiting word None h none good = plain_keeps waiting word h good
     short_word_keeps waiting word (Some flags) h none good =
         after_flag_keeps waiting word _ (w.bundle c flags h).1 (bundle_keeps (length flags) flags h.skip w.plain (record h { skip = 0 }) none good)
 
-    flag_word_keeps : (waiting : Waiting) (word : Text) (o : Option (Text × Option Text)) (h : Held) → flag_word_fault c again o word h ≡ [] → AreReadRows h.rows
+    flag_word_keeps : (waiting : Waiting) (word : Text) (o : Option (Text × Option Text)) (h : Held) → flag_word_fault c again o word h ≡ []
+        → AreReadRows h.rows
         → AreReadRows (long_or_other c waiting word o h).0.rows
     flag_word_keeps waiting word (Some p) h none good =
         after_flag_keeps waiting word _ (long_met c (arg_by_long c p.0) p.1 h).1
@@ -309,7 +321,8 @@ module _ (parser_at : Text → ValueParser) where
         go true none = good
         go false none = flag_word_keeps s.rules s.args_override_self each waiting word (long_of word) h none good
 
-    word_keeps : (is_trailing : Bool) (waiting : Waiting) (position : ℕ) (word : Text) (h : Held) → word_fault s names is_trailing waiting word h ≡ [] → AreReadRows h.rows
+    word_keeps : (is_trailing : Bool) (waiting : Waiting) (position : ℕ) (word : Text) (h : Held)
+        → word_fault s names is_trailing waiting word h ≡ [] → AreReadRows h.rows
         → AreReadRows (word_met s.rules names is_trailing waiting position word h).0.rows
     word_keeps true waiting position word h none good = good
     word_keeps false waiting position word h none good = other_keeps (subcommand_met names waiting word) waiting position word h none good
@@ -348,7 +361,8 @@ module _ (parser_at : Text → ValueParser) where
         go None none = step_keeps word v met.0 met.1 (second_none _ _ none)
             (word_keeps v.is_trailing v.waiting v.position word v.held (first_none _ (step_fault s v.position met.0 met.1) none) good)
 
-    pub walk_keeps : (words : List Text) (v : Walk) → walk_fault s names v words ≡ [] → AreReadRows v.held.rows → AreReadRows (fold (walked s.rules names) v words).held.rows
+    pub walk_keeps : (words : List Text) (v : Walk) → walk_fault s names v words ≡ [] → AreReadRows v.held.rows
+        → AreReadRows (fold (walked s.rules names) v words).held.rows
     unfolding walk_fault
     walk_keeps [] v none good = good
     walk_keeps (word ∷ rest) v none good =

@@ -2,7 +2,9 @@
 use Rattle.std.proofs.Common.{◌≡◌, ◌&&◌, ℕ, Bool, true, false, refl, sym, subst, List, [], ◌∷◌, not, fold, Option, Some, None, codes, cond, is_some}
 use Rattle.std.specs.Prelude.{⊤}
 use Rattle.std.specs.Str.{bytes_eq}
-use Rattle.clap.specs.Walk.{Held, Names, Outcome, Rule, Step, Text, Waiting, Walk, after_flag, after_step, arg_by_index, arg_by_long, long_met, long_or_other, plain_word, short_or_plain, subcommand_met, subcommand_or_other, to_positional, walk, walked, walked_from, word_met}
+use Rattle.clap.specs.Walk.{Held, Names, Outcome, Rule, Step, Text, Waiting, Walk, after_flag, after_step, arg_by_index, arg_by_long, long_met}
+use Rattle.clap.specs.Walk.{long_or_other, plain_word, short_or_plain, subcommand_met, subcommand_or_other, to_positional, walk, walked, walked_from}
+use Rattle.clap.specs.Walk.{word_met}
 use Rattle.clap.specs.Walk as w
 use Rattle.clap.specs.Simple.{Shape}
 use Rattle.clap.specs.Kinds.{or_else}
@@ -83,7 +85,8 @@ module _ (s : Shape) (names : Names) (helps : s.disable_help_subcommand ≡ fals
       go None is none before = step_names word v met.0 met.1 is
           (word_names v.is_trailing v.waiting v.position word v.held (first_none _ (step_fault s v.position met.0 met.1) none))
 
-  pub walk_names : (words : List Text) (v : Walk) → walk_fault s names v words ≡ [] → IsNoHelp v.stopped → IsNoHelp (fold (walked s.rules names) v words).stopped
+  pub walk_names : (words : List Text) (v : Walk) → walk_fault s names v words ≡ [] → IsNoHelp v.stopped
+      → IsNoHelp (fold (walked s.rules names) v words).stopped
   unfolding walk_fault
   walk_names [] v none before = before
   walk_names (word ∷ rest) v none before =

@@ -16,5 +16,6 @@ module _ (R : RattleType) {M : Type 1} {𝓤 : Ura M} {𝓛 : Logic 𝓤} {K : T
   pub held_out : K → (p : Ptr) (o : Option R.Denot) → IsSome o
       → ((b i : ℕ) (x : R.Denot) → p ≡ block_ptr b i → o ≡ Some x → Seq K 𝓛 (‵ (box_owns chunk R (block_ptr b i) x) ∷ Γ) G)
       → Seq K 𝓛 (‵ (owns_held R p o) ∷ Γ) G
-  held_out t p (Some x) some k = in_a_block t p (λ q. box_owns chunk R q x) (fst∗ 𝓤 (never 𝓤) (sem 𝓛 (chunk (bare (lone R.mir)) null_ptr))) (λ b i e. k b i x e refl)
+  held_out t p (Some x) some k = in_a_block t p (λ q. box_owns chunk R q x) (fst∗ 𝓤 (never 𝓤) (sem 𝓛 (chunk (bare (lone R.mir)) null_ptr)))
+      (λ b i e. k b i x e refl)
   held_out t p None some k = absurd (true≢false (sym some))

@@ -5,7 +5,9 @@ use Rattle.smap_mappings.specs.declared.fault.FaultKind.TheVariants as faults
 use Rattle.smap_index.specs.declared.refusal.BuildRefusal.{BuildRefusal}
 use Rattle.smap_index.specs.declared.refusal.BuildRefusal.TheVariants as builds
 use Rattle.smap_record.specs.declared.refusal.MapRefusal.{MapRefusal}
-use Rattle.smap_record.specs.declared.refusal.MapRefusal.TheVariants.{TooLarge, NotJson, NotObject, Version, Sections, SectionOffset, Nested, Sources, Names, SourcesContent, IgnoreList, FileOrRoot, Mappings, Text, Build, Url, Memory}
+use Rattle.smap_record.specs.declared.refusal.MapRefusal.TheVariants.{TooLarge, NotJson, NotObject, Version, Sections, SectionOffset, Nested, Sources}
+use Rattle.smap_record.specs.declared.refusal.MapRefusal.TheVariants.{Names, SourcesContent, IgnoreList, FileOrRoot, Mappings, Text, Build, Url}
+use Rattle.smap_record.specs.declared.refusal.MapRefusal.TheVariants.{Memory}
 use Rattle.smap_c.specs.declared.refusal.Refusal.{Refusal}
 
 -- the refusal of this number, with a section
@@ -97,7 +99,8 @@ refusal_in refusal =
     else if refusal.number == 11 then Some IgnoreList
     else if refusal.number == 12 then Some FileOrRoot
     else if refusal.number == 13 then Some Mappings
-    else if refusal.number == 14 then option_map (λ kind. Text refusal.section (record { byte = refusal.byte; line = refusal.line; kind = kind })) (kind_in refusal.fault)
+    else if refusal.number == 14 then option_map
+    (λ kind. Text refusal.section (record { byte = refusal.byte; line = refusal.line; kind = kind })) (kind_in refusal.fault)
     else if refusal.number == 15 then option_map Build (build_in refusal.build refusal.section)
     else if refusal.number == 16 then Some Url
     else None

@@ -1,5 +1,6 @@
 -- A text prints byte by byte as it prints character by character.
-use Rattle.std.proofs.Common.{◌≡◌, ◌+◌, ◌<◌, ◌≤◌, ◌/◌, ℕ, Bool, true, false, cond, ltb, List, [], ◌∷◌, ◌++◌, map, refl, sym, ap, ◌∙◌, arith, encode_utf8_all, ⊎_elim}
+use Rattle.std.proofs.Common.{◌≡◌, ◌+◌, ◌<◌, ◌≤◌, ◌/◌, ℕ, Bool, true, false, cond, ltb, List, [], ◌∷◌, ◌++◌, map, refl, sym, ap, ◌∙◌, arith}
+use Rattle.std.proofs.Common.{encode_utf8_all, ⊎_elim}
 use Rattle.std.specs.Char.{is_ascii_control}
 use Rattle.std.specs.Str.{IsUtf8, chars}
 use Rattle.std.proofs.lemmas.Bool.{cond-false, cond_both, or_from, and_right, le-ltb, lt-leb, cases_lt}
@@ -30,7 +31,8 @@ others_stay c high = go (ltb c 128) (ltb c 2048) (ltb c 65536) (le-ltb c 128 hig
     four a b d e p q r s = λ i. above a p i ∷ three b d e q r s i
 
     bytes : (b1 b2 b3 : Bool) → List ℕ
-    bytes b1 b2 b3 = cond b1 (c ∷ []) (cond b2 ((192 + c / 64) ∷ next c ∷ []) (cond b3 ((224 + c / 4096) ∷ next (c / 64) ∷ next c ∷ []) ((240 + c / 262144) ∷ next (c / 4096) ∷ next (c / 64) ∷ next c ∷ [])))
+    bytes b1 b2 b3 = cond b1 (c ∷ []) (cond b2 ((192 + c / 64) ∷ next c ∷ [])
+        (cond b3 ((224 + c / 4096) ∷ next (c / 64) ∷ next c ∷ []) ((240 + c / 262144) ∷ next (c / 4096) ∷ next (c / 64) ∷ next c ∷ [])))
 
     go : (b1 b2 b3 : Bool) → b1 ≡ false → map shown_byte (bytes b1 b2 b3) ≡ bytes b1 b2 b3
     go true b2 b3 off = cc
@@ -47,7 +49,8 @@ one c = ⊎_elim
 
 all : (cs : List ℕ) → map shown_byte (encodes cs) ≡ encodes (map shown_byte cs)
 all [] = refl
-all (c ∷ cs) = map-append shown_byte (encode c) (encodes cs) ∙ ap (λ l. l ++ map shown_byte (encodes cs)) (one c) ∙ ap (λ l. encode (shown_byte c) ++ l) (all cs)
+all (c ∷ cs) = map-append shown_byte (encode c) (encodes cs) ∙ ap (λ l. l ++ map shown_byte (encodes cs)) (one c)
+    ∙ ap (λ l. encode (shown_byte c) ++ l) (all cs)
 
 pub shown_encodes : (text : List ℕ) → IsUtf8 text → encode_utf8_all (map shown_byte (chars text)) ≡ shown text
 unfolding shown

@@ -13,7 +13,8 @@ use Rattle.smap_record.specs.Limits.{most_listed}
 use Rattle.smap_record.specs.ReadBack.{IsRegularMap}
 
 -- as many entries as those of both maps
-pub entries_counted : {A B : Type 0} (f : A → B) (items : List A) (first second : List B) → map f items ≡ first ++ second → length items ≡ length first + length second
+pub entries_counted : {A B : Type 0} (f : A → B) (items : List A) (first second : List B) → map f items ≡ first ++ second
+    → length items ≡ length first + length second
 entries_counted f items first second are = sym (length-map items f) ∙ ap length are ∙ length-append first second
 
 pub is_regular : (list : List Mapping) (sources names s n : ℕ) → s ≡ sources → n ≡ names → sources ≤ most_listed → names ≤ most_listed

@@ -2,7 +2,8 @@
 -- that is not before it what answers at it or after.
 use Rattle.std.proofs.Common.{◌≡◌, ℕ, ◌<◌, true, false, List, [], ◌∷◌, take, filter, Option, Some, None, refl, sym, ap, ◌∙◌, arith, ⊎_elim, inr}
 use Rattle.std.specs.List.{find, last_or}
-use Rattle.std.proofs.lemmas.Bool.{cond-true, cond-false, cases_Bool, eqb-true, eq-eqb, ne_eqb, leb-true, le-leb, and_parts, and_from, and_left, both_ways, not-true, not_from_false, false_from_ne_true}
+use Rattle.std.proofs.lemmas.Bool.{cond-true, cond-false, cases_Bool, eqb-true, eq-eqb, ne_eqb, leb-true, le-leb, and_parts, and_from, and_left}
+use Rattle.std.proofs.lemmas.Bool.{both_ways, not-true, not_from_false, false_from_ne_true}
 use Rattle.smap_mappings.specs.Order.{IsAtOrBefore, IsInOrder}
 use Rattle.smap_mappings.specs.Range.{position_at}
 use Rattle.smap_mappings.specs.declared.mapping.Mapping.{Mapping}
@@ -47,7 +48,8 @@ module _ (line column : ℕ) where
       let parts = and_parts _ _ kept in
       both_ways _ past (not_from_false _ (from_not_before m (position_at line column) (inr (eqb-true m.line line parts.0, leb-true m.column column parts.1)))))
 
-  none_kept : (a : Mapping) (xs : List Mapping) → IsInOrder (a ∷ xs) → is_up_to (through line column) a ≡ false → filter (is_on_line_at_or_before line column) (a ∷ xs) ≡ []
+  none_kept : (a : Mapping) (xs : List Mapping) → IsInOrder (a ∷ xs) → is_up_to (through line column) a ≡ false
+      → filter (is_on_line_at_or_before line column) (a ∷ xs) ≡ []
   none_kept a [] order past = cond-false _ _ _ (kept_reached a past)
   none_kept a (b ∷ xs) order past =
       ⊎_elim
@@ -58,34 +60,43 @@ module _ (line column : ℕ) where
   -- of a mapping before the line and those before it, none is on the line
   on_line_none : (e : Option Mapping) (a : Mapping) (xs : List Mapping) → Precedes e (a ∷ xs) → a.line < line → on_line line e ≡ None
   on_line_none None a xs order above = refl
-  on_line_none (Some m) a xs order above = on_line_other m (λ same. ⊎_elim (λ (before : m.line < a.line). omega arith) (λ equal. omega (arith, equal.0)) order.0)
+  on_line_none (Some m) a xs order above = on_line_other m
+      (λ same. ⊎_elim (λ (before : m.line < a.line). omega arith) (λ equal. omega (arith, equal.0)) order.0)
 
   later : (e : Option Mapping) (a : Mapping) (xs : List Mapping) → Precedes e (a ∷ xs) → IsInOrder (a ∷ xs)
   later None a xs order = order
   later (Some m) a xs order = order.1
 
-  kept_last : (e : Option Mapping) (xs : List Mapping) → Precedes e xs → last_or (on_line line e) (filter (is_on_line_at_or_before line column) xs) ≡ on_line line (last_or e (take (front_up_to (through line column) xs) xs))
+  kept_last : (e : Option Mapping) (xs : List Mapping) → Precedes e xs
+      → last_or (on_line line e) (filter (is_on_line_at_or_before line column) xs) ≡ on_line line (last_or e (take (front_up_to (through line column) xs) xs))
   kept_last e [] order = refl
   kept_last e (a ∷ xs) order =
       ⊎_elim
-      (λ yes. step yes ∙ kept_last (Some a) xs (later e a xs order) ∙ ap (λ n. on_line line (last_or e (take n (a ∷ xs)))) (sym (passes (through line column) a xs yes)))
-      (λ no. ap (last_or (on_line line e)) (none_kept a xs (later e a xs order) no) ∙ ap (λ n. on_line line (last_or e (take n (a ∷ xs)))) (sym (stops (through line column) a xs no)))
+      (λ yes. step yes ∙ kept_last (Some a) xs (later e a xs order)
+      ∙ ap (λ n. on_line line (last_or e (take n (a ∷ xs)))) (sym (passes (through line column) a xs yes)))
+      (λ no. ap (last_or (on_line line e)) (none_kept a xs (later e a xs order) no)
+      ∙ ap (λ n. on_line line (last_or e (take n (a ∷ xs)))) (sym (stops (through line column) a xs no)))
       (cases_Bool (is_up_to (through line column) a))
     where
-      step : is_up_to (through line column) a ≡ true → last_or (on_line line e) (filter (is_on_line_at_or_before line column) (a ∷ xs)) ≡ last_or (on_line line (Some a)) (filter (is_on_line_at_or_before line column) xs)
+      step : is_up_to (through line column) a ≡ true
+          → last_or (on_line line e) (filter (is_on_line_at_or_before line column) (a ∷ xs))
+          ≡ last_or (on_line line (Some a)) (filter (is_on_line_at_or_before line column) xs)
       step here =
           ⊎_elim
           (λ kept.
           ap (last_or (on_line line e)) (cond-true _ _ _ kept)
           ∙ ap (λ o. last_or o (filter (is_on_line_at_or_before line column) xs)) (sym (on_line_same a (eqb-true _ _ (and_parts _ _ kept).0))))
           (λ left.
-          let above : a.line < line = ⊎_elim (λ above. above) (λ same. absurd (both_ways _ left (and_from _ _ (eq-eqb _ _ same.0) (le-leb _ _ same.1)))) (reached a here) in
+          let above : a.line < line = ⊎_elim (λ above. above)
+          (λ same. absurd (both_ways _ left (and_from _ _ (eq-eqb _ _ same.0) (le-leb _ _ same.1)))) (reached a here) in
           ap (last_or (on_line line e)) (cond-false _ _ _ left)
-          ∙ ap (λ o. last_or o (filter (is_on_line_at_or_before line column) xs)) (on_line_none e a xs order above ∙ sym (on_line_other a (λ same. omega arith))))
+          ∙ ap (λ o. last_or o (filter (is_on_line_at_or_before line column) xs))
+          (on_line_none e a xs order above ∙ sym (on_line_other a (λ same. omega arith))))
           (cases_Bool (is_on_line_at_or_before line column a))
 
   -- where the last mapping up to the position stands on the line, it answers, else nothing does
-  pub last_answers : (list : List Mapping) → IsInOrder list → answer_at_or_before list line column ≡ answer_of_last (on_line line (last_up_to (through line column) list))
+  pub last_answers : (list : List Mapping) → IsInOrder list
+      → answer_at_or_before list line column ≡ answer_of_last (on_line line (last_up_to (through line column) list))
   unfolding answer_at_or_before
   last_answers list order = ap answer_of_last (kept_last None list order)
 
@@ -112,7 +123,8 @@ module _ (line column : ℕ) where
   found_first [] order = refl
   found_first (a ∷ xs) order =
       ⊎_elim
-      (λ yes. cond-false _ _ _ (not_kept a yes) ∙ found_first xs (tail_in_order a xs order) ∙ ap (on_line line) (sym (first_passes (up_to line column) a xs yes)))
+      (λ yes. cond-false _ _ _ (not_kept a yes) ∙ found_first xs (tail_in_order a xs order)
+      ∙ ap (on_line line) (sym (first_passes (up_to line column) a xs yes)))
       (λ no. found no ∙ ap (on_line line) (sym (first_stops (up_to line column) a xs no)))
       (cases_Bool (is_up_to (up_to line column) a))
     where
@@ -124,7 +136,8 @@ module _ (line column : ℕ) where
           (not_before (position_at line column) a past)
 
   -- where the first mapping that is not before the position stands on the line, it answers, else nothing does
-  first_answers : (list : List Mapping) → IsInOrder list → answer_at_or_after list line column ≡ answer_of_last (on_line line (first_past (up_to line column) list))
+  first_answers : (list : List Mapping) → IsInOrder list
+      → answer_at_or_after list line column ≡ answer_of_last (on_line line (first_past (up_to line column) list))
   unfolding answer_at_or_after
   first_answers list order = ap answer_of_last (found_first list order)
 

@@ -48,11 +48,13 @@ module _ (bound : Bound) where
 
 -- ---- on the bound's line the column decides
 
-side_reaches : (side : Side) (line column : ℕ) (m : Mapping) → m.line ≡ line → m.column < end_on_side side column → is_on_side side (position_at line column) m ≡ true
+side_reaches : (side : Side) (line column : ℕ) (m : Mapping) → m.line ≡ line → m.column < end_on_side side column
+    → is_on_side side (position_at line column) m ≡ true
 side_reaches Before line column m same less = from_before m (position_at line column) (inr (same, less))
 side_reaches Through line column m same less = not_from_false _ (from_not_before m (position_at line column) (inr (same, omega arith)))
 
-side_past : (side : Side) (line column : ℕ) (m : Mapping) → m.line ≡ line → end_on_side side column ≤ m.column → is_on_side side (position_at line column) m ≡ false
+side_past : (side : Side) (line column : ℕ) (m : Mapping) → m.line ≡ line → end_on_side side column ≤ m.column
+    → is_on_side side (position_at line column) m ≡ false
 side_past Before line column m same least = from_not_before (position_at line column) m (inr (sym same, least))
 side_past Through line column m same least = not_from_true _ (from_before (position_at line column) m (inr (sym same, omega arith)))
 
@@ -64,7 +66,8 @@ column_past : (first : Bool) (offset column end : ℕ) → cond first (end - off
 column_past true offset column end least = omega arith
 column_past false offset column end least = least
 
-module _ (bound : Bound) (part : Part) (m : Mapping) (line end column : ℕ) (on_line : part.line + line ≡ bound.line) (same : m.line ≡ line) (end_is : end ≡ end_in part bound line) (column_is : column ≡ m.column) where
+module _ (bound : Bound) (part : Part) (m : Mapping) (line end column : ℕ) (on_line : part.line + line ≡ bound.line) (same : m.line ≡ line)
+    (end_is : end ≡ end_in part bound line) (column_is : column ≡ m.column) where
   there : part.line + m.line ≡ bound.line
   there = ap (λ line. part.line + line) same ∙ on_line
 
@@ -72,7 +75,9 @@ module _ (bound : Bound) (part : Part) (m : Mapping) (line end column : ℕ) (on
   end_there = end_is ∙ ap (end_in part bound) (sym same)
 
   pub reaches_in : column < end → is_up_to bound (placed_mapping part m) ≡ true
-  reaches_in less = side_reaches bound.side bound.line bound.column (placed_mapping part m) there (column_before (eqb m.line 0) part.column m.column (end_of bound) (subst (λ end. m.column < end) end_there (omega arith)))
+  reaches_in less = side_reaches bound.side bound.line bound.column (placed_mapping part m) there
+      (column_before (eqb m.line 0) part.column m.column (end_of bound) (subst (λ end. m.column < end) end_there (omega arith)))
 
   pub past_in : end ≤ column → is_up_to bound (placed_mapping part m) ≡ false
-  past_in least = side_past bound.side bound.line bound.column (placed_mapping part m) there (column_past (eqb m.line 0) part.column m.column (end_of bound) (subst (λ end. end ≤ m.column) end_there (omega arith)))
+  past_in least = side_past bound.side bound.line bound.column (placed_mapping part m) there
+      (column_past (eqb m.line 0) part.column m.column (end_of bound) (subst (λ end. end ≤ m.column) end_there (omega arith)))

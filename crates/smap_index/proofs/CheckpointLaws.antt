@@ -35,16 +35,19 @@ module _ (number : ℕ) (part : Part) (m : Mapping) (after : Cursor) where
         name = added_off part.name_base after.name i;
       }
 
-  shown_with : (o : Origin) (name : Option ℕ) → o.name ≡ name → IsOriginAt after o → origin_of (kind_with name) (checkpoint_at number part m after) ≡ Some (placed_origin part o)
+  shown_with : (o : Origin) (name : Option ℕ) → o.name ≡ name → IsOriginAt after o
+      → origin_of (kind_with name) (checkpoint_at number part m after) ≡ Some (placed_origin part o)
   shown_with o None none at =
       let name = ap (option_map (λ n. part.name_base + n)) none in
       λ i. Some (record { source = part.source_base + sym at.source i; line = sym at.line i; column = sym at.column i; name = sym name i })
   shown_with o (Some n) some at =
       let same : n ≡ after.name = subst (λ name. IfSome name (λ n. n ≡ after.name)) some at.name in
-      let name : option_map (λ n. part.name_base + n) o.name ≡ Some (part.name_base + after.name) = ap (option_map (λ n. part.name_base + n)) some ∙ ap (λ n. Some (part.name_base + n)) same in
+      let name : option_map (λ n. part.name_base + n) o.name ≡ Some (part.name_base + after.name) =
+      ap (option_map (λ n. part.name_base + n)) some ∙ ap (λ n. Some (part.name_base + n)) same in
       λ i. Some (record { source = part.source_base + sym at.source i; line = sym at.line i; column = sym at.column i; name = sym name i })
 
-  shown_origin : (origin : Option Origin) → IfSome origin (IsOriginAt after) → origin_of (kind_of origin) (checkpoint_at number part m after) ≡ option_map (placed_origin part) origin
+  shown_origin : (origin : Option Origin) → IfSome origin (IsOriginAt after)
+      → origin_of (kind_of origin) (checkpoint_at number part m after) ≡ option_map (placed_origin part) origin
   shown_origin None at = refl
   shown_origin (Some o) at = shown_with o o.name refl at
 

@@ -1,6 +1,7 @@
 -- How a walk counts the segments of a line, from 0 anew at each checkpoint: the number that it gives is the mapping's
 -- number on its line, but for multiples of k. And what one mapping more adds to the marks of a part.
-use Rattle.std.proofs.Common.{◌≡◌, ℕ, ◌+◌, ◌-◌, ◌%◌, ◌<◌, List, [], ◌∷◌, ◌++◌, ◌&&◌, Bool, true, false, Some, length, map, take, drop, cond, suc, refl, ap, sym, subst, ◌∙◌, arith, eqb, ltb, ⊎_elim}
+use Rattle.std.proofs.Common.{◌≡◌, ℕ, ◌+◌, ◌-◌, ◌%◌, ◌<◌, List, [], ◌∷◌, ◌++◌, ◌&&◌, Bool, true, false, Some, length, map, take, drop, cond, suc}
+use Rattle.std.proofs.Common.{refl, ap, sym, subst, ◌∙◌, arith, eqb, ltb, ⊎_elim}
 use Rattle.std.specs.Prelude.{option_map}
 use Rattle.std.specs.List.{AllZip, slice_get}
 use Rattle.std.proofs.Math.Nat.{zero-mod}
@@ -49,7 +50,8 @@ counting_none k line number j list some is none m order =
     ap (λ b. cond (eqb line m.line && b) (number + 1) 0) within ∙ not_both (eqb line m.line) (number + 1)
     ∙ sym (ap (λ j. number_on_line (take j list) m % k) none ∙ zero-mod k)
 
-counting_more : (k line number after : ℕ) (before : List Mapping) (m : Mapping) → 0 < k → IsInOrder (before ++ m ∷ []) → IsCounting k line number before → after ≡ number_after k line number m.line → IsCounting k m.line after (before ++ m ∷ [])
+counting_more : (k line number after : ℕ) (before : List Mapping) (m : Mapping) → 0 < k → IsInOrder (before ++ m ∷ [])
+    → IsCounting k line number before → after ≡ number_after k line number m.line → IsCounting k m.line after (before ++ m ∷ [])
 counting_more k line number after before m some order so_far is follows ordered =
     let here : after ≡ number_on_line before m % k = is ∙ so_far m order in
     let counted = next_number before m follows (subst IsInOrder (append_assoc before (m ∷ []) (follows ∷ [])) ordered) in
@@ -77,7 +79,8 @@ as_many b true x y xs ys is same = ap (λ b. length (cond b (x ∷ xs) xs)) is �
 as_many b false x y xs ys is same = ap (λ b. length (cond b (x ∷ xs) xs)) is ∙ same
 
 -- a part moves its lines alike
-number_placed : (part : Part) (before : List Mapping) (m : Mapping) → number_on_line (map (placed_mapping part) before) (placed_mapping part m) ≡ number_on_line before m
+number_placed : (part : Part) (before : List Mapping) (m : Mapping)
+    → number_on_line (map (placed_mapping part) before) (placed_mapping part m) ≡ number_on_line before m
 number_placed part [] m = refl
 number_placed part (a ∷ before) m = as_many _ _ _ _ _ _ (same_line part.line a.line m.line) (number_placed part before m)
 
@@ -91,35 +94,46 @@ after_both : (b : Bool) (n : ℕ) (all front added : List ℕ) → all ≡ front
 after_both true n all front added is = ap (λ list. n ∷ list) is
 after_both false n all front added is = is
 
-pub marked_segments-push : (k : ℕ) (before xs : List Mapping) (m : Mapping) → marked_segments k before (xs ++ m ∷ []) ≡ marked_segments k before xs ++ marked_at k (before ++ xs) m
+pub marked_segments-push : (k : ℕ) (before xs : List Mapping) (m : Mapping)
+    → marked_segments k before (xs ++ m ∷ []) ≡ marked_segments k before xs ++ marked_at k (before ++ xs) m
 marked_segments-push k before [] m = ap (λ front. marked_at k front m) (sym (append-nil before))
 marked_segments-push k before (x ∷ xs) m =
     after_both (eqb (number_on_line before x % k) 0) (length before) _ _ _
-    (marked_segments-push k (before ++ x ∷ []) xs m ∙ ap (λ front. marked_segments k (before ++ x ∷ []) xs ++ marked_at k front m) (append_assoc before (x ∷ []) xs))
+    (marked_segments-push k (before ++ x ∷ []) xs m
+    ∙ ap (λ front. marked_segments k (before ++ x ∷ []) xs ++ marked_at k front m) (append_assoc before (x ∷ []) xs))
 
 -- the table is its start and one checkpoint for each marked segment of these that a part begins with
 abbrev pub IsMarked : Part → ℕ → ℕ → List Mapping → List Checkpoint → List Checkpoint → Type 0
-IsMarked part number k front start checkpoints = (added : List Checkpoint) × (checkpoints ≡ start ++ added) × AllZip (IsCheckpointIn part number) (marked_segments k [] front) added
+IsMarked part number k front start checkpoints =
+    (added : List Checkpoint) × (checkpoints ≡ start ++ added) × AllZip (IsCheckpointIn part number) (marked_segments k [] front) added
 
 -- before the first mapping it is its start
-pub marked_none : (part : Part) (number k : ℕ) (list : List Mapping) (checkpoints : List Checkpoint) (j : ℕ) → j ≡ 0 → IsMarked part number k (take j list) checkpoints checkpoints
-marked_none part number k list checkpoints j none = subst (λ j. IsMarked part number k (take j list) checkpoints checkpoints) (sym none) ([], sym (append-nil checkpoints), tt)
+pub marked_none : (part : Part) (number k : ℕ) (list : List Mapping) (checkpoints : List Checkpoint) (j : ℕ) → j ≡ 0
+    → IsMarked part number k (take j list) checkpoints checkpoints
+marked_none part number k list checkpoints j none =
+    subst (λ j. IsMarked part number k (take j list) checkpoints checkpoints) (sym none) ([], sym (append-nil checkpoints), tt)
 
 module _ (part : Part) (j n : ℕ) (m : Mapping) (after : Cursor) (next : IsNext part.text j m after) (counted : n ≡ j + 1) where
   ordered_to : IsInOrder (mappings_of part.text) → IsInOrder (take j (mappings_of part.text) ++ m ∷ [])
   ordered_to ordered =
       let list = mappings_of part.text in
-      subst IsInOrder (take_next list j m next.mapping_is) (front_in_order (take (j + 1) list) (drop (j + 1) list) (subst IsInOrder (sym (take-append-drop (j + 1) list)) ordered))
+      subst IsInOrder (take_next list j m next.mapping_is)
+      (front_in_order (take (j + 1) list) (drop (j + 1) list) (subst IsInOrder (sym (take-append-drop (j + 1) list)) ordered))
 
-  pub counting_next : (k line new_line number new_number : ℕ) → 0 < k → IsInOrder (mappings_of part.text) → IsCounting k line number (take j (mappings_of part.text)) → new_line ≡ m.line → new_number ≡ number_after k line number m.line → IsCounting k new_line new_number (take n (mappings_of part.text))
+  pub counting_next : (k line new_line number new_number : ℕ) → 0 < k → IsInOrder (mappings_of part.text)
+      → IsCounting k line number (take j (mappings_of part.text)) → new_line ≡ m.line → new_number ≡ number_after k line number m.line
+      → IsCounting k new_line new_number (take n (mappings_of part.text))
   counting_next k line new_line number new_number some ordered so_far line_is number_is =
       let list = mappings_of part.text in
       let longer : take n list ≡ take j list ++ m ∷ [] = ap (λ n. take n list) counted ∙ take_next list j m next.mapping_is in
       let there = counting_more k line number new_number (take j list) m some (ordered_to ordered) so_far number_is in
-      subst (λ front. IsCounting k new_line new_number front) (sym longer) (subst (λ line. IsCounting k line new_number (take j list ++ m ∷ [])) (sym line_is) there)
+      subst (λ front. IsCounting k new_line new_number front) (sym longer)
+      (subst (λ line. IsCounting k line new_number (take j list ++ m ∷ [])) (sym line_is) there)
 
   -- the number of the walk is that of the mapping at its place
-  pub number_there : (k line number new_number : ℕ) → IsInOrder (mappings_of part.text) → IsCounting k line number (take j (mappings_of part.text)) → new_number ≡ number_after k line number m.line → number_on_line (take j (placed part)) (placed_mapping part m) % k ≡ new_number
+  pub number_there : (k line number new_number : ℕ) → IsInOrder (mappings_of part.text)
+      → IsCounting k line number (take j (mappings_of part.text)) → new_number ≡ number_after k line number m.line
+      → number_on_line (take j (placed part)) (placed_mapping part m) % k ≡ new_number
   unfolding placed
   number_there k line number new_number ordered so_far number_is =
       let list = mappings_of part.text in
@@ -130,21 +144,31 @@ module _ (part : Part) (j n : ℕ) (m : Mapping) (after : Cursor) (next : IsNext
   unfolding placed
   there = slice_get-map (placed_mapping part) (mappings_of part.text) j ∙ ap (option_map (placed_mapping part)) next.mapping_is
 
-  pub marked_next : (k number : ℕ) (start old new : List Checkpoint) (new_number : ℕ) (state : Cursor) → after ≡ state → IsMappingAt after m → number_on_line (take j (placed part)) (placed_mapping part m) % k ≡ new_number → new ≡ cond (eqb new_number 0) (old ++ checkpoint_at number part m state ∷ []) old → IsMarked part number k (take j (placed part)) start old → IsMarked part number k (take n (placed part)) start new
+  pub marked_next : (k number : ℕ) (start old new : List Checkpoint) (new_number : ℕ) (state : Cursor) → after ≡ state → IsMappingAt after m
+      → number_on_line (take j (placed part)) (placed_mapping part m) % k ≡ new_number
+      → new ≡ cond (eqb new_number 0) (old ++ checkpoint_at number part m state ∷ []) old
+      → IsMarked part number k (take j (placed part)) start old → IsMarked part number k (take n (placed part)) start new
   marked_next k number start old new new_number state same at number_is pushed (added, is, zip) =
       let front = take j (placed part) in
       let here = placed_mapping part m in
       let point = checkpoint_at number part m state in
       let IsHere : List ℕ → List Checkpoint → Type 0 = AllZip (IsCheckpointIn part number) in
       let length_is : length front ≡ j = length-take-le j (placed part) (omega (arith, next.more, length-placed part)) in
-      let longer : marked_segments k [] (take n (placed part)) ≡ marked_segments k [] front ++ marked_at k front here = ap (marked_segments k []) (placed_next part j n m after next counted) ∙ marked_segments-push k [] front here in
+      let longer : marked_segments k [] (take n (placed part)) ≡ marked_segments k [] front ++ marked_at k front here =
+      ap (marked_segments k []) (placed_next part j n m after next counted) ∙ marked_segments-push k [] front here in
       ⊎_elim
       (λ zero_is.
       let e = ap (λ n. eqb n 0) number_is ∙ zero_is in
       let one : marked_at k front here ≡ j ∷ [] = cond-true _ (length front ∷ []) [] e ∙ ap (λ n. n ∷ []) length_is in
       let inside : IsCheckpointIn part number j point =
       subst (λ state. IsCheckpointIn part number j (checkpoint_at number part m state)) same
-      (record { number_is = refl; mapping_is = there ∙ ap Some (sym (shown_mapping number part m after at)); state_is = subst (IsAfter part.text (j + 1)) (sym (shown_state number part m after)) next.after }) in (
+      (record {
+        number_is = refl;
+        mapping_is = there
+            ∙ ap Some (sym (shown_mapping number part m after at));
+        state_is =
+            subst (IsAfter part.text (j + 1)) (sym (shown_state number part m after)) next.after;
+      }) in (
         added ++ point ∷ [],
         pushed ∙ cond-true _ _ _ zero_is ∙ ap (λ list. list ++ point ∷ []) is ∙ append_assoc start added (point ∷ []),
         subst (λ segments. IsHere segments (added ++ point ∷ [])) (sym (longer ∙ ap (λ last. marked_segments k [] front ++ last) one))
@@ -155,6 +179,7 @@ module _ (part : Part) (j n : ℕ) (m : Mapping) (after : Cursor) (next : IsNext
       let none : marked_at k front here ≡ [] = cond-false _ (length front ∷ []) [] e in (
         added,
         pushed ∙ cond-false _ _ _ other ∙ is,
-        subst (λ segments. IsHere segments added) (sym (longer ∙ ap (λ last. marked_segments k [] front ++ last) none ∙ append-nil (marked_segments k [] front))) zip,
+        subst (λ segments. IsHere segments added)
+            (sym (longer ∙ ap (λ last. marked_segments k [] front ++ last) none ∙ append-nil (marked_segments k [] front))) zip,
       ))
       (cases_Bool (eqb new_number 0))

@@ -1,5 +1,6 @@
 -- The first fault of some parts, for the loops that look for it.
-use Rattle.std.proofs.Common.{◌≡◌, ℕ, ◌+◌, ◌<◌, ◌≤◌, List, [], ◌∷◌, length, drop, suc, zero, cond, Bool, true, false, Option, Some, None, refl, ap, sym, ◌∙◌, arith, get_or, ⊎_elim, Bor}
+use Rattle.std.proofs.Common.{◌≡◌, ℕ, ◌+◌, ◌<◌, ◌≤◌, List, [], ◌∷◌, length, drop, suc, zero, cond, Bool, true, false, Option, Some, None, refl, ap}
+use Rattle.std.proofs.Common.{sym, ◌∙◌, arith, get_or, ⊎_elim, Bor}
 use Rattle.std.specs.Prelude.{MatchOption}
 use Rattle.std.specs.List.{HoldsAt, position_from, slice_get}
 use Rattle.std.specs.Option.{option_or, option_copied}
@@ -14,7 +15,8 @@ use Rattle.smap_index.specs.Private.Walk.{is_overlapping_next}
 -- ---- places
 
 -- where no element passes, the first does not, nor one after it
-pub none_from : {X : Type 0} (test : X → Bool) (i : ℕ) (x : X) (xs : List X) → position_from test i (x ∷ xs) ≡ None → (test x ≡ false) × (position_from test (i + 1) xs ≡ None)
+pub none_from : {X : Type 0} (test : X → Bool) (i : ℕ) (x : X) (xs : List X) → position_from test i (x ∷ xs) ≡ None
+    → (test x ≡ false) × (position_from test (i + 1) xs ≡ None)
 none_from test i x xs none =
     ⊎_elim
     (λ yes. absurd (cc (cond-true (test x) (Some i) (position_from test (i + 1) xs) yes, none)))
@@ -26,7 +28,8 @@ pub drop_at : {X : Type 0} (xs : List X) (i : ℕ) (x : X) → i < length xs →
 drop_at xs i x within is = drop_more xs i x within ∙ ap (λ y. y ∷ drop (i + 1) xs) (sym is)
 
 -- one place more, which is the first that passes where none before it did
-pub first_or : (before : Option ℕ) (passes : Bool) (i : ℕ) (after : Option ℕ) → option_or (option_or before (then_some passes i)) after ≡ option_or before (cond passes (Some i) after)
+pub first_or : (before : Option ℕ) (passes : Bool) (i : ℕ) (after : Option ℕ)
+    → option_or (option_or before (then_some passes i)) after ≡ option_or before (cond passes (Some i) after)
 first_or (Some b) passes i after = refl
 first_or None true i after = refl
 first_or None false i after = refl
@@ -67,12 +70,14 @@ module _ (test : Part × Part → Bool) (parts : List Part) where
 -- ---- a part and the next one
 
 -- what `get` gives
-pub copied_get : (got : Option (Bor Part)) (parts : List Part) (n : ℕ) → MatchOption got (length parts ≤ n) (λ x. (n < length parts) × HoldsAt (λ y. x.now ≡ y) parts n) → option_copied got ≡ slice_get parts n
+pub copied_get : (got : Option (Bor Part)) (parts : List Part) (n : ℕ)
+    → MatchOption got (length parts ≤ n) (λ x. (n < length parts) × HoldsAt (λ y. x.now ≡ y) parts n) → option_copied got ≡ slice_get parts n
 copied_get None parts n past = sym (slice_get_past parts n past)
 copied_get (Some x) parts n (within, is) = ap Some (is x.now) ∙ sym (slice_get-get_or parts n x.now within)
 
 pub overlap_step : (parts : List Part) (i n : ℕ) (part : Part) → n ≡ i + 1 → i < length parts → part ≡ get_or parts i part
-    → position_from is_overlapping n (neighbours (drop i parts)) ≡ cond (is_overlapping_next part (slice_get parts n)) (Some n) (position_from is_overlapping (n + 1) (neighbours (drop n parts)))
+    → position_from is_overlapping n (neighbours (drop i parts))
+    ≡ cond (is_overlapping_next part (slice_get parts n)) (Some n) (position_from is_overlapping (n + 1) (neighbours (drop n parts)))
 overlap_step parts i n part next within is =
     let after = position_from is_overlapping (n + 1) (neighbours (drop n parts)) in
     ⊎_elim

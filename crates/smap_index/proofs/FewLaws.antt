@@ -1,5 +1,6 @@
 -- There are few marks: at most one for each k segments, and one for each line that holds a segment.
-use Rattle.std.proofs.Common.{◌≡◌, ℕ, ◌+◌, ◌*◌, ◌/◌, ◌%◌, ◌<◌, ◌≤◌, suc, List, [], ◌∷◌, ◌++◌, length, map, filter, cond, true, refl, ap, sym, subst, ◌∙◌, arith, eqb, eq-eqb, ⊎_elim, inl, inr, ◌⊎◌}
+use Rattle.std.proofs.Common.{◌≡◌, ℕ, ◌+◌, ◌*◌, ◌/◌, ◌%◌, ◌<◌, ◌≤◌, suc, List, [], ◌∷◌, ◌++◌, length, map, filter, cond, true, refl, ap, sym, subst}
+use Rattle.std.proofs.Common.{◌∙◌, arith, eqb, eq-eqb, ⊎_elim, inl, inr, ◌⊎◌}
 use Rattle.std.proofs.Math.Nat.{mod-le, mul-le-mul_left, add-mul-div_left}
 use Rattle.std.proofs.lemmas.Nat.{le-div}
 use Rattle.std.proofs.lemmas.Bool.{cond-true, cond-false, cond_both, cases_Bool, eqb-true, or_cases, false_from_ne_true}
@@ -53,16 +54,19 @@ one_more k j next n lines new x marked positive which few =
 abbrev HoldsToo : Part → List Delta → List Mapping → Type 0
 HoldsToo part deltas mappings = (line : ℕ) → has_segment_on line deltas ≡ true → 0 < length (filter (λ (e : Mapping). eqb e.line (part.line + line)) mappings)
 
-holds_next : (part : Part) (deltas : List Delta) (mappings : List Mapping) (delta : Delta) (mapping : Mapping) → mapping.line ≡ part.line + delta.line → HoldsToo part deltas mappings → HoldsToo part (deltas ++ delta ∷ []) (mappings ++ mapping ∷ [])
+holds_next : (part : Part) (deltas : List Delta) (mappings : List Mapping) (delta : Delta) (mapping : Mapping)
+    → mapping.line ≡ part.line + delta.line → HoldsToo part deltas mappings → HoldsToo part (deltas ++ delta ∷ []) (mappings ++ mapping ∷ [])
 holds_next part deltas mappings delta mapping line_is holds line has =
     let on = λ (e : Mapping). eqb e.line (part.line + line) in
-    let both : length (filter on (mappings ++ mapping ∷ [])) ≡ length (filter on mappings) + length (filter on (mapping ∷ [])) = ap length (filter-append on mappings (mapping ∷ [])) ∙ length-append _ _ in
+    let both : length (filter on (mappings ++ mapping ∷ [])) ≡ length (filter on mappings) + length (filter on (mapping ∷ [])) =
+    ap length (filter-append on mappings (mapping ∷ [])) ∙ length-append _ _ in
     ⊎_elim
     (λ earlier. let some = holds line earlier in omega (arith, both, some))
     (λ last. ⊎_elim
     (λ is.
     let same : delta.line ≡ line = eqb-true _ _ is in
-    let one : length (filter on (mapping ∷ [])) ≡ 1 = ap length (cond-true (on mapping) (mapping ∷ []) [] (eq-eqb _ _ (line_is ∙ ap (λ line. part.line + line) same))) in
+    let one : length (filter on (mapping ∷ [])) ≡ 1 =
+    ap length (cond-true (on mapping) (mapping ∷ []) [] (eq-eqb _ _ (line_is ∙ ap (λ line. part.line + line) same))) in
     omega (arith, both, one))
     (λ is_not. absurd (cc))
     (or_cases _ _ last))
@@ -75,8 +79,10 @@ module _ (part : Part) (k : ℕ) (positive : 0 < k) where
   abbrev after : List Delta → List Delta → List Mapping
   after before deltas = map (placed_mapping part) (mappings_after before deltas)
 
-  few_after : (before : List Mapping) (last : Mapping) (earlier deltas : List Delta) → HoldsToo part earlier (before ++ last ∷ []) → IsInOrder (before ++ last ∷ after earlier deltas)
-      → k * length (marked_segments k (before ++ last ∷ []) (after earlier deltas)) ≤ length (after earlier deltas) + number_on_line before last % k + k * new_lines earlier deltas
+  few_after : (before : List Mapping) (last : Mapping) (earlier deltas : List Delta) → HoldsToo part earlier (before ++ last ∷ [])
+      → IsInOrder (before ++ last ∷ after earlier deltas)
+      → k * length (marked_segments k (before ++ last ∷ []) (after earlier deltas)) ≤ length (after earlier deltas) + number_on_line before
+      last % k + k * new_lines earlier deltas
   unfolding mapping_after
   few_after before last earlier [] holds order = omega arith
   few_after before last earlier (delta ∷ deltas) holds order =
@@ -84,9 +90,11 @@ module _ (part : Part) (k : ℕ) (positive : 0 < k) where
       let next = placed_mapping part (mapping_after earlier delta) in
       let rest = after (earlier ++ delta ∷ []) deltas in
       let ordered : IsInOrder (front ++ next ∷ rest) = subst IsInOrder (sym (append_assoc before (last ∷ []) (next ∷ rest))) order in
-      let up_to_next : IsInOrder (before ++ last ∷ next ∷ []) = front_in_order (before ++ last ∷ next ∷ []) rest (subst IsInOrder (sym (append_assoc before (last ∷ next ∷ []) rest)) order) in
+      let up_to_next : IsInOrder (before ++ last ∷ next ∷ []) =
+      front_in_order (before ++ last ∷ next ∷ []) rest (subst IsInOrder (sym (append_assoc before (last ∷ next ∷ []) rest)) order) in
       let number = next_number before last next up_to_next in
-      one_more k (number_on_line before last) (number_on_line front next) (length rest) (new_lines (earlier ++ delta ∷ []) deltas) (cond (has_segment_on delta.line earlier) 0 1) (length front) (marked_segments k (front ++ next ∷ []) rest) positive
+      one_more k (number_on_line before last) (number_on_line front next) (length rest) (new_lines (earlier ++ delta ∷ []) deltas)
+      (cond (has_segment_on delta.line earlier) 0 1) (length front) (marked_segments k (front ++ next ∷ []) rest) positive
       (⊎_elim
       (λ same. inl (number ∙ cond-true _ _ _ same))
       (λ other.
@@ -95,7 +103,8 @@ module _ (part : Part) (k : ℕ) (positive : 0 < k) where
       (cases_Bool (eqb last.line next.line)))
       (few_after front next (earlier ++ delta ∷ []) deltas (holds_next part earlier front delta next refl holds) ordered)
 
-  few_of : (deltas : List Delta) → IsInOrder (after [] deltas) → k * length (marked_segments k [] (after [] deltas)) ≤ length (after [] deltas) + k * new_lines [] deltas
+  few_of : (deltas : List Delta) → IsInOrder (after [] deltas)
+      → k * length (marked_segments k [] (after [] deltas)) ≤ length (after [] deltas) + k * new_lines [] deltas
   unfolding mapping_after
   few_of [] order = omega arith
   few_of (delta ∷ deltas) order =
@@ -113,14 +122,16 @@ module _ (part : Part) (k : ℕ) (positive : 0 < k) where
 
 -- ---- the marks of all parts
 
-few_from : (i : ℕ) (parts : List Part) (k : ℕ) → 0 < k → IsInOrder (joined parts) → k * length (marks_from i parts k) ≤ length (joined parts) + k * used_lines_in parts
+few_from : (i : ℕ) (parts : List Part) (k : ℕ) → 0 < k → IsInOrder (joined parts)
+    → k * length (marks_from i parts k) ≤ length (joined parts) + k * used_lines_in parts
 few_from i [] k positive order = omega arith
 few_from i (part ∷ parts) k positive order =
     let here = few_in_part part k positive (front_in_order (placed part) (joined parts) order) in
     let rest = few_from (i + 1) parts k positive (back_in_order (placed part) (joined parts) order) in
     let segments = length-append (placed part) (joined parts) in
     let number : length (marks_from i (part ∷ parts) k) ≡ length (marked_segments k [] (placed part)) + length (marks_from (i + 1) parts k) =
-    length-append (map (mark_in i) (marked_segments k [] (placed part))) (marks_from (i + 1) parts k) ∙ ap (λ n. n + length (marks_from (i + 1) parts k)) (length-map (marked_segments k [] (placed part)) (mark_in i)) in
+    length-append (map (mark_in i) (marked_segments k [] (placed part))) (marks_from (i + 1) parts k)
+    ∙ ap (λ n. n + length (marks_from (i + 1) parts k)) (length-map (marked_segments k [] (placed part)) (mark_in i)) in
     let lines = ap (λ n. k * n) (sum_by-cons (λ (p : Part). used_lines_of p.text) part parts) in
     let all = ap (λ n. k * n) number in
     omega (arith, here, rest, segments, lines, all)

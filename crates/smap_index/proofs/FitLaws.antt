@@ -1,6 +1,7 @@
 -- The running values of a part's text fit a checkpoint where no mapping of the part is past the limit: each is that of
 -- the last mapping that has it, or 0.
-use Rattle.std.proofs.Common.{◌≡◌, ℕ, ◌+◌, ◌<◌, ◌≤◌, ◌^◌, suc, zero, Bool, true, false, cond, eqb, List, [], ◌∷◌, ◌++◌, length, take, map, Option, Some, None, refl, ap, sym, subst, ◌∙◌, arith, append-nil, append_assoc, unwrap_or, ⊎_elim}
+use Rattle.std.proofs.Common.{◌≡◌, ℕ, ◌+◌, ◌<◌, ◌≤◌, ◌^◌, suc, zero, Bool, true, false, cond, eqb, List, [], ◌∷◌, ◌++◌, length, take, map, Option}
+use Rattle.std.proofs.Common.{Some, None, refl, ap, sym, subst, ◌∙◌, arith, append-nil, append_assoc, unwrap_or, ⊎_elim}
 use Rattle.std.specs.Prelude.{ℤ, pos, ◌+ℤ◌, option_map}
 use Rattle.std.specs.List.{list_any, slice_get}
 use Rattle.std.proofs.lemmas.Bool.{or_parts, cases_Bool, cond-true, cond-false, ltb-false, eqb-true, or_cases, both_ways}
@@ -44,23 +45,27 @@ module _ (part : Part) where
   abbrev Fit : List Delta → Type 0
   Fit deltas = (part.source_base + natural (total 1 deltas) < 2 ^ 32) × (part.name_base + natural (total 4 deltas) < 2 ^ 32)
 
-  name_more : (before : List Delta) (delta : Delta) (named : Bool) → has_origin delta.fields ≡ true → has_name delta.fields ≡ named → is_name_past_limit (option_map (λ n. part.name_base + n) (cond named (Some (natural (total 4 (before ++ delta ∷ [])))) None)) ≡ false
+  name_more : (before : List Delta) (delta : Delta) (named : Bool) → has_origin delta.fields ≡ true → has_name delta.fields ≡ named
+      → is_name_past_limit (option_map (λ n. part.name_base + n) (cond named (Some (natural (total 4 (before ++ delta ∷ [])))) None)) ≡ false
       → part.name_base + natural (total 4 before) < 2 ^ 32 → part.name_base + natural (total 4 (before ++ delta ∷ [])) < 2 ^ 32
   name_more before delta true some named within fit = below (part.name_base + natural (total 4 (before ++ delta ∷ []))) within
   name_more before delta false some named within fit =
       let none : difference 4 delta ≡ pos 0 = cond-true (has_origin delta.fields) _ _ some ∙ ap (λ o. unwrap_or o (pos 0)) (no_fifth delta.fields some named) in
       subst (λ t. part.name_base + natural t < 2 ^ 32) (sym (total_stays 4 before delta none)) fit
 
-  fit_more : (before : List Delta) (delta : Delta) → is_mapping_past_limit (placed_mapping part (mapping_after before delta)) ≡ false → Fit before → Fit (before ++ delta ∷ [])
+  fit_more : (before : List Delta) (delta : Delta) → is_mapping_past_limit (placed_mapping part (mapping_after before delta)) ≡ false
+      → Fit before → Fit (before ++ delta ∷ [])
   unfolding mapping_after values_on
   fit_more before delta within fit =
       let after = before ++ delta ∷ [] in
       let name : Option ℕ = cond (has_name delta.fields) (Some (natural (total 4 after))) None in
       let origin : Origin = record { source = natural (total 1 after); line = natural (total 2 after); column = natural (total 3 after); name = name } in
-      let inside : is_origin_past_limit (option_map (placed_origin part) (cond (has_origin delta.fields) (Some origin) None)) ≡ false = (or_parts _ _ within).1 in
+      let inside : is_origin_past_limit (option_map (placed_origin part) (cond (has_origin delta.fields) (Some origin) None)) ≡ false =
+      (or_parts _ _ within).1 in
       ⊎_elim
       (λ some.
-      let there : is_origin_past_limit (Some (placed_origin part origin)) ≡ false = ap (λ o. is_origin_past_limit (option_map (placed_origin part) o)) (sym (cond-true (has_origin delta.fields) (Some origin) None some)) ∙ inside in
+      let there : is_origin_past_limit (Some (placed_origin part origin)) ≡ false =
+      ap (λ o. is_origin_past_limit (option_map (placed_origin part) o)) (sym (cond-true (has_origin delta.fields) (Some origin) None some)) ∙ inside in
       let numbers = or_parts _ _ there in (
         below (part.source_base + natural (total 1 after)) (or_parts _ _ (or_parts _ _ numbers.0).0).0,
         name_more before delta (has_name delta.fields) some refl numbers.1 fit.1,
@@ -71,7 +76,8 @@ module _ (part : Part) where
       ))
       (cases_Bool (has_origin delta.fields))
 
-  fit_all : (before deltas : List Delta) (j : ℕ) → list_any is_mapping_past_limit (take j (map (placed_mapping part) (mappings_after before deltas))) ≡ false → Fit before → Fit (before ++ take j deltas)
+  fit_all : (before deltas : List Delta) (j : ℕ)
+      → list_any is_mapping_past_limit (take j (map (placed_mapping part) (mappings_after before deltas))) ≡ false → Fit before → Fit (before ++ take j deltas)
   fit_all before [] zero within fit = subst Fit (sym (append-nil before)) fit
   fit_all before [] (suc j) within fit = subst Fit (sym (append-nil before)) fit
   fit_all before (delta ∷ deltas) zero within fit = subst Fit (sym (append-nil before)) fit
@@ -79,7 +85,8 @@ module _ (part : Part) where
       let parts = or_parts _ _ within in
       subst Fit (append_assoc before (delta ∷ []) (take j deltas)) (fit_all (before ++ delta ∷ []) deltas j parts.1 (fit_more before delta parts.0 fit))
 
-  pub fitting : (j : ℕ) (state : Cursor) → IsAfter part.text j state → length part.text ≤ most_text_bytes → list_any is_mapping_past_limit (take j (placed part)) ≡ false → part.source_base < 2 ^ 32 → part.name_base < 2 ^ 32 → IsFitting part state
+  pub fitting : (j : ℕ) (state : Cursor) → IsAfter part.text j state → length part.text ≤ most_text_bytes
+      → list_any is_mapping_past_limit (take j (placed part)) ≡ false → part.source_base < 2 ^ 32 → part.name_base < 2 ^ 32 → IsFitting part state
   unfolding placed mappings_of values_on
   fitting j state after short within source_fits name_fits =
       let fit = fit_all [] (deltas_of part.text) j within (omega arith, omega arith) in

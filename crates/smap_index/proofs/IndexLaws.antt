@@ -44,17 +44,20 @@ module _ (index : IndexContents) (is : IsIndex index) where
 
   -- there are as many checkpoints as marks
   pub as_many : (seen : IndexContents) → index ≡ seen → length index.checkpoints ≡ length (marks seen.parts seen.k)
-  as_many seen same = AllZip-long (IsCheckpointOf index.parts) (marks index.parts index.k) index.checkpoints is.holds.marked ∙ ap (λ (i : IndexContents). length (marks i.parts i.k)) same
+  as_many seen same = AllZip-long (IsCheckpointOf index.parts) (marks index.parts index.k) index.checkpoints is.holds.marked
+      ∙ ap (λ (i : IndexContents). length (marks i.parts i.k)) same
 
   -- they are few
-  pub bounded : (seen : IndexContents) → index ≡ seen → (count : ℕ) → count ≡ length index.checkpoints → count ≤ length (joined seen.parts) / seen.k + used_lines_in seen.parts
+  pub bounded : (seen : IndexContents) → index ≡ seen → (count : ℕ) → count ≡ length index.checkpoints
+      → count ≤ length (joined seen.parts) / seen.k + used_lines_in seen.parts
   bounded seen same count is_length =
       let few = few_marks index.parts index.k interval_within.0 is.holds.ordered in
       let here : count ≤ length (joined index.parts) / index.k + used_lines_in index.parts = omega (arith, few, is_length ∙ as_many index refl) in
       subst (λ (i : IndexContents). count ≤ length (joined i.parts) / i.k + used_lines_in i.parts) same here
 
   -- so what is compared is bounded by the number of marks
-  pub compared : (seen : IndexContents) → index ≡ seen → (next count : ℕ) → ((b : ℕ) → length index.checkpoints < 2 ^ b → next ≤ count + b) → (b : ℕ) → length (marks seen.parts seen.k) < 2 ^ b → next ≤ count + b
+  pub compared : (seen : IndexContents) → index ≡ seen → (next count : ℕ) → ((b : ℕ) → length index.checkpoints < 2 ^ b → next ≤ count + b)
+      → (b : ℕ) → length (marks seen.parts seen.k) < 2 ^ b → next ≤ count + b
   compared seen same next count few b below = few b (subst (λ n. n < 2 ^ b) (sym (as_many seen same)) below)
 
   pub mappings_in_order : (seen : IndexContents) → index ≡ seen → IsInOrder (joined seen.parts)
@@ -64,7 +67,8 @@ module _ (index : IndexContents) (is : IsIndex index) where
 
   module _ (bound : Bound) where
     -- where no checkpoint stands up to it, the first past it is the next checkpoint's mapping
-    pub first_of_checkpoints : (seen : IndexContents) → index ≡ seen → last_checkpoint bound index.checkpoints ≡ None → option_map mapping_of (next_checkpoint bound index.checkpoints) ≡ first_past bound (joined seen.parts)
+    pub first_of_checkpoints : (seen : IndexContents) → index ≡ seen → last_checkpoint bound index.checkpoints ≡ None
+        → option_map mapping_of (next_checkpoint bound index.checkpoints) ≡ first_past bound (joined seen.parts)
     first_of_checkpoints seen same none =
         sym (slice_get-map mapping_of index.checkpoints (front_up_to bound (mappings_at index.checkpoints)))
         ∙ sym (none_resumed bound index.parts index.k (joined index.parts) index.checkpoints checkpoints_tiled none).1
@@ -78,7 +82,8 @@ module _ (index : IndexContents) (is : IsIndex index) where
       part_within = slice_get_within index.parts checkpoint.part found.part found.part_is
 
       -- it is so too where the last one that does stands on another line
-      pub first_elsewhere : (seen : IndexContents) → index ≡ seen → ((mapping_of checkpoint).line ≡ bound.line → ⊥) → option_map mapping_of (next_checkpoint bound index.checkpoints) ≡ first_past bound (joined seen.parts)
+      pub first_elsewhere : (seen : IndexContents) → index ≡ seen → ((mapping_of checkpoint).line ≡ bound.line → ⊥)
+          → option_map mapping_of (next_checkpoint bound index.checkpoints) ≡ first_past bound (joined seen.parts)
       first_elsewhere seen same other =
           sym (slice_get-map mapping_of index.checkpoints (front_up_to bound (mappings_at index.checkpoints)))
           ∙ sym (found.first_elsewhere other)
@@ -105,12 +110,14 @@ module _ (index : IndexContents) (is : IsIndex index) where
 
         -- the first past the bound is decoded after it, or is the next checkpoint's mapping
         pub first_after : (seen : IndexContents) → index ≡ seen → (decoded : Option Mapping)
-            → ((j : ℕ) → IsAfter part.text j (state_of part checkpoint) → decoded ≡ on_line bound.line (first_past bound (take (index.k - 1) (drop j (placed part)))))
+            → ((j : ℕ) → IsAfter part.text j (state_of part checkpoint)
+            → decoded ≡ on_line bound.line (first_past bound (take (index.k - 1) (drop j (placed part)))))
             → option_or decoded (option_map mapping_of (next_checkpoint bound index.checkpoints)) ≡ first_past bound (joined seen.parts)
         first_after seen same decoded is_first =
             let checkpoints = mappings_at index.checkpoints in
             let is_here = is_first (found.segment + 1) state_after in
-            let moved = ap (λ (part : Part). on_line bound.line (first_past bound (take (index.k - 1) (drop (found.segment + 1) (placed part))))) (sym same_part) in
+            let moved = ap (λ (part : Part). on_line bound.line
+            (first_past bound (take (index.k - 1) (drop (found.segment + 1) (placed part))))) (sym same_part) in
             ap (option_or decoded) (sym (slice_get-map mapping_of index.checkpoints (front_up_to bound checkpoints)))
             ∙ ap (λ first. option_or first (first_past bound checkpoints)) (is_here ∙ moved)
             ∙ sym found.first_is ∙ ap (λ (i : IndexContents). first_past bound (joined i.parts)) same
@@ -119,25 +126,32 @@ module _ (index : IndexContents) (is : IsIndex index) where
 
   module _ (line column : ℕ) where
     -- nothing answers, where no checkpoint is at the position or before it
-    pub none_at_or_before : (seen : IndexContents) → index ≡ seen → last_checkpoint (through line column) index.checkpoints ≡ None → answer_at_or_before (joined seen.parts) line column ≡ Nothing
+    pub none_at_or_before : (seen : IndexContents) → index ≡ seen → last_checkpoint (through line column) index.checkpoints ≡ None
+        → answer_at_or_before (joined seen.parts) line column ≡ Nothing
     none_at_or_before seen same none =
         ap (λ (i : IndexContents). answer_at_or_before (joined i.parts) line column) (sym same)
         ∙ none_answers line column index.parts index.k (joined index.parts) index.checkpoints is.holds.ordered checkpoints_tiled none
 
     module _ (checkpoint : Checkpoint) (last : Some checkpoint ≡ last_checkpoint (through line column) index.checkpoints) where
       -- nothing answers, where the last one stands on another line
-      pub none_on_its_line : (seen : IndexContents) → index ≡ seen → ((mapping_of checkpoint).line ≡ line → ⊥) → answer_at_or_before (joined seen.parts) line column ≡ Nothing
+      pub none_on_its_line : (seen : IndexContents) → index ≡ seen → ((mapping_of checkpoint).line ≡ line → ⊥)
+          → answer_at_or_before (joined seen.parts) line column ≡ Nothing
       none_on_its_line seen same other =
           ap (λ (i : IndexContents). answer_at_or_before (joined i.parts) line column) (sym same)
-          ∙ none_on_line line column index.parts index.k (joined index.parts) index.checkpoints checkpoint is.holds.ordered (found (through line column) checkpoint last) other
+          ∙ none_on_line line column index.parts index.k (joined index.parts) index.checkpoints checkpoint is.holds.ordered
+          (found (through line column) checkpoint last) other
 
       -- what is last after it answers, where it stands on the line
-      pub last_answers_after : (part : Part) (read : part ≡ get_or index.parts checkpoint.part part) (seen : IndexContents) → index ≡ seen → (mapping_of checkpoint).line ≡ line → (m : Mapping)
-          → ((j : ℕ) → IsAfter part.text j (state_of part checkpoint) → Some m ≡ last_from (through line column) (Some (mapping_of checkpoint)) (take (index.k - 1) (drop j (placed part))))
+      pub last_answers_after : (part : Part) (read : part ≡ get_or index.parts checkpoint.part part) (seen : IndexContents) → index ≡ seen
+          → (mapping_of checkpoint).line ≡ line → (m : Mapping)
+          → ((j : ℕ) → IsAfter part.text j (state_of part checkpoint)
+          → Some m ≡ last_from (through line column) (Some (mapping_of checkpoint)) (take (index.k - 1) (drop j (placed part))))
           → answer_of m ≡ answer_at_or_before (joined seen.parts) line column
       last_answers_after part read seen same on_line m is_last =
           let here = found (through line column) checkpoint last in
           let is_here = is_last (here.segment + 1) (state_after (through line column) checkpoint last part read) in
-          let moved = ap (λ (part : Part). last_from (through line column) (Some (mapping_of checkpoint)) (take (index.k - 1) (drop (here.segment + 1) (placed part)))) (sym (same_part (through line column) checkpoint last part read)) in
-          sym (last_answers_on_line line column index.parts index.k (joined index.parts) index.checkpoints checkpoint is.holds.ordered here on_line m (is_here ∙ moved))
+          let moved = ap (λ (part : Part). last_from (through line column) (Some (mapping_of checkpoint))
+          (take (index.k - 1) (drop (here.segment + 1) (placed part)))) (sym (same_part (through line column) checkpoint last part read)) in
+          sym (last_answers_on_line line column index.parts index.k (joined index.parts) index.checkpoints checkpoint is.holds.ordered here
+          on_line m (is_here ∙ moved))
           ∙ ap (λ (i : IndexContents). answer_at_or_before (joined i.parts) line column) same

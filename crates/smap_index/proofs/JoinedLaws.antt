@@ -31,7 +31,8 @@ module _ (parts : List Part) (part : Part) (rest : List Part) (is : parts ≡ pa
   first_state at same = subst (IsAfter part.text n) (sym same) (subst (λ parts. IsAtFront parts n state) is walk.there)
 
   both_in_range : (list_any is_mapping_past_limit (placed part) ≡ false) × (list_any is_mapping_past_limit (joined rest) ≡ false)
-  both_in_range = or_parts _ _ (sym (list_any-append is_mapping_past_limit (placed part) (joined rest)) ∙ ap (λ parts. list_any is_mapping_past_limit (joined parts)) (sym is) ∙ walk.in_range)
+  both_in_range = or_parts _ _ (sym (list_any-append is_mapping_past_limit (placed part) (joined rest))
+      ∙ ap (λ parts. list_any is_mapping_past_limit (joined parts)) (sym is) ∙ walk.in_range)
 
   pub first_in_range : list_any is_mapping_past_limit (placed part) ≡ false
   first_in_range = both_in_range.0
@@ -44,7 +45,8 @@ module _ (parts : List Part) (part : Part) (rest : List Part) (is : parts ≡ pa
       in_range = walk.in_range;
     }
 
-    pub first_given : (there : Mapping) → cond (is_mapping_past_limit (placed_mapping part m)) None (Some (placed_mapping part m)) ≡ Some there → left_of parts n ≡ there ∷ left_of parts more
+    pub first_given : (there : Mapping) → cond (is_mapping_past_limit (placed_mapping part m)) None (Some (placed_mapping part m))
+        ≡ Some there → left_of parts n ≡ there ∷ left_of parts more
     first_given there placed_is =
         let same = same_place (placed_mapping part m) there placed_is in
         ap (λ parts. left_of parts n) is ∙ ap (λ list. list ++ joined rest) (next_left part n m after next)
@@ -67,5 +69,6 @@ module _ (parts : List Part) (part : Part) (rest : List Part) (is : parts ≡ pa
 abbrev pub IsFront : List Mapping → List Mapping → List Mapping → Type 0
 IsFront front left all = front ++ left ≡ all
 
-pub front_next : (front left all : List Mapping) (m : Mapping) (rest : List Mapping) → IsFront front left all → left ≡ m ∷ rest → IsFront (front ++ m ∷ []) rest all
+pub front_next : (front left all : List Mapping) (m : Mapping) (rest : List Mapping) → IsFront front left all → left ≡ m ∷ rest
+    → IsFront (front ++ m ∷ []) rest all
 front_next front left all m rest is first = append_assoc front (m ∷ []) rest ∙ ap (λ left. front ++ left) (sym first) ∙ is

@@ -1,5 +1,6 @@
 -- The last mapping at the front of a list and the first after it, one mapping of the list after another.
-use Rattle.std.proofs.Common.{◌≡◌, ℕ, ◌+◌, suc, zero, List, [], ◌∷◌, ◌++◌, length, take, drop, Option, Some, false, true, refl, ap, sym, ◌∙◌, arith, one-add, ⊎_elim}
+use Rattle.std.proofs.Common.{◌≡◌, ℕ, ◌+◌, suc, zero, List, [], ◌∷◌, ◌++◌, length, take, drop, Option, Some, false, true, refl, ap, sym, ◌∙◌, arith}
+use Rattle.std.proofs.Common.{one-add, ⊎_elim}
 use Rattle.std.specs.Prelude.{option_map}
 use Rattle.std.specs.List.{slice_get, last_or}
 use Rattle.std.specs.Option.{option_or}
@@ -54,10 +55,12 @@ drop_all [] = refl
 drop_all (x ∷ xs) = drop_all xs
 
 -- the mapping of the next segment is the first that is left
-pub next_left : (part : Part) (n : ℕ) (m : Mapping) (after : Cursor) → IsNext part.text n m after → drop n (placed part) ≡ placed_mapping part m ∷ drop (n + 1) (placed part)
+pub next_left : (part : Part) (n : ℕ) (m : Mapping) (after : Cursor) → IsNext part.text n m after
+    → drop n (placed part) ≡ placed_mapping part m ∷ drop (n + 1) (placed part)
 unfolding placed
 next_left part n m after next =
-    drop_next (placed part) n (placed_mapping part m) (slice_get-map (placed_mapping part) (mappings_of part.text) n ∙ ap (option_map (placed_mapping part)) next.mapping_is)
+    drop_next (placed part) n (placed_mapping part m)
+    (slice_get-map (placed_mapping part) (mappings_of part.text) n ∙ ap (option_map (placed_mapping part)) next.mapping_is)
 
 -- after the last segment none is left
 pub none_left : (part : Part) (n : ℕ) → n ≡ segment_count part.text → drop n (placed part) ≡ []

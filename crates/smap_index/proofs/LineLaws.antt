@@ -1,5 +1,6 @@
 -- A walk along the bound's line finds the last mapping at the front that stands up to the bound, and the first after it.
-use Rattle.std.proofs.Common.{◌≡◌, ℕ, ◌+◌, ◌-◌, ◌<◌, ◌≤◌, suc, zero, true, false, List, [], ◌∷◌, length, take, drop, map, Option, Some, None, refl, sym, ap, subst, ◌∙◌, arith, ⊎_elim}
+use Rattle.std.proofs.Common.{◌≡◌, ℕ, ◌+◌, ◌-◌, ◌<◌, ◌≤◌, suc, zero, true, false, List, [], ◌∷◌, length, take, drop, map, Option, Some, None, refl}
+use Rattle.std.proofs.Common.{sym, ap, subst, ◌∙◌, arith, ⊎_elim}
 use Rattle.std.specs.Prelude.{◌⊎◌, IfSome, MatchOption, option_map}
 use Rattle.std.specs.List.{slice_get, last_or, list_any}
 use Rattle.std.proofs.lemmas.Bool.{cond-true, cond-false, cases_lt, false_from_ne_true}
@@ -56,7 +57,8 @@ map_there f (a ∷ xs) (suc i) x there = map_there f xs i x there
 
 module _ (bound : Bound) where
   -- the front ends where all before a place stand up to the bound and what is there does not
-  front_is : (xs : List Mapping) (n : ℕ) → ((i : ℕ) → i < n → (m : Mapping) × (slice_get xs i ≡ Some m) × (is_up_to bound m ≡ true)) → ((m : Mapping) → slice_get xs n ≡ Some m → is_up_to bound m ≡ false) → front_up_to bound xs ≡ n
+  front_is : (xs : List Mapping) (n : ℕ) → ((i : ℕ) → i < n → (m : Mapping) × (slice_get xs i ≡ Some m) × (is_up_to bound m ≡ true))
+      → ((m : Mapping) → slice_get xs n ≡ Some m → is_up_to bound m ≡ false) → front_up_to bound xs ≡ n
   front_is [] zero before past = refl
   front_is [] (suc n) before past = let first = before 0 (omega arith) in absurd (let e = first.1 in cc)
   front_is (x ∷ xs) zero before past = cond-false _ _ _ (past x refl)
@@ -73,15 +75,20 @@ there_is (x ∷ xs) zero less = (x, refl)
 there_is (x ∷ xs) (suc i) less = there_is xs i (omega arith)
 
 -- where no mapping of a part is past the limit, this one is not
-in_range_at : (part : Part) (i : ℕ) (m : Mapping) → list_any is_mapping_past_limit (placed part) ≡ false → slice_get (mappings_of part.text) i ≡ Some m → is_mapping_past_limit (placed_mapping part m) ≡ false
+in_range_at : (part : Part) (i : ℕ) (m : Mapping) → list_any is_mapping_past_limit (placed part) ≡ false
+    → slice_get (mappings_of part.text) i ≡ Some m → is_mapping_past_limit (placed_mapping part m) ≡ false
 unfolding placed
-in_range_at part i m none there = none_at is_mapping_past_limit (placed part) i (placed_mapping part m) none (map_there (placed_mapping part) (mappings_of part.text) i m there)
+in_range_at part i m none there = none_at is_mapping_past_limit (placed part) i (placed_mapping part m) none
+    (map_there (placed_mapping part) (mappings_of part.text) i m there)
 
-module _ (part : Part) (j : ℕ) (start : Cursor) (end most : ℕ) (walk : LineWalk) (walked : IsWalked part.text j start end most walk) (none : list_any is_mapping_past_limit (placed part) ≡ false) where
+module _ (part : Part) (j : ℕ) (start : Cursor) (end most : ℕ) (walk : LineWalk) (walked : IsWalked part.text j start end most walk)
+    (none : list_any is_mapping_past_limit (placed part) ≡ false) where
   pub last_in_range : 0 < walk.passed → is_mapping_past_limit (placed_mapping part (mapping_at walk.kind walk.state)) ≡ false
   last_in_range some = in_range_at part (j + walk.passed - 1) (mapping_at walk.kind walk.state) none (walked.passed.last some)
 
-  stop_in_range : (next : Option (Kind × Cursor)) → MatchOption next ((walk.passed ≡ most) ⊎ IsOnLaterLine part.text (j + walk.passed) start.line) (λ next. IsStop part.text (j + walk.passed) start end (mapping_at next.0 next.1))
+  stop_in_range : (next : Option (Kind × Cursor))
+      → MatchOption next ((walk.passed ≡ most) ⊎ IsOnLaterLine part.text (j + walk.passed) start.line)
+      (λ next. IsStop part.text (j + walk.passed) start end (mapping_at next.0 next.1))
       → IfSome next (λ next. is_mapping_past_limit (placed_mapping part (mapping_at next.0 next.1)) ≡ false)
   stop_in_range None stops = tt
   stop_in_range (Some next) stops = in_range_at part (j + walk.passed) (mapping_at next.0 next.1) none stops.mapping_is
@@ -89,21 +96,28 @@ module _ (part : Part) (j : ℕ) (start : Cursor) (end most : ℕ) (walk : LineW
   pub next_in_range : IfSome walk.next (λ next. is_mapping_past_limit (placed_mapping part (mapping_at next.0 next.1)) ≡ false)
   next_in_range = stop_in_range walk.next walked.stops
 
-module _ (bound : Bound) (part : Part) (j : ℕ) (start : Cursor) (end most : ℕ) (walk : LineWalk) (walked : IsWalked part.text j start end most walk) (few : decoded_in walk ≤ most) (same : part.line + start.line ≡ bound.line) (end_is : end ≡ end_in part bound start.line) where
-  get : (i : ℕ) (m : Mapping) → i < most → slice_get (mappings_of part.text) (j + i) ≡ Some m → slice_get (take most (drop j (placed part))) i ≡ Some (placed_mapping part m)
+module _ (bound : Bound) (part : Part) (j : ℕ) (start : Cursor) (end most : ℕ) (walk : LineWalk)
+    (walked : IsWalked part.text j start end most walk) (few : decoded_in walk ≤ most) (same : part.line + start.line ≡ bound.line)
+    (end_is : end ≡ end_in part bound start.line) where
+  get : (i : ℕ) (m : Mapping) → i < most → slice_get (mappings_of part.text) (j + i) ≡ Some m
+      → slice_get (take most (drop j (placed part))) i ≡ Some (placed_mapping part m)
   unfolding placed
   get i m less there = take_there most _ i _ less (dropped j (placed part) i ∙ map_there (placed_mapping part) (mappings_of part.text) (j + i) m there)
 
-  got : (i : ℕ) (p : Mapping) → slice_get (take most (drop j (placed part))) i ≡ Some p → (i < most) × ((m : Mapping) × (slice_get (mappings_of part.text) (j + i) ≡ Some m) × (placed_mapping part m ≡ p))
+  got : (i : ℕ) (p : Mapping) → slice_get (take most (drop j (placed part))) i ≡ Some p
+      → (i < most) × ((m : Mapping) × (slice_get (mappings_of part.text) (j + i) ≡ Some m) × (placed_mapping part m ≡ p))
   unfolding placed
   got i p there =
       let at = taken most (drop j (placed part)) i p there in
       (at.0, mapped (placed_mapping part) (mappings_of part.text) (j + i) p (sym (dropped j (placed part) i) ∙ at.1))
 
   later_past : (m : Mapping) → start.line < m.line → is_up_to bound (placed_mapping part m) ≡ false
-  later_past m later = false_from_ne_true _ (λ reached. let line : part.line + m.line ≤ bound.line = line_up_to bound (placed_mapping part m) reached in omega arith)
+  later_past m later = false_from_ne_true _
+      (λ reached. let line : part.line + m.line ≤ bound.line = line_up_to bound (placed_mapping part m) reached in omega arith)
 
-  stop_past : (next : Option (Kind × Cursor)) → MatchOption next ((walk.passed ≡ most) ⊎ IsOnLaterLine part.text (j + walk.passed) start.line) (λ next. IsStop part.text (j + walk.passed) start end (mapping_at next.0 next.1))
+  stop_past : (next : Option (Kind × Cursor))
+      → MatchOption next ((walk.passed ≡ most) ⊎ IsOnLaterLine part.text (j + walk.passed) start.line)
+      (λ next. IsStop part.text (j + walk.passed) start end (mapping_at next.0 next.1))
       → walk.passed < most → (m : Mapping) → slice_get (mappings_of part.text) (j + walk.passed) ≡ Some m → is_up_to bound (placed_mapping part m) ≡ false
   stop_past None stops less m there = ⊎_elim (λ all. absurd (omega (arith, all, less))) (λ later. later_past m (later m there)) stops
   stop_past (Some next) stops less m there =
@@ -127,27 +141,34 @@ module _ (bound : Bound) (part : Part) (j : ℕ) (start : Cursor) (end most : �
   none_passed : (e : Mapping) → walk.passed ≡ 0 → last_from bound (Some e) (take most (drop j (placed part))) ≡ Some e
   none_passed e none = ap (λ n. last_or (Some e) (take n (take most (drop j (placed part))))) (front ∙ none)
 
-  last_passed : (e : Mapping) → 0 < walk.passed → last_from bound (Some e) (take most (drop j (placed part))) ≡ Some (placed_mapping part (mapping_at walk.kind walk.state))
+  last_passed : (e : Mapping) → 0 < walk.passed
+      → last_from bound (Some e) (take most (drop j (placed part))) ≡ Some (placed_mapping part (mapping_at walk.kind walk.state))
   last_passed e some =
       let back : walk.passed ≡ walk.passed - 1 + 1 = omega arith in
       let place : j + (walk.passed - 1) ≡ j + walk.passed - 1 = omega arith in
       ap (λ n. last_or (Some e) (take n (take most (drop j (placed part))))) (front ∙ back)
-      ∙ last_taken (Some e) (take most (drop j (placed part))) (walk.passed - 1) _ (get (walk.passed - 1) _ (omega (arith, walked.few)) (ap (slice_get (mappings_of part.text)) place ∙ walked.passed.last some))
+      ∙ last_taken (Some e) (take most (drop j (placed part))) (walk.passed - 1) _
+      (get (walk.passed - 1) _ (omega (arith, walked.few)) (ap (slice_get (mappings_of part.text)) place ∙ walked.passed.last some))
 
   -- so the last mapping that the walk passed, and where it passed none, this one, is the last that stands up to the bound
-  pub last_found : (e last : Mapping) → (walk.passed ≡ 0 → last ≡ e) → (0 < walk.passed → last ≡ placed_mapping part (mapping_at walk.kind walk.state)) → Some last ≡ last_from bound (Some e) (take most (drop j (placed part)))
+  pub last_found : (e last : Mapping) → (walk.passed ≡ 0 → last ≡ e)
+      → (0 < walk.passed → last ≡ placed_mapping part (mapping_at walk.kind walk.state))
+      → Some last ≡ last_from bound (Some e) (take most (drop j (placed part)))
   last_found e last none some =
       ⊎_elim
       (λ (more : 0 < walk.passed). ap Some (some more) ∙ sym (last_passed e more))
       (λ (least : walk.passed ≤ 0). let zero : walk.passed ≡ 0 = omega arith in ap Some (none zero) ∙ sym (none_passed e zero))
       (cases_lt 0 walk.passed)
 
-  first_there : (first : Option Mapping) → slice_get (take most (drop j (placed part))) walk.passed ≡ first → (next : Option (Kind × Cursor)) → decoded_with walk.passed next ≤ most
-      → MatchOption next ((walk.passed ≡ most) ⊎ IsOnLaterLine part.text (j + walk.passed) start.line) (λ next. IsStop part.text (j + walk.passed) start end (mapping_at next.0 next.1))
+  first_there : (first : Option Mapping) → slice_get (take most (drop j (placed part))) walk.passed ≡ first
+      → (next : Option (Kind × Cursor)) → decoded_with walk.passed next ≤ most
+      → MatchOption next ((walk.passed ≡ most) ⊎ IsOnLaterLine part.text (j + walk.passed) start.line)
+      (λ next. IsStop part.text (j + walk.passed) start end (mapping_at next.0 next.1))
       → on_line bound.line first ≡ option_map (λ next. placed_mapping part (mapping_at next.0 next.1)) next
   first_there first is (Some next) within stops =
       let there = get walk.passed (mapping_at next.0 next.1) (omega (arith, within)) stops.mapping_is in
-      ap (on_line bound.line) (sym is ∙ there) ∙ on_line_same bound.line 0 (placed_mapping part (mapping_at next.0 next.1)) (ap (λ line. part.line + line) stops.line ∙ same)
+      ap (on_line bound.line) (sym is ∙ there) ∙ on_line_same bound.line 0 (placed_mapping part (mapping_at next.0 next.1))
+      (ap (λ line. part.line + line) stops.line ∙ same)
   first_there None is None within stops = refl
   first_there (Some p) is None within stops =
       let at = got walk.passed p is in
@@ -160,5 +181,6 @@ module _ (bound : Bound) (part : Part) (j : ℕ) (start : Cursor) (end most : �
       stops
 
   -- and the one at which it stopped is the first that does not, where that is on the bound's line
-  pub next_found : on_line bound.line (first_past bound (take most (drop j (placed part)))) ≡ option_map (λ next. placed_mapping part (mapping_at next.0 next.1)) walk.next
+  pub next_found : on_line bound.line (first_past bound (take most (drop j (placed part))))
+      ≡ option_map (λ next. placed_mapping part (mapping_at next.0 next.1)) walk.next
   next_found = first_there _ (ap (slice_get (take most (drop j (placed part)))) (sym front)) walk.next few walked.stops

@@ -12,10 +12,12 @@ tail_in_order a (b ∷ xs) order = order.1
 pub take_next : {A : Type 0} (xs : List A) (j : ℕ) (m : A) → slice_get xs j ≡ Some m → take (j + 1) xs ≡ take j xs ++ m ∷ []
 take_next [] j m there = absurd (cc)
 take_next (x ∷ xs) zero m there = let e : x ≡ m = cc in ap (λ x. x ∷ []) e
-take_next (x ∷ xs) (suc j) m there = let n : suc j + 1 ≡ suc (j + 1) = omega arith in ap (λ n. take n (x ∷ xs)) n ∙ ap (λ front. x ∷ front) (take_next xs j m there)
+take_next (x ∷ xs) (suc j) m there = let n : suc j + 1 ≡ suc (j + 1) = omega arith
+    in ap (λ n. take n (x ∷ xs)) n ∙ ap (λ front. x ∷ front) (take_next xs j m there)
 
 -- the last up to a place is the one at the place
 pub last_taken : {A : Type 0} (e : Option A) (xs : List A) (i : ℕ) (m : A) → slice_get xs i ≡ Some m → last_or e (take (i + 1) xs) ≡ Some m
 last_taken e [] i m there = absurd (cc)
 last_taken e (a ∷ xs) zero m there = there
-last_taken e (a ∷ xs) (suc i) m there = let n : suc i + 1 ≡ suc (i + 1) = omega arith in ap (λ n. last_or e (take n (a ∷ xs))) n ∙ last_taken (Some a) xs i m there
+last_taken e (a ∷ xs) (suc i) m there = let n : suc i + 1 ≡ suc (i + 1) = omega arith
+    in ap (λ n. last_or e (take n (a ∷ xs))) n ∙ last_taken (Some a) xs i m there

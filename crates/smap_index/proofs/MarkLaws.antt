@@ -11,7 +11,8 @@ use Rattle.smap_index.specs.declared.checkpoint.Checkpoint.{Checkpoint}
 
 -- ---- pairs of lists
 
-pub AllZip-append : {A B : Type 0} (R : A → B → Type 0) (xs xs' : List A) (ys ys' : List B) → AllZip R xs ys → AllZip R xs' ys' → AllZip R (xs ++ xs') (ys ++ ys')
+pub AllZip-append : {A B : Type 0} (R : A → B → Type 0) (xs xs' : List A) (ys ys' : List B) → AllZip R xs ys → AllZip R xs' ys'
+    → AllZip R (xs ++ xs') (ys ++ ys')
 AllZip-append R [] xs' [] ys' front rest = rest
 AllZip-append R [] xs' (y ∷ ys) ys' front rest = absurd front
 AllZip-append R (x ∷ xs) xs' [] ys' front rest = absurd front
@@ -24,7 +25,11 @@ slice_get-after (a ∷ front) x after = slice_get-after front x after
 
 -- ---- an index that is built
 
-pub index_made : (counted walked parts : List Part) (k : ℕ) (start checkpoints : List Checkpoint) (segments used_lines : ℕ) → counted ≡ parts → walked ≡ parts → start ≡ [] → (added : List Checkpoint) × (checkpoints ≡ start ++ added) × AreCheckpointsOf walked k added → segments ≡ length (joined counted) → used_lines ≡ used_lines_in counted → 2 * segments ≤ bytes_in counted + length counted → IsInOrder (joined parts) → list_any is_mapping_past_limit (joined parts) ≡ false
+pub index_made : (counted walked parts : List Part) (k : ℕ) (start checkpoints : List Checkpoint) (segments used_lines : ℕ)
+    → counted ≡ parts → walked ≡ parts → start ≡ []
+    → (added : List Checkpoint) × (checkpoints ≡ start ++ added) × AreCheckpointsOf walked k added → segments ≡ length (joined counted)
+    → used_lines ≡ used_lines_in counted → 2 * segments ≤ bytes_in counted + length counted → IsInOrder (joined parts)
+    → list_any is_mapping_past_limit (joined parts) ≡ false
     → IsIndexOf (record { parts = parts; k = k; checkpoints = checkpoints; segments = segments; used_lines = used_lines }) parts k
 index_made counted walked parts k start checkpoints segments used_lines same_counted same_walked none (added, all, marked) number lines few order in_range =
     let whole : checkpoints ≡ added = all ∙ ap (λ front. front ++ added) none in
@@ -34,7 +39,8 @@ index_made counted walked parts k start checkpoints segments used_lines same_cou
       marked = subst (λ checkpoints. AreCheckpointsOf parts k checkpoints) (sym whole) (subst (λ parts. AreCheckpointsOf parts k added) same_walked marked);
       segments_are = number ∙ ap (λ parts. length (joined parts)) same_counted;
       used_lines_are = lines ∙ ap used_lines_in same_counted;
-      few = subst (λ n. 2 * n ≤ bytes_in parts + length parts) (number ∙ ap (λ parts. length (joined parts)) same_counted) (subst (λ parts. 2 * segments ≤ bytes_in parts + length parts) same_counted few);
+      few = subst (λ n. 2 * n ≤ bytes_in parts + length parts) (number ∙ ap (λ parts. length (joined parts)) same_counted)
+          (subst (λ parts. 2 * segments ≤ bytes_in parts + length parts) same_counted few);
       ordered = order;
       in_range = in_range;
     }

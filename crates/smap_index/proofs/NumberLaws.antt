@@ -49,7 +49,8 @@ last_pair (a ∷ b ∷ before) m next order = let rest = last_pair (b ∷ before
 
 -- ---- numbers
 
-none_on : (before : List Mapping) (m : Mapping) (line : ℕ) → IsInOrder (before ++ m ∷ []) → m.line < line → length (filter (λ (e : Mapping). eqb e.line line) (before ++ m ∷ [])) ≡ 0
+none_on : (before : List Mapping) (m : Mapping) (line : ℕ) → IsInOrder (before ++ m ∷ []) → m.line < line
+    → length (filter (λ (e : Mapping). eqb e.line line) (before ++ m ∷ [])) ≡ 0
 none_on [] m line order below = ap length (cond-false (eqb m.line line) (m ∷ []) [] (ne_eqb _ _ (λ (same : m.line ≡ line). omega (arith, same))))
 none_on (a ∷ before) m line order below =
     let first = line_up_to a before m order in
@@ -60,7 +61,8 @@ none_on (a ∷ before) m line order below =
 pub first_number : (m : Mapping) → number_on_line [] m ≡ 0
 first_number m = refl
 
-pub next_number : (before : List Mapping) (m next : Mapping) → IsInOrder (before ++ m ∷ next ∷ []) → number_on_line (before ++ m ∷ []) next ≡ cond (eqb m.line next.line) (number_on_line before m + 1) 0
+pub next_number : (before : List Mapping) (m next : Mapping) → IsInOrder (before ++ m ∷ next ∷ [])
+    → number_on_line (before ++ m ∷ []) next ≡ cond (eqb m.line next.line) (number_on_line before m + 1) 0
 next_number before m next order =
     let pair = last_pair before m next order in
     let on = λ (line : ℕ) (e : Mapping). eqb e.line line in

@@ -1,5 +1,6 @@
 -- Parts without a fault give a joined list in order.
-use Rattle.std.proofs.Common.{◌≡◌, ℕ, ◌+◌, ◌<◌, ◌≤◌, List, [], ◌∷◌, ◌++◌, map, cond, ◌||◌, Bool, true, false, Option, Some, None, refl, ap, sym, subst, ◌∙◌, arith, eqb, ⊎_elim, inl, inr}
+use Rattle.std.proofs.Common.{◌≡◌, ℕ, ◌+◌, ◌<◌, ◌≤◌, List, [], ◌∷◌, ◌++◌, map, cond, ◌||◌, Bool, true, false, Option, Some, None, refl, ap, sym}
+use Rattle.std.proofs.Common.{subst, ◌∙◌, arith, eqb, ⊎_elim, inl, inr}
 use Rattle.std.specs.Prelude.{option_map, IfSome, length}
 use Rattle.std.specs.List.{AllByRecursion, last_or, list_any, position_from}
 use Rattle.std.proofs.lemmas.Bool.{cond_both, cases_eq, eqb-false, or_parts, or_left}
@@ -37,7 +38,8 @@ all_up_to part (m ∷ xs) none = let tests = or_parts _ _ none in (not_before m 
 also_from : (part next : Part) (m : Mapping) → is_out_of_order (part, next) ≡ false → IsFrom next m → IsFrom part m
 also_from part next m in_order from = at_or_before (offset_of part) (offset_of next) m (not_before (offset_of part) (offset_of next) in_order) from
 
-all_also_from : (part next : Part) (xs : List Mapping) → is_out_of_order (part, next) ≡ false → AllByRecursion (IsFrom next) xs → AllByRecursion (IsFrom part) xs
+all_also_from : (part next : Part) (xs : List Mapping) → is_out_of_order (part, next) ≡ false → AllByRecursion (IsFrom next) xs
+    → AllByRecursion (IsFrom part) xs
 all_also_from part next [] in_order from = tt
 all_also_from part next (m ∷ xs) in_order from = (also_from part next m in_order from.0, all_also_from part next xs in_order from.1)
 
@@ -47,7 +49,11 @@ placed_from : (part : Part) (m : Mapping) → IsFrom part (placed_mapping part m
 placed_from part m =
     ⊎_elim
     (λ (first : m.line ≡ 0).
-    inr (omega arith, cond_both (eqb m.line 0) (part.column + m.column) m.column (λ c. part.column ≤ c) (λ is. omega arith) (λ other. absurd (eqb-false _ _ other first))))
+    inr (
+      omega arith,
+      cond_both (eqb m.line 0) (part.column + m.column) m.column (λ c. part.column ≤ c) (λ is. omega arith)
+          (λ other. absurd (eqb-false _ _ other first)),
+    ))
     (λ later. inl (omega arith))
     (cases_eq m.line 0)
 
@@ -76,7 +82,8 @@ places_in_order part (a ∷ b ∷ list) order = (placed_pair part a b order.0, p
 
 -- ---- part after part
 
-append_in_order : (part : Part) (xs ys : List Mapping) → IsInOrder xs → IsInOrder ys → AllByRecursion (IsUpTo part) xs → AllByRecursion (IsFrom part) ys → IsInOrder (xs ++ ys)
+append_in_order : (part : Part) (xs ys : List Mapping) → IsInOrder xs → IsInOrder ys → AllByRecursion (IsUpTo part) xs
+    → AllByRecursion (IsFrom part) ys → IsInOrder (xs ++ ys)
 append_in_order part [] ys order_x order_y all_x all_y = order_y
 append_in_order part (a ∷ []) [] order_x order_y all_x all_y = tt
 append_in_order part (a ∷ []) (y ∷ ys) order_x order_y all_x all_y = (at_or_before a (offset_of part) y all_x.0 all_y.0, order_y)
@@ -86,21 +93,27 @@ All-append : (P : Mapping → Type 0) (xs ys : List Mapping) → AllByRecursion 
 All-append P [] ys all_x all_y = all_y
 All-append P (x ∷ xs) ys all_x all_y = (all_x.0, All-append P xs ys all_x.1 all_y)
 
-joined_from : (i : ℕ) (part : Part) (parts : List Part) → position_from is_out_of_order i (neighbours (part ∷ parts)) ≡ None → position_from is_overlapping i (neighbours (part ∷ parts)) ≡ None → AllByRecursion IsTextInOrder (part ∷ parts)
+joined_from : (i : ℕ) (part : Part) (parts : List Part) → position_from is_out_of_order i (neighbours (part ∷ parts)) ≡ None
+    → position_from is_overlapping i (neighbours (part ∷ parts)) ≡ None → AllByRecursion IsTextInOrder (part ∷ parts)
     → IsInOrder (joined (part ∷ parts)) × AllByRecursion (IsFrom part) (joined (part ∷ parts))
 unfolding placed
 joined_from i part [] in_order apart texts =
-    let alone = sym (append-nil (placed part)) in
-    (subst IsInOrder alone (places_in_order part (mappings_of part.text) texts.0), subst (AllByRecursion (IsFrom part)) alone (all_placed_from part (mappings_of part.text)))
+    let alone = sym (append-nil (placed part)) in (
+      subst IsInOrder alone (places_in_order part (mappings_of part.text) texts.0),
+      subst (AllByRecursion (IsFrom part)) alone (all_placed_from part (mappings_of part.text)),
+    )
 joined_from i part (next ∷ parts) in_order apart texts =
     let orders = none_from is_out_of_order i (part, next) (neighbours (next ∷ parts)) in_order in
     let overlaps = none_from is_overlapping i (part, next) (neighbours (next ∷ parts)) apart in
     let rest = joined_from (i + 1) next parts orders.1 overlaps.1 texts.1 in (
-      append_in_order next (placed part) (joined (next ∷ parts)) (places_in_order part (mappings_of part.text) texts.0) rest.0 (all_up_to next (placed part) overlaps.0) rest.1,
-      All-append (IsFrom part) (placed part) (joined (next ∷ parts)) (all_placed_from part (mappings_of part.text)) (all_also_from part next (joined (next ∷ parts)) orders.0 rest.1),
+      append_in_order next (placed part) (joined (next ∷ parts)) (places_in_order part (mappings_of part.text) texts.0) rest.0
+          (all_up_to next (placed part) overlaps.0) rest.1,
+      All-append (IsFrom part) (placed part) (joined (next ∷ parts)) (all_placed_from part (mappings_of part.text))
+          (all_also_from part next (joined (next ∷ parts)) orders.0 rest.1),
     )
 
-pub joined_in_order : (parts : List Part) → order_fault parts ≡ None → overlap_fault parts ≡ None → AllByRecursion IsTextInOrder parts → IsInOrder (joined parts)
+pub joined_in_order : (parts : List Part) → order_fault parts ≡ None → overlap_fault parts ≡ None → AllByRecursion IsTextInOrder parts
+    → IsInOrder (joined parts)
 unfolding order_fault overlap_fault
 joined_in_order [] in_order apart texts = tt
 joined_in_order (part ∷ parts) in_order apart texts = (joined_from 1 part parts in_order apart texts).0
@@ -118,7 +131,8 @@ or_same : (a b : Bool) → (a ≡ true → b ≡ true) → (a || b) ≡ b
 or_same true b gives = sym (gives refl)
 or_same false b gives = refl
 
-any_is_last : (part : Part) (a last : Mapping) (xs : List Mapping) → IsInOrder (a ∷ xs) → last_or (Some a) xs ≡ Some last → list_any (is_after_offset part) (a ∷ xs) ≡ is_after_offset part last
+any_is_last : (part : Part) (a last : Mapping) (xs : List Mapping) → IsInOrder (a ∷ xs) → last_or (Some a) xs ≡ Some last
+    → list_any (is_after_offset part) (a ∷ xs) ≡ is_after_offset part last
 any_is_last part a last [] order is = or_false (is_after_offset part a) ∙ ap (is_after_offset part) (let e : a ≡ last = cc in e)
 any_is_last part a last (b ∷ xs) order is =
     or_same (is_after_offset part a) (list_any (is_after_offset part) (b ∷ xs)) (λ after. or_left _ _ (passes_on part a b order.0 after))
@@ -129,7 +143,8 @@ last-map f o [] = refl
 last-map f o (x ∷ xs) = last-map f (Some x) xs
 
 module _ (part next : Part) where
-  last_of : (last : Mapping) (list : List Mapping) → IsInOrder list → last_or None list ≡ Some last → list_any (is_after_offset next) list ≡ is_after_offset next last
+  last_of : (last : Mapping) (list : List Mapping) → IsInOrder list → last_or None list ≡ Some last
+      → list_any (is_after_offset next) list ≡ is_after_offset next last
   last_of last [] order is = absurd (cc)
   last_of last (m ∷ list) order is = any_is_last next m last list order is
 
@@ -142,7 +157,8 @@ module _ (part next : Part) where
   none_of (m ∷ list) is = absurd (never_none m list is)
 
   -- whether a mapping of the part stands after the next offset is what the last one says
-  overlapping_at_last : (last : Mapping) → IsTextInOrder part → Some last ≡ last_or None (mappings_of part.text) → is_overlapping (part, next) ≡ is_after_offset next (placed_mapping part last)
+  overlapping_at_last : (last : Mapping) → IsTextInOrder part → Some last ≡ last_or None (mappings_of part.text)
+      → is_overlapping (part, next) ≡ is_after_offset next (placed_mapping part last)
   unfolding placed
   overlapping_at_last last order is =
       last_of (placed_mapping part last) (placed part) (places_in_order part (mappings_of part.text) order)
@@ -152,15 +168,19 @@ module _ (part next : Part) where
   unfolding placed
   overlapping_nothing is = ap (λ list. list_any (is_after_offset next) (map (placed_mapping part) list)) (none_of (mappings_of part.text) (sym is))
 
-  at_position : (m : Mapping) (state : Cursor) → IsMappingAt state m → is_after_offset next (placed_mapping part m) ≡ is_after_offset next (placed_mapping part (position_of state))
+  at_position : (m : Mapping) (state : Cursor) → IsMappingAt state m
+      → is_after_offset next (placed_mapping part m) ≡ is_after_offset next (placed_mapping part (position_of state))
   at_position m state at = λ i. is_after_offset next (placed_mapping part (record { line = at.line i; column = at.column i; origin = None }))
 
-  overlapping_at : (last : Option Mapping) (state : Cursor) → IsTextInOrder part → last ≡ last_or None (mappings_of part.text) → IfSome last (IsMappingAt state) → (segment_count part.text ≡ 0 → ⊥) → is_overlapping (part, next) ≡ is_after_offset next (placed_mapping part (position_of state))
+  overlapping_at : (last : Option Mapping) (state : Cursor) → IsTextInOrder part → last ≡ last_or None (mappings_of part.text)
+      → IfSome last (IsMappingAt state) → (segment_count part.text ≡ 0 → ⊥)
+      → is_overlapping (part, next) ≡ is_after_offset next (placed_mapping part (position_of state))
   overlapping_at None state order is at some = absurd (some (sym (length-mappings_of part.text) ∙ ap length (none_of (mappings_of part.text) (sym is))))
   overlapping_at (Some last) state order is at some = overlapping_at_last last order is ∙ at_position last state at
 
   -- where the part has a mapping, these are the last one's values
-  pub overlapping_at_state : (state : Cursor) → IsTextInOrder part → IfSome (last_or None (mappings_of part.text)) (IsMappingAt state) → (segment_count part.text ≡ 0 → ⊥) → is_overlapping (part, next) ≡ is_after_offset next (placed_mapping part (position_of state))
+  pub overlapping_at_state : (state : Cursor) → IsTextInOrder part → IfSome (last_or None (mappings_of part.text)) (IsMappingAt state)
+      → (segment_count part.text ≡ 0 → ⊥) → is_overlapping (part, next) ≡ is_after_offset next (placed_mapping part (position_of state))
   overlapping_at_state state order at some = overlapping_at (last_or None (mappings_of part.text)) state order refl at some
 
   no_last : (list : List Mapping) → length list ≡ 0 → None ≡ last_or None list

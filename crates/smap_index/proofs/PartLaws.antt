@@ -15,8 +15,10 @@ use Rattle.smap_index.specs.declared.checkpoint.Checkpoint.{Checkpoint}
 use Rattle.smap_index.proofs.CountingLaws.{IsMarked}
 use Rattle.smap_index.proofs.MarkLaws.{AllZip-append}
 
-marks_from-push : (i n : ℕ) (parts : List Part) (part : Part) (k : ℕ) → n ≡ i + length parts → marks_from i (parts ++ part ∷ []) k ≡ marks_from i parts k ++ map (mark_in n) (marked_segments k [] (placed part))
-marks_from-push i n [] part k is = let e : i ≡ n = omega arith in append-nil (map (mark_in i) (marked_segments k [] (placed part))) ∙ ap (λ i. map (mark_in i) (marked_segments k [] (placed part))) e
+marks_from-push : (i n : ℕ) (parts : List Part) (part : Part) (k : ℕ) → n ≡ i + length parts
+    → marks_from i (parts ++ part ∷ []) k ≡ marks_from i parts k ++ map (mark_in n) (marked_segments k [] (placed part))
+marks_from-push i n [] part k is = let e : i ≡ n = omega arith
+    in append-nil (map (mark_in i) (marked_segments k [] (placed part))) ∙ ap (λ i. map (mark_in i) (marked_segments k [] (placed part))) e
 marks_from-push i n (p ∷ parts) part k is =
     let here = marked_segments k [] (placed p) in
     ap (λ rest. map (mark_in i) here ++ rest) (marks_from-push (i + 1) n parts part k (omega arith))
@@ -47,21 +49,25 @@ module _ (parts : List Part) (i : ℕ) (part : Part) (within : i < length parts)
   part_at = slice_get-get_or parts i part within ∙ ap Some (sym is)
 
   -- the checkpoints of marked segments of the part are those of its marks
-  marks_of_part : (segments : List ℕ) (added : List Checkpoint) → AllZip (IsCheckpointIn part i) segments added → AllZip (IsCheckpointOf parts) (map (mark_in i) segments) added
+  marks_of_part : (segments : List ℕ) (added : List Checkpoint) → AllZip (IsCheckpointIn part i) segments added
+      → AllZip (IsCheckpointOf parts) (map (mark_in i) segments) added
   marks_of_part [] [] zip = tt
   marks_of_part [] (c ∷ added) zip = absurd zip
   marks_of_part (segment ∷ segments) [] zip = absurd zip
   marks_of_part (segment ∷ segments) (c ∷ added) zip = (record { part = part; part_is = part_at; inside = zip.0 }, marks_of_part segments added zip.1)
 
-  pub marks_next : (k : ℕ) (start old new : List Checkpoint) → IsFilled parts (marks (take i parts) k) start old → IsMarked part i k (placed part) old new → IsFilled parts (marks (take (i + 1) parts) k) start new
+  pub marks_next : (k : ℕ) (start old new : List Checkpoint) → IsFilled parts (marks (take i parts) k) start old
+      → IsMarked part i k (placed part) old new → IsFilled parts (marks (take (i + 1) parts) k) start new
   marks_next k start old new (front, front_is, front_zip) (added, added_is, added_zip) =
       let segments = marked_segments k [] (placed part) in
       let IsHere : List Mark → List Checkpoint → Type 0 = AllZip (IsCheckpointOf parts) in
-      let longer : marks (take (i + 1) parts) k ≡ marks (take i parts) k ++ map (mark_in i) segments = ap (λ parts. marks parts k) taken ∙ marks_from-push 0 i (take i parts) part k (omega (arith, length-take-le i parts (omega arith))) in (
+      let longer : marks (take (i + 1) parts) k ≡ marks (take i parts) k ++ map (mark_in i) segments =
+      ap (λ parts. marks parts k) taken ∙ marks_from-push 0 i (take i parts) part k (omega (arith, length-take-le i parts (omega arith))) in (
         front ++ added,
         added_is ∙ ap (λ list. list ++ added) front_is ∙ append_assoc start front added,
         subst (λ marks. IsHere marks (front ++ added)) (sym longer)
-            (AllZip-append (IsCheckpointOf parts) (marks (take i parts) k) (map (mark_in i) segments) front added front_zip (marks_of_part segments added added_zip)),
+            (AllZip-append (IsCheckpointOf parts) (marks (take i parts) k) (map (mark_in i) segments) front added front_zip
+            (marks_of_part segments added added_zip)),
       )
 
   pub All_next : (P : Part → Type 0) → AllByRecursion P (take i parts) → P part → AllByRecursion P (take (i + 1) parts)
@@ -73,7 +79,8 @@ few_new_lines : (earlier deltas : List Delta) → new_lines earlier deltas ≤ l
 few_new_lines earlier [] = omega arith
 few_new_lines earlier (delta ∷ deltas) =
     let rest = few_new_lines (earlier ++ delta ∷ []) deltas in
-    let one : cond (list_any (λ e. eqb e.line delta.line) earlier) 0 1 ≤ 1 = cond_both (list_any (λ e. eqb e.line delta.line) earlier) 0 1 (λ n. n ≤ 1) (λ _. omega arith) (λ _. omega arith) in
+    let one : cond (list_any (λ e. eqb e.line delta.line) earlier) 0 1 ≤ 1 =
+    cond_both (list_any (λ e. eqb e.line delta.line) earlier) 0 1 (λ n. n ≤ 1) (λ _. omega arith) (λ _. omega arith) in
     omega arith
 
 -- a text has no more used lines than segments

@@ -1,6 +1,7 @@
 -- The order of positions, by line and then by column, as a test and as a fact.
 use Rattle.std.proofs.Common.{◌≡◌, ◌<◌, ◌≤◌, true, false, sym, ◌∙◌, arith, ⊎_elim, inl, inr, ◌⊎◌}
-use Rattle.std.proofs.lemmas.Bool.{cases_Bool, cases_lt, ltb-true, ltb-false, lt-ltb, eqb-true, eqb-false, eq-eqb, or_cases, or_left, or_right, or_parts, and_parts, and_cases, and_from}
+use Rattle.std.proofs.lemmas.Bool.{cases_Bool, cases_lt, ltb-true, ltb-false, lt-ltb, eqb-true, eqb-false, eq-eqb, or_cases, or_left, or_right}
+use Rattle.std.proofs.lemmas.Bool.{or_parts, and_parts, and_cases, and_from}
 use Rattle.smap_mappings.specs.Order.{IsAtOrBefore}
 use Rattle.smap_mappings.specs.Range.{stands_before}
 use Rattle.smap_mappings.specs.declared.mapping.Mapping.{Mapping}
@@ -13,7 +14,8 @@ IsBefore a b = (a.line < b.line) ⊎ ((a.line ≡ b.line) × (a.column < b.colum
 
 module _ (a b c : Mapping) where
   -- on another line, or from column to column
-  further : {P Q R : Type 0} → (P → Q → R) → (a.line < b.line) ⊎ ((a.line ≡ b.line) × P) → (b.line < c.line) ⊎ ((b.line ≡ c.line) × Q) → (a.line < c.line) ⊎ ((a.line ≡ c.line) × R)
+  further : {P Q R : Type 0} → (P → Q → R) → (a.line < b.line) ⊎ ((a.line ≡ b.line) × P) → (b.line < c.line) ⊎ ((b.line ≡ c.line) × Q)
+      → (a.line < c.line) ⊎ ((a.line ≡ c.line) × R)
   further columns first second =
       ⊎_elim
       (λ (above : a.line < b.line). inl (⊎_elim (λ (below : b.line < c.line). omega arith) (λ same. omega (arith, same.0)) second))

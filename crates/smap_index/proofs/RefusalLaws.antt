@@ -1,5 +1,6 @@
 -- Which refusal the faults of some parts give.
-use Rattle.std.proofs.Common.{◌≡◌, ℕ, ◌+◌, ◌<◌, List, [], ◌∷◌, length, suc, zero, Bool, true, false, Option, Some, None, refl, ap, sym, ◌∙◌, arith, get_or, ⊎_elim}
+use Rattle.std.proofs.Common.{◌≡◌, ℕ, ◌+◌, ◌<◌, List, [], ◌∷◌, length, suc, zero, Bool, true, false, Option, Some, None, refl, ap, sym, ◌∙◌, arith}
+use Rattle.std.proofs.Common.{get_or, ⊎_elim}
 use Rattle.std.specs.Prelude.{option_map}
 use Rattle.std.specs.List.{list_any, position_from}
 use Rattle.std.specs.Option.{option_or}
@@ -41,13 +42,15 @@ faultless parts k none =
     (λ other. absurd (let e = cond-false (is_interval k) (part_fault parts) (Some Interval) other in cc (e, none)))
     (cases_Bool (is_interval k))
 
-none_at : (test : Part → Bool) (i : ℕ) (parts : List Part) (k : ℕ) (part : Part) → position_from test i parts ≡ None → k < length parts → part ≡ get_or parts k part → test part ≡ false
+none_at : (test : Part → Bool) (i : ℕ) (parts : List Part) (k : ℕ) (part : Part) → position_from test i parts ≡ None → k < length parts
+    → part ≡ get_or parts k part → test part ≡ false
 none_at test i [] k part none within is = absurd (omega arith)
 none_at test i (p ∷ parts) zero part none within is = ap test is ∙ (none_from test i p parts none).0
 none_at test i (p ∷ parts) (suc k) part none within is = none_at test (i + 1) parts k part (none_from test i p parts none).1 (omega arith) is
 
 -- no mapping of a part is past the limit
-pub all_in_range : (parts : List Part) (k : ℕ) (part : Part) → range_fault parts ≡ None → k < length parts → part ≡ get_or parts k part → list_any is_mapping_past_limit (placed part) ≡ false
+pub all_in_range : (parts : List Part) (k : ℕ) (part : Part) → range_fault parts ≡ None → k < length parts → part ≡ get_or parts k part
+    → list_any is_mapping_past_limit (placed part) ≡ false
 unfolding range_fault
 all_in_range parts k part none within is = (or_parts _ _ (none_at is_part_past_limit 0 parts k part none within is)).1
 
@@ -74,11 +77,14 @@ module _ (parts : List Part) (k : ℕ) (in_range : is_interval k ≡ true) where
 
   pub at_order : (i : ℕ) → order_fault parts ≡ Some i → build_fault parts k ≡ Some (SectionOrder i)
   unfolding part_fault
-  at_order i is = of_parts ∙ ap (λ o. option_or (option_map SectionOrder o) (option_or (option_map SectionOverlap (overlap_fault parts)) (option_map PositionRange (range_fault parts)))) is
+  at_order i is = of_parts ∙ ap (λ o. option_or (option_map SectionOrder o)
+      (option_or (option_map SectionOverlap (overlap_fault parts)) (option_map PositionRange (range_fault parts)))) is
 
-  after_order : order_fault parts ≡ None → build_fault parts k ≡ option_or (option_map SectionOverlap (overlap_fault parts)) (option_map PositionRange (range_fault parts))
+  after_order : order_fault parts ≡ None → build_fault parts k
+      ≡ option_or (option_map SectionOverlap (overlap_fault parts)) (option_map PositionRange (range_fault parts))
   unfolding part_fault
-  after_order none = of_parts ∙ ap (λ o. option_or (option_map SectionOrder o) (option_or (option_map SectionOverlap (overlap_fault parts)) (option_map PositionRange (range_fault parts)))) none
+  after_order none = of_parts ∙ ap (λ o. option_or (option_map SectionOrder o)
+      (option_or (option_map SectionOverlap (overlap_fault parts)) (option_map PositionRange (range_fault parts)))) none
 
   pub at_overlap : (i : ℕ) → order_fault parts ≡ None → overlap_fault parts ≡ Some i → build_fault parts k ≡ Some (SectionOverlap i)
   at_overlap i none is = after_order none ∙ ap (λ o. option_or (option_map SectionOverlap o) (option_map PositionRange (range_fault parts))) is

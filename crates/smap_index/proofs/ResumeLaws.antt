@@ -1,6 +1,7 @@
 -- What stands next to a bound is found from the last checkpoint that stands up to it, in the checkpoint's tile, or it is
 -- the next checkpoint's mapping.
-use Rattle.std.proofs.Common.{◌≡◌, ℕ, ◌+◌, ◌-◌, ◌<◌, ◌≤◌, suc, zero, true, false, List, [], ◌∷◌, ◌++◌, length, take, drop, map, eqb, eq-eqb, Option, Some, None, refl, sym, ap, subst, ◌∙◌, arith, ⊎_elim}
+use Rattle.std.proofs.Common.{◌≡◌, ℕ, ◌+◌, ◌-◌, ◌<◌, ◌≤◌, suc, zero, true, false, List, [], ◌∷◌, ◌++◌, length, take, drop, map, eqb, eq-eqb, Option}
+use Rattle.std.proofs.Common.{Some, None, refl, sym, ap, subst, ◌∙◌, arith, ⊎_elim}
 use Rattle.std.specs.List.{AllByRecursion, slice_get, last_or}
 use Rattle.std.specs.Option.{option_or}
 use Rattle.std.proofs.lemmas.Bool.{cases_Bool, cases_lt, cond-true, cond-false, both_ways}
@@ -29,7 +30,8 @@ use Rattle.smap_index.proofs.Tiles.{IsTile, IsTiled}
 -- ---- lists
 
 -- where all stand on one line, so does the last of some
-last_on_line : (l : ℕ) (a : Mapping) (xs : List Mapping) (n : ℕ) (m : Mapping) → a.line ≡ l → AllByRecursion (λ (m : Mapping). m.line ≡ l) xs → last_or (Some a) (take n xs) ≡ Some m → m.line ≡ l
+last_on_line : (l : ℕ) (a : Mapping) (xs : List Mapping) (n : ℕ) (m : Mapping) → a.line ≡ l
+    → AllByRecursion (λ (m : Mapping). m.line ≡ l) xs → last_or (Some a) (take n xs) ≡ Some m → m.line ≡ l
 last_on_line l a [] zero m here all last = let e : m ≡ a = cc in ap (λ (m : Mapping). m.line) e ∙ here
 last_on_line l a [] (suc n) m here all last = let e : m ≡ a = cc in ap (λ (m : Mapping). m.line) e ∙ here
 last_on_line l a (x ∷ xs) zero m here all last = let e : m ≡ a = cc in ap (λ (m : Mapping). m.line) e ∙ here
@@ -54,12 +56,14 @@ none_or None b x is not_first = is
 none_or (Some a) b x is not_first = absurd (not_first is)
 
 -- what stands on another line may be left out of the former, where it is the latter
-or_on_line : (line : ℕ) (first next whole : Option Mapping) → whole ≡ option_or first next → ((m : Mapping) → first ≡ Some m → (m.line ≡ line → ⊥) → next ≡ Some m) → whole ≡ option_or (on_line line first) next
+or_on_line : (line : ℕ) (first next whole : Option Mapping) → whole ≡ option_or first next
+    → ((m : Mapping) → first ≡ Some m → (m.line ≡ line → ⊥) → next ≡ Some m) → whole ≡ option_or (on_line line first) next
 or_on_line line None next whole is same = is
 or_on_line line (Some m) next whole is same =
     ⊎_elim
     (λ here. is ∙ ap (λ o. option_or o next) (sym (cond-true (eqb m.line line) (Some m) None here)))
-    (λ other. is ∙ sym (same m refl (λ on. both_ways _ other (eq-eqb _ _ on))) ∙ ap (λ o. option_or o next) (sym (cond-false (eqb m.line line) (Some m) None other)))
+    (λ other. is ∙ sym (same m refl (λ on. both_ways _ other (eq-eqb _ _ on)))
+    ∙ ap (λ o. option_or o next) (sym (cond-false (eqb m.line line) (Some m) None other)))
     (cases_Bool (eqb m.line line))
 
 -- the line of a mapping of a part is not before the part's
@@ -76,13 +80,15 @@ module _ (bound : Bound) where
   -- ---- the front
 
   -- the last up to a mapping that stands up to the bound, and after it
-  last_through : (e : Option Mapping) (xs : List Mapping) (m : Mapping) (ys : List Mapping) → IsInOrder (xs ++ m ∷ ys) → is_up_to bound m ≡ true → last_from bound e (xs ++ m ∷ ys) ≡ last_from bound (Some m) ys
+  last_through : (e : Option Mapping) (xs : List Mapping) (m : Mapping) (ys : List Mapping) → IsInOrder (xs ++ m ∷ ys)
+      → is_up_to bound m ≡ true → last_from bound e (xs ++ m ∷ ys) ≡ last_from bound (Some m) ys
   last_through e [] m ys order reached = last_passes bound e m ys reached
   last_through e (x ∷ xs) m ys order reached =
       last_passes bound e x (xs ++ m ∷ ys) (head_passes bound x (xs ++ m ∷ ys) (length xs) m order (slice_get-after xs m ys) reached)
       ∙ last_through (Some x) xs m ys (tail_in_order x (xs ++ m ∷ ys) order) reached
 
-  first_through : (xs : List Mapping) (m : Mapping) (ys : List Mapping) → IsInOrder (xs ++ m ∷ ys) → is_up_to bound m ≡ true → first_past bound (xs ++ m ∷ ys) ≡ first_past bound ys
+  first_through : (xs : List Mapping) (m : Mapping) (ys : List Mapping) → IsInOrder (xs ++ m ∷ ys) → is_up_to bound m ≡ true
+      → first_past bound (xs ++ m ∷ ys) ≡ first_past bound ys
   first_through [] m ys order reached = first_passes bound m ys reached
   first_through (x ∷ xs) m ys order reached =
       first_passes bound x (xs ++ m ∷ ys) (head_passes bound x (xs ++ m ∷ ys) (length xs) m order (slice_get-after xs m ys) reached)
@@ -114,10 +120,12 @@ module _ (bound : Bound) where
       (cases_Bool (is_up_to bound x))
 
   -- where a list follows some of whose front is taken before it, that adds nothing
-  first_taken : (n : ℕ) (xs ys : List Mapping) → IsPast (xs ++ ys) → option_or (first_past bound (take n xs)) (first_past bound (xs ++ ys)) ≡ first_past bound (xs ++ ys)
+  first_taken : (n : ℕ) (xs ys : List Mapping) → IsPast (xs ++ ys)
+      → option_or (first_past bound (take n xs)) (first_past bound (xs ++ ys)) ≡ first_past bound (xs ++ ys)
   first_taken zero xs ys after = refl
   first_taken (suc n) [] ys after = refl
-  first_taken (suc n) (x ∷ xs) ys after = ap (λ o. option_or o (first_past bound (x ∷ xs ++ ys))) (first_stops bound x (take n xs) after) ∙ sym (first_stops bound x (xs ++ ys) after)
+  first_taken (suc n) (x ∷ xs) ys after = ap (λ o. option_or o (first_past bound (x ∷ xs ++ ys))) (first_stops bound x (take n xs) after)
+      ∙ sym (first_stops bound x (xs ++ ys) after)
 
   -- and what is first there is first in the whole
   first_later : (n : ℕ) (xs ys : List Mapping) (m : Mapping) → IsPast (xs ++ ys) → first_past bound (take n xs) ≡ Some m → first_past bound (xs ++ ys) ≡ Some m
@@ -125,7 +133,8 @@ module _ (bound : Bound) where
   first_later (suc n) [] ys m after is = absurd (cc)
   first_later (suc n) (x ∷ xs) ys m after is = first_stops bound x (xs ++ ys) after ∙ sym (first_stops bound x (take n xs) after) ∙ is
 
-  first_among : (l : ℕ) (xs : List Mapping) (m : Mapping) → AllByRecursion (λ (m : Mapping). m.line ≡ l) xs → first_past bound xs ≡ Some m → (m.line ≡ l) × (is_up_to bound m ≡ false)
+  first_among : (l : ℕ) (xs : List Mapping) (m : Mapping) → AllByRecursion (λ (m : Mapping). m.line ≡ l) xs → first_past bound xs ≡ Some m
+      → (m.line ≡ l) × (is_up_to bound m ≡ false)
   first_among l [] m all is = absurd (cc)
   first_among l (x ∷ xs) m all is =
       ⊎_elim
@@ -136,7 +145,8 @@ module _ (bound : Bound) where
       (cases_Bool (is_up_to bound x))
 
   -- of the mappings on the line of one that stands up to the bound, the first that does not is on the bound's line
-  past_on_line : (a : Mapping) (xs : List Mapping) (m : Mapping) → is_up_to bound a ≡ true → AllByRecursion (λ (m : Mapping). m.line ≡ a.line) xs → first_past bound xs ≡ Some m → m.line ≡ bound.line
+  past_on_line : (a : Mapping) (xs : List Mapping) (m : Mapping) → is_up_to bound a ≡ true
+      → AllByRecursion (λ (m : Mapping). m.line ≡ a.line) xs → first_past bound xs ≡ Some m → m.line ≡ bound.line
   past_on_line a xs m reached all is =
       let first = first_among a.line xs m all is in
       let most = line_up_to bound a reached in
@@ -153,10 +163,12 @@ module _ (bound : Bound) where
   abbrev checkpoint_from : Option Checkpoint → List Checkpoint → Option Checkpoint
   checkpoint_from e checkpoints = last_or e (take (front_up_to bound (mappings_at checkpoints)) checkpoints)
 
-  checkpoint_passes : (e : Option Checkpoint) (c : Checkpoint) (checkpoints : List Checkpoint) → is_up_to bound (mapping_of c) ≡ true → checkpoint_from e (c ∷ checkpoints) ≡ checkpoint_from (Some c) checkpoints
+  checkpoint_passes : (e : Option Checkpoint) (c : Checkpoint) (checkpoints : List Checkpoint) → is_up_to bound (mapping_of c) ≡ true
+      → checkpoint_from e (c ∷ checkpoints) ≡ checkpoint_from (Some c) checkpoints
   checkpoint_passes e c checkpoints reached = ap (λ n. last_or e (take n (c ∷ checkpoints))) (passes bound (mapping_of c) (mappings_at checkpoints) reached)
 
-  checkpoint_stops : (e : Option Checkpoint) (c : Checkpoint) (checkpoints : List Checkpoint) → is_up_to bound (mapping_of c) ≡ false → checkpoint_from e (c ∷ checkpoints) ≡ e
+  checkpoint_stops : (e : Option Checkpoint) (c : Checkpoint) (checkpoints : List Checkpoint) → is_up_to bound (mapping_of c) ≡ false
+      → checkpoint_from e (c ∷ checkpoints) ≡ e
   checkpoint_stops e c checkpoints past = ap (λ n. last_or e (take n (c ∷ checkpoints))) (stops bound (mapping_of c) (mappings_at checkpoints) past)
 
   module _ (parts : List Part) (k : ℕ) where
@@ -174,11 +186,14 @@ module _ (bound : Bound) where
       pub last_is : (e : Option Mapping) → last_from bound e list ≡ last_from bound (Some (mapping_of c)) (walked part segment)
       pub last_line : (m : Mapping) → last_from bound (Some (mapping_of c)) (walked part segment) ≡ Some m → m.line ≡ (mapping_of c).line
       pub line_is : part.line + (state_of part c).line ≡ (mapping_of c).line
-      pub first_is : first_past bound list ≡ option_or (on_line bound.line (first_past bound (walked part segment))) (first_past bound (mappings_at checkpoints))
+      pub first_is : first_past bound list ≡ option_or (on_line bound.line (first_past bound (walked part segment)))
+          (first_past bound (mappings_at checkpoints))
       pub first_elsewhere : ((mapping_of c).line ≡ bound.line → ⊥) → first_past bound list ≡ first_past bound (mappings_at checkpoints)
 
     -- a checkpoint that stands up to the bound, where the rest does not
-    in_tile : (list : List Mapping) (c : Checkpoint) (rest : List Mapping) (checkpoints : List Checkpoint) → IsTile parts k list c rest → is_up_to bound (mapping_of c) ≡ true → IsPast rest → first_past bound rest ≡ first_past bound (mappings_at checkpoints) → IsResumed list (c ∷ checkpoints) c
+    in_tile : (list : List Mapping) (c : Checkpoint) (rest : List Mapping) (checkpoints : List Checkpoint) → IsTile parts k list c rest
+        → is_up_to bound (mapping_of c) ≡ true → IsPast rest → first_past bound rest ≡ first_past bound (mappings_at checkpoints)
+        → IsResumed list (c ∷ checkpoints) c
     in_tile list c rest checkpoints tile reached after next =
         let n = k - 1 - length tile.after in
         let all : k - 1 ≡ length tile.after + n = omega (arith, tile.few) in
@@ -190,9 +205,11 @@ module _ (bound : Bound) where
         ap (last_from bound (Some (mapping_of c))) there ∙ last_before (Some (mapping_of c)) tile.after (take n tile.part_rest) stopped in
         let first : first_past bound list ≡ option_or (first_past bound tile.after) (first_past bound rest) =
         ap (first_past bound) tile.list_is ∙ first_passes bound (mapping_of c) (tile.after ++ rest) reached ∙ first_of_both bound tile.after rest in
-        let others : first_past bound (mappings_at (c ∷ checkpoints)) ≡ first_past bound rest = first_passes bound (mapping_of c) (mappings_at checkpoints) reached ∙ sym next in
+        let others : first_past bound (mappings_at (c ∷ checkpoints)) ≡ first_past bound rest =
+        first_passes bound (mapping_of c) (mappings_at checkpoints) reached ∙ sym next in
         let taken : option_or (first_past bound (take n tile.part_rest)) (first_past bound rest) ≡ first_past bound rest =
-        subst (λ rest. option_or (first_past bound (take n tile.part_rest)) (first_past bound rest) ≡ first_past bound rest) (sym tile.rest_is) (first_taken n tile.part_rest tile.later past) in
+        subst (λ rest. option_or (first_past bound (take n tile.part_rest)) (first_past bound rest) ≡ first_past bound rest)
+        (sym tile.rest_is) (first_taken n tile.part_rest tile.later past) in
         record {
           part = tile.part;
           segment = tile.segment;
@@ -201,28 +218,36 @@ module _ (bound : Bound) where
           last_is = λ e.
               ap (last_from bound e) tile.list_is ∙ last_passes bound e (mapping_of c) (tile.after ++ rest) reached
               ∙ last_before (Some (mapping_of c)) tile.after rest after ∙ sym short;
-          last_line = λ m last. last_on_line (mapping_of c).line (mapping_of c) tile.after (front_up_to bound tile.after) m refl tile.on_line (sym short ∙ last);
+          last_line = λ m last. last_on_line (mapping_of c).line (mapping_of c) tile.after (front_up_to bound tile.after) m refl
+              tile.on_line (sym short ∙ last);
           line_is = line_there (mapping_of c) tile.part tile.segment tile.mapping_is;
-          first_is = or_on_line bound.line (first_past bound (walked tile.part tile.segment)) (first_past bound (mappings_at (c ∷ checkpoints))) (first_past bound list) (
-              first ∙ ap (option_or (first_past bound tile.after)) (sym taken) ∙ sym (or_after (first_past bound tile.after) (first_past bound (take n tile.part_rest)) (first_past bound rest))
+          first_is = or_on_line bound.line (first_past bound (walked tile.part tile.segment))
+              (first_past bound (mappings_at (c ∷ checkpoints))) (first_past bound list) (
+              first ∙ ap (option_or (first_past bound tile.after)) (sym taken)
+              ∙ sym (or_after (first_past bound tile.after) (first_past bound (take n tile.part_rest)) (first_past bound rest))
               ∙ ap (λ o. option_or o (first_past bound rest)) (sym (ap (first_past bound) there ∙ first_of_both bound tile.after (take n tile.part_rest)))
               ∙ ap (option_or (first_past bound (walked tile.part tile.segment))) (sym others)) (λ m is other.
               let front = sym (ap (first_past bound) there ∙ first_of_both bound tile.after (take n tile.part_rest)) ∙ is in
               others ∙ ap (first_past bound) tile.rest_is
-              ∙ first_later n tile.part_rest tile.later m past (none_or _ _ m front (λ in_tile. other (past_on_line (mapping_of c) tile.after m reached tile.on_line in_tile))));
+              ∙ first_later n tile.part_rest tile.later m past
+              (none_or _ _ m front (λ in_tile. other (past_on_line (mapping_of c) tile.after m reached tile.on_line in_tile))));
           first_elsewhere = λ other.
               let above : (mapping_of c).line < bound.line = let line = line_up_to bound (mapping_of c) reached in below _ _ line other in
               first ∙ ap (λ o. option_or o (first_past bound rest)) (first_above (mapping_of c).line tile.after above tile.on_line) ∙ sym others;
         }
 
     -- where the next checkpoint stands up to the bound, what is found in the rest
-    to_next : (list : List Mapping) (c : Checkpoint) (rest : List Mapping) (next : Checkpoint) (after : List Mapping) (checkpoints : List Checkpoint) (found : Checkpoint) → IsInOrder list → IsTile parts k list c rest → rest ≡ mapping_of next ∷ after → is_up_to bound (mapping_of c) ≡ true → is_up_to bound (mapping_of next) ≡ true → IsResumed rest checkpoints found → IsResumed list (c ∷ checkpoints) found
+    to_next : (list : List Mapping) (c : Checkpoint) (rest : List Mapping) (next : Checkpoint) (after : List Mapping)
+        (checkpoints : List Checkpoint) (found : Checkpoint) → IsInOrder list → IsTile parts k list c rest → rest ≡ mapping_of next ∷ after
+        → is_up_to bound (mapping_of c) ≡ true → is_up_to bound (mapping_of next) ≡ true → IsResumed rest checkpoints found
+        → IsResumed list (c ∷ checkpoints) found
     to_next list c rest next after checkpoints found order tile begins here reached resumed =
         let whole : list ≡ (mapping_of c ∷ tile.after) ++ mapping_of next ∷ after = tile.list_is ∙ ap (λ rest. mapping_of c ∷ tile.after ++ rest) begins in
         let first : first_past bound list ≡ first_past bound rest =
         ap (first_past bound) whole ∙ first_through (mapping_of c ∷ tile.after) (mapping_of next) after (subst IsInOrder whole order) reached
         ∙ sym (first_passes bound (mapping_of next) after reached) ∙ ap (first_past bound) (sym begins) in
-        let others : first_past bound (mappings_at (c ∷ checkpoints)) ≡ first_past bound (mappings_at checkpoints) = first_passes bound (mapping_of c) (mappings_at checkpoints) here in
+        let others : first_past bound (mappings_at (c ∷ checkpoints)) ≡ first_past bound (mappings_at checkpoints) =
+        first_passes bound (mapping_of c) (mappings_at checkpoints) here in
         record {
           part = resumed.part;
           segment = resumed.segment;
@@ -241,12 +266,15 @@ module _ (bound : Bound) where
     rest_in_order list c rest tile order = back_in_order (mapping_of c ∷ tile.after) rest (subst IsInOrder tile.list_is order)
 
     -- the list begins as its table does
-    begins_past : (list : List Mapping) (next : Checkpoint) (checkpoints : List Checkpoint) → IsTiled parts k list (next ∷ checkpoints) → is_up_to bound (mapping_of next) ≡ false → first_past bound list ≡ first_past bound (mappings_at (next ∷ checkpoints))
+    begins_past : (list : List Mapping) (next : Checkpoint) (checkpoints : List Checkpoint) → IsTiled parts k list (next ∷ checkpoints)
+        → is_up_to bound (mapping_of next) ≡ false → first_past bound list ≡ first_past bound (mappings_at (next ∷ checkpoints))
     begins_past list next checkpoints (rest, tile, tiled) past =
-        ap (first_past bound) tile.list_is ∙ first_stops bound (mapping_of next) (tile.after ++ rest) past ∙ sym (first_stops bound (mapping_of next) (mappings_at checkpoints) past)
+        ap (first_past bound) tile.list_is ∙ first_stops bound (mapping_of next) (tile.after ++ rest) past
+        ∙ sym (first_stops bound (mapping_of next) (mappings_at checkpoints) past)
 
     -- both are found from the last checkpoint that stands up to the bound
-    pub resumed : (list : List Mapping) (checkpoints : List Checkpoint) (found : Checkpoint) → IsInOrder list → IsTiled parts k list checkpoints → last_checkpoint bound checkpoints ≡ Some found → IsResumed list checkpoints found
+    pub resumed : (list : List Mapping) (checkpoints : List Checkpoint) (found : Checkpoint) → IsInOrder list
+        → IsTiled parts k list checkpoints → last_checkpoint bound checkpoints ≡ Some found → IsResumed list checkpoints found
     resumed list [] found order tiled last = absurd (cc)
     resumed list (c ∷ []) found order (rest, tile, tiled) last =
         ⊎_elim
@@ -263,34 +291,47 @@ module _ (bound : Bound) where
         ⊎_elim
         (λ more.
         to_next list c rest next (tiled.1.after ++ tiled.0) (next ∷ checkpoints) found order tile begins reached more
-        (tail (checkpoint_passes None next checkpoints more ∙ sym (checkpoint_passes (Some c) next checkpoints more) ∙ sym (checkpoint_passes None c (next ∷ checkpoints) reached) ∙ last)))
+        (tail (checkpoint_passes None next checkpoints more ∙ sym (checkpoint_passes (Some c) next checkpoints more)
+        ∙ sym (checkpoint_passes None c (next ∷ checkpoints) reached) ∙ last)))
         (λ after.
-        let same : c ≡ found = let e = checkpoint_passes None c (next ∷ checkpoints) reached in let f = checkpoint_stops (Some c) next checkpoints after in cc (e, f, last) in
-        subst (IsResumed list (c ∷ next ∷ checkpoints)) same (in_tile list c rest (next ∷ checkpoints) tile reached (subst IsPast (sym begins) after) (begins_past rest next checkpoints tiled after)))
+        let same : c ≡ found = let e = checkpoint_passes None c (next ∷ checkpoints) reached
+        in let f = checkpoint_stops (Some c) next checkpoints after in cc (e, f, last) in
+        subst (IsResumed list (c ∷ next ∷ checkpoints)) same
+        (in_tile list c rest (next ∷ checkpoints) tile reached (subst IsPast (sym begins) after) (begins_past rest next checkpoints tiled after)))
         (cases_Bool (is_up_to bound (mapping_of next))))
         (λ past. absurd (let e = checkpoint_stops None c (next ∷ checkpoints) past in cc (e, last)))
         (cases_Bool (is_up_to bound (mapping_of c)))
 
     -- where no checkpoint stands up to the bound, no mapping does, and the first of the list is the first of the table
-    pub none_resumed : (list : List Mapping) (checkpoints : List Checkpoint) → IsTiled parts k list checkpoints → last_checkpoint bound checkpoints ≡ None → (last_from bound None list ≡ None) × (first_past bound list ≡ first_past bound (mappings_at checkpoints))
+    pub none_resumed : (list : List Mapping) (checkpoints : List Checkpoint) → IsTiled parts k list checkpoints
+        → last_checkpoint bound checkpoints ≡ None → (last_from bound None list ≡ None) × (first_past bound list ≡ first_past bound (mappings_at checkpoints))
     none_resumed list [] tiled none = (ap (last_from bound None) tiled, ap (first_past bound) tiled)
     none_resumed list (c ∷ checkpoints) (rest, tile, tiled) none =
         ⊎_elim
-        (λ reached. absurd (let e = checkpoint_passes None c checkpoints reached in let m = some_last c (take (front_up_to bound (mappings_at checkpoints)) checkpoints) in cc (e, m.1, none)))
-        (λ past. (ap (last_from bound None) tile.list_is ∙ last_stops bound None (mapping_of c) (tile.after ++ rest) past, begins_past list c checkpoints (rest, tile, tiled) past))
+        (λ reached. absurd (let e = checkpoint_passes None c checkpoints reached
+        in let m = some_last c (take (front_up_to bound (mappings_at checkpoints)) checkpoints) in cc (e, m.1, none)))
+        (λ past. (
+          ap (last_from bound None) tile.list_is
+              ∙ last_stops bound None (mapping_of c) (tile.after ++ rest) past,
+          begins_past list c checkpoints (rest, tile, tiled) past,
+        ))
         (cases_Bool (is_up_to bound (mapping_of c)))
 
 module _ (line column : ℕ) (parts : List Part) (k : ℕ) where
   -- ---- the answer
 
   -- where no checkpoint is at the position or before it, nothing answers
-  pub none_answers : (list : List Mapping) (checkpoints : List Checkpoint) → IsInOrder list → IsTiled parts k list checkpoints → last_checkpoint (through line column) checkpoints ≡ None → answer_at_or_before list line column ≡ Nothing
+  pub none_answers : (list : List Mapping) (checkpoints : List Checkpoint) → IsInOrder list → IsTiled parts k list checkpoints
+      → last_checkpoint (through line column) checkpoints ≡ None → answer_at_or_before list line column ≡ Nothing
   none_answers list checkpoints order tiled none =
       last_answers line column list order ∙ ap (λ o. answer_of_last (on_line line o)) (none_resumed (through line column) parts k list checkpoints tiled none).0
 
-  module _ (list : List Mapping) (checkpoints : List Checkpoint) (c : Checkpoint) (order : IsInOrder list) (resumed : IsResumed (through line column) parts k list checkpoints c) where
+  module _ (list : List Mapping) (checkpoints : List Checkpoint) (c : Checkpoint) (order : IsInOrder list)
+      (resumed : IsResumed (through line column) parts k list checkpoints c) where
     -- where the checkpoint stands on the line, the last up to the position answers
-    pub last_answers_on_line : (mapping_of c).line ≡ line → (m : Mapping) → Some m ≡ last_from (through line column) (Some (mapping_of c)) (walked (through line column) parts k resumed.part resumed.segment) → answer_at_or_before list line column ≡ answer_of m
+    pub last_answers_on_line : (mapping_of c).line ≡ line → (m : Mapping)
+        → Some m ≡ last_from (through line column) (Some (mapping_of c)) (walked (through line column) parts k resumed.part resumed.segment)
+        → answer_at_or_before list line column ≡ answer_of m
     last_answers_on_line same m is =
         last_answers line column list order ∙ ap (λ o. answer_of_last (on_line line o)) (resumed.last_is None ∙ sym is)
         ∙ ap answer_of_last (on_line_same line column m (resumed.last_line m (sym is) ∙ same))

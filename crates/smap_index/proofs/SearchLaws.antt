@@ -16,7 +16,8 @@ use Rattle.smap_index.proofs.ListLaws.{tail_in_order}
 module _ (bound : Bound) where
   -- ---- the front
 
-  pub head_passes : (a : Mapping) (xs : List Mapping) (i : ℕ) (m : Mapping) → IsInOrder (a ∷ xs) → slice_get xs i ≡ Some m → is_up_to bound m ≡ true → is_up_to bound a ≡ true
+  pub head_passes : (a : Mapping) (xs : List Mapping) (i : ℕ) (m : Mapping) → IsInOrder (a ∷ xs) → slice_get xs i ≡ Some m
+      → is_up_to bound m ≡ true → is_up_to bound a ≡ true
   head_passes a [] i m order there is = absurd (cc)
   head_passes a (b ∷ xs) zero m order there is = let e : b ≡ m = cc in passes_back bound a b order.0 (ap (is_up_to bound) e ∙ is)
   head_passes a (b ∷ xs) (suc i) m order there is = passes_back bound a b order.0 (head_passes b xs i m order.1 there is)
@@ -58,5 +59,6 @@ front_within bound (a ∷ checkpoints) =
     (λ stops. let counted = cond-false (is_up_to bound (mapping_of a)) (1 + front_up_to bound (mappings_at checkpoints)) 0 stops in omega arith)
     (cases_Bool (is_up_to bound (mapping_of a)))
 
-pub read_mapping : (checkpoints : List Checkpoint) (i : ℕ) (checkpoint : Checkpoint) → slice_get checkpoints i ≡ Some checkpoint → slice_get (mappings_at checkpoints) i ≡ Some (mapping_of checkpoint)
+pub read_mapping : (checkpoints : List Checkpoint) (i : ℕ) (checkpoint : Checkpoint) → slice_get checkpoints i ≡ Some checkpoint
+    → slice_get (mappings_at checkpoints) i ≡ Some (mapping_of checkpoint)
 read_mapping checkpoints i checkpoint there = slice_get-map mapping_of checkpoints i ∙ ap (option_map mapping_of) there

@@ -1,5 +1,6 @@
 -- A walk through a text takes one mapping more at each step.
-use Rattle.std.proofs.Common.{◌≡◌, ℕ, ◌+◌, List, [], ◌∷◌, ◌++◌, ◌||◌, Bool, true, false, Option, Some, None, take, cond, suc, zero, length, refl, arith, sym, ap, subst, ◌∙◌, ⊎_elim}
+use Rattle.std.proofs.Common.{◌≡◌, ℕ, ◌+◌, List, [], ◌∷◌, ◌++◌, ◌||◌, Bool, true, false, Option, Some, None, take, cond, suc, zero, length, refl}
+use Rattle.std.proofs.Common.{arith, sym, ap, subst, ◌∙◌, ⊎_elim}
 use Rattle.std.specs.Prelude.{option_map, IfSome}
 use Rattle.std.specs.List.{last_or, list_any, slice_get}
 use Rattle.std.proofs.lemmas.Bool.{or_parts, or_from, cases_Bool, cond-true, cond-false}
@@ -75,22 +76,28 @@ module _ (part : Part) (j n : ℕ) (m : Mapping) (after : Cursor) (next : IsNext
   unfolding placed
   placed_next =
       ap (λ n. take n (placed part)) counted
-      ∙ take_next (placed part) j (placed_mapping part m) (slice_get-map (placed_mapping part) (mappings_of part.text) j ∙ ap (option_map (placed_mapping part)) next.mapping_is)
+      ∙ take_next (placed part) j (placed_mapping part m)
+      (slice_get-map (placed_mapping part) (mappings_of part.text) j ∙ ap (option_map (placed_mapping part)) next.mapping_is)
 
   pub last_next : (state : Cursor) → after ≡ state → IsMappingAt after m → IfSome (last_or None (take n (mappings_of part.text))) (IsMappingAt state)
   last_next state same at =
       let list = mappings_of part.text in
-      let last : last_or None (take n list) ≡ Some m = ap (λ n. last_or None (take n list)) counted ∙ ap (last_or None) (take_next list j m next.mapping_is) ∙ last_or-push None (take j list) m in
+      let last : last_or None (take n list) ≡ Some m =
+      ap (λ n. last_or None (take n list)) counted ∙ ap (last_or None) (take_next list j m next.mapping_is) ∙ last_or-push None (take j list) m in
       subst (λ state. IfSome (last_or None (take n list)) (IsMappingAt state)) same (subst (λ last. IfSome last (IsMappingAt after)) (sym last) at)
 
   -- the placed mappings so far and one more, under any test
-  pub any_next : (test : Mapping → Bool) (offset old new : Bool) → old ≡ (offset || list_any test (take j (placed part))) → new ≡ (old || test (placed_mapping part m)) → new ≡ (offset || list_any test (take n (placed part)))
+  pub any_next : (test : Mapping → Bool) (offset old new : Bool) → old ≡ (offset || list_any test (take j (placed part)))
+      → new ≡ (old || test (placed_mapping part m)) → new ≡ (offset || list_any test (take n (placed part)))
   any_next test offset old new so_far is =
       is ∙ ap (λ b. b || test (placed_mapping part m)) so_far
-      ∙ sym (ap (λ list. offset || list_any test list) placed_next ∙ ap (λ b. offset || b) (list_any-append test (take j (placed part)) (placed_mapping part m ∷ [])) ∙ or_more offset (list_any test (take j (placed part))) (test (placed_mapping part m)))
+      ∙ sym (ap (λ list. offset || list_any test list) placed_next
+      ∙ ap (λ b. offset || b) (list_any-append test (take j (placed part)) (placed_mapping part m ∷ []))
+      ∙ or_more offset (list_any test (take j (placed part))) (test (placed_mapping part m)))
 
   -- where no mapping so far is past the limit and this one is not, none is
-  pub none_next : list_any is_mapping_past_limit (take j (placed part)) ≡ false → is_mapping_past_limit (placed_mapping part m) ≡ false → list_any is_mapping_past_limit (take n (placed part)) ≡ false
+  pub none_next : list_any is_mapping_past_limit (take j (placed part)) ≡ false → is_mapping_past_limit (placed_mapping part m) ≡ false
+      → list_any is_mapping_past_limit (take n (placed part)) ≡ false
   none_next none within =
       ap (list_any is_mapping_past_limit) placed_next ∙ list_any-append is_mapping_past_limit (take j (placed part)) (placed_mapping part m ∷ [])
       ∙ or_from _ _ none (or_from _ _ within refl)
@@ -102,14 +109,16 @@ none_at test (x ∷ list) zero m none there = let e : x ≡ m = cc in sym (ap te
 none_at test (x ∷ list) (suc j) m none there = none_at test list j m (or_parts _ _ none).1 there
 
 -- where no mapping is past the limit, this one is not
-pub within_at : (part : Part) (j : ℕ) (m : Mapping) (after : Cursor) → IsNext part.text j m after → list_any is_mapping_past_limit (placed part) ≡ false → is_mapping_past_limit (placed_mapping part m) ≡ false
+pub within_at : (part : Part) (j : ℕ) (m : Mapping) (after : Cursor) → IsNext part.text j m after
+    → list_any is_mapping_past_limit (placed part) ≡ false → is_mapping_past_limit (placed_mapping part m) ≡ false
 unfolding placed
 within_at part j m after next none =
     let there = slice_get-map (placed_mapping part) (mappings_of part.text) j ∙ ap (option_map (placed_mapping part)) next.mapping_is in
     none_at is_mapping_past_limit (placed part) j (placed_mapping part m) none there
 
 -- so it has its place
-pub placed_in_range : (part : Part) (j : ℕ) (m : Mapping) (after : Cursor) → IsNext part.text j m after → list_any is_mapping_past_limit (placed part) ≡ false → cond (is_mapping_past_limit (placed_mapping part m)) None (Some (placed_mapping part m)) ≡ None → ⊥
+pub placed_in_range : (part : Part) (j : ℕ) (m : Mapping) (after : Cursor) → IsNext part.text j m after
+    → list_any is_mapping_past_limit (placed part) ≡ false → cond (is_mapping_past_limit (placed_mapping part m)) None (Some (placed_mapping part m)) ≡ None → ⊥
 placed_in_range part j m after next none kept =
     let e = cond-false (is_mapping_past_limit (placed_mapping part m)) None (Some (placed_mapping part m)) (within_at part j m after next none) in
     cc (e, kept)

@@ -65,7 +65,8 @@ mapping_within : (sources names : ℕ) (mapping : Mapping) → IsWithin sources 
 mapping_within sources names m within =
     or_from _ _ (or_from _ _ (number_within m.line within.line) (number_within m.column within.column)) (origin_within sources names m.origin within.origin)
 
-mappings_within : (sources names : ℕ) (mappings : List Mapping) → AllByRecursion (IsWithin sources names) mappings → list_any is_mapping_past_limit mappings ≡ false
+mappings_within : (sources names : ℕ) (mappings : List Mapping) → AllByRecursion (IsWithin sources names) mappings
+    → list_any is_mapping_past_limit mappings ≡ false
 mappings_within sources names [] all = refl
 mappings_within sources names (m ∷ mappings) all = or_from _ _ (mapping_within sources names m all.0) (mappings_within sources names mappings all.1)
 
@@ -77,7 +78,8 @@ whole_has_no_fault text sources names within =
     ap (λ b. option_map PositionRange (cond b (Some 0) None)) whole
 
 -- where a part moves nothing, none of its mappings comes past the limit
-pub unmoved_in_range : (part : Part) (sources names : ℕ) → part ≡ whole_text part.text → All (IsWithin sources names) (mappings_of part.text) → list_any is_mapping_past_limit (placed part) ≡ false
+pub unmoved_in_range : (part : Part) (sources names : ℕ) → part ≡ whole_text part.text
+    → All (IsWithin sources names) (mappings_of part.text) → list_any is_mapping_past_limit (placed part) ≡ false
 unmoved_in_range part sources names same within =
     ap (λ part. list_any is_mapping_past_limit (placed part)) same ∙ ap (list_any is_mapping_past_limit) (placed_whole part.text)
     ∙ mappings_within sources names (mappings_of part.text) (recursion_from_All (IsWithin sources names) (mappings_of part.text) within)

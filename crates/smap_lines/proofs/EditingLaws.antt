@@ -1,5 +1,6 @@
 -- What was read and written, from how far the editing has come.
-use Rattle.std.proofs.Common.{◌≡◌, ◌+◌, ◌<◌, ◌≤◌, ℕ, Bool, true, false, cond, List, [], ◌++◌, Option, Some, None, length, length-append, refl, sym, ap, ◌∙◌, arith, append_assoc, append-nil}
+use Rattle.std.proofs.Common.{◌≡◌, ◌+◌, ◌<◌, ◌≤◌, ℕ, Bool, true, false, cond, List, [], ◌++◌, Option, Some, None, length, length-append, refl, sym}
+use Rattle.std.proofs.Common.{ap, ◌∙◌, arith, append_assoc, append-nil}
 use mir.Val.{bool_byte}
 use Rattle.std.specs.Io.KnownBytes.{prepend_known}
 use Rattle.smap_io.specs.Device.{Gives, TakesFront}
@@ -29,7 +30,8 @@ byte_few true = omega arith
 byte_few false = omega arith
 
 -- a write failed
-pub write_fails : (becomes : Line → List ℕ) (before after : DevicesSeen) (bytes : List ℕ) → Gives before.input.left after.input.left bytes → TakesFront before.output.taken after.output.taken (edited becomes bytes) →
+pub write_fails : (becomes : Line → List ℕ) (before after : DevicesSeen) (bytes : List ℕ) → Gives before.input.left after.input.left bytes
+    → TakesFront before.output.taken after.output.taken (edited becomes bytes) →
     EditsFront becomes before after Write
 write_fails becomes before after bytes gives took = record {
   bytes = bytes;
@@ -47,7 +49,8 @@ module _ (E : Type 0) (becomes : E → Line → List ℕ) (step : E → Line →
     (room_for_one : (editor : E) (line : Line) → room editor ≤ room (step editor line) + 1)
     (first : E) (before after : DevicesSeen) (bytes : List ℕ) (now : Now E) where
   -- a read failed, where nothing waits
-  pub read_fails : IsThrough becomes step room first before.output.taken bytes now [] → now.waiting ≡ [] → now.taken ≡ after.output.taken → Gives before.input.left after.input.left bytes →
+  pub read_fails : IsThrough becomes step room first before.output.taken bytes now [] → now.waiting ≡ [] → now.taken ≡ after.output.taken
+      → Gives before.input.left after.input.left bytes →
       EditsFront (becomes first) before after Read
   read_fails is none taken gives =
       let ahead = through_ahead E becomes step room same room_for_one first before.output.taken bytes [] now is in record {
@@ -58,11 +61,13 @@ module _ (E : Type 0) (becomes : E → Line → List ℕ) (step : E → Line →
         taken = sym taken ∙ is.taken;
         front = ahead.1 ∙ ap (λ w. (is.written ++ w) ++ ahead.0) none ∙ ap (λ l. l ++ ahead.0) (append-nil is.written);
         many = λ e. absurd (cc);
-        whole = λ _ front rest bytes_is whole. through_whole E becomes step room same room_for_one first before.output.taken bytes now is none front rest bytes_is whole;
+        whole = λ _ front rest bytes_is whole. through_whole E becomes step room same room_for_one first before.output.taken bytes now is
+            none front rest bytes_is whole;
       }
 
   -- too much came
-  pub too_much : (more : List ℕ) → IsThrough becomes step room first before.output.taken bytes now [] → now.taken ≡ after.output.taken → Gives before.input.left after.input.left (bytes ++ more) →
+  pub too_much : (more : List ℕ) → IsThrough becomes step room first before.output.taken bytes now [] → now.taken ≡ after.output.taken
+      → Gives before.input.left after.input.left (bytes ++ more) →
       most_text_bytes < length bytes + length more → EditsFront (becomes first) before after TooMuch
   too_much more is taken gives many =
       let on = through_read E becomes step room same room_for_one first before.output.taken bytes more now is in

@@ -3,7 +3,8 @@ use Rattle.std.proofs.Common.{◌≡◌, ◌++◌, true, false, [], ◌∷◌, r
 use Rattle.smap_lines.specs.Edited.{edited}
 use Rattle.smap_lines.specs.Lines.{lines_with_ends}
 
-lines : lines_with_ends (codes "a\n\nb") ≡ record { bytes = codes "a"; is_ended = true } ∷ record { bytes = []; is_ended = true } ∷ record { bytes = codes "b"; is_ended = false } ∷ []
+lines : lines_with_ends (codes "a\n\nb") ≡ record { bytes = codes "a"; is_ended = true } ∷ record { bytes = []; is_ended = true }
+    ∷ record { bytes = codes "b"; is_ended = false } ∷ []
 lines = refl
 
 -- each line twice, and no LF

@@ -1,5 +1,6 @@
 -- The lines of a text, one after another; and a text cut after a line, whose lines are those of its parts.
-use Rattle.std.proofs.Common.{◌≡◌, ◌==◌, ◌+◌, ◌<◌, ◌≤◌, ◌||◌, ℕ, suc, Bool, true, false, cond, List, [], ◌∷◌, ◌++◌, length, length-append, length-take, get_or, get_or-take, take, drop, refl, sym, ap, ◌∙◌, arith, ⊎_elim, inl, inr, append-nil, fold}
+use Rattle.std.proofs.Common.{◌≡◌, ◌==◌, ◌+◌, ◌<◌, ◌≤◌, ◌||◌, ℕ, suc, Bool, true, false, cond, List, [], ◌∷◌, ◌++◌, length, length-append}
+use Rattle.std.proofs.Common.{length-take, get_or, get_or-take, take, drop, refl, sym, ap, ◌∙◌, arith, ⊎_elim, inl, inr, append-nil, fold}
 use Rattle.std.proofs.Math.Bool.{or-true}
 use Rattle.std.specs.List.{flat_map}
 use Rattle.std.proofs.lemmas.Bool.{cond-false, cond_both, eqb-true, false_from_ne_true, or_from, or_parts}
@@ -41,7 +42,8 @@ pub few_lines : (text : List ℕ) → length (lines_with_ends text) ≤ length t
 few_lines [] = omega arith
 few_lines (x ∷ text) =
     let few = few_lines text in
-    cond_both (x == 10) _ _ (λ l. length l ≤ length (x ∷ text)) (λ _. omega (arith, few)) (λ _. let more = onto_few x (lines_with_ends text) (length text) few in omega (arith, more))
+    cond_both (x == 10) _ _ (λ l. length l ≤ length (x ∷ text)) (λ _. omega (arith, few))
+    (λ _. let more = onto_few x (lines_with_ends text) (length text) few in omega (arith, more))
 
 -- ---- a join of whole lines
 
@@ -77,7 +79,8 @@ lines_of_both first rest whole = ⊎_elim
 
 -- ---- what becomes of them
 
-pub edited_both : (becomes : Line → List ℕ) (first rest : List ℕ) → IsWholeLines first → edited becomes (first ++ rest) ≡ edited becomes first ++ edited becomes rest
+pub edited_both : (becomes : Line → List ℕ) (first rest : List ℕ) → IsWholeLines first
+    → edited becomes (first ++ rest) ≡ edited becomes first ++ edited becomes rest
 unfolding edited
 edited_both becomes first rest whole =
     ap (flat_map (edited_line becomes)) (lines_of_both first rest whole) ∙ flat_map-append (edited_line becomes) (lines_with_ends first) (lines_with_ends rest)
@@ -90,7 +93,8 @@ pub edited_ended : (becomes : Line → List ℕ) (line : List ℕ) → has_line_
 unfolding edited
 edited_ended becomes line none = ap (flat_map (edited_line becomes)) (first_line line [] none) ∙ append-nil (edited_line becomes (ended line))
 
-pub edited_last : (becomes : Line → List ℕ) (line : List ℕ) → has_line_end line ≡ false → 0 < length line → edited becomes line ≡ edited_line becomes (last line)
+pub edited_last : (becomes : Line → List ℕ) (line : List ℕ) → has_line_end line ≡ false → 0 < length line
+    → edited becomes line ≡ edited_line becomes (last line)
 unfolding edited
 edited_last becomes line none some = ap (flat_map (edited_line becomes)) (only_line line none some) ∙ append-nil (edited_line becomes (last line))
 
@@ -123,7 +127,8 @@ no_end_in_both first second one two = list_any-append (λ byte. byte == 10) firs
 pub no_end_anywhere : (text : List ℕ) → ((k : ℕ) → k < length text → (get_or text k 0 == 10) ≡ true → ⊥) → has_line_end text ≡ false
 no_end_anywhere [] none = refl
 no_end_anywhere (x ∷ text) none =
-    or_from (x == 10) (has_line_end text) (false_from_ne_true (x == 10) (none 0 (omega arith))) (no_end_anywhere text (λ k within. none (suc k) (omega (arith, within))))
+    or_from (x == 10) (has_line_end text) (false_from_ne_true (x == 10) (none 0 (omega arith)))
+    (no_end_anywhere text (λ k within. none (suc k) (omega (arith, within))))
 
 -- the first LF, and what stands before and after it
 pub cut_there : (text : List ℕ) (k : ℕ) → k < length text → (get_or text k 0 == 10) ≡ true → text ≡ take k text ++ 10 ∷ drop (k + 1) text

@@ -1,5 +1,6 @@
 -- What an open line comes to, by its state: what is passed of it and what its end brings are what becomes of it.
-use Rattle.std.proofs.Common.{◌≡◌, ◌<◌, ◌≤◌, ◌⊎◌, ℕ, Bool, true, false, cond, List, [], ◌∷◌, ◌++◌, length, length-append, refl, sym, ap, ◌∙◌, arith, subst, inl, inr, append_assoc, append-nil}
+use Rattle.std.proofs.Common.{◌≡◌, ◌<◌, ◌≤◌, ◌⊎◌, ℕ, Bool, true, false, cond, List, [], ◌∷◌, ◌++◌, length, length-append, refl, sym, ap, ◌∙◌, arith}
+use Rattle.std.proofs.Common.{subst, inl, inr, append_assoc, append-nil}
 use Rattle.std.specs.Prelude.{nat_le, not, ◌==◌}
 use Rattle.std.proofs.lemmas.Bool.{cond-false, cond-true, eqb-true, or_from}
 use Rattle.std.proofs.lemmas.Bool.Decides.{nat_tests}
@@ -35,7 +36,8 @@ module _ (becomes : Line → List ℕ) (bytes : List ℕ) where
       ≡ edited_line becomes (ended (begun ++ bytes))
   ended_at true kept begun is =
       let long : is_short (ended (begun ++ bytes)) ≡ false = long_is_not (length (begun ++ bytes)) (omega (arith, is.long refl, length-append begun bytes)) in
-      ap (λ l. begun ++ ((l ++ bytes) ++ 10 ∷ [])) (is.none_kept refl) ∙ sym (append_assoc begun bytes (10 ∷ [])) ∙ sym (cond-false (is_short (ended (begun ++ bytes))) _ _ long)
+      ap (λ l. begun ++ ((l ++ bytes) ++ 10 ∷ [])) (is.none_kept refl) ∙ sym (append_assoc begun bytes (10 ∷ []))
+      ∙ sym (cond-false (is_short (ended (begun ++ bytes))) _ _ long)
   ended_at false kept begun is = ap (λ l. edited_line becomes (ended (l ++ bytes))) (is.kept refl)
 
 -- the same of the editor
@@ -54,7 +56,8 @@ GoesOn state begun bytes =
 
 -- bytes that fit, or don't, after those that are kept
 goes_on_kept : (fits : Bool) (begun bytes : List ℕ) → nat_le (length (begun ++ bytes)) most_line_bytes ≡ fits → has_line_end (begun ++ bytes) ≡ false →
-    (cond fits [] (begun ++ bytes) ≡ passed (cond fits (record { kept = begun ++ bytes; is_passing = false }) (record { kept = []; is_passing = true })) (begun ++ bytes))
+    (cond fits [] (begun ++ bytes) ≡ passed (cond fits (record { kept = begun ++ bytes; is_passing = false })
+    (record { kept = []; is_passing = true })) (begun ++ bytes))
     × IsOpen (cond fits (record { kept = begun ++ bytes; is_passing = false }) (record { kept = []; is_passing = true })) (begun ++ bytes)
 goes_on_kept true begun bytes is none = (
   refl,
@@ -134,7 +137,8 @@ module _ {E : Type 0} (step : E → Line → E) (editor : E) where
 last_counted : (begun : List ℕ) → has_line_end begun ≡ false → cond (not (length begun == 0)) 1 0 ≡ length (lines_with_ends begun)
 last_counted [] none = refl
 last_counted (x ∷ begun) none =
-    cond-true (not (length (x ∷ begun) == 0)) _ _ (ap not (some_is_not (length (x ∷ begun)) (omega arith))) ∙ sym (ap length (only_line (x ∷ begun) none (omega arith)))
+    cond-true (not (length (x ∷ begun) == 0)) _ _ (ap not (some_is_not (length (x ∷ begun)) (omega arith)))
+    ∙ sym (ap length (only_line (x ∷ begun) none (omega arith)))
 
 pub counted_at : (passing : Bool) (kept begun : List ℕ) → IsOpen (record { kept = kept; is_passing = passing }) begun →
     cond (has_last (record { kept = kept; is_passing = passing })) 1 0 ≡ length (lines_with_ends begun)
@@ -175,7 +179,8 @@ module _ (becomes : Line → List ℕ) (begun : List ℕ) (one : has_line_end be
       let whole : begun ++ more ≡ ((begun ++ line) ++ 10 ∷ []) ++ rest = ap (λ l. begun ++ l) is ∙ simp append_assoc in (
         (line ++ 10 ∷ []) ++ edited becomes rest,
         ap (edited becomes) whole ∙ edited_both becomes ((begun ++ line) ++ 10 ∷ []) rest (inr (begun ++ line, refl))
-            ∙ ap (λ l. l ++ edited becomes rest) (edited_ended becomes (begun ++ line) (no_end_in_both begun line one none) ∙ cond-false (is_short (ended (begun ++ line))) _ _ (long_with line))
+            ∙ ap (λ l. l ++ edited becomes rest) (edited_ended becomes (begun ++ line) (no_end_in_both begun line one none)
+            ∙ cond-false (is_short (ended (begun ++ line))) _ _ (long_with line))
             ∙ simp append_assoc,
       )
 

@@ -1,12 +1,15 @@
 -- How far the editing of a text has come: each step of it keeps `IsThrough`, and at the end it says what was written.
-use Rattle.std.proofs.Common.{◌≡◌, ◌+◌, ◌≤◌, ℕ, Bool, true, false, cond, List, [], ◌∷◌, ◌++◌, Option, length, length-append, refl, sym, ap, ◌∙◌, arith, subst, inl, inr, append_assoc, append-nil}
+use Rattle.std.proofs.Common.{◌≡◌, ◌+◌, ◌≤◌, ℕ, Bool, true, false, cond, List, [], ◌∷◌, ◌++◌, Option, length, length-append, refl, sym, ap, ◌∙◌}
+use Rattle.std.proofs.Common.{arith, subst, inl, inr, append_assoc, append-nil}
 use Rattle.smap_io.specs.Device.{Takes, TakesFront}
 use Rattle.smap_lines.specs.Edited.{after_text, edited, is_short}
 use Rattle.smap_lines.specs.Gathered.{HandsOn}
 use Rattle.smap_lines.specs.Lines.{IsWholeLines, Line, has_line_end, line_text, lines_with_ends}
-use Rattle.smap_lines.specs.Private.OpenLine.{OpenState, after_ended, after_last, continued, continued_text, ended_text, has_last, is_kept, last_text, line_with, nothing_open}
+use Rattle.smap_lines.specs.Private.OpenLine.{OpenState, after_ended, after_last, continued, continued_text, ended_text, has_last, is_kept, last_text}
+use Rattle.smap_lines.specs.Private.OpenLine.{line_with, nothing_open}
 use Rattle.smap_lines.specs.Private.Passage.{IsOpen, IsThrough, Now, passed}
-use Rattle.smap_lines.proofs.LineLaws.{after_both, after_ended_line, after_none, edited_both, edited_ended, edited_none, ended, few_lines, first_line, lines_of_both, no_end_in_both, whole_begins}
+use Rattle.smap_lines.proofs.LineLaws.{after_both, after_ended_line, after_none, edited_both, edited_ended, edited_none, ended, few_lines, first_line}
+use Rattle.smap_lines.proofs.LineLaws.{lines_of_both, no_end_in_both, whole_begins}
 use Rattle.smap_lines.proofs.StateLaws.{begins_at, after_at, after_last_at, counted_at, ended_at, goes_on, last_at}
 use Rattle.smap_lines.specs.PutLaws.{takes_both, takes_none}
 
@@ -181,7 +184,8 @@ module _ (E : Type 0) (becomes : E → Line → List ℕ) (step : E → Line →
 
   -- ---- a read failed: all of what the whole lines become was written
 
-  pub through_whole : (bytes : List ℕ) (now : Now E) → (is : Through bytes now []) → now.waiting ≡ [] → (front rest : List ℕ) → bytes ≡ front ++ rest → IsWholeLines front →
+  pub through_whole : (bytes : List ℕ) (now : Now E) → (is : Through bytes now []) → now.waiting ≡ [] → (front rest : List ℕ)
+      → bytes ≡ front ++ rest → IsWholeLines front →
       (more : List ℕ) × (is.written ≡ edited (becomes first) front ++ more)
   through_whole bytes now is none front rest bytes_is whole =
       let begins = whole_begins is.done is.begun front rest (sym (is.bytes_is ∙ append-nil (is.done ++ is.begun)) ∙ bytes_is) whole is.open_is.one in (
@@ -209,7 +213,8 @@ module _ (E : Type 0) (becomes : E → Line → List ℕ) (step : E → Line →
       ∙ append_assoc is.written now.waiting (last_text (becomes now.editor) now.state)
 
   pub through_end : (bytes : List ℕ) (now : Now E) (mid new : Option (List ℕ)) (waiting : List ℕ) → (is : Through bytes now []) →
-      HandsOn now.taken mid (now.waiting ++ last_text (becomes now.editor) now.state) waiting → Takes mid new waiting → Takes before new (edited (becomes first) bytes)
+      HandsOn now.taken mid (now.waiting ++ last_text (becomes now.editor) now.state) waiting → Takes mid new waiting
+      → Takes before new (edited (becomes first) bytes)
   through_end bytes now mid new waiting is hands took =
       subst (λ l. Takes before new l) (sym (ends_at bytes now is ∙ ap (λ l. is.written ++ l) hands.2))
       (takes_both before now.taken new is.written (hands.0 ++ waiting) is.taken (takes_both now.taken mid new hands.0 waiting hands.1 took))
@@ -224,7 +229,8 @@ module _ (E : Type 0) (becomes : E → Line → List ℕ) (step : E → Line →
   )
 
   pub through_end_front : (bytes : List ℕ) (now : Now E) (mid new : Option (List ℕ)) (waiting : List ℕ) → (is : Through bytes now []) →
-      HandsOn now.taken mid (now.waiting ++ last_text (becomes now.editor) now.state) waiting → TakesFront mid new waiting → TakesFront before new (edited (becomes first) bytes)
+      HandsOn now.taken mid (now.waiting ++ last_text (becomes now.editor) now.state) waiting → TakesFront mid new waiting
+      → TakesFront before new (edited (becomes first) bytes)
   through_end_front bytes now mid new waiting is hands took =
       through_last_front bytes now new is (
         hands.0 ++ took.0,
@@ -240,7 +246,8 @@ module _ (E : Type 0) (becomes : E → Line → List ℕ) (step : E → Line →
       ∙ ap (λ e. after_text step e is.begun) is.editor_is ∙ sym (after_both step first is.done is.begun is.whole)
       ∙ ap (after_text step first) (sym (is.bytes_is ∙ append-nil (is.done ++ is.begun)))
 
-  pub through_counted : (bytes : List ℕ) (now : Now E) → (is : Through bytes now []) → now.lines + cond (has_last now.state) 1 0 ≡ length (lines_with_ends bytes)
+  pub through_counted : (bytes : List ℕ) (now : Now E) → (is : Through bytes now [])
+      → now.lines + cond (has_last now.state) 1 0 ≡ length (lines_with_ends bytes)
   through_counted bytes now is =
       let more = counted_at now.state.is_passing now.state.kept is.begun is.open_is in
       let both = ap length (ap lines_with_ends (is.bytes_is ∙ append-nil (is.done ++ is.begun)) ∙ lines_of_both is.done is.begun is.whole) in

@@ -1,6 +1,7 @@
 -- A list of mappings that is encoded, mapping after mapping: those before a mapping keep to the limit, the lines don't
 -- fall, nor do the columns of a line, and so each field is small enough to be spelled.
-use Rattle.std.proofs.Common.{◌≡◌, ℕ, ◌+◌, ◌<◌, ◌≤◌, Bool, true, false, cond, eqb, ltb, List, [], ◌∷◌, ◌++◌, Option, Some, None, refl, sym, ap, subst, ◌∙◌, arith, ltb-false, eq-eqb, ne_eqb, ⊎_elim}
+use Rattle.std.proofs.Common.{◌≡◌, ℕ, ◌+◌, ◌<◌, ◌≤◌, Bool, true, false, cond, eqb, ltb, List, [], ◌∷◌, ◌++◌, Option, Some, None, refl, sym, ap, subst}
+use Rattle.std.proofs.Common.{◌∙◌, arith, ltb-false, eq-eqb, ne_eqb, ⊎_elim}
 use Rattle.std.specs.Prelude.{ℤ, pos, negsuc, ◌-ℤ◌, unsigned_abs, unwrap_or, filter_map}
 use Rattle.std.specs.List.{AllByRecursion, last_or, cons_option}
 use Rattle.std.specs.Option.{option_or}
@@ -49,13 +50,15 @@ last-push o (y ∷ xs) x = last-push (Some y) xs x
 module _ {A : Type 0} (f : Mapping → Option A) (before : List Mapping) (mapping : Mapping) where
   last_given : (a : A) → f mapping ≡ Some a → last_or None (filter_map f (before ++ mapping ∷ [])) ≡ Some a
   last_given a is =
-      ap (last_or None) (filter_map-append f before (mapping ∷ []) ∙ ap (λ o. filter_map f before ++ cons_option o []) is) ∙ last-push None (filter_map f before) a
+      ap (last_or None) (filter_map-append f before (mapping ∷ []) ∙ ap (λ o. filter_map f before ++ cons_option o []) is)
+      ∙ last-push None (filter_map f before) a
 
   last_kept : f mapping ≡ None → last_or None (filter_map f (before ++ mapping ∷ [])) ≡ last_or None (filter_map f before)
   last_kept is =
       ap (last_or None) (filter_map-append f before (mapping ∷ []) ∙ ap (λ o. filter_map f before ++ cons_option o []) is ∙ append-nil (filter_map f before))
 
-pub origin_given : (before : List Mapping) (mapping : Mapping) (origin : Origin) → mapping.origin ≡ Some origin → origin_before (before ++ mapping ∷ []) ≡ origin
+pub origin_given : (before : List Mapping) (mapping : Mapping) (origin : Origin) → mapping.origin ≡ Some origin
+    → origin_before (before ++ mapping ∷ []) ≡ origin
 origin_given before mapping origin is = ap (λ o. unwrap_or o no_origin) (last_given (λ m. m.origin) before mapping origin is)
 
 pub origin_kept : (before : List Mapping) (mapping : Mapping) → mapping.origin ≡ None → origin_before (before ++ mapping ∷ []) ≡ origin_before before
@@ -84,7 +87,8 @@ AreFaultless earlier [] = Unit {0}
 AreFaultless earlier (mapping ∷ mappings) =
     (is_not_sorted earlier mapping ≡ false) × (is_mapping_past_limit mapping ≡ false) × AreFaultless (Some mapping) mappings
 
-no_refusal : (a b : Bool) (x y : EncodeRefusal) (others : Option EncodeRefusal) → ◌≡◌ {A = Option EncodeRefusal} (option_or (cond a (Some x) (cond b (Some y) None)) others) None → (a ≡ false) × (b ≡ false) × (others ≡ None)
+no_refusal : (a b : Bool) (x y : EncodeRefusal) (others : Option EncodeRefusal)
+    → ◌≡◌ {A = Option EncodeRefusal} (option_or (cond a (Some x) (cond b (Some y) None)) others) None → (a ≡ false) × (b ≡ false) × (others ≡ None)
 no_refusal true b x y others is = absurd (cc)
 no_refusal false true x y others is = absurd (cc)
 no_refusal false false x y others is = (refl, refl, is)
@@ -113,7 +117,8 @@ lines_rise (Some earlier) mapping sorted = ltb-false mapping.line earlier.line (
 columns_on_line : (earlier mapping : Mapping) → stands_before mapping earlier ≡ false → mapping.line ≡ earlier.line → earlier.column ≤ mapping.column
 columns_on_line earlier mapping sorted same =
     ltb-false mapping.column earlier.column (
-    ⊎_elim (λ other. absurd (both_ways _ other (eq-eqb mapping.line earlier.line same))) (λ onward. onward) (and_cases (eqb mapping.line earlier.line) (ltb mapping.column earlier.column) (or_parts _ _ sorted).1))
+    ⊎_elim (λ other. absurd (both_ways _ other (eq-eqb mapping.line earlier.line same))) (λ onward. onward)
+    (and_cases (eqb mapping.line earlier.line) (ltb mapping.column earlier.column) (or_parts _ _ sorted).1))
 
 pub columns_rise : (earlier : Option Mapping) (mapping : Mapping) → is_not_sorted earlier mapping ≡ false → column_before earlier mapping.line ≤ mapping.column
 columns_rise None mapping sorted = omega arith
@@ -147,12 +152,18 @@ pub record IsSmallOrigin (origin : Origin) : Type 0 where
 pub small_column : (mapping : Mapping) → is_mapping_past_limit mapping ≡ false → mapping.column ≤ limit
 small_column mapping small = ltb-false limit mapping.column (or_parts _ _ (or_parts _ _ small).0).1
 
-pub small_origin : (line column : ℕ) (origin : Origin) → is_mapping_past_limit (record { line = line; column = column; origin = Some origin }) ≡ false → IsSmallOrigin origin
+pub small_origin : (line column : ℕ) (origin : Origin)
+    → is_mapping_past_limit (record { line = line; column = column; origin = Some origin }) ≡ false → IsSmallOrigin origin
 small_origin line column origin small =
     let parts = or_parts _ _ (or_parts _ _ small).1 in
     let place = or_parts _ _ parts.0 in
     let front = or_parts _ _ place.0 in
-    record { source = ltb-false limit origin.source front.0; line = ltb-false limit origin.line front.1; column = ltb-false limit origin.column place.1; name = parts.1 }
+    record {
+      source = ltb-false limit origin.source front.0;
+      line = ltb-false limit origin.line front.1;
+      column = ltb-false limit origin.column place.1;
+      name = parts.1;
+    }
 
 module _ (before : List Mapping) (are : AreSmall before) where
   column_stays_small : (mapping : Mapping) → mapping.column ≤ limit → (line : ℕ) → column_before (last_or None (before ++ mapping ∷ [])) line ≤ limit
@@ -212,13 +223,22 @@ module _ (before : List Mapping) (are : AreSmall before) where
       (λ line column source original_line original_column small.
       let numbers = small_origin line column (record { source = source; line = original_line; column = original_column; name = None }) small in (
         difference_small column _ (small_column (mapped line column source original_line original_column None) small) (are.column line),
-        (difference_small source _ numbers.source are.source, (difference_small original_line _ numbers.line are.original_line, (difference_small original_column _ numbers.column are.original_column, tt))),
+        (
+          difference_small source _ numbers.source are.source,
+          (difference_small original_line _ numbers.line are.original_line, (difference_small original_column _ numbers.column are.original_column, tt)),
+        ),
       ))
       (λ line column source original_line original_column name small.
       let numbers = small_origin line column (record { source = source; line = original_line; column = original_column; name = Some name }) small in (
         difference_small column _ (small_column (mapped line column source original_line original_column (Some name)) small) (are.column line),
         (
           difference_small source _ numbers.source are.source,
-          (difference_small original_line _ numbers.line are.original_line, (difference_small original_column _ numbers.column are.original_column, (difference_small name _ (ltb-false limit name numbers.name) are.name, tt))),
+          (
+            difference_small original_line _ numbers.line are.original_line,
+            (
+              difference_small original_column _ numbers.column are.original_column,
+              (difference_small name _ (ltb-false limit name numbers.name) are.name, tt),
+            ),
+          ),
         ),
       ))

@@ -1,5 +1,6 @@
 -- A check's way through a text: the first fault is that of the segments from here on, until none is left.
-use Rattle.std.proofs.Common.{◌≡◌, ℕ, ◌+◌, ◌<◌, ◌≤◌, suc, zero, Bool, true, false, not, ◌||◌, cond, eqb, List, [], ◌∷◌, ◌++◌, length, take, drop, map, Option, Some, None, refl, sym, ap, subst, ◌∙◌, arith, ⊎_elim, length-drop, eq-eqb, ne_eqb}
+use Rattle.std.proofs.Common.{◌≡◌, ℕ, ◌+◌, ◌<◌, ◌≤◌, suc, zero, Bool, true, false, not, ◌||◌, cond, eqb, List, [], ◌∷◌, ◌++◌, length, take, drop, map}
+use Rattle.std.proofs.Common.{Option, Some, None, refl, sym, ap, subst, ◌∙◌, arith, ⊎_elim, length-drop, eq-eqb, ne_eqb}
 use Rattle.std.specs.Prelude.{IfSome, unwrap_or}
 use Rattle.std.specs.Int.{from_bool}
 use Rattle.std.specs.List.{AllByRecursion, list_any}
@@ -29,7 +30,8 @@ use Rattle.smap_mappings.proofs.OrderLaws.{any_last}
 
 -- ---- a text is accepted where it has no first fault, and only there
 
-fault_or_none : (first : Option FaultKind) (segment : TextSegment) (others : Option Fault) → ◌≡◌ {A = Option Fault} (fault_or first segment others) None → (first ≡ None) × (others ≡ None)
+fault_or_none : (first : Option FaultKind) (segment : TextSegment) (others : Option Fault)
+    → ◌≡◌ {A = Option Fault} (fault_or first segment others) None → (first ≡ None) × (others ≡ None)
 fault_or_none None segment others is = (refl, is)
 fault_or_none (Some kind) segment others is = absurd (cc)
 
@@ -38,34 +40,42 @@ first_of_none None b is = (refl, is)
 first_of_none (Some kind) b is = absurd (cc)
 
 module _ (sources names : ℕ) where
-  accepted_no_fault : (before : List Delta) (segments : List TextSegment) → are_accepted_after sources names before (map delta_of segments) ≡ true → first_fault_after sources names before segments ≡ None
+  accepted_no_fault : (before : List Delta) (segments : List TextSegment)
+      → are_accepted_after sources names before (map delta_of segments) ≡ true → first_fault_after sources names before segments ≡ None
   accepted_no_fault before [] all = refl
   accepted_no_fault before (segment ∷ segments) all =
       let parts = and_parts _ _ all in
       let delta = delta_of segment in
-      (λ i. fault_or (first_kind (known_spelled segment.bytes (accepts_known sources names before delta parts.0) i) (accepts_none sources names before delta parts.0 i)) segment (first_fault_after sources names (before ++ delta ∷ []) segments))
+      (λ i. fault_or (first_kind (known_spelled segment.bytes (accepts_known sources names before delta parts.0) i)
+      (accepts_none sources names before delta parts.0 i)) segment (first_fault_after sources names (before ++ delta ∷ []) segments))
       ∙ accepted_no_fault (before ++ delta ∷ []) segments parts.1
 
-  no_fault_accepted : (before : List Delta) (segments : List TextSegment) → first_fault_after sources names before segments ≡ None → are_accepted_after sources names before (map delta_of segments) ≡ true
+  no_fault_accepted : (before : List Delta) (segments : List TextSegment) → first_fault_after sources names before segments ≡ None
+      → are_accepted_after sources names before (map delta_of segments) ≡ true
   no_fault_accepted before [] none = refl
   no_fault_accepted before (segment ∷ segments) none =
       let delta = delta_of segment in
       let parts = fault_or_none (segment_fault sources names before segment) segment _ none in
       let here = first_of_none (spelling_fault segment.bytes) (delta_fault sources names before delta) parts.0 in
-      and_from _ _ (accepts_from sources names before delta (spelled_known segment.bytes here.0) here.1) (no_fault_accepted (before ++ delta ∷ []) segments parts.1)
+      and_from _ _ (accepts_from sources names before delta (spelled_known segment.bytes here.0) here.1)
+      (no_fault_accepted (before ++ delta ∷ []) segments parts.1)
 
   -- where there is none at all, there is none from any segment on
-  none_later : (before : List Delta) (segments : List TextSegment) (j : ℕ) → first_fault_after sources names before segments ≡ None → first_fault_after sources names (before ++ take j (map delta_of segments)) (drop j segments) ≡ None
+  none_later : (before : List Delta) (segments : List TextSegment) (j : ℕ) → first_fault_after sources names before segments ≡ None
+      → first_fault_after sources names (before ++ take j (map delta_of segments)) (drop j segments) ≡ None
   none_later before segments zero none = ap (λ front. first_fault_after sources names front segments) (append-nil before) ∙ none
   none_later before [] (suc j) none = refl
   none_later before (segment ∷ segments) (suc j) none =
       let parts = fault_or_none (segment_fault sources names before segment) segment _ none in
-      ap (λ front. first_fault_after sources names front (drop j segments)) (sym (append_assoc before (delta_of segment ∷ []) (take j (map delta_of segments)))) ∙ none_later (before ++ delta_of segment ∷ []) segments j parts.1
+      ap (λ front. first_fault_after sources names front (drop j segments))
+      (sym (append_assoc before (delta_of segment ∷ []) (take j (map delta_of segments)))) ∙ none_later (before ++ delta_of segment ∷ []) segments j parts.1
 
-widest_all : (sources names : ℕ) (before deltas : List Delta) → are_accepted_after sources names before deltas ≡ true → are_accepted_after most_indices most_indices before deltas ≡ true
+widest_all : (sources names : ℕ) (before deltas : List Delta) → are_accepted_after sources names before deltas ≡ true
+    → are_accepted_after most_indices most_indices before deltas ≡ true
 widest_all sources names before [] all = refl
 widest_all sources names before (delta ∷ deltas) all =
-    let parts = and_parts _ _ all in and_from _ _ (accepted_widest sources names before delta parts.0) (widest_all sources names (before ++ delta ∷ []) deltas parts.1)
+    let parts = and_parts _ _ all in and_from _ _ (accepted_widest sources names before delta parts.0)
+    (widest_all sources names (before ++ delta ∷ []) deltas parts.1)
 
 pub widest : (text : List ℕ) (sources names : ℕ) → IsAccepted text sources names → IsAccepted text most_indices most_indices
 unfolding is_accepted
@@ -102,14 +112,23 @@ length-deltas_of text = length-map (segments_of text) delta_of
 
 pub checks_start : (text : List ℕ) (sources names : ℕ) → ChecksUpTo text sources names START 0 0
 unfolding first_fault
-checks_start text sources names = record { after = after_none text; passed = refl; on_line = λ lt. absurd (omega arith); lines = refl; few = omega arith; fewer = omega arith }
+checks_start text sources names = record {
+  after = after_none text;
+  passed = refl;
+  on_line = λ lt. absurd (omega arith);
+  lines = refl;
+  few = omega arith;
+  fewer = omega arith;
+}
 
-pub none_at_end : (text : List ℕ) (sources names : ℕ) (cursor next : Cursor) (segments used_lines : ℕ) → ChecksUpTo text sources names cursor segments used_lines → IsAfter text segments next → next.place ≡ length text → first_fault text sources names ≡ None
+pub none_at_end : (text : List ℕ) (sources names : ℕ) (cursor next : Cursor) (segments used_lines : ℕ)
+    → ChecksUpTo text sources names cursor segments used_lines → IsAfter text segments next → next.place ≡ length text → first_fault text sources names ≡ None
 none_at_end text sources names cursor next segments used_lines checks after at_end =
     let all = all_after text segments next after at_end in
     checks.passed ∙ ap (λ rest. first_fault_after sources names (take segments (deltas_of text)) rest) (drop_all segments (segments_of text) (omega arith))
 
-pub lines_at_end : (text : List ℕ) (sources names : ℕ) (cursor next : Cursor) (segments used_lines : ℕ) → ChecksUpTo text sources names cursor segments used_lines → IsAfter text segments next → next.place ≡ length text → used_lines ≡ used_lines_of text
+pub lines_at_end : (text : List ℕ) (sources names : ℕ) (cursor next : Cursor) (segments used_lines : ℕ)
+    → ChecksUpTo text sources names cursor segments used_lines → IsAfter text segments next → next.place ≡ length text → used_lines ≡ used_lines_of text
 unfolding used_lines_of
 lines_at_end text sources names cursor next segments used_lines checks after at_end =
     let all = all_after text segments next after at_end in
@@ -117,27 +136,34 @@ lines_at_end text sources names cursor next segments used_lines checks after at_
 
 -- ---- one segment more
 
-new_lines-push : (earlier deltas : List Delta) (delta : Delta) → new_lines earlier (deltas ++ delta ∷ []) ≡ new_lines earlier deltas + cond (list_any (λ e. eqb e.line delta.line) (earlier ++ deltas)) 0 1
+new_lines-push : (earlier deltas : List Delta) (delta : Delta)
+    → new_lines earlier (deltas ++ delta ∷ []) ≡ new_lines earlier deltas + cond (list_any (λ e. eqb e.line delta.line) (earlier ++ deltas)) 0 1
 new_lines-push earlier [] delta = rw append-nil (omega arith)
 new_lines-push earlier (m ∷ deltas) delta =
-    let more = new_lines-push (earlier ++ m ∷ []) deltas delta ∙ ap (λ front. new_lines (earlier ++ m ∷ []) deltas + cond (list_any (λ e. eqb e.line delta.line) front) 0 1) (append_assoc earlier (m ∷ []) deltas) in
+    let more = new_lines-push (earlier ++ m ∷ []) deltas delta
+    ∙ ap (λ front. new_lines (earlier ++ m ∷ []) deltas + cond (list_any (λ e. eqb e.line delta.line) front) 0 1) (append_assoc earlier (m ∷ []) deltas) in
     omega (arith, more)
 
-none_later_line : (line : ℕ) (deltas : List Delta) → AllByRecursion (λ (m : Delta). m.line < line) deltas → list_any (λ (m : Delta). eqb m.line line) deltas ≡ false
+none_later_line : (line : ℕ) (deltas : List Delta) → AllByRecursion (λ (m : Delta). m.line < line) deltas
+    → list_any (λ (m : Delta). eqb m.line line) deltas ≡ false
 none_later_line line [] all = refl
-none_later_line line (m ∷ deltas) all = or_from _ _ (ne_eqb m.line line (λ (e : m.line ≡ line). absurd (omega (arith, all.0)))) (none_later_line line deltas all.1)
+none_later_line line (m ∷ deltas) all = or_from _ _ (ne_eqb m.line line (λ (e : m.line ≡ line). absurd (omega (arith, all.0))))
+    (none_later_line line deltas all.1)
 
 none_so_far : (p : Delta → Bool) (segments : ℕ) (deltas : List Delta) → segments ≡ 0 → list_any p (take segments deltas) ≡ false
 none_so_far p segments deltas is = ap (λ n. list_any p (take n deltas)) is
 
 -- a segment counts for its line where it is the first, or where its line isn't that of the last one
-pub is_new : (text : List ℕ) (sources names : ℕ) (cursor next : Cursor) (segments used_lines : ℕ) → ChecksUpTo text sources names cursor segments used_lines → cursor.line ≤ next.line → (new : Bool) → new ≡ (eqb segments 0 || not (eqb next.line cursor.line))
+pub is_new : (text : List ℕ) (sources names : ℕ) (cursor next : Cursor) (segments used_lines : ℕ)
+    → ChecksUpTo text sources names cursor segments used_lines → cursor.line ≤ next.line → (new : Bool)
+    → new ≡ (eqb segments 0 || not (eqb next.line cursor.line))
     → ◌≡◌ {A = ℕ} (cond (list_any (λ (m : Delta). eqb m.line next.line) (take segments (deltas_of text))) 0 1) (from_bool new)
 is_new text sources names cursor next segments used_lines checks down new new_is =
     let front = take segments (deltas_of text) in
     ⊎_elim
     (λ (none : segments ≡ 0).
-    cond-false _ _ _ (none_so_far (λ (m : Delta). eqb m.line next.line) segments (deltas_of text) none) ∙ ap from_bool (sym (new_is ∙ or_left _ _ (eq-eqb _ _ none))))
+    cond-false _ _ _ (none_so_far (λ (m : Delta). eqb m.line next.line) segments (deltas_of text) none)
+    ∙ ap from_bool (sym (new_is ∙ or_left _ _ (eq-eqb _ _ none))))
     (λ (some : segments ≡ 0 → ⊥).
     let not_first = ne_eqb segments 0 some in
     ⊎_elim
@@ -155,21 +181,29 @@ pub from_bool_most : (b : Bool) → from_bool b ≤ 1
 from_bool_most true = omega arith
 from_bool_most false = omega arith
 
-pub checks_more : (text : List ℕ) (sources names : ℕ) (cursor next after : Cursor) (mapping : Mapping) (segments used_lines new : ℕ) → ChecksUpTo text sources names cursor segments used_lines → IsStep text segments sources names mapping after → after.line ≡ next.line → cursor.place ≤ next.place → next.place < after.place
-    → ◌≡◌ {A = ℕ} (cond (list_any (λ (m : Delta). eqb m.line next.line) (take segments (deltas_of text))) 0 1) new → new ≤ 1 → ChecksUpTo text sources names after (segments + 1) (used_lines + new)
+pub checks_more : (text : List ℕ) (sources names : ℕ) (cursor next after : Cursor) (mapping : Mapping) (segments used_lines new : ℕ)
+    → ChecksUpTo text sources names cursor segments used_lines → IsStep text segments sources names mapping after → after.line ≡ next.line
+    → cursor.place ≤ next.place → next.place < after.place
+    → ◌≡◌ {A = ℕ} (cond (list_any (λ (m : Delta). eqb m.line next.line) (take segments (deltas_of text))) 0 1) new → new ≤ 1
+    → ChecksUpTo text sources names after (segments + 1) (used_lines + new)
 checks_more text sources names cursor next after mapping segments used_lines new checks steps line_is onward ahead new_is one =
     let front = take segments (deltas_of text) in
     record {
       after = steps.next.after;
       passed = checks.passed ∙ steps.passes;
-      on_line = λ lt. ap (list_any (λ (m : Delta). eqb m.line after.line)) steps.taken ∙ any_last front (record { line = after.line; fields = steps.fields }) after.line refl;
-      lines = (λ i. checks.lines i + sym new_is i) ∙ ap (λ line. new_lines [] front + cond (list_any (λ (m : Delta). eqb m.line line) front) 0 1) (sym line_is) ∙ sym (ap (new_lines []) steps.taken ∙ new_lines-push [] front (record { line = after.line; fields = steps.fields }));
+      on_line = λ lt. ap (list_any (λ (m : Delta). eqb m.line after.line)) steps.taken
+          ∙ any_last front (record { line = after.line; fields = steps.fields }) after.line refl;
+      lines = (λ i. checks.lines i + sym new_is i)
+          ∙ ap (λ line. new_lines [] front + cond (list_any (λ (m : Delta). eqb m.line line) front) 0 1) (sym line_is)
+          ∙ sym (ap (new_lines []) steps.taken ∙ new_lines-push [] front (record { line = after.line; fields = steps.fields }));
       few = omega (arith, checks.few);
       fewer = omega (arith, checks.fewer);
     }
 
 -- a further segment of a line counts for none
-pub checks_on_line : (text : List ℕ) (sources names : ℕ) (cursor next after : Cursor) (mapping : Mapping) (segments used_lines : ℕ) → ChecksUpTo text sources names cursor segments used_lines → 0 < segments → IsStep text segments sources names mapping after → after.line ≡ next.line → next.line ≡ cursor.line → cursor.place ≤ next.place → next.place < after.place
+pub checks_on_line : (text : List ℕ) (sources names : ℕ) (cursor next after : Cursor) (mapping : Mapping) (segments used_lines : ℕ)
+    → ChecksUpTo text sources names cursor segments used_lines → 0 < segments → IsStep text segments sources names mapping after
+    → after.line ≡ next.line → next.line ≡ cursor.line → cursor.place ≤ next.place → next.place < after.place
     → ChecksUpTo text sources names after (segments + 1) used_lines
 checks_on_line text sources names cursor next after mapping segments used_lines checks some steps line_is same onward ahead =
     let there = ap (λ line. list_any (λ (m : Delta). eqb m.line line) (take segments (deltas_of text))) same ∙ checks.on_line some in
@@ -181,6 +215,7 @@ checks_on_line text sources names cursor next after mapping segments used_lines 
 pub walks_start : (text : List ℕ) (sources names : ℕ) → WalksUpTo text sources names NO_SEGMENT
 walks_start text sources names = record { checks = checks_start text sources names; in_range = refl }
 
-pub walk_or_start : (text : List ℕ) (sources names : ℕ) (walk : Option Walk) → IfSome walk (WalksUpTo text sources names) → WalksUpTo text sources names (unwrap_or walk NO_SEGMENT)
+pub walk_or_start : (text : List ℕ) (sources names : ℕ) (walk : Option Walk) → IfSome walk (WalksUpTo text sources names)
+    → WalksUpTo text sources names (unwrap_or walk NO_SEGMENT)
 walk_or_start text sources names None walks = walks_start text sources names
 walk_or_start text sources names (Some walk) walks = walks

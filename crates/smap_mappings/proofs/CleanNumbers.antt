@@ -1,5 +1,6 @@
 -- The numbers of a clean segment, one after another as the code reads them.
-use Rattle.std.proofs.Common.{◌≡◌, ℕ, ◌+◌, ◌-◌, ◌/◌, ◌<◌, suc, zero, Bool, true, false, not, ◌||◌, cond, List, [], ◌∷◌, length, get_or, take, drop, Result, Ok, Err, refl, sym, ap, subst, ◌∙◌, arith, length-drop, length-take-le, get_or-take, ltb-true, ne_eqb, add-one}
+use Rattle.std.proofs.Common.{◌≡◌, ℕ, ◌+◌, ◌-◌, ◌/◌, ◌<◌, suc, zero, Bool, true, false, not, ◌||◌, cond, List, [], ◌∷◌, length, get_or, take, drop}
+use Rattle.std.proofs.Common.{Result, Ok, Err, refl, sym, ap, subst, ◌∙◌, arith, length-drop, length-take-le, get_or-take, ltb-true, ne_eqb, add-one}
 use Rattle.std.specs.Prelude.{ℤ, slice_range}
 use Rattle.std.proofs.lemmas.List.{drop_more, drop-drop}
 use Rattle.std.specs.List.{list_any, prefix_len}
@@ -28,7 +29,8 @@ unended_last (b ∷ c ∷ bytes) (suc n) is = unended_last (c ∷ bytes) n (omeg
 -- what reading one number gives
 abbrev pub reading_of : List ℕ → ℕ → Result (ℤ × ℕ) VlqFault
 reading_of digits end =
-    cond (is_too_long digits) (Err TooLong) (cond (is_too_large digits) (Err TooLarge) (cond (is_negative_zero digits) (Err NegativeZero) (Ok (signed_number (unsigned_of digits), end))))
+    cond (is_too_long digits) (Err TooLong) (cond (is_too_large digits) (Err TooLarge)
+    (cond (is_negative_zero digits) (Err NegativeZero) (Ok (signed_number (unsigned_of digits), end))))
 
 -- the place after the number that begins at a place, and its digits
 abbrev pub end_of : List ℕ → ℕ → ℕ
@@ -55,7 +57,8 @@ pub number_at_place : (segment : List ℕ) (place : ℕ) → place < length segm
 unfolding number_at
 number_at_place segment place within clean =
     let is = drop_more segment place 0 within in
-    let front : CleanFront (drop place segment) = subst CleanFront (sym is) (clean_front (get_or segment place 0) (drop (place + 1) segment) (subst IsClean is clean)) in
+    let front : CleanFront (drop place segment) =
+    subst CleanFront (sym is) (clean_front (get_or segment place 0) (drop (place + 1) segment) (subst IsClean is clean)) in
     let n = front_at segment place in
     let next : place + suc n ≡ place + n + 1 = omega arith in
     let after : drop (suc n) (drop place segment) ≡ drop (place + n + 1) segment = drop-drop (suc n) place segment ∙ ap (λ i. drop i segment) next in
@@ -73,11 +76,13 @@ number_at_place segment place within clean =
 
 module _ (segment : List ℕ) (place : ℕ) (number : NumberAt segment place) where
   -- a test of the numbers from the place on is a test of the first and of the others
-  pub any_number : (p : List ℕ → Bool) → list_any p (cuts_of (drop place segment)) ≡ (p (digits_at segment place) || list_any p (cuts_of (drop (end_of segment place) segment)))
+  pub any_number : (p : List ℕ → Bool) → list_any p (cuts_of (drop place segment))
+      ≡ (p (digits_at segment place) || list_any p (cuts_of (drop (end_of segment place) segment)))
   any_number p = ap (list_any p) number.cuts
 
   -- what is known of the numbers before the place, and of this one, is known of the numbers before its end
-  pub any_more : (p : List ℕ → Bool) (before more : Bool) → list_any p (cuts_of segment) ≡ (before || list_any p (cuts_of (drop place segment))) → more ≡ (before || p (digits_at segment place))
+  pub any_more : (p : List ℕ → Bool) (before more : Bool)
+      → list_any p (cuts_of segment) ≡ (before || list_any p (cuts_of (drop place segment))) → more ≡ (before || p (digits_at segment place))
       → list_any p (cuts_of segment) ≡ (more || list_any p (cuts_of (drop (end_of segment place) segment)))
   any_more p before more was is =
       was
@@ -121,7 +126,8 @@ module _ (read : ℤ × ℕ) where
   if_negative_zero false false true is = (refl, refl, refl)
   if_negative_zero false false false is = absurd (cc)
 
-  if_none : (a b d : Bool) → (outcome a b d ≡ Err TooLong → ⊥) → (outcome a b d ≡ Err TooLarge → ⊥) → (outcome a b d ≡ Err NegativeZero → ⊥) → (a ≡ false) × (b ≡ false) × (d ≡ false)
+  if_none : (a b d : Bool) → (outcome a b d ≡ Err TooLong → ⊥) → (outcome a b d ≡ Err TooLarge → ⊥) → (outcome a b d ≡ Err NegativeZero → ⊥)
+      → (a ≡ false) × (b ≡ false) × (d ≡ false)
   if_none true b d not_long not_large not_zero = absurd (not_long refl)
   if_none false true d not_long not_large not_zero = absurd (not_large refl)
   if_none false false true not_long not_large not_zero = absurd (not_zero refl)
@@ -141,7 +147,8 @@ module _ (segment : List ℕ) (place : ℕ) (number : NumberAt segment place) wh
       let tests = if_negative_zero _ _ _ _ (sym number.reading ∙ is) in
       record { short = tests.0; large_is = tests.1; zero_is = tests.2 }
 
-  pub no_fault_at : (number_at segment place ≡ Err TooLong → ⊥) → (number_at segment place ≡ Err TooLarge → ⊥) → (number_at segment place ≡ Err NegativeZero → ⊥) → IsTested (digits_at segment place) false false
+  pub no_fault_at : (number_at segment place ≡ Err TooLong → ⊥) → (number_at segment place ≡ Err TooLarge → ⊥)
+      → (number_at segment place ≡ Err NegativeZero → ⊥) → IsTested (digits_at segment place) false false
   no_fault_at not_long not_large not_zero =
       let tests = if_none _ _ _ _ (λ is. not_long (number.reading ∙ is)) (λ is. not_large (number.reading ∙ is)) (λ is. not_zero (number.reading ∙ is)) in
       record { short = tests.0; large_is = tests.1; zero_is = tests.2 }

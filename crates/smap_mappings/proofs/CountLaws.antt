@@ -1,9 +1,11 @@
 -- A text of n bytes has at most (n + 1) / 2 segments, and as many mappings as segments.
-use Rattle.std.proofs.Common.{◌≡◌, ℕ, ◌+◌, ◌*◌, ◌≤◌, suc, zero, Bool, List, [], ◌∷◌, ◌++◌, length, filter, refl, sym, ap, ◌∙◌, arith, ⊎_elim, length-append, add-one, take, Some}
+use Rattle.std.proofs.Common.{◌≡◌, ℕ, ◌+◌, ◌*◌, ◌≤◌, suc, zero, Bool, List, [], ◌∷◌, ◌++◌, length, filter, refl, sym, ap, ◌∙◌, arith, ⊎_elim}
+use Rattle.std.proofs.Common.{length-append, add-one, take, Some}
 use Rattle.std.specs.List.{slice_split, onto_first, slice_get}
 use Rattle.std.proofs.lemmas.Bool.{cases_Bool, cond-true, cond-false}
 use Rattle.std.proofs.lemmas.List.{length-map, take_all}
-use Rattle.smap_mappings.specs.Segments.{is_nonempty, is_comma, is_semicolon, parts_from, segment_on, segments_on, segments_of_lines, segments_from, segments_of}
+use Rattle.smap_mappings.specs.Segments.{is_nonempty, is_comma, is_semicolon, parts_from, segment_on, segments_on, segments_of_lines, segments_from}
+use Rattle.smap_mappings.specs.Segments.{segments_of}
 use Rattle.smap_mappings.specs.Mappings.{Delta, delta_of, deltas_of, mappings_after, mappings_of}
 use Rattle.smap_mappings.specs.Counts.{segment_count}
 use Rattle.smap_mappings.specs.State.{IsNext}
@@ -43,7 +45,12 @@ few_nonempty place ((b ∷ bytes) ∷ parts) = let more = few_nonempty (place + 
 few_on_line : (line place : ℕ) (bytes : List ℕ) → 2 * length (segments_on line place bytes) ≤ suc (length bytes)
 unfolding segments_on
 few_on_line line place bytes =
-    omega (arith, few_nonempty place (slice_split is_comma bytes), spread-split is_comma bytes, length-map (filter is_nonempty (parts_from place (slice_split is_comma bytes))) (segment_on line))
+    omega (
+      arith,
+      few_nonempty place (slice_split is_comma bytes),
+      spread-split is_comma bytes,
+      length-map (filter is_nonempty (parts_from place (slice_split is_comma bytes))) (segment_on line),
+    )
 
 few_on_lines : (line place : ℕ) (lines : List (List ℕ)) → 2 * length (segments_of_lines line place lines) ≤ spread lines
 unfolding spread
@@ -84,12 +91,14 @@ take_next zero (y ∷ xs) x is = let e : y ≡ x = cc in ap (λ z. z ∷ []) e
 take_next (suc j) [] x is = absurd (cc)
 take_next (suc j) (y ∷ xs) x is = ap (λ zs. y ∷ zs) (take_next j xs x is)
 
-pub decodes_more : (text : List ℕ) (cursor after : Cursor) (list list' : List Mapping) (mapping : Mapping) (decodes : DecodesUpTo text cursor list) → IsNext text decodes.j mapping after → list' ≡ list ++ mapping ∷ [] → DecodesUpTo text after list'
+pub decodes_more : (text : List ℕ) (cursor after : Cursor) (list list' : List Mapping) (mapping : Mapping)
+    (decodes : DecodesUpTo text cursor list) → IsNext text decodes.j mapping after → list' ≡ list ++ mapping ∷ [] → DecodesUpTo text after list'
 decodes_more text cursor after list list' mapping decodes next pushed = record {
   j = decodes.j + 1;
   after = next.after;
   list_is = pushed ∙ ap (λ l. l ++ mapping ∷ []) decodes.list_is ∙ sym (rw add-one (take_next decodes.j (mappings_of text) mapping next.mapping_is));
 }
 
-pub decodes_all : (text : List ℕ) (cursor : Cursor) (list : List Mapping) (decodes : DecodesUpTo text cursor list) → decodes.j ≡ segment_count text → list ≡ mappings_of text
+pub decodes_all : (text : List ℕ) (cursor : Cursor) (list : List Mapping) (decodes : DecodesUpTo text cursor list)
+    → decodes.j ≡ segment_count text → list ≡ mappings_of text
 decodes_all text cursor list decodes at_end = decodes.list_is ∙ take_all decodes.j (mappings_of text) (omega (arith, length-mappings_of text))

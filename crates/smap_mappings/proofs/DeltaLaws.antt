@@ -1,5 +1,6 @@
 -- One more segment: the running values after it are those before it, each with the field's difference.
-use Rattle.std.proofs.Common.{◌≡◌, ℕ, ◌+◌, ◌<◌, ◌≤◌, suc, zero, Bool, true, false, eqb, List, [], ◌∷◌, ◌++◌, length, take, drop, filter, Option, Some, None, refl, sym, ap, ◌∙◌, arith, eq-eqb, ne_eqb, ⊎_elim}
+use Rattle.std.proofs.Common.{◌≡◌, ℕ, ◌+◌, ◌<◌, ◌≤◌, suc, zero, Bool, true, false, eqb, List, [], ◌∷◌, ◌++◌, length, take, drop, filter, Option, Some}
+use Rattle.std.proofs.Common.{None, refl, sym, ap, ◌∙◌, arith, eq-eqb, ne_eqb, ⊎_elim}
 use Rattle.std.specs.Prelude.{ℤ, pos, ◌+ℤ◌, unwrap_or}
 use Rattle.std.specs.List.{AllByRecursion, slice_get, list_any}
 use Rattle.std.proofs.lemmas.Bool.{cond-true, cond-false, cases_Bool, or_parts}
@@ -23,15 +24,20 @@ pub values_after_origin : (values : RunningValues) (line : ℕ) (segment : Segme
       original_column = values.original_column +ℤ origin.column;
       name = values.name +ℤ unwrap_or origin.name (pos 0);
     }
-values_after_origin values line segment origin is = ap (λ o. values_after values (delta_in line (record { column = segment.column; origin = o }))) is ∙ by_name origin.name
+values_after_origin values line segment origin is =
+    ap (λ o. values_after values (delta_in line (record { column = segment.column; origin = o }))) is ∙ by_name origin.name
   where
-    by_name : (name : Option ℤ) → values_after values (delta_in line (record { column = segment.column; origin = Some (record { source = origin.source; line = origin.line; column = origin.column; name = name }) })) ≡ record {
-      column = values.column +ℤ segment.column;
-      source = values.source +ℤ origin.source;
-      original_line = values.original_line +ℤ origin.line;
-      original_column = values.original_column +ℤ origin.column;
-      name = values.name +ℤ unwrap_or name (pos 0);
-    }
+    by_name : (name : Option ℤ) → values_after values
+        (delta_in line (record {
+          column = segment.column;
+          origin = Some (record { source = origin.source; line = origin.line; column = origin.column; name = name });
+        })) ≡ record {
+          column = values.column +ℤ segment.column;
+          source = values.source +ℤ origin.source;
+          original_line = values.original_line +ℤ origin.line;
+          original_column = values.original_column +ℤ origin.column;
+          name = values.name +ℤ unwrap_or name (pos 0);
+        }
     by_name None = refl
     by_name (Some name) = refl
 
@@ -57,10 +63,12 @@ values-push before delta =
 -- where no segment stands on a line yet, the column there is 0 still
 pub none_on_line : (line : ℕ) (deltas : List Delta) → AllByRecursion (λ (m : Delta). m.line < line) deltas → filter (λ m. eqb m.line line) deltas ≡ []
 none_on_line line [] below = refl
-none_on_line line (m ∷ deltas) below = cond-false _ _ _ (ne_eqb m.line line (λ (e : m.line ≡ line). absurd (omega (arith, below.0)))) ∙ none_on_line line deltas below.1
+none_on_line line (m ∷ deltas) below = cond-false _ _ _ (ne_eqb m.line line (λ (e : m.line ≡ line). absurd (omega (arith, below.0))))
+    ∙ none_on_line line deltas below.1
 
 -- segments up to a line are before each later one
-pub below_line : (line later : ℕ) (deltas : List Delta) → line < later → AllByRecursion (λ (m : Delta). m.line ≤ line) deltas → AllByRecursion (λ (m : Delta). m.line < later) deltas
+pub below_line : (line later : ℕ) (deltas : List Delta) → line < later → AllByRecursion (λ (m : Delta). m.line ≤ line) deltas
+    → AllByRecursion (λ (m : Delta). m.line < later) deltas
 below_line line later [] lt all = tt
 below_line line later (m ∷ deltas) lt all = (omega (arith, all.0), below_line line later deltas lt all.1)
 
@@ -93,7 +101,8 @@ all_append P (x ∷ xs) ys all others = (all.0, all_append P xs ys all.1 others)
 pub all_push : {X : Type 0} (P : X → Type 0) (xs : List X) (x : X) → AllByRecursion P xs → P x → AllByRecursion P (xs ++ x ∷ [])
 all_push P xs x all here = all_append P xs (x ∷ []) all (here, tt)
 
-pub next_element : {X : Type 0} (j : ℕ) (xs ys : List X) (x : X) → drop j xs ≡ x ∷ ys → (take (suc j) xs ≡ take j xs ++ x ∷ []) × (drop (suc j) xs ≡ ys) × (slice_get xs j ≡ Some x) × (suc j ≤ length xs)
+pub next_element : {X : Type 0} (j : ℕ) (xs ys : List X) (x : X) → drop j xs ≡ x ∷ ys
+    → (take (suc j) xs ≡ take j xs ++ x ∷ []) × (drop (suc j) xs ≡ ys) × (slice_get xs j ≡ Some x) × (suc j ≤ length xs)
 next_element zero [] ys x is = absurd (cc)
 next_element zero (y ∷ xs) ys x is =
     let head : y ≡ x = cc in

@@ -34,9 +34,11 @@ pub few_digits : (k u : ℕ) → length (digits_of k u) ≤ k
 few_digits zero u = omega arith
 few_digits (suc k) u =
     let more = few_digits k (u / 32) in
-    cond_both (ltb u 32) (letter_of u ∷ []) (letter_of (u % 32 + 32) ∷ digits_of k (u / 32)) (λ (digits : List ℕ). length digits ≤ suc k) (λ _. omega arith) (λ _. omega arith)
+    cond_both (ltb u 32) (letter_of u ∷ []) (letter_of (u % 32 + 32) ∷ digits_of k (u / 32)) (λ (digits : List ℕ). length digits ≤ suc k)
+    (λ _. omega arith) (λ _. omega arith)
 
 -- one letter more is written, and one fewer left
-pub written_more : (out new : List ℕ) (byte letter : ℕ) {digits left : List ℕ} → new ≡ out ++ byte ∷ [] → byte ≡ letter → digits ≡ letter ∷ left → new ++ left ≡ out ++ digits
+pub written_more : (out new : List ℕ) (byte letter : ℕ) {digits left : List ℕ} → new ≡ out ++ byte ∷ [] → byte ≡ letter
+    → digits ≡ letter ∷ left → new ++ left ≡ out ++ digits
 written_more out new byte letter {digits} {left} pushed is more =
     ap (λ items. items ++ left) pushed ∙ append_assoc out (byte ∷ []) left ∙ ap (λ b. out ++ b ∷ left) is ∙ ap (λ d. out ++ d) (sym more)

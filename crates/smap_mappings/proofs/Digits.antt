@@ -1,6 +1,7 @@
 -- The tables in `src/base64.rt` hold, at each byte, the byte's place in the alphabet, and the number that it spells by
 -- itself.
-use Rattle.std.proofs.Common.{◌≡◌, ℕ, ◌<◌, ◌≤◌, true, false, [], ◌∷◌, get_or, Some, None, Option, cond, ltb, refl, sym, ◌∙◌, ap, map, zero-add, lt-ltb, le-ltb, to_z, of_z, w32}
+use Rattle.std.proofs.Common.{◌≡◌, ℕ, ◌<◌, ◌≤◌, true, false, [], ◌∷◌, get_or, Some, None, Option, cond, ltb, refl, sym, ◌∙◌, ap, map, zero-add}
+use Rattle.std.proofs.Common.{lt-ltb, le-ltb, to_z, of_z, w32}
 use Rattle.std.specs.Prelude.{ℤ, pos, int_lt}
 use Rattle.std.specs.List.{range_with_len}
 use Rattle.std.proofs.lemmas.Bool.{cond-true, cond-false}

@@ -66,7 +66,8 @@ abbrev readings : List (List ℕ) → List (Result (ℤ × ℕ) VlqFault)
 readings [] = []
 readings (bytes ∷ more) = number_at bytes 0 ∷ readings more
 
-faults_in_order : readings (codes "ggggggE" ∷ codes "gggggggA" ∷ codes "gggggggg" ∷ codes "gggggggg!" ∷ [] ∷ codes "hA" ∷ codes "g!" ∷ []) ≡ Err TooLarge ∷ Err TooLong ∷ Err Unended ∷ Err BadDigit ∷ Err Unended ∷ Err NegativeZero ∷ Err BadDigit ∷ []
+faults_in_order : readings (codes "ggggggE" ∷ codes "gggggggA" ∷ codes "gggggggg" ∷ codes "gggggggg!" ∷ [] ∷ codes "hA" ∷ codes "g!" ∷ [])
+    ≡ Err TooLarge ∷ Err TooLong ∷ Err Unended ∷ Err BadDigit ∷ Err Unended ∷ Err NegativeZero ∷ Err BadDigit ∷ []
 unfolding number_at checked_number unsigned_of digit_of
 faults_in_order = refl
 
@@ -76,22 +77,28 @@ reads_at_a_place = refl
 
 -- ---- texts
 
-segments_skip_the_empty : segments_of (codes ";,,;AAAA,B") ≡ record { line = 2; place = 4; bytes = codes "AAAA" } ∷ record { line = 2; place = 9; bytes = codes "B" } ∷ []
+segments_skip_the_empty : segments_of (codes ";,,;AAAA,B")
+    ≡ record { line = 2; place = 4; bytes = codes "AAAA" } ∷ record { line = 2; place = 9; bytes = codes "B" } ∷ []
 unfolding segments_of segments_from segments_on
 segments_skip_the_empty = refl
 
 abbrev from_source : ℕ → ℕ → ℕ → Option ℕ → Option Origin
 from_source source line column name = Some (record { source = source; line = line; column = column; name = name })
 
-two_lines : mappings_of (codes "AAAA,CAAC;AACA") ≡ record { line = 0; column = 0; origin = from_source 0 0 0 None } ∷ record { line = 0; column = 1; origin = from_source 0 0 1 None } ∷ record { line = 1; column = 0; origin = from_source 0 1 1 None } ∷ []
+two_lines : mappings_of (codes "AAAA,CAAC;AACA")
+    ≡ record { line = 0; column = 0; origin = from_source 0 0 0 None } ∷ record { line = 0; column = 1; origin = from_source 0 0 1 None }
+    ∷ record { line = 1; column = 0; origin = from_source 0 1 1 None } ∷ []
 unfolding mappings_of mapping_after values_on deltas_of segments_of segments_from segments_on fields_of number_of unsigned_of digit_of
 two_lines = refl
 
-source_and_name_run_on : mappings_of (codes "ACAAC;AAAAA") ≡ record { line = 0; column = 0; origin = from_source 1 0 0 (Some 1) } ∷ record { line = 1; column = 0; origin = from_source 1 0 0 (Some 1) } ∷ []
+source_and_name_run_on : mappings_of (codes "ACAAC;AAAAA")
+    ≡ record { line = 0; column = 0; origin = from_source 1 0 0 (Some 1) } ∷ record { line = 1; column = 0; origin = from_source 1 0 0 (Some 1) } ∷ []
 unfolding mappings_of mapping_after values_on deltas_of segments_of segments_from segments_on fields_of number_of unsigned_of digit_of
 source_and_name_run_on = refl
 
-one_field_keeps_the_origin : mappings_of (codes "AAAA,CAAC,C,CAAC") ≡ record { line = 0; column = 0; origin = from_source 0 0 0 None } ∷ record { line = 0; column = 1; origin = from_source 0 0 1 None } ∷ record { line = 0; column = 2; origin = None } ∷ record { line = 0; column = 3; origin = from_source 0 0 2 None } ∷ []
+one_field_keeps_the_origin : mappings_of (codes "AAAA,CAAC,C,CAAC")
+    ≡ record { line = 0; column = 0; origin = from_source 0 0 0 None } ∷ record { line = 0; column = 1; origin = from_source 0 0 1 None }
+    ∷ record { line = 0; column = 2; origin = None } ∷ record { line = 0; column = 3; origin = from_source 0 0 2 None } ∷ []
 unfolding mappings_of mapping_after values_on deltas_of segments_of segments_from segments_on fields_of number_of unsigned_of digit_of
 one_field_keeps_the_origin = refl
 
@@ -99,11 +106,13 @@ abbrev verdicts : List (List ℕ) → List Bool
 verdicts [] = []
 verdicts (text ∷ texts) = is_accepted text 2147483648 2147483648 ∷ verdicts texts
 
-accepted : verdicts (codes "AAAA,CAAC;AACA" ∷ [] ∷ codes "+/////D" ∷ codes "A,A,A" ∷ codes "ACAAC;AAAAA" ∷ codes ";,,;AAAA" ∷ []) ≡ true ∷ true ∷ true ∷ true ∷ true ∷ true ∷ []
+accepted : verdicts (codes "AAAA,CAAC;AACA" ∷ [] ∷ codes "+/////D" ∷ codes "A,A,A" ∷ codes "ACAAC;AAAAA" ∷ codes ";,,;AAAA" ∷ [])
+    ≡ true ∷ true ∷ true ∷ true ∷ true ∷ true ∷ []
 unfolding is_accepted is_accepted_after values_on deltas_of segments_of segments_from segments_on fields_of number_of unsigned_of digit_of
 accepted = refl
 
-refused : verdicts (codes "+/////D,C" ∷ codes "ggggggE" ∷ codes "B" ∷ codes "Ag" ∷ codes "AA" ∷ codes "A!A" ∷ codes "CAAA,DAAA" ∷ codes "DAAA" ∷ []) ≡ false ∷ false ∷ false ∷ false ∷ false ∷ false ∷ false ∷ false ∷ []
+refused : verdicts (codes "+/////D,C" ∷ codes "ggggggE" ∷ codes "B" ∷ codes "Ag" ∷ codes "AA" ∷ codes "A!A" ∷ codes "CAAA,DAAA"
+    ∷ codes "DAAA" ∷ []) ≡ false ∷ false ∷ false ∷ false ∷ false ∷ false ∷ false ∷ false ∷ []
 unfolding is_accepted is_accepted_after values_on deltas_of segments_of segments_from segments_on fields_of number_of unsigned_of digit_of
 refused = refl
 
@@ -120,12 +129,16 @@ abbrev faults : List (List ℕ) → List (Option Fault)
 faults [] = []
 faults (text ∷ texts) = first_fault text 1 1 ∷ faults texts
 
-first_faults : faults (codes "B!AA" ∷ codes "gggggggAg" ∷ codes "ggggggEB" ∷ codes "BA" ∷ codes "AAAA,DAAA" ∷ codes "ACAAC" ∷ codes "AAAAC" ∷ codes "A,DAAA,B" ∷ codes ";,,;AAAA,B" ∷ [])
-    ≡ at_byte 0 0 kinds.BadDigit ∷ at_byte 0 0 kinds.Unended ∷ at_byte 0 0 kinds.TooLarge ∷ at_byte 0 0 kinds.NegativeZero ∷ at_byte 5 0 kinds.Negative ∷ at_byte 0 0 kinds.SourceIndex ∷ at_byte 0 0 kinds.NameIndex ∷ at_byte 2 0 kinds.Negative ∷ at_byte 9 2 kinds.NegativeZero ∷ []
+first_faults : faults (codes "B!AA" ∷ codes "gggggggAg" ∷ codes "ggggggEB" ∷ codes "BA" ∷ codes "AAAA,DAAA" ∷ codes "ACAAC" ∷ codes "AAAAC"
+    ∷ codes "A,DAAA,B" ∷ codes ";,,;AAAA,B" ∷ [])
+    ≡ at_byte 0 0 kinds.BadDigit ∷ at_byte 0 0 kinds.Unended ∷ at_byte 0 0 kinds.TooLarge ∷ at_byte 0 0 kinds.NegativeZero
+    ∷ at_byte 5 0 kinds.Negative ∷ at_byte 0 0 kinds.SourceIndex ∷ at_byte 0 0 kinds.NameIndex ∷ at_byte 2 0 kinds.Negative
+    ∷ at_byte 9 2 kinds.NegativeZero ∷ []
 unfolding first_fault spelling_fault delta_fault values_on segments_of segments_from segments_on fields_of number_of unsigned_of digit_of
 first_faults = refl
 
-more_faults : faults (codes "AA" ∷ codes "CAAA,DAAA" ∷ codes "+/////D,C" ∷ codes "gggggggA" ∷ codes "A,A,A" ∷ []) ≡ at_byte 0 0 kinds.FieldCount ∷ at_byte 5 0 kinds.ColumnFalls ∷ at_byte 8 0 kinds.PastLimit ∷ at_byte 0 0 kinds.TooLong ∷ None ∷ []
+more_faults : faults (codes "AA" ∷ codes "CAAA,DAAA" ∷ codes "+/////D,C" ∷ codes "gggggggA" ∷ codes "A,A,A" ∷ [])
+    ≡ at_byte 0 0 kinds.FieldCount ∷ at_byte 5 0 kinds.ColumnFalls ∷ at_byte 8 0 kinds.PastLimit ∷ at_byte 0 0 kinds.TooLong ∷ None ∷ []
 unfolding first_fault spelling_fault delta_fault values_on segments_of segments_from segments_on fields_of number_of unsigned_of digit_of
 more_faults = refl
 

@@ -21,7 +21,8 @@ none_passed text j start end kind after = record {
 some_same : (a b : Mapping) (line end : ℕ) → Some a ≡ Some b → (a.line ≡ line) × (a.column < end) → (b.line ≡ line) × (b.column < end)
 some_same a b line end same is = let e : a ≡ b = cc in subst (λ (m : Mapping). (m.line ≡ line) × (m.column < end)) e is
 
-module _ (text : List ℕ) (j : ℕ) (start : Cursor) (end passed : ℕ) (kind : Kind) (at : Cursor) (so_far : IsPassed text j start end passed kind at) (next : Kind) (after : Cursor) (stepped : IsSteppedTo text at next after) where
+module _ (text : List ℕ) (j : ℕ) (start : Cursor) (end passed : ℕ) (kind : Kind) (at : Cursor)
+    (so_far : IsPassed text j start end passed kind at) (next : Kind) (after : Cursor) (stepped : IsSteppedTo text at next after) where
   pub one_passed : after.column < end → IsPassed text j start end (passed + 1) next after
   one_passed less =
       let is = stepped.next (j + passed) so_far.after in
@@ -34,7 +35,8 @@ module _ (text : List ℕ) (j : ℕ) (start : Cursor) (end passed : ℕ) (kind :
             (λ (earlier : i < passed). so_far.before i mapping earlier there)
             (λ (least : passed ≤ i).
             let here : j + passed ≡ j + i = omega (arith, below) in
-            some_same (mapping_at next after) mapping start.line end (sym is.mapping_is ∙ ap (slice_get (mappings_of text)) here ∙ there) (stepped.line ∙ so_far.line, less))
+            some_same (mapping_at next after) mapping start.line end (sym is.mapping_is ∙ ap (slice_get (mappings_of text)) here ∙ there)
+            (stepped.line ∙ so_far.line, less))
             (cases_lt i passed);
         last = λ some. ap (slice_get (mappings_of text)) (sym back) ∙ is.mapping_is;
       }
@@ -47,5 +49,6 @@ module _ (text : List ℕ) (j : ℕ) (start : Cursor) (end passed : ℕ) (kind :
   }
 
 -- where no further segment is on the line of the state, none is on the first's
-pub later_from : (text : List ℕ) (j : ℕ) (start : Cursor) (end passed : ℕ) (kind : Kind) (at : Cursor) → IsPassed text j start end passed kind at → IsOnLaterLine text (j + passed) at.line → IsOnLaterLine text (j + passed) start.line
+pub later_from : (text : List ℕ) (j : ℕ) (start : Cursor) (end passed : ℕ) (kind : Kind) (at : Cursor)
+    → IsPassed text j start end passed kind at → IsOnLaterLine text (j + passed) at.line → IsOnLaterLine text (j + passed) start.line
 later_from text j start end passed kind at so_far later = subst (IsOnLaterLine text (j + passed)) so_far.line later

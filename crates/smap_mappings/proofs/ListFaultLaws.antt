@@ -1,5 +1,6 @@
 -- A list of mappings has no fault exactly where it is in order and no number of it is past the limit.
-use Rattle.std.proofs.Common.{◌≡◌, ℕ, ◌+◌, ◌<◌, ◌≤◌, Bool, true, false, cond, eqb, ltb, List, [], ◌∷◌, length, Option, Some, None, refl, arith, le-ltb, ltb-false, ne_eqb, ⊎_elim, inl, inr}
+use Rattle.std.proofs.Common.{◌≡◌, ℕ, ◌+◌, ◌<◌, ◌≤◌, Bool, true, false, cond, eqb, ltb, List, [], ◌∷◌, length, Option, Some, None, refl, arith}
+use Rattle.std.proofs.Common.{le-ltb, ltb-false, ne_eqb, ⊎_elim, inl, inr}
 use Rattle.std.specs.List.{All, AllByRecursion, list_any}
 use Rattle.std.specs.Option.{option_or}
 use Rattle.std.proofs.lemmas.Bool.{eqb-false, or_from, or_parts, and_left, and_right, and_cases, cases_eq}
@@ -58,7 +59,8 @@ faultless_is_in_range list none = none_past_limit None list (faultless list none
 
 -- ---- and the other way round
 
-good_after : (mapping : Mapping) (mappings : List Mapping) → IsInOrder (mapping ∷ mappings) → list_any is_mapping_past_limit mappings ≡ false → AreFaultless (Some mapping) mappings
+good_after : (mapping : Mapping) (mappings : List Mapping) → IsInOrder (mapping ∷ mappings)
+    → list_any is_mapping_past_limit mappings ≡ false → AreFaultless (Some mapping) mappings
 good_after mapping [] order in_range = tt
 good_after mapping (next ∷ mappings) order in_range =
     let parts = or_parts _ _ in_range in
@@ -68,7 +70,8 @@ good : (list : List Mapping) → IsInOrder list → list_any is_mapping_past_lim
 good [] order in_range = tt
 good (mapping ∷ mappings) order in_range = let parts = or_parts _ _ in_range in (refl, parts.0, good_after mapping mappings order parts.1)
 
-no_refusal : (a b : Bool) (x y : EncodeRefusal) (others : Option EncodeRefusal) → a ≡ false → b ≡ false → others ≡ None → ◌≡◌ {A = Option EncodeRefusal} (option_or (cond a (Some x) (cond b (Some y) None)) others) None
+no_refusal : (a b : Bool) (x y : EncodeRefusal) (others : Option EncodeRefusal) → a ≡ false → b ≡ false → others ≡ None
+    → ◌≡◌ {A = Option EncodeRefusal} (option_or (cond a (Some x) (cond b (Some y) None)) others) None
 no_refusal true b x y others sorted in_range none = absurd (cc)
 no_refusal false true x y others sorted in_range none = absurd (cc)
 no_refusal false false x y others sorted in_range none = none
@@ -76,7 +79,8 @@ no_refusal false false x y others sorted in_range none = none
 no_fault_from : (i : ℕ) (earlier : Option Mapping) (mappings : List Mapping) → AreFaultless earlier mappings → list_fault_from i earlier mappings ≡ None
 no_fault_from i earlier [] good = refl
 no_fault_from i earlier (mapping ∷ mappings) good =
-    no_refusal (is_not_sorted earlier mapping) (is_mapping_past_limit mapping) _ _ (list_fault_from (i + 1) (Some mapping) mappings) good.0 good.1 (no_fault_from (i + 1) (Some mapping) mappings good.2)
+    no_refusal (is_not_sorted earlier mapping) (is_mapping_past_limit mapping) _ _ (list_fault_from (i + 1) (Some mapping) mappings) good.0
+    good.1 (no_fault_from (i + 1) (Some mapping) mappings good.2)
 
 pub in_order_is_faultless : (list : List Mapping) → IsInOrder list → list_any is_mapping_past_limit list ≡ false → list_fault list ≡ None
 unfolding list_fault
@@ -89,10 +93,12 @@ module _ (sources names : ℕ) where
       (λ line column within. or_from _ _ (or_from _ _ (le-ltb limit line within.line) (le-ltb limit column within.column)) refl)
       (λ line column source original_line original_column within.
       or_from _ _ (or_from _ _ (le-ltb limit line within.line) (le-ltb limit column within.column))
-      (or_from _ _ (or_from _ _ (or_from _ _ (le-ltb limit source within.origin.source.small) (le-ltb limit original_line within.origin.line)) (le-ltb limit original_column within.origin.column)) refl))
+      (or_from _ _ (or_from _ _ (or_from _ _ (le-ltb limit source within.origin.source.small)
+      (le-ltb limit original_line within.origin.line)) (le-ltb limit original_column within.origin.column)) refl))
       (λ line column source original_line original_column name within.
       or_from _ _ (or_from _ _ (le-ltb limit line within.line) (le-ltb limit column within.column))
-      (or_from _ _ (or_from _ _ (or_from _ _ (le-ltb limit source within.origin.source.small) (le-ltb limit original_line within.origin.line)) (le-ltb limit original_column within.origin.column))
+      (or_from _ _ (or_from _ _ (or_from _ _ (le-ltb limit source within.origin.source.small)
+      (le-ltb limit original_line within.origin.line)) (le-ltb limit original_column within.origin.column))
       (le-ltb limit name within.origin.name.small)))
 
   all_within_limit : (list : List Mapping) → AllByRecursion (IsWithin sources names) list → list_any is_mapping_past_limit list ≡ false
@@ -104,7 +110,8 @@ module _ (sources names : ℕ) where
 
 -- ---- a list that is encoded has no fault, and its text has room
 
-neither : (first : Option EncodeRefusal) (long : Bool) → ◌≡◌ {A = Option EncodeRefusal} (option_or first (cond long (Some TooLong) None)) None → (first ≡ None) × (long ≡ false)
+neither : (first : Option EncodeRefusal) (long : Bool)
+    → ◌≡◌ {A = Option EncodeRefusal} (option_or first (cond long (Some TooLong) None)) None → (first ≡ None) × (long ≡ false)
 neither None true none = absurd (cc)
 neither None false none = (refl, refl)
 neither (Some refusal) long none = absurd (cc)

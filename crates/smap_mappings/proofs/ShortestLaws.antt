@@ -1,5 +1,6 @@
 -- The shortest spelling of a number spells it, and no other spelling of it has fewer digits.
-use Rattle.std.proofs.Common.{◌≡◌, ℕ, ◌+◌, ◌-◌, ◌*◌, ◌/◌, ◌%◌, ◌^◌, ◌<◌, ◌≤◌, suc, zero, true, false, ltb, List, [], ◌∷◌, length, map, get_or, Some, None, refl, sym, ap, subst, ◌∙◌, arith, zero-add, add-one, lt-ltb, le-ltb, ltb-true, eq-eqb, ne_eqb, ⊎_elim}
+use Rattle.std.proofs.Common.{◌≡◌, ℕ, ◌+◌, ◌-◌, ◌*◌, ◌/◌, ◌%◌, ◌^◌, ◌<◌, ◌≤◌, suc, zero, true, false, ltb, List, [], ◌∷◌, length, map, get_or, Some}
+use Rattle.std.proofs.Common.{None, refl, sym, ap, subst, ◌∙◌, arith, zero-add, add-one, lt-ltb, le-ltb, ltb-true, eq-eqb, ne_eqb, ⊎_elim}
 use Rattle.std.specs.Prelude.{ℤ, pos, negsuc, neg_ℤ, unsigned_abs}
 use Rattle.std.specs.List.{AllByRecursion, range_with_len}
 use Rattle.std.proofs.lemmas.Bool.{cond-true, cond-false, cases_lt, and_from, and_parts, not-true, not_from_false, both_ways}
@@ -61,13 +62,16 @@ first_letter : (unsigned : ℕ) → digit_of (letter_of (unsigned % 32 + 32)) �
 first_letter unsigned = letter_is_digit (unsigned % 32 + 32) (omega arith)
 
 digits_are_one : (most unsigned : ℕ) → unsigned < 32 ^ suc most → is_one_number (digits_of (suc most) unsigned) ≡ true
-digits_are_one zero unsigned below = ap is_one_number (small_digits zero unsigned (omega arith)) ∙ ends_from (letter_of unsigned) unsigned (last_letter unsigned (omega arith)) (omega arith)
+digits_are_one zero unsigned below = ap is_one_number (small_digits zero unsigned (omega arith))
+    ∙ ends_from (letter_of unsigned) unsigned (last_letter unsigned (omega arith)) (omega arith)
 digits_are_one (suc most) unsigned below =
     ⊎_elim
-    (λ (small : unsigned < 32). ap is_one_number (small_digits (suc most) unsigned small) ∙ ends_from (letter_of unsigned) unsigned (last_letter unsigned small) small)
+    (λ (small : unsigned < 32). ap is_one_number (small_digits (suc most) unsigned small)
+    ∙ ends_from (letter_of unsigned) unsigned (last_letter unsigned small) small)
     (λ (large : 32 ≤ unsigned).
     ap is_one_number (large_digits (suc most) unsigned large)
-    ∙ one_number-cons (letter_of (unsigned % 32 + 32)) (digits_of (suc most) (unsigned / 32)) (continues_from _ (unsigned % 32 + 32) (first_letter unsigned) (omega arith))
+    ∙ one_number-cons (letter_of (unsigned % 32 + 32)) (digits_of (suc most) (unsigned / 32))
+    (continues_from _ (unsigned % 32 + 32) (first_letter unsigned) (omega arith))
     (digits_are_one most (unsigned / 32) (quotient_below most unsigned below)))
     (cases_lt unsigned 32)
 
@@ -105,8 +109,10 @@ digits_are_ascii : (most unsigned : ℕ) → AllByRecursion (λ byte. byte < 128
 digits_are_ascii zero unsigned = tt
 digits_are_ascii (suc most) unsigned =
     ⊎_elim
-    (λ (small : unsigned < 32). subst (AllByRecursion (λ byte. byte < 128)) (sym (small_digits most unsigned small)) (letter_is_ascii unsigned (omega arith), tt))
-    (λ (large : 32 ≤ unsigned). subst (AllByRecursion (λ byte. byte < 128)) (sym (large_digits most unsigned large)) (letter_is_ascii (unsigned % 32 + 32) (omega arith), digits_are_ascii most (unsigned / 32)))
+    (λ (small : unsigned < 32). subst (AllByRecursion (λ byte. byte < 128)) (sym (small_digits most unsigned small))
+    (letter_is_ascii unsigned (omega arith), tt))
+    (λ (large : 32 ≤ unsigned). subst (AllByRecursion (λ byte. byte < 128)) (sym (large_digits most unsigned large))
+    (letter_is_ascii (unsigned % 32 + 32) (omega arith), digits_are_ascii most (unsigned / 32)))
     (cases_lt unsigned 32)
 
 -- no fewer digits have room for the value
@@ -118,7 +124,11 @@ fewest_digits (suc most) unsigned (suc (suc count)) below some room =
     ⊎_elim
     (λ (small : unsigned < 32). omega (arith, ap length (small_digits (suc most) unsigned small)))
     (λ (large : 32 ≤ unsigned).
-    omega (arith, ap length (large_digits (suc most) unsigned large), fewest_digits most (unsigned / 32) (suc count) (quotient_below most unsigned below) (omega arith) (quotient_below count unsigned room)))
+    omega (
+      arith,
+      ap length (large_digits (suc most) unsigned large),
+      fewest_digits most (unsigned / 32) (suc count) (quotient_below most unsigned below) (omega arith) (quotient_below count unsigned room),
+    ))
     (cases_lt unsigned 32)
 
 -- so many digits have room for what they count for
@@ -204,7 +214,8 @@ shortest_spells n small =
     let short = le-ltb most_digits (length bytes) (shortest_is_short n small) in
     let in_range = le-ltb limit (unsigned_of bytes / 2) (omega (arith, ap (λ u. u / 2) unsigned, magnitude_of_unsigned n)) in
     let no_zero = ne_eqb (unsigned_of bytes) 1 (λ e. never_one n (sym unsigned ∙ e)) in
-    cond-true _ _ _ (and_from _ _ (and_from _ _ (and_from _ _ (shortest_is_one n small) (not_from_false _ short)) (not_from_false _ in_range)) (not_from_false _ no_zero))
+    cond-true _ _ _ (and_from _ _ (and_from _ _ (and_from _ _ (shortest_is_one n small) (not_from_false _ short))
+    (not_from_false _ in_range)) (not_from_false _ no_zero))
     ∙ ap Some (ap signed_number unsigned ∙ signed_of_unsigned n)
 
 -- two spellings of a number have the same unsigned value

@@ -1,11 +1,14 @@
 -- What is read at a place is what the bytes there spell, and the other way round.
-use Rattle.std.proofs.Common.{◌≡◌, ℕ, ◌+◌, ◌-◌, ◌<◌, ◌≤◌, suc, zero, Bool, true, false, not, cond, eqb, List, [], ◌∷◌, length, get_or, take, drop, Option, Some, None, Result, Ok, Err, refl, sym, ap, ◌∙◌, arith, length-drop, length-take-le, get_or-drop, get_or-take, ltb-true, ltb-false, lt-ltb, leb-true, leb-false, is_some, eq-eqb}
+use Rattle.std.proofs.Common.{◌≡◌, ℕ, ◌+◌, ◌-◌, ◌<◌, ◌≤◌, suc, zero, Bool, true, false, not, cond, eqb, List, [], ◌∷◌, length, get_or, take, drop}
+use Rattle.std.proofs.Common.{Option, Some, None, Result, Ok, Err, refl, sym, ap, ◌∙◌, arith, length-drop, length-take-le, get_or-drop, get_or-take}
+use Rattle.std.proofs.Common.{ltb-true, ltb-false, lt-ltb, leb-true, leb-false, is_some, eq-eqb}
 use Rattle.std.specs.Prelude.{ℤ, slice_range}
 use Rattle.std.proofs.lemmas.Bool.{eqb-false, cond-true, and_from, and_parts, and_right, not-true, not-false, false_from_ne_true, both_ways, not_from_false}
 use Rattle.std.proofs.lemmas.Option.{cond_some}
 use Rattle.std.proofs.lemmas.List.Sums.{prefix_len_is, prefix_len_passes, prefix_len_stops, prefix_len-le-length}
 use Rattle.smap_mappings.specs.Base64.{digit_of}
-use Rattle.smap_mappings.specs.Vlq.{digit_value, is_digit, is_continuing, is_ending, digit_sum, unsigned_of, signed_number, is_one_number, number_of, Spells, number_at}
+use Rattle.smap_mappings.specs.Vlq.{digit_value, is_digit, is_continuing, is_ending, digit_sum, unsigned_of, signed_number, is_one_number, number_of}
+use Rattle.smap_mappings.specs.Vlq.{Spells, number_at}
 use Rattle.smap_mappings.specs.Private.Reading.{checked_number, number_with_end, front_at}
 use Rattle.smap_mappings.specs.declared.vlq.VlqFault.{VlqFault}
 use Rattle.smap_mappings.specs.declared.vlq.VlqFault.TheVariants.{BadDigit, Unended, TooLong, TooLarge, NegativeZero}
@@ -14,7 +17,8 @@ use Rattle.smap_mappings.proofs.Numbers.{at_number, checked_signed}
 -- ---- digits that continue, and digits that end
 
 pub ends_stops : (byte : ℕ) → is_ending byte ≡ true → is_continuing byte ≡ false
-ends_stops byte is = and_right _ _ (let low : digit_value byte < 32 = ltb-true (digit_value byte) 32 (and_parts _ _ is).1 in false_from_ne_true _ (λ e. let high = leb-true 32 (digit_value byte) e in absurd (omega arith)))
+ends_stops byte is = and_right _ _ (let low : digit_value byte < 32 = ltb-true (digit_value byte) 32 (and_parts _ _ is).1
+    in false_from_ne_true _ (λ e. let high = leb-true 32 (digit_value byte) e in absurd (omega arith)))
 
 pub ends_is_digit : (byte : ℕ) → is_ending byte ≡ true → is_digit byte ≡ true
 ends_is_digit byte is = (and_parts _ _ is).0
@@ -31,12 +35,14 @@ digit_from_is_digit byte is = some_of (digit_of byte) is where
 
 -- ---- one number, by its places
 
-pub one_number_from : (bytes : List ℕ) (n : ℕ) → length bytes ≡ n + 1 → ((i : ℕ) → i < n → is_continuing (get_or bytes i 0) ≡ true) → is_ending (get_or bytes n 0) ≡ true → is_one_number bytes ≡ true
+pub one_number_from : (bytes : List ℕ) (n : ℕ) → length bytes ≡ n + 1 → ((i : ℕ) → i < n → is_continuing (get_or bytes i 0) ≡ true)
+    → is_ending (get_or bytes n 0) ≡ true → is_one_number bytes ≡ true
 one_number_from [] n len front last = absurd (omega arith)
 one_number_from (b ∷ []) n len front last = let is_zero : n ≡ 0 = omega arith in ap (λ i. is_ending (get_or (b ∷ []) i 0)) (sym is_zero) ∙ last
 one_number_from (b ∷ c ∷ bytes) n len front last =
     let back : suc (n - 1) ≡ n = omega arith in
-    and_from _ _ (front 0 (omega arith)) (one_number_from (c ∷ bytes) (n - 1) (omega arith) (λ i lt. front (suc i) (omega arith)) (ap (λ i. is_ending (get_or (b ∷ c ∷ bytes) i 0)) back ∙ last))
+    and_from _ _ (front 0 (omega arith)) (one_number_from (c ∷ bytes) (n - 1) (omega arith) (λ i lt. front (suc i) (omega arith))
+    (ap (λ i. is_ending (get_or (b ∷ c ∷ bytes) i 0)) back ∙ last))
 
 pub one_number_nonempty : (bytes : List ℕ) → is_one_number bytes ≡ true → 0 < length bytes
 one_number_nonempty [] is = absurd (cc)
@@ -59,13 +65,15 @@ one_number_last (b ∷ c ∷ bytes) is (suc n) len = one_number_last (c ∷ byte
 abbrev Reading : Type 0
 Reading = Result (ℤ × ℕ) VlqFault
 
-ok_from_tests : (a b c : Bool) (d e f : VlqFault) (r : Reading) (x : ℤ × ℕ) → cond a (Err d) (cond b (Err e) (cond c (Err f) r)) ≡ Ok x → ((a ≡ false) × (b ≡ false)) × ((c ≡ false) × (r ≡ Ok x))
+ok_from_tests : (a b c : Bool) (d e f : VlqFault) (r : Reading) (x : ℤ × ℕ) → cond a (Err d) (cond b (Err e) (cond c (Err f) r)) ≡ Ok x
+    → ((a ≡ false) × (b ≡ false)) × ((c ≡ false) × (r ≡ Ok x))
 ok_from_tests true b c d e f r x is = absurd (cc)
 ok_from_tests false true c d e f r x is = absurd (cc)
 ok_from_tests false false true d e f r x is = absurd (cc)
 ok_from_tests false false false d e f r x is = ((refl, refl), (refl, is))
 
-number_from_tests : (a b : Bool) (d e : VlqFault) (m n : ℤ) (last end : ℕ) → ◌≡◌ {A = Reading} (cond a (Err d) (cond b (Err e) (Ok (m, last)))) (Ok (n, end)) → ((a ≡ false) × (b ≡ false)) × ((m ≡ n) × (last ≡ end))
+number_from_tests : (a b : Bool) (d e : VlqFault) (m n : ℤ) (last end : ℕ)
+    → ◌≡◌ {A = Reading} (cond a (Err d) (cond b (Err e) (Ok (m, last)))) (Ok (n, end)) → ((a ≡ false) × (b ≡ false)) × ((m ≡ n) × (last ≡ end))
 number_from_tests true b d e m n last end is = absurd (cc)
 number_from_tests false true d e m n last end is = absurd (cc)
 number_from_tests false false d e m n last end is =
@@ -75,7 +83,8 @@ number_from_tests false false d e m n last end is =
 
 module _ (bytes : List ℕ) (place : ℕ) where
   -- what is read is spelled
-  pub spelled_from : (n : ℤ) (end : ℕ) → place ≤ length bytes → number_at bytes place ≡ Ok (n, end) → (end ≤ length bytes) × Spells (slice_range bytes place end) n
+  pub spelled_from : (n : ℤ) (end : ℕ) → place ≤ length bytes → number_at bytes place ≡ Ok (n, end)
+      → (end ≤ length bytes) × Spells (slice_range bytes place end) n
   unfolding number_at number_of unsigned_of
   spelled_from n end from is =
       let rest = drop place bytes in
@@ -95,7 +104,8 @@ module _ (bytes : List ℕ) (place : ℕ) where
       (λ i lt. ap is_continuing (get_or-take (front + 1) rest i 0 (omega arith)) ∙ prefix_len_passes is_continuing rest i 0 lt)
       (ap is_ending (get_or-take (front + 1) rest front 0 (omega arith)) ∙ last) in (
         omega arith,
-        rw taken (cond-true _ _ _ (and_from _ _ (and_from _ _ (and_from _ _ one (not_from_false _ tests.1.0)) (not_from_false _ number.0.0)) (not_from_false _ number.0.1)) ∙ ap Some number.1.0),
+        rw taken (cond-true _ _ _ (and_from _ _ (and_from _ _ (and_from _ _ one (not_from_false _ tests.1.0)) (not_from_false _ number.0.0))
+            (not_from_false _ number.0.1)) ∙ ap Some number.1.0),
       )
 
   -- what is spelled is read
@@ -114,15 +124,18 @@ module _ (bytes : List ℕ) (place : ℕ) where
       let nonempty = one_number_nonempty cut one in
       let short : length cut ≤ 7 = ltb-false _ _ (not-true _ tests''.1) in
       let before : end - place ≡ suc (end - place - 1) = omega arith in
-      let last : is_ending (get_or rest (end - place - 1) 0) ≡ true = ap is_ending (sym (get_or-take (end - place) rest (end - place - 1) 0 (omega arith))) ∙ one_number_last cut one (end - place - 1) (omega arith) in
+      let last : is_ending (get_or rest (end - place - 1) 0) ≡ true =
+      ap is_ending (sym (get_or-take (end - place) rest (end - place - 1) 0 (omega arith))) ∙ one_number_last cut one (end - place - 1) (omega arith) in
       let front : front_at bytes place ≡ end - place - 1 =
       prefix_len_is is_continuing rest (end - place - 1) 0 (omega arith)
       (λ i lt. ap is_continuing (sym (get_or-take (end - place) rest i 0 (omega arith))) ∙ one_number_front cut one i (omega arith))
       (λ inside. ends_stops _ last) in
-      let at_end : get_or rest (end - place - 1) 0 ≡ get_or bytes (end - 1) 0 = get_or-drop place bytes (end - place - 1) 0 ∙ ap (λ i. get_or bytes i 0) (omega arith) in
+      let at_end : get_or rest (end - place - 1) 0 ≡ get_or bytes (end - 1) 0 =
+      get_or-drop place bytes (end - place - 1) 0 ∙ ap (λ i. get_or bytes i 0) (omega arith) in
       let digit = digit_from_is_digit (get_or bytes (end - 1) 0) (ap is_digit (sym at_end) ∙ ends_is_digit _ last) in
       let taken : front_at bytes place + 1 ≡ end - place = omega arith in
       at_number bytes place (end - 1) digit.0 (omega arith) (omega arith) digit.1 (omega arith)
       ∙ ap (λ k. number_with_end (end - 1 + 1) (checked_number (digit_sum 0 (take k rest)))) taken
       ∙ ap (λ e. number_with_end e (checked_number (digit_sum 0 cut))) (omega arith)
-      ∙ ap (number_with_end end) (checked_signed (digit_sum 0 cut) (ltb-false _ _ (not-true _ tests'.1)) (λ e. both_ways _ (not-true _ tests.1) (eq-eqb _ _ e)) ∙ ap Ok test.1)
+      ∙ ap (number_with_end end) (checked_signed (digit_sum 0 cut) (ltb-false _ _ (not-true _ tests'.1))
+      (λ e. both_ways _ (not-true _ tests.1) (eq-eqb _ _ e)) ∙ ap Ok test.1)

@@ -1,6 +1,7 @@
 -- From a state at a segment: the segment is the next of the text, and reading it leads to its mapping and the state
 -- after it.
-use Rattle.std.proofs.Common.{◌≡◌, ℕ, ◌+◌, ◌<◌, ◌≤◌, suc, zero, true, List, [], ◌∷◌, ◌++◌, length, get_or, take, drop, map, Option, Some, None, refl, sym, ap, subst, ◌∙◌, arith, add-one, unwrap_or}
+use Rattle.std.proofs.Common.{◌≡◌, ℕ, ◌+◌, ◌<◌, ◌≤◌, suc, zero, true, List, [], ◌∷◌, ◌++◌, length, get_or, take, drop, map, Option, Some, None, refl}
+use Rattle.std.proofs.Common.{sym, ap, subst, ◌∙◌, arith, add-one, unwrap_or}
 use Rattle.std.specs.Prelude.{ℤ, pos}
 use Rattle.std.specs.List.{AllByRecursion, slice_get}
 use Rattle.std.proofs.lemmas.List.{drop-map, append-nil, append_assoc}
@@ -30,7 +31,8 @@ end_at text cursor = cursor.place + length (segment_at text cursor.place)
 -- the segment at the state's place is segment j, with this delta
 pub record AtSegment (text : List ℕ) (j : ℕ) (cursor : Cursor) (delta : Delta) : Type 0 where
   pub count : suc j ≤ length (segments_of text)
-  pub segment : drop j (segments_of text) ≡ segment_on cursor.line (cursor.place, segment_at text cursor.place) ∷ segments_from cursor.line (end_at text cursor) (drop (end_at text cursor) text)
+  pub segment : drop j (segments_of text) ≡ segment_on cursor.line (cursor.place, segment_at text cursor.place)
+      ∷ segments_from cursor.line (end_at text cursor) (drop (end_at text cursor) text)
   pub next : slice_get (deltas_of text) j ≡ Some delta
   pub taken : take (suc j) (deltas_of text) ≡ take j (deltas_of text) ++ delta ∷ []
   pub left : drop (suc j) (segments_of text) ≡ segments_from cursor.line (end_at text cursor) (drop (end_at text cursor) text)
@@ -47,8 +49,11 @@ at_segment text j cursor after within inside =
     record { count = next.3; segment = is; next = next_delta.2; taken = next_delta.0; left = next.1 }
 
 -- the first fault from segment j on is that of segment j, or else the first of those after it
-fault_from_here : (text : List ℕ) (j sources names : ℕ) (cursor : Cursor) → AtSegment text j cursor (record { line = cursor.line; fields = known_fields text cursor.place })
-    → fault_from text sources names j ≡ fault_or (segment_fault sources names (take j (deltas_of text)) (segment_on cursor.line (cursor.place, segment_at text cursor.place))) (segment_on cursor.line (cursor.place, segment_at text cursor.place)) (fault_from text sources names (suc j))
+fault_from_here : (text : List ℕ) (j sources names : ℕ) (cursor : Cursor)
+    → AtSegment text j cursor (record { line = cursor.line; fields = known_fields text cursor.place })
+    → fault_from text sources names j ≡ fault_or
+    (segment_fault sources names (take j (deltas_of text)) (segment_on cursor.line (cursor.place, segment_at text cursor.place)))
+    (segment_on cursor.line (cursor.place, segment_at text cursor.place)) (fault_from text sources names (suc j))
 fault_from_here text j sources names cursor seg =
     let segment = segment_on cursor.line (cursor.place, segment_at text cursor.place) in
     let before = take j (deltas_of text) in
@@ -57,7 +62,8 @@ fault_from_here text j sources names cursor seg =
 
 -- ---- the segment as it was read
 
-mapping_at_place : (before deltas : List Delta) (j : ℕ) (delta : Delta) → slice_get deltas j ≡ Some delta → slice_get (mappings_after before deltas) j ≡ Some (mapping_after (before ++ take j deltas) delta)
+mapping_at_place : (before deltas : List Delta) (j : ℕ) (delta : Delta) → slice_get deltas j ≡ Some delta
+    → slice_get (mappings_after before deltas) j ≡ Some (mapping_after (before ++ take j deltas) delta)
 mapping_at_place before [] j delta is = absurd (cc)
 mapping_at_place before (m ∷ deltas) zero delta is =
     let same : m ≡ delta = cc in ap (λ x. Some (mapping_after before x)) same ∙ ap (λ ms. Some (mapping_after ms delta)) (sym (append-nil before))
@@ -65,23 +71,27 @@ mapping_at_place before (m ∷ deltas) (suc j) delta is =
     mapping_at_place (before ++ m ∷ []) deltas j delta is ∙ ap (λ ms. Some (mapping_after ms delta)) (append_assoc before (m ∷ []) (take j deltas))
 
 -- the mapping of the segment at the state's place stands on the state's line
-pub on_line_of : (text : List ℕ) (j : ℕ) (cursor : Cursor) (mapping : Mapping) → IsAfter text j cursor → cursor.place < length text → is_inside (get_or text cursor.place 0) ≡ true → slice_get (mappings_of text) j ≡ Some mapping → mapping.line ≡ cursor.line
+pub on_line_of : (text : List ℕ) (j : ℕ) (cursor : Cursor) (mapping : Mapping) → IsAfter text j cursor → cursor.place < length text
+    → is_inside (get_or text cursor.place 0) ≡ true → slice_get (mappings_of text) j ≡ Some mapping → mapping.line ≡ cursor.line
 unfolding mappings_of mapping_after
 on_line_of text j cursor mapping after within inside there =
     let seg = at_segment text j cursor after within inside in
     let is = mapping_at_place [] (deltas_of text) j _ seg.next in
-    let same : Some mapping ≡ Some (mapping_after (take j (deltas_of text)) (record { line = cursor.line; fields = known_fields text cursor.place })) = sym there ∙ is in
+    let same : Some mapping ≡ Some (mapping_after (take j (deltas_of text))
+    (record { line = cursor.line; fields = known_fields text cursor.place })) = sym there ∙ is in
     some_line mapping _ same
   where
     some_line : (a b : Mapping) → Some a ≡ Some b → a.line ≡ b.line
     some_line a b same = let e : a ≡ b = cc in ap (λ (m : Mapping). m.line) e
 
-origin_named : (column source line original_column : ℤ) (name : Option ℤ) (cursor : Cursor) → origin_in (column ∷ source ∷ line ∷ original_column ∷ name_fields name) (values_at cursor)
+origin_named : (column source line original_column : ℤ) (name : Option ℤ) (cursor : Cursor)
+    → origin_in (column ∷ source ∷ line ∷ original_column ∷ name_fields name) (values_at cursor)
     ≡ Some (record { source = cursor.source; line = cursor.original_line; column = cursor.original_column; name = cursor_name name cursor })
 origin_named column source line original_column None cursor = refl
 origin_named column source line original_column (Some name) cursor = refl
 
-origin_same : (column : ℤ) (origin : Option OriginFields) (cursor : Cursor) → origin_in (column ∷ origin_fields origin) (values_at cursor) ≡ cursor_origin origin cursor
+origin_same : (column : ℤ) (origin : Option OriginFields) (cursor : Cursor)
+    → origin_in (column ∷ origin_fields origin) (values_at cursor) ≡ cursor_origin origin cursor
 origin_same column None cursor = refl
 origin_same column (Some o) cursor = origin_named column o.source o.line o.column o.name cursor
 
@@ -93,29 +103,38 @@ known_count column (Some o) = named o.source o.line o.column o.name
     named source line original_column None = refl
     named source line original_column (Some name) = refl
 
-module _ (text : List ℕ) (j : ℕ) (cursor : Cursor) (segment : Segment) (end : ℕ) (after : IsAfter text j cursor) (within : cursor.place < length text) (inside : is_inside (get_or text cursor.place 0) ≡ true) (reads : IsSegmentAt text cursor.place segment end) where
+module _ (text : List ℕ) (j : ℕ) (cursor : Cursor) (segment : Segment) (end : ℕ) (after : IsAfter text j cursor)
+    (within : cursor.place < length text) (inside : is_inside (get_or text cursor.place 0) ≡ true) (reads : IsSegmentAt text cursor.place segment end) where
   read_delta : AtSegment text j cursor (delta_in cursor.line segment)
   read_delta =
-      let delta_is : record { line = cursor.line; fields = known_fields text cursor.place } ≡ delta_in cursor.line segment = ap (λ fields. record { line = cursor.line; fields = unwrap_or fields [] }) reads.fields in
+      let delta_is : record { line = cursor.line; fields = known_fields text cursor.place } ≡ delta_in cursor.line segment =
+      ap (λ fields. record { line = cursor.line; fields = unwrap_or fields [] }) reads.fields in
       subst (AtSegment text j cursor) delta_is (at_segment text j cursor after within inside)
 
   -- the running values after the segment
-  values_after_read : values_on cursor.line (take j (deltas_of text) ++ delta_in cursor.line segment ∷ []) ≡ values_after (values_at cursor) (delta_in cursor.line segment)
-  values_after_read = values-push (take j (deltas_of text)) (delta_in cursor.line segment) ∙ ap (λ values. values_after values (delta_in cursor.line segment)) (sym after.values)
+  values_after_read : values_on cursor.line (take j (deltas_of text) ++ delta_in cursor.line segment ∷ [])
+      ≡ values_after (values_at cursor) (delta_in cursor.line segment)
+  values_after_read = values-push (take j (deltas_of text)) (delta_in cursor.line segment)
+      ∙ ap (λ values. values_after values (delta_in cursor.line segment)) (sym after.values)
 
   -- its spelling has no fault, and the fault of its values is that of the sums
-  read_fault : (sources names : ℕ) → segment_fault sources names (take j (deltas_of text)) (segment_on cursor.line (cursor.place, segment_at text cursor.place)) ≡ sums_fault sources names segment (values_after (values_at cursor) (delta_in cursor.line segment))
+  read_fault : (sources names : ℕ) → segment_fault sources names (take j (deltas_of text))
+      (segment_on cursor.line (cursor.place, segment_at text cursor.place))
+      ≡ sums_fault sources names segment (values_after (values_at cursor) (delta_in cursor.line segment))
   read_fault sources names =
       let before = take j (deltas_of text) in
       let bytes = segment_at text cursor.place in
-      let known : has_known_length (known_fields text cursor.place) ≡ true = ap (λ fields. has_known_length (unwrap_or fields [])) reads.fields ∙ known_count segment.column segment.origin in
-      ap (λ first. first_kind first (delta_fault sources names before (record { line = cursor.line; fields = known_fields text cursor.place }))) (known_spelled bytes known)
+      let known : has_known_length (known_fields text cursor.place) ≡ true =
+      ap (λ fields. has_known_length (unwrap_or fields [])) reads.fields ∙ known_count segment.column segment.origin in
+      ap (λ first. first_kind first (delta_fault sources names before
+      (record { line = cursor.line; fields = known_fields text cursor.place }))) (known_spelled bytes known)
       ∙ ap (λ fields. delta_fault sources names before (record { line = cursor.line; fields = unwrap_or fields [] })) reads.fields
       ∙ delta_fault_is sources names cursor.line before segment
       ∙ ap (sums_fault sources names segment) values_after_read
 
   -- a segment whose values have no fault leads to its mapping and to the state after it
-  pub steps_to : (sources names : ℕ) (next : Cursor) → IsAdvanced cursor segment end sources names next → IsStep text j sources names (mapping_in segment next) next
+  pub steps_to : (sources names : ℕ) (next : Cursor) → IsAdvanced cursor segment end sources names next
+      → IsStep text j sources names (mapping_in segment next) next
   unfolding mappings_of mapping_after
   steps_to sources names next advances =
       let before = take j (deltas_of text) in
@@ -139,7 +158,8 @@ module _ (text : List ℕ) (j : ℕ) (cursor : Cursor) (segment : Segment) (end 
             line_within = omega (arith, advances.line, after.line_within, place_is);
             rest = (λ i. segments_from (advances.line i) (place_is i) (drop (place_is i) text)) ∙ sym seg.left;
             lines = subst (AllByRecursion (λ (m : Delta). m.line ≤ next.line)) (sym seg.taken)
-                (all_push (λ (m : Delta). m.line ≤ next.line) before delta (subst (λ line. AllByRecursion (λ (m : Delta). m.line ≤ line) before) (sym advances.line) after.lines) (omega (arith, advances.line)));
+                (all_push (λ (m : Delta). m.line ≤ next.line) before delta
+                (subst (λ line. AllByRecursion (λ (m : Delta). m.line ≤ line) before) (sym advances.line) after.lines) (omega (arith, advances.line)));
             values = sym same ∙ ap (λ line. values_on line (before ++ delta ∷ [])) (sym advances.line) ∙ ap (values_on next.line) (sym seg.taken);
           });
         };
@@ -148,17 +168,23 @@ module _ (text : List ℕ) (j : ℕ) (cursor : Cursor) (segment : Segment) (end 
       }
 
   -- and one whose values have a fault has that
-  pub faulty_values : (sources names : ℕ) (kind : FaultKind) → sums_fault sources names segment (values_after (values_at cursor) (delta_in cursor.line segment)) ≡ Some kind → fault_from text sources names j ≡ Some (fault_at cursor kind)
+  pub faulty_values : (sources names : ℕ) (kind : FaultKind)
+      → sums_fault sources names segment (values_after (values_at cursor) (delta_in cursor.line segment)) ≡ Some kind
+      → fault_from text sources names j ≡ Some (fault_at cursor kind)
   faulty_values sources names kind is =
       fault_from_here text j sources names cursor (at_segment text j cursor after within inside)
-      ∙ ap (λ first. fault_or first (segment_on cursor.line (cursor.place, segment_at text cursor.place)) (fault_from text sources names (suc j))) (read_fault sources names ∙ is)
+      ∙ ap (λ first. fault_or first (segment_on cursor.line (cursor.place, segment_at text cursor.place))
+      (fault_from text sources names (suc j))) (read_fault sources names ∙ is)
 
 -- a segment that can't be read has the fault of its spelling
-pub faulty_spelling : (text : List ℕ) (j : ℕ) (cursor : Cursor) (sources names : ℕ) (kind : FaultKind) → IsAfter text j cursor → cursor.place < length text → is_inside (get_or text cursor.place 0) ≡ true → spelling_fault (segment_at text cursor.place) ≡ Some kind → fault_from text sources names j ≡ Some (fault_at cursor kind)
+pub faulty_spelling : (text : List ℕ) (j : ℕ) (cursor : Cursor) (sources names : ℕ) (kind : FaultKind) → IsAfter text j cursor
+    → cursor.place < length text → is_inside (get_or text cursor.place 0) ≡ true → spelling_fault (segment_at text cursor.place) ≡ Some kind
+    → fault_from text sources names j ≡ Some (fault_at cursor kind)
 faulty_spelling text j cursor sources names kind after within inside is =
     let segment = segment_on cursor.line (cursor.place, segment_at text cursor.place) in
     fault_from_here text j sources names cursor (at_segment text j cursor after within inside)
-    ∙ ap (λ first. fault_or (first_kind first (delta_fault sources names (take j (deltas_of text)) (delta_of segment))) segment (fault_from text sources names (suc j))) is
+    ∙ ap (λ first. fault_or (first_kind first (delta_fault sources names (take j (deltas_of text)) (delta_of segment))) segment
+    (fault_from text sources names (suc j))) is
 
 -- ---- where no segment has a fault
 
@@ -166,34 +192,41 @@ none_unless : (o : Option FaultKind) → ((kind : FaultKind) → o ≡ Some kind
 none_unless None not_some = refl
 none_unless (Some kind) not_some = absurd (not_some kind refl)
 
-module _ (text : List ℕ) (j : ℕ) (cursor : Cursor) (sources names : ℕ) (none : fault_from text sources names j ≡ None) (after : IsAfter text j cursor) (within : cursor.place < length text) (inside : is_inside (get_or text cursor.place 0) ≡ true) where
+module _ (text : List ℕ) (j : ℕ) (cursor : Cursor) (sources names : ℕ) (none : fault_from text sources names j ≡ None)
+    (after : IsAfter text j cursor) (within : cursor.place < length text) (inside : is_inside (get_or text cursor.place 0) ≡ true) where
   -- the segment can be read
   pub can_be_read : has_known_length (known_fields text cursor.place) ≡ true
   can_be_read = spelled_known (segment_at text cursor.place) (none_unless _ (λ kind is.
       let both = sym none ∙ faulty_spelling text j cursor sources names kind after within inside is in absurd (cc)))
 
   -- and its values have no fault
-  pub clean_values : (segment : Segment) (end : ℕ) → IsSegmentAt text cursor.place segment end → sums_fault sources names segment (values_after (values_at cursor) (delta_in cursor.line segment)) ≡ None
+  pub clean_values : (segment : Segment) (end : ℕ) → IsSegmentAt text cursor.place segment end
+      → sums_fault sources names segment (values_after (values_at cursor) (delta_in cursor.line segment)) ≡ None
   clean_values segment end reads = none_unless _ (λ kind is.
       let both = sym none ∙ faulty_values text j cursor segment end after within inside reads sources names kind is in absurd (cc))
 
 -- ---- over separators
 
-pub skips_line_end : (text : List ℕ) (j : ℕ) (cursor next : Cursor) → IsAfter text j cursor → cursor.place < length text → is_semicolon (get_or text cursor.place 0) ≡ true → next ≡ record cursor { line = cursor.line + 1; column = 0; place = cursor.place + 1 } → IsAfter text j next
+pub skips_line_end : (text : List ℕ) (j : ℕ) (cursor next : Cursor) → IsAfter text j cursor → cursor.place < length text
+    → is_semicolon (get_or text cursor.place 0) ≡ true
+    → next ≡ record cursor { line = cursor.line + 1; column = 0; place = cursor.place + 1 } → IsAfter text j next
 skips_line_end text j cursor next after within is next_is = subst (IsAfter text j) (sym next_is) (record {
   count = after.count;
   inside = omega arith;
   line_within = omega (arith, after.line_within);
   rest = sym (segments_at_line_end text cursor.line cursor.place within is) ∙ after.rest;
   lines = later (take j (deltas_of text)) after.lines;
-  values = ap (λ (values : RunningValues). record values { column = pos 0 }) after.values ∙ sym (values_on_new_line cursor.line (take j (deltas_of text)) after.lines);
+  values = ap (λ (values : RunningValues). record values { column = pos 0 }) after.values
+      ∙ sym (values_on_new_line cursor.line (take j (deltas_of text)) after.lines);
 })
   where
-    later : (deltas : List Delta) → AllByRecursion (λ (m : Delta). m.line ≤ cursor.line) deltas → AllByRecursion (λ (m : Delta). m.line ≤ cursor.line + 1) deltas
+    later : (deltas : List Delta) → AllByRecursion (λ (m : Delta). m.line ≤ cursor.line) deltas
+        → AllByRecursion (λ (m : Delta). m.line ≤ cursor.line + 1) deltas
     later [] all = tt
     later (m ∷ deltas) all = (omega (arith, all.0), later deltas all.1)
 
-pub skips_comma : (text : List ℕ) (j : ℕ) (cursor next : Cursor) → IsAfter text j cursor → cursor.place < length text → is_comma (get_or text cursor.place 0) ≡ true → next ≡ record cursor { place = cursor.place + 1 } → IsAfter text j next
+pub skips_comma : (text : List ℕ) (j : ℕ) (cursor next : Cursor) → IsAfter text j cursor → cursor.place < length text
+    → is_comma (get_or text cursor.place 0) ≡ true → next ≡ record cursor { place = cursor.place + 1 } → IsAfter text j next
 skips_comma text j cursor next after within is next_is = subst (IsAfter text j) (sym next_is) (record {
   count = after.count;
   inside = omega arith;

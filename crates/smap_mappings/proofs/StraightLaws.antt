@@ -29,19 +29,31 @@ stays : (value : ℕ) → IsMoved value (pos 0) value
 stays value = record { sum = λ range. omega (arith, ints); both = λ range moved. omega (arith, ints) }
 
 module _ (text : List ℕ) (cursor : Cursor) (p1 column : ℕ) (a : ℤ) (first : IsFieldAt text cursor.place a p1) (moved : IsMoved cursor.column a column) where
-  pub reads_one : length (segment_at text p1) ≡ 0 → IsReadAfter text cursor (record { kind = Unmapped; first = a; after = record cursor { place = p1; column = column } })
+  pub reads_one : length (segment_at text p1) ≡ 0
+      → IsReadAfter text cursor (record { kind = Unmapped; first = a; after = record cursor { place = p1; column = column } })
   reads_one end = record {
     segment = record { column = a; origin = None };
     reads = one_field text cursor.place p1 a first end;
     kind = refl;
     first = refl;
     line = refl;
-    moved = record { column = moved; source = stays cursor.source; original_line = stays cursor.original_line; original_column = stays cursor.original_column; name = stays cursor.name };
+    moved = record {
+      column = moved;
+      source = stays cursor.source;
+      original_line = stays cursor.original_line;
+      original_column = stays cursor.original_column;
+      name = stays cursor.name;
+    };
   }
 
-  module _ (p2 p3 p4 source line original_column : ℕ) (second : IsMovedBy text p1 cursor.source source p2) (third : IsMovedBy text p2 cursor.original_line line p3) (fourth : IsMovedBy text p3 cursor.original_column original_column p4) where
+  module _ (p2 p3 p4 source line original_column : ℕ) (second : IsMovedBy text p1 cursor.source source p2)
+      (third : IsMovedBy text p2 cursor.original_line line p3) (fourth : IsMovedBy text p3 cursor.original_column original_column p4) where
     pub reads_four : length (segment_at text p4) ≡ 0
-        → IsReadAfter text cursor (record { kind = Mapped; first = a; after = record cursor { place = p4; column = column; source = source; original_line = line; original_column = original_column } })
+        → IsReadAfter text cursor (record {
+          kind = Mapped;
+          first = a;
+          after = record cursor { place = p4; column = column; source = source; original_line = line; original_column = original_column };
+        })
     reads_four end = record {
       segment = record { column = a; origin = Some (record { source = second.difference; line = third.difference; column = fourth.difference; name = None }) };
       reads = four_fields text cursor.place p1 p2 p3 p4 a second.difference third.difference fourth.difference first second.field third.field fourth.field end;
@@ -52,10 +64,19 @@ module _ (text : List ℕ) (cursor : Cursor) (p1 column : ℕ) (a : ℤ) (first 
     }
 
     pub reads_five : (p5 name : ℕ) → IsMovedBy text p4 cursor.name name p5 → length (segment_at text p5) ≡ 0
-        → IsReadAfter text cursor (record { kind = Named; first = a; after = record cursor { place = p5; column = column; source = source; original_line = line; original_column = original_column; name = name } })
+        → IsReadAfter text cursor (record {
+          kind = Named;
+          first = a;
+          after = record cursor { place = p5; column = column; source = source; original_line = line; original_column = original_column; name = name };
+        })
     reads_five p5 name fifth end = record {
-      segment = record { column = a; origin = Some (record { source = second.difference; line = third.difference; column = fourth.difference; name = Some fifth.difference }) };
-      reads = five_fields text cursor.place p1 p2 p3 p4 p5 a second.difference third.difference fourth.difference fifth.difference first second.field third.field fourth.field fifth.field end;
+      segment = record {
+        column = a;
+        origin = Some
+            (record { source = second.difference; line = third.difference; column = fourth.difference; name = Some fifth.difference });
+      };
+      reads = five_fields text cursor.place p1 p2 p3 p4 p5 a second.difference third.difference fourth.difference fifth.difference first
+          second.field third.field fourth.field fifth.field end;
       kind = refl;
       first = refl;
       line = refl;
@@ -68,7 +89,8 @@ pub origin_same : (origin : Option OriginFields) (after : Cursor) → origin_of_
 origin_same None after = refl
 origin_same (Some origin) after = named origin.source origin.line origin.column origin.name
   where
-    named : (source line column : ℤ) (name : Option ℤ) → origin_of_kind (kind_named name) after ≡ cursor_origin (Some (record { source = source; line = line; column = column; name = name })) after
+    named : (source line column : ℤ) (name : Option ℤ)
+        → origin_of_kind (kind_named name) after ≡ cursor_origin (Some (record { source = source; line = line; column = column; name = name })) after
     named source line column None = refl
     named source line column (Some name) = refl
 
@@ -76,10 +98,12 @@ origin_same (Some origin) after = named origin.source origin.line origin.column 
 
 module _ (text : List ℕ) (cursor : Cursor) (straight : StraightSegment) (read : IsReadAfter text cursor straight) where
   pub mapping_same : mapping_at straight.kind straight.after ≡ mapping_in read.segment straight.after
-  mapping_same = ap (λ origin. record { line = straight.after.line; column = straight.after.column; origin = origin }) (ap (λ kind. origin_of_kind kind straight.after) read.kind ∙ origin_same read.segment.origin straight.after)
+  mapping_same = ap (λ origin. record { line = straight.after.line; column = straight.after.column; origin = origin })
+      (ap (λ kind. origin_of_kind kind straight.after) read.kind ∙ origin_same read.segment.origin straight.after)
 
   -- where the sums are in range, the values after are these
-  pub values_from_sums : are_in_range (values_after (values_at cursor) (delta_in cursor.line read.segment)) ≡ true → values_at straight.after ≡ values_after (values_at cursor) (delta_in cursor.line read.segment)
+  pub values_from_sums : are_in_range (values_after (values_at cursor) (delta_in cursor.line read.segment)) ≡ true
+      → values_at straight.after ≡ values_after (values_at cursor) (delta_in cursor.line read.segment)
   values_from_sums range =
       let each = each_in_range (values_after (values_at cursor) (delta_in cursor.line read.segment)) range in
       λ i. record {
@@ -91,7 +115,8 @@ module _ (text : List ℕ) (cursor : Cursor) (straight : StraightSegment) (read 
       }
 
   -- and where both the values before and those after are
-  values_from_both : are_in_range (values_at cursor) ≡ true → are_in_range (values_at straight.after) ≡ true → values_at straight.after ≡ values_after (values_at cursor) (delta_in cursor.line read.segment)
+  values_from_both : are_in_range (values_at cursor) ≡ true → are_in_range (values_at straight.after) ≡ true
+      → values_at straight.after ≡ values_after (values_at cursor) (delta_in cursor.line read.segment)
   values_from_both before after =
       let old = each_in_range (values_at cursor) before in
       let new = each_in_range (values_at straight.after) after in
@@ -113,25 +138,30 @@ module _ (text : List ℕ) (cursor : Cursor) (straight : StraightSegment) (read 
 
 -- ---- a sound segment has no fault
 
-listed_source : (sources names : ℕ) (column : ℤ) (origin : Option OriginFields) (after : Cursor) → are_listed sources names (kind_with origin) after ≡ true → (has_origin (column ∷ origin_fields origin) && not (ltb after.source sources)) ≡ false
+listed_source : (sources names : ℕ) (column : ℤ) (origin : Option OriginFields) (after : Cursor)
+    → are_listed sources names (kind_with origin) after ≡ true → (has_origin (column ∷ origin_fields origin) && not (ltb after.source sources)) ≡ false
 listed_source sources names column None after listed = refl
 listed_source sources names column (Some origin) after listed = named origin.source origin.line origin.column origin.name listed
   where
     named : (source line original_column : ℤ) (name : Option ℤ) → are_listed sources names (kind_named name) after ≡ true
-        → (has_origin (column ∷ origin_fields (Some (record { source = source; line = line; column = original_column; name = name }))) && not (ltb after.source sources)) ≡ false
+        → (has_origin (column ∷ origin_fields (Some (record { source = source; line = line; column = original_column; name = name })))
+        && not (ltb after.source sources)) ≡ false
     named source line original_column None listed = not_from_true _ listed
     named source line original_column (Some name) listed = not_from_true _ (and_parts _ _ listed).0
 
-listed_name : (sources names : ℕ) (column : ℤ) (origin : Option OriginFields) (after : Cursor) → are_listed sources names (kind_with origin) after ≡ true → (has_name (column ∷ origin_fields origin) && not (ltb after.name names)) ≡ false
+listed_name : (sources names : ℕ) (column : ℤ) (origin : Option OriginFields) (after : Cursor)
+    → are_listed sources names (kind_with origin) after ≡ true → (has_name (column ∷ origin_fields origin) && not (ltb after.name names)) ≡ false
 listed_name sources names column None after listed = refl
 listed_name sources names column (Some origin) after listed = named origin.source origin.line origin.column origin.name listed
   where
     named : (source line original_column : ℤ) (name : Option ℤ) → are_listed sources names (kind_named name) after ≡ true
-        → (has_name (column ∷ origin_fields (Some (record { source = source; line = line; column = original_column; name = name }))) && not (ltb after.name names)) ≡ false
+        → (has_name (column ∷ origin_fields (Some (record { source = source; line = line; column = original_column; name = name }))) && not
+        (ltb after.name names)) ≡ false
     named source line original_column None listed = refl
     named source line original_column (Some name) listed = not_from_true _ (and_parts _ _ listed).1
 
-module _ (text : List ℕ) (sources names : ℕ) (cursor : Cursor) (straight : StraightSegment) (read : IsReadAfter text cursor straight) (fits : is_fitting straight ≡ true) (listed : are_listed sources names straight.kind straight.after ≡ true) where
+module _ (text : List ℕ) (sources names : ℕ) (cursor : Cursor) (straight : StraightSegment) (read : IsReadAfter text cursor straight)
+    (fits : is_fitting straight ≡ true) (listed : are_listed sources names straight.kind straight.after ≡ true) where
   sound_has_no_fault : sums_fault sources names read.segment (values_at straight.after) ≡ None
   sound_has_no_fault =
       let parts = and_parts _ _ fits in
@@ -151,7 +181,8 @@ module _ (text : List ℕ) (sources names : ℕ) (cursor : Cursor) (straight : S
       let inside = read_inside text cursor straight read within in
       let fitting = (and_parts _ _ fits).1 in
       let values = values_from_both text cursor straight read range fitting in
-      let advances : IsAdvanced cursor read.segment straight.after.place sources names straight.after = record { place = refl; line = read.line; values = values; allowed = sound_has_no_fault } in
+      let advances : IsAdvanced cursor read.segment straight.after.place sources names straight.after =
+      record { place = refl; line = read.line; values = values; allowed = sound_has_no_fault } in
       record {
         ahead = at_segment_byte text cursor straight read within;
         inside = read.reads.inside;

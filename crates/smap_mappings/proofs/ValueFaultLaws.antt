@@ -1,5 +1,6 @@
 -- What is wrong with the values that a segment leaves, and when nothing is.
-use Rattle.std.proofs.Common.{◌≡◌, ℕ, Bool, true, false, not, ◌&&◌, ◌||◌, cond, eqb, le-ltb, lt-ltb, List, [], ◌∷◌, ◌++◌, Option, Some, None, refl, sym, ap, ◌∙◌, arith, ⊎_elim}
+use Rattle.std.proofs.Common.{◌≡◌, ℕ, Bool, true, false, not, ◌&&◌, ◌||◌, cond, eqb, le-ltb, lt-ltb, List, [], ◌∷◌, ◌++◌, Option, Some, None, refl}
+use Rattle.std.proofs.Common.{sym, ap, ◌∙◌, arith, ⊎_elim}
 use Rattle.std.specs.Prelude.{ℤ, pos, int_lt}
 use Rattle.std.specs.List.{list_any}
 use Rattle.std.proofs.lemmas.Bool.{cond-true, cond-false, and_from, and_parts, or_right, or_parts, or_from, not-true, not_from_false, cases_Bool, and_left}
@@ -49,7 +50,8 @@ all_from_each values each = and_from _ _ (and_from _ _ (and_from _ _ (and_from _
 pub column_zero : (values : RunningValues) → are_in_range values ≡ true → are_in_range (record values { column = pos 0 }) ≡ true
 column_zero values range =
     let each = each_in_range values range in
-    all_from_each (record values { column = pos 0 }) (record { column = refl; source = each.source; original_line = each.original_line; original_column = each.original_column; name = each.name })
+    all_from_each (record values { column = pos 0 })
+    (record { column = refl; source = each.source; original_line = each.original_line; original_column = each.original_column; name = each.name })
 
 not_below : (z : ℤ) → is_in_range z ≡ true → is_below_zero z ≡ false
 not_below z is = not-true _ (and_parts _ _ is).0
@@ -59,11 +61,13 @@ not_past z is = not-true _ (and_parts _ _ is).1
 
 pub none_below : (values : RunningValues) → InRange values → has_value_below_zero values ≡ false
 none_below values each =
-    or_from _ _ (or_from _ _ (or_from _ _ (or_from _ _ (not_below values.column each.column) (not_below values.source each.source)) (not_below values.original_line each.original_line)) (not_below values.original_column each.original_column)) (not_below values.name each.name)
+    or_from _ _ (or_from _ _ (or_from _ _ (or_from _ _ (not_below values.column each.column) (not_below values.source each.source))
+    (not_below values.original_line each.original_line)) (not_below values.original_column each.original_column)) (not_below values.name each.name)
 
 pub none_past : (values : RunningValues) → InRange values → has_value_past_limit values ≡ false
 none_past values each =
-    or_from _ _ (or_from _ _ (or_from _ _ (or_from _ _ (not_past values.column each.column) (not_past values.source each.source)) (not_past values.original_line each.original_line)) (not_past values.original_column each.original_column)) (not_past values.name each.name)
+    or_from _ _ (or_from _ _ (or_from _ _ (or_from _ _ (not_past values.column each.column) (not_past values.source each.source))
+    (not_past values.original_line each.original_line)) (not_past values.original_column each.original_column)) (not_past values.name each.name)
 
 -- ---- the parts of no fault
 
@@ -74,7 +78,8 @@ pub record NoFault (sources names : ℕ) (falls : Bool) (fields : List ℤ) (val
   pub source : (has_origin fields && not (int_lt values.source (pos sources))) ≡ false
   pub name : (has_name fields && not (int_lt values.name (pos names))) ≡ false
 
-pub no_fault_parts : (sources names : ℕ) (falls : Bool) (fields : List ℤ) (values : RunningValues) → values_fault sources names falls fields values ≡ None → NoFault sources names falls fields values
+pub no_fault_parts : (sources names : ℕ) (falls : Bool) (fields : List ℤ) (values : RunningValues)
+    → values_fault sources names falls fields values ≡ None → NoFault sources names falls fields values
 no_fault_parts sources names falls fields values none =
     let below = none_from_test _ Negative _ none in
     let past = none_from_test _ PastLimit _ below.1 in
@@ -84,12 +89,14 @@ no_fault_parts sources names falls fields values none =
     record { below = below.0; past = past.0; rises = rises.0; source = source.0; name = name.0 }
 
 -- values that have no fault are in range
-pub sums_in_range : (sources names : ℕ) (segment : Segment) (values : RunningValues) → sums_fault sources names segment values ≡ None → are_in_range values ≡ true
+pub sums_in_range : (sources names : ℕ) (segment : Segment) (values : RunningValues) → sums_fault sources names segment values ≡ None
+    → are_in_range values ≡ true
 sums_in_range sources names segment values none =
     let parts = no_fault_parts sources names (is_below_zero segment.column) (fields_in segment) values none in
     all_from_each values (in_range_from values parts.below parts.past)
 
-pub no_fault_from : (sources names : ℕ) (falls : Bool) (fields : List ℤ) (values : RunningValues) → NoFault sources names falls fields values → values_fault sources names falls fields values ≡ None
+pub no_fault_from : (sources names : ℕ) (falls : Bool) (fields : List ℤ) (values : RunningValues)
+    → NoFault sources names falls fields values → values_fault sources names falls fields values ≡ None
 no_fault_from sources names falls fields values none =
     cond-false _ _ _ none.below ∙ cond-false _ _ _ none.past ∙ cond-false _ _ _ none.rises ∙ cond-false _ _ _ none.source ∙ cond-false _ _ _ none.name
 
@@ -123,7 +130,8 @@ module _ (sources names : ℕ) (before : List Delta) (delta : Delta) where
       let values = values_on delta.line (before ++ delta ∷ []) in
       let earlier = list_any (λ (e : Delta). eqb e.line delta.line) before in
       let parts = no_fault_parts sources names (earlier && is_below_zero (difference 0 delta)) delta.fields values none in
-      and_from _ _ (and_from _ _ (and_from _ _ (and_from _ _ known (all_from_each values (in_range_from values parts.below parts.past))) (either (has_origin delta.fields) _ parts.source)) (either (has_name delta.fields) _ parts.name))
+      and_from _ _ (and_from _ _ (and_from _ _ (and_from _ _ known (all_from_each values (in_range_from values parts.below parts.past)))
+      (either (has_origin delta.fields) _ parts.source)) (either (has_name delta.fields) _ parts.name))
       (not_both earlier (is_below_zero (difference 0 delta)) parts.rises)
 
   pub accepts_known : is_accepted_after sources names before delta ≡ true → has_known_length delta.fields ≡ true
@@ -151,7 +159,8 @@ below_most : (z : ℤ) → is_in_range z ≡ true → int_lt z (pos most_indices
 below_most z ranged = let n = in_range_natural z ranged in ap (λ x. int_lt x (pos most_indices)) n.0 ∙ lt-ltb _ _ (omega (arith, n.1))
 
 -- a value in range is below the greatest number of sources and names, so what is accepted for some is for those
-pub accepted_widest : (sources names : ℕ) (before : List Delta) (delta : Delta) → is_accepted_after sources names before delta ≡ true → is_accepted_after most_indices most_indices before delta ≡ true
+pub accepted_widest : (sources names : ℕ) (before : List Delta) (delta : Delta) → is_accepted_after sources names before delta ≡ true
+    → is_accepted_after most_indices most_indices before delta ≡ true
 unfolding is_accepted_after
 accepted_widest sources names before delta is =
     let values = values_on delta.line (before ++ delta ∷ []) in
@@ -160,12 +169,14 @@ accepted_widest sources names before delta is =
     let c = and_parts _ _ b.0 in
     let d = and_parts _ _ c.0 in
     let ranges = each_in_range values d.1 in
-    and_from _ _ (and_from _ _ (and_from _ _ c.0 (or_right (not (has_origin delta.fields)) _ (below_most values.source ranges.source))) (or_right (not (has_name delta.fields)) _ (below_most values.name ranges.name))) a.1
+    and_from _ _ (and_from _ _ (and_from _ _ c.0 (or_right (not (has_origin delta.fields)) _ (below_most values.source ranges.source)))
+    (or_right (not (has_name delta.fields)) _ (below_most values.name ranges.name))) a.1
 
 -- ---- the fault that the code looks for
 
 -- the first segment of a line starts from column 0, so its column is below 0 where its first field is
-first_rises : (line : ℕ) (before : List Delta) (segment : Segment) → list_any (λ (earlier : Delta). eqb earlier.line line) before ≡ false → is_in_range (values_on line (before ++ delta_in line segment ∷ [])).column ≡ true → is_below_zero segment.column ≡ false
+first_rises : (line : ℕ) (before : List Delta) (segment : Segment) → list_any (λ (earlier : Delta). eqb earlier.line line) before ≡ false
+    → is_in_range (values_on line (before ++ delta_in line segment ∷ [])).column ≡ true → is_below_zero segment.column ≡ false
 first_rises line before segment none ranged =
     let pushed = ap (λ (v : RunningValues). v.column) (values-push before (delta_in line segment)) in
     let from_zero = column_of_none line before none in
@@ -174,7 +185,8 @@ first_rises line before segment none ranged =
     ap (λ z. int_lt z (pos 0)) is ∙ le-ltb _ 0 (omega arith)
 
 -- so it isn't asked whether an earlier segment stands on the line
-pub delta_fault_is : (sources names line : ℕ) (before : List Delta) (segment : Segment) → delta_fault sources names before (delta_in line segment) ≡ sums_fault sources names segment (values_on line (before ++ delta_in line segment ∷ []))
+pub delta_fault_is : (sources names line : ℕ) (before : List Delta) (segment : Segment)
+    → delta_fault sources names before (delta_in line segment) ≡ sums_fault sources names segment (values_on line (before ++ delta_in line segment ∷ []))
 unfolding delta_fault
 delta_fault_is sources names line before segment =
     let values = values_on line (before ++ delta_in line segment ∷ []) in
@@ -186,7 +198,8 @@ delta_fault_is sources names line before segment =
     (cases_Bool (has_value_past_limit values)))
     (cases_Bool (has_value_below_zero values))
   where
-    falls_same : is_in_range (values_on line (before ++ delta_in line segment ∷ [])).column ≡ true → (list_any (λ (earlier : Delta). eqb earlier.line line) before && is_below_zero segment.column) ≡ is_below_zero segment.column
+    falls_same : is_in_range (values_on line (before ++ delta_in line segment ∷ [])).column ≡ true
+        → (list_any (λ (earlier : Delta). eqb earlier.line line) before && is_below_zero segment.column) ≡ is_below_zero segment.column
     falls_same ranged = ⊎_elim
         (λ some. ap (λ b. b && is_below_zero segment.column) some)
         (λ none. and_left _ _ none ∙ sym (first_rises line before segment none ranged))

@@ -1,7 +1,8 @@
 -- The one spelling of a list of mappings (ECMA-426, Mappings structure and Base64 VLQ): each difference spelled by
 -- the fewest digits, the segments of a line joined by `,`, one `;` for each line that is passed, and nothing at the
 -- end. The standard lets a writer choose; that this one is written is this project's own.
-use Rattle.std.specs.Prelude.{ℕ, zero, suc, ◌+◌, ◌-◌, ◌*◌, ◌/◌, ◌%◌, ◌≤◌, ◌==◌, nat_lt, List, [], ◌∷◌, ◌++◌, length, map, filter_map, replicate, slice_index, Option, Some, None, option_and_then, unwrap_or, if◌then◌else◌, ℤ, pos, negsuc, ◌-ℤ◌}
+use Rattle.std.specs.Prelude.{ℕ, zero, suc, ◌+◌, ◌-◌, ◌*◌, ◌/◌, ◌%◌, ◌≤◌, ◌==◌, nat_lt, List, [], ◌∷◌, ◌++◌, length, map, filter_map, replicate}
+use Rattle.std.specs.Prelude.{slice_index, Option, Some, None, option_and_then, unwrap_or, if◌then◌else◌, ℤ, pos, negsuc, ◌-ℤ◌}
 use Rattle.std.specs.List.{concat, last_or}
 use Rattle.smap_mappings.specs.Limits.{most_digits}
 use Rattle.smap_mappings.specs.Base64.{alphabet}

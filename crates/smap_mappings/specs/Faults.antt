@@ -10,7 +10,8 @@ use Rattle.smap_mappings.specs.Mappings.{Delta, RunningValues, delta_of, has_seg
 use Rattle.smap_mappings.specs.Accepted.{is_below_zero, is_past_limit}
 use Rattle.smap_mappings.specs.declared.fault.Fault.{Fault}
 use Rattle.smap_mappings.specs.declared.fault.FaultKind.{FaultKind}
-use Rattle.smap_mappings.specs.declared.fault.FaultKind.TheVariants.{BadDigit, Unended, TooLong, TooLarge, NegativeZero, FieldCount, Negative, PastLimit, ColumnFalls, SourceIndex, NameIndex}
+use Rattle.smap_mappings.specs.declared.fault.FaultKind.TheVariants.{BadDigit, Unended, TooLong, TooLarge, NegativeZero, FieldCount, Negative}
+use Rattle.smap_mappings.specs.declared.fault.FaultKind.TheVariants.{PastLimit, ColumnFalls, SourceIndex, NameIndex}
 
 -- ---- how a segment is spelled
 
@@ -45,12 +46,14 @@ spelling_fault bytes =
 -- one of the five values is negative
 abbrev pub has_value_below_zero : RunningValues → Bool
 has_value_below_zero values =
-    is_below_zero values.column || is_below_zero values.source || is_below_zero values.original_line || is_below_zero values.original_column || is_below_zero values.name
+    is_below_zero values.column || is_below_zero values.source || is_below_zero values.original_line || is_below_zero
+    values.original_column || is_below_zero values.name
 
 -- one of the five values is past the limit
 abbrev pub has_value_past_limit : RunningValues → Bool
 has_value_past_limit values =
-    is_past_limit values.column || is_past_limit values.source || is_past_limit values.original_line || is_past_limit values.original_column || is_past_limit values.name
+    is_past_limit values.column || is_past_limit values.source || is_past_limit values.original_line || is_past_limit
+    values.original_column || is_past_limit values.name
 
 -- the least kind that holds of the values that a segment with these fields leaves; its column falls where its first
 -- field is negative, and an earlier segment stands on its line
@@ -66,7 +69,8 @@ values_fault sources names falls fields values =
 -- the least kind that holds of the values after a segment that stands after these
 unfoldable pub delta_fault : ℕ → ℕ → List Delta → Delta → Option FaultKind
 delta_fault sources names before delta =
-    values_fault sources names (has_segment_on delta.line before && is_below_zero (difference 0 delta)) delta.fields (values_on delta.line (before ++ delta ∷ []))
+    values_fault sources names (has_segment_on delta.line before && is_below_zero (difference 0 delta)) delta.fields
+    (values_on delta.line (before ++ delta ∷ []))
 
 -- ---- the first fault
 

@@ -12,7 +12,8 @@ use Rattle.smap_mappings.specs.declared.mapping.Mapping.{Mapping}
 pub record IsPassed (text : List ℕ) (j : ℕ) (start : Cursor) (end passed : ℕ) (kind : Kind) (state : Cursor) : Type 0 where
   pub after : IsAfter text (j + passed) state
   pub line : state.line ≡ start.line
-  pub before : (i : ℕ) (mapping : Mapping) → i < passed → slice_get (mappings_of text) (j + i) ≡ Some mapping → (mapping.line ≡ start.line) × (mapping.column < end)
+  pub before : (i : ℕ) (mapping : Mapping) → i < passed → slice_get (mappings_of text) (j + i) ≡ Some mapping
+      → (mapping.line ≡ start.line) × (mapping.column < end)
   pub last : 0 < passed → slice_get (mappings_of text) (j + passed - 1) ≡ Some (mapping_at kind state)
 
 -- the next segment stands on the line, and not before the column

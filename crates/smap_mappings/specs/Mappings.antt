@@ -1,6 +1,7 @@
 -- What the segments of a text say (ECMA-426, Mappings structure): each field is a difference from the field's
 -- value before. The generated column starts from 0 on each line, the other four run over the whole text from 0.
-use Rattle.std.specs.Prelude.{ℕ, List, [], ◌∷◌, ◌++◌, Bool, Option, Some, None, ◌==◌, ◌||◌, if◌then◌else◌, map, filter, unwrap_or, slice_get, ℤ, pos, negsuc, ◌+ℤ◌}
+use Rattle.std.specs.Prelude.{ℕ, List, [], ◌∷◌, ◌++◌, Bool, Option, Some, None, ◌==◌, ◌||◌, if◌then◌else◌, map, filter, unwrap_or, slice_get, ℤ, pos}
+use Rattle.std.specs.Prelude.{negsuc, ◌+ℤ◌}
 use Rattle.std.specs.List.{list_any}
 use Rattle.smap_mappings.specs.Segment.{fields_of, has_origin, has_name}
 use Rattle.smap_mappings.specs.Segments.{TextSegment, segments_of}
@@ -64,7 +65,12 @@ name_in fields values = if has_name fields then Some (natural values.name) else 
 abbrev pub origin_in : List ℤ → RunningValues → Option Origin
 origin_in fields values =
     if has_origin fields
-    then Some (record { source = natural values.source; line = natural values.original_line; column = natural values.original_column; name = name_in fields values })
+    then Some (record {
+      source = natural values.source;
+      line = natural values.original_line;
+      column = natural values.original_column;
+      name = name_in fields values;
+    })
     else None
 
 -- the mapping of a segment that stands after these

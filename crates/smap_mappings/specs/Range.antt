@@ -1,5 +1,5 @@
--- Which mappings stand out of order, and which have a number past the limit, as questions with an answer. A position is known
--- as a mapping that stands there.
+-- Which mappings stand out of order, and which have a number past the limit, as questions with an answer. A position is
+-- known as a mapping that stands there.
 use Rattle.std.specs.Prelude.{ℕ, Option, Some, None, Bool, false, ◌&&◌, ◌||◌, ◌==◌, nat_lt}
 use Rattle.smap_mappings.specs.Limits.{limit}
 use Rattle.smap_mappings.specs.declared.mapping.Mapping.{Mapping}

@@ -1,6 +1,7 @@
 -- Base64 VLQ numbers (ECMA-426, Base64 VLQ), in this project's profile: at most seven digits, a magnitude of
 -- at most 2147483647, no negative zero, and longer spellings than needed within the seven digits.
-use Rattle.std.specs.Prelude.{◌≡◌, ℕ, ◌+◌, ◌*◌, ◌/◌, ◌%◌, ◌^◌, List, [], ◌∷◌, length, take, drop, Option, Some, None, Result, Ok, Err, Bool, false, ◌&&◌, not, ◌==◌, nat_le, nat_lt, if◌then◌else◌, unwrap_or, is_some, ℤ, pos, neg_ℤ, slice_index}
+use Rattle.std.specs.Prelude.{◌≡◌, ℕ, ◌+◌, ◌*◌, ◌/◌, ◌%◌, ◌^◌, List, [], ◌∷◌, length, take, drop, Option, Some, None, Result, Ok, Err, Bool, false}
+use Rattle.std.specs.Prelude.{◌&&◌, not, ◌==◌, nat_le, nat_lt, if◌then◌else◌, unwrap_or, is_some, ℤ, pos, neg_ℤ, slice_index}
 use Rattle.std.specs.List.{prefix_len}
 use Rattle.smap_mappings.specs.Limits.{limit, most_digits}
 use Rattle.smap_mappings.specs.Base64.{digit_of}

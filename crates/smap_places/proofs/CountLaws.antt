@@ -1,5 +1,6 @@
 -- How many places a line has, and how many a text.
-use Rattle.std.proofs.Common.{◌≡◌, ◌+◌, ◌-◌, ◌≤◌, ℕ, zero, suc, Bool, true, false, cond, List, [], ◌∷◌, length, filter, min, Option, Some, None, refl, sym, ap, subst, fold, append-nil, ◌∙◌, arith}
+use Rattle.std.proofs.Common.{◌≡◌, ◌+◌, ◌-◌, ◌≤◌, ℕ, zero, suc, Bool, true, false, cond, List, [], ◌∷◌, length, filter, min, Option, Some, None, refl}
+use Rattle.std.proofs.Common.{sym, ap, subst, fold, append-nil, ◌∙◌, arith}
 use mir.Val.{bool_byte}
 use Rattle.std.specs.List.{sum_by}
 use Rattle.std.proofs.lemmas.List.Sums.{sum_by-cons}
@@ -29,7 +30,8 @@ few_of p (x ∷ xs) = let few = few_of p xs in let more = one_more (p x) x (filt
 
 -- a line has no more parts than bytes
 module _ (table : List (List ℕ × MapRecord)) (line : List ℕ) where
-  by_few : (text : List ℕ) (byte : ℕ) (after : ℕ → List Part) (n : ℕ) (place : Option PlaceParts) → ((within : ℕ) → length (after within) ≤ n) → length (parts_by text byte after place) ≤ n + 1
+  by_few : (text : List ℕ) (byte : ℕ) (after : ℕ → List Part) (n : ℕ) (place : Option PlaceParts)
+      → ((within : ℕ) → length (after within) ≤ n) → length (parts_by text byte after place) ≤ n + 1
   by_few text byte after n None few = omega (arith, few 0)
   by_few text byte after n (Some place) few = omega (arith, few (place.size - 1))
 
@@ -37,7 +39,8 @@ module _ (table : List (List ℕ × MapRecord)) (line : List ℕ) where
   parts_few [] start within = omega arith
   parts_few (byte ∷ rest) start (suc within) = let few = parts_few rest (suc start) within in omega (arith, few)
   parts_few (byte ∷ rest) start zero =
-      let few = by_few (byte ∷ rest) byte (λ within. parts_from table line (suc start) within rest) (length rest) (begun_at table line start) (λ within. parts_few rest (suc start) within) in
+      let few = by_few (byte ∷ rest) byte (λ within. parts_from table line (suc start) within rest) (length rest)
+      (begun_at table line start) (λ within. parts_few rest (suc start) within) in
       omega (arith, few)
 
   parts_of_few : length (parts_of table line) ≤ length line
@@ -59,17 +62,33 @@ module _ (table : List (List ℕ × MapRecord)) (line : Line) where
   replaced_few = short_few is_replaced
 
   places_short : length line.bytes ≤ 65536 → min (places_in table line) 65536 ≡ length (filter is_place (parts_of table line.bytes))
-  places_short short = omega (arith, cond-true (is_short line) (length (filter is_place (parts_of table line.bytes))) 0 (le-leb (length line.bytes) 65536 short), filtered_few is_place, short)
+  places_short short = omega (
+    arith,
+    cond-true (is_short line) (length (filter is_place (parts_of table line.bytes))) 0
+        (le-leb (length line.bytes) 65536 short),
+    filtered_few is_place,
+    short,
+  )
 
   replaced_short : length line.bytes ≤ 65536 → min (replaced_in table line) 65536 ≡ length (filter is_replaced (parts_of table line.bytes))
-  replaced_short short = omega (arith, cond-true (is_short line) (length (filter is_replaced (parts_of table line.bytes))) 0 (le-leb (length line.bytes) 65536 short), filtered_few is_replaced, short)
+  replaced_short short = omega (
+    arith,
+    cond-true (is_short line) (length (filter is_replaced (parts_of table line.bytes))) 0
+        (le-leb (length line.bytes) 65536 short),
+    filtered_few is_replaced,
+    short,
+  )
 
-  pub after_is : (rewriter : PlaceRewriter) (new : PlaceRewriter) → rewriter.finder ≡ table → length line.bytes ≤ 65536 → new.alloc ≡ rewriter.alloc → new.finder ≡ rewriter.finder →
-      new.places ≡ rewriter.places + length (filter is_place (parts_of table line.bytes)) → new.mapped ≡ rewriter.mapped + length (filter is_replaced (parts_of table line.bytes)) →
+  pub after_is : (rewriter : PlaceRewriter) (new : PlaceRewriter) → rewriter.finder ≡ table → length line.bytes ≤ 65536
+      → new.alloc ≡ rewriter.alloc → new.finder ≡ rewriter.finder →
+      new.places ≡ rewriter.places + length (filter is_place (parts_of table line.bytes))
+      → new.mapped ≡ rewriter.mapped + length (filter is_replaced (parts_of table line.bytes)) →
       new ≡ after_places rewriter line
   after_is rewriter new over short alloc finder places mapped =
-      let one : new.places ≡ rewriter.places + min (places_in rewriter.finder line) 65536 = places ∙ ap (λ n. rewriter.places + n) (sym (places_short short)) ∙ ap (λ t. rewriter.places + min (places_in t line) 65536) (sym over) in
-      let two : new.mapped ≡ rewriter.mapped + min (replaced_in rewriter.finder line) 65536 = mapped ∙ ap (λ n. rewriter.mapped + n) (sym (replaced_short short)) ∙ ap (λ t. rewriter.mapped + min (replaced_in t line) 65536) (sym over) in
+      let one : new.places ≡ rewriter.places + min (places_in rewriter.finder line) 65536 =
+      places ∙ ap (λ n. rewriter.places + n) (sym (places_short short)) ∙ ap (λ t. rewriter.places + min (places_in t line) 65536) (sym over) in
+      let two : new.mapped ≡ rewriter.mapped + min (replaced_in rewriter.finder line) 65536 =
+      mapped ∙ ap (λ n. rewriter.mapped + n) (sym (replaced_short short)) ∙ ap (λ t. rewriter.mapped + min (replaced_in t line) 65536) (sym over) in
       λ i. record { alloc = alloc i; finder = finder i; places = one i; mapped = two i }
 
 -- a `bool` as a number
@@ -102,7 +121,8 @@ module _ (table : List (List ℕ × MapRecord)) where
   Counted rewriter lines new =
       (new.places ≡ rewriter.places + sum_by (places_in table) lines) × (new.mapped ≡ rewriter.mapped + sum_by (replaced_in table) lines)
 
-  counted_over : (rewriter : PlaceRewriter) (lines : List Line) → rewriter.finder ≡ table → Counted rewriter lines (fold (after_line after_places) rewriter lines)
+  counted_over : (rewriter : PlaceRewriter) (lines : List Line) → rewriter.finder ≡ table
+      → Counted rewriter lines (fold (after_line after_places) rewriter lines)
   counted_over rewriter [] over = (omega arith, omega arith)
   counted_over rewriter (line ∷ lines) over =
       let one = adds rewriter line over in

@@ -3,14 +3,17 @@ use Rattle.std.proofs.Common.{◌≡◌, true, false, [], ◌∷◌, Some, None,
 use Rattle.smap_places.specs.Places.{is_word, numbers_after}
 
 words : map is_word (codes "aZ9_-./\\%~+$: (\"'=@#,;[]{}<>|&?!*^`") ∷ map is_word (127 ∷ 128 ∷ 255 ∷ []) ∷ []
-    ≡ (true ∷ true ∷ true ∷ true ∷ true ∷ true ∷ true ∷ true ∷ true ∷ true ∷ true ∷ true ∷ true ∷ false ∷ false ∷ false ∷ false ∷ false ∷ false ∷ false ∷ false ∷ false ∷ false ∷ false ∷ false ∷ false ∷ false ∷ false ∷ false ∷ false ∷ false ∷ false ∷ false ∷ false ∷ false ∷ []) ∷ (false ∷ true ∷ true ∷ []) ∷ []
+    ≡ (true ∷ true ∷ true ∷ true ∷ true ∷ true ∷ true ∷ true ∷ true ∷ true ∷ true ∷ true ∷ true ∷ false ∷ false ∷ false ∷ false ∷ false
+    ∷ false ∷ false ∷ false ∷ false ∷ false ∷ false ∷ false ∷ false ∷ false ∷ false ∷ false ∷ false ∷ false ∷ false ∷ false ∷ false
+    ∷ false ∷ []) ∷ (false ∷ true ∷ true ∷ []) ∷ []
 words = refl
 
 numbers : numbers_after (codes ":1:26x") ≡ Some (1, 26, 5)
 unfolding numbers_after
 numbers = refl
 
-no_numbers : numbers_after (codes ":01:2") ∷ numbers_after (codes ":1:2147483649") ∷ numbers_after (codes ":1") ∷ numbers_after (codes ":1:x") ∷ numbers_after (codes "1:1") ∷ []
+no_numbers : numbers_after (codes ":01:2") ∷ numbers_after (codes ":1:2147483649") ∷ numbers_after (codes ":1")
+    ∷ numbers_after (codes ":1:x") ∷ numbers_after (codes "1:1") ∷ []
     ≡ None ∷ None ∷ None ∷ None ∷ None ∷ []
 unfolding numbers_after
 no_numbers = refl

@@ -1,5 +1,6 @@
 -- How a line is cut into its places and the bytes between them, one place after another.
-use Rattle.std.proofs.Common.{◌≡◌, ◌≢◌, ◌+◌, ◌-◌, ◌<◌, ◌≤◌, ℕ, zero, suc, true, List, [], ◌∷◌, ◌++◌, length, take, drop, get_or, filter, map, Some, None, is_some, refl, sym, ap, ◌∙◌, arith, append_assoc, append-nil, cond, length-drop}
+use Rattle.std.proofs.Common.{◌≡◌, ◌≢◌, ◌+◌, ◌-◌, ◌<◌, ◌≤◌, ℕ, zero, suc, true, List, [], ◌∷◌, ◌++◌, length, take, drop, get_or, filter, map, Some}
+use Rattle.std.proofs.Common.{None, is_some, refl, sym, ap, ◌∙◌, arith, append_assoc, append-nil, cond, length-drop}
 use Rattle.std.specs.Prelude.{slice_range, unwrap_or}
 use Rattle.std.proofs.Math.Seq.{drop-length, take-add}
 use Rattle.std.proofs.lemmas.List.{drop-drop, drop_more, take-append-drop, take_rest}
@@ -24,7 +25,8 @@ module _ (table : List (List ℕ × MapRecord)) (line : List ℕ) where
   from_start = refl
 
   -- the bytes of a place are passed over
-  skipped : (within start : ℕ) (rest : List ℕ) → within ≤ length rest → parts_from table line start within rest ≡ parts_from table line (start + within) 0 (drop within rest)
+  skipped : (within start : ℕ) (rest : List ℕ) → within ≤ length rest
+      → parts_from table line start within rest ≡ parts_from table line (start + within) 0 (drop within rest)
   skipped zero start rest few = let same : start ≡ start + 0 = omega arith in ap (λ k. parts_from table line k 0 rest) same
   skipped (suc within) start [] few = absurd (omega (arith, few))
   skipped (suc within) start (byte ∷ rest) few =
@@ -36,7 +38,8 @@ module _ (table : List (List ℕ × MapRecord)) (line : List ℕ) where
   one_other start inside none =
       let next : suc start ≡ start + 1 = omega arith in
       ap (λ rest. parts_from table line start 0 rest) (drop_more line start 0 inside)
-      ∙ ap (λ place. parts_by (get_or line start 0 ∷ drop (start + 1) line) (get_or line start 0) (λ within. parts_from table line (suc start) within (drop (start + 1) line)) place) none
+      ∙ ap (λ place. parts_by (get_or line start 0 ∷ drop (start + 1) line) (get_or line start 0)
+      (λ within. parts_from table line (suc start) within (drop (start + 1) line)) place) none
       ∙ ap (λ k. other (get_or line start 0) ∷ parts_from table line k 0 (drop (start + 1) line)) next
 
   -- the bytes up to a place
@@ -46,7 +49,8 @@ module _ (table : List (List ℕ × MapRecord)) (line : List ℕ) where
   others (suc n) start within none =
       let next : start + 1 + n ≡ start + suc n = omega arith in
       one_other start (omega (arith, within)) (none start (omega arith) (omega arith))
-      ∙ ap (λ parts. other (get_or line start 0) ∷ parts) (others n (start + 1) (omega (arith, within)) (λ i least below. none i (omega (arith, least)) (omega (arith, below))))
+      ∙ ap (λ parts. other (get_or line start 0) ∷ parts)
+      (others n (start + 1) (omega (arith, within)) (λ i least below. none i (omega (arith, least)) (omega (arith, below))))
       ∙ ap (λ rest. map other (take (suc n) rest) ++ parts_at (start + 1 + n)) (sym (drop_more line start 0 (omega (arith, within))))
       ∙ ap (λ k. map other (take (suc n) (drop start line)) ++ parts_at k) next
 
@@ -59,9 +63,12 @@ module _ (table : List (List ℕ × MapRecord)) (line : List ℕ) where
       let one : suc start ≡ start + 1 = omega arith in
       let less : place.size - 1 ≡ size = omega (arith, is) in
       ap (λ rest. parts_from table line start 0 rest) (drop_more line start 0 (omega (arith, within)))
-      ∙ ap (λ o. parts_by (get_or line start 0 ∷ drop (start + 1) line) (get_or line start 0) (λ within. parts_from table line (suc start) within (drop (start + 1) line)) o) here
-      ∙ ap (λ k. found place (take k (get_or line start 0 ∷ drop (start + 1) line)) ∷ parts_from table line (suc start) (place.size - 1) (drop (start + 1) line)) is
-      ∙ ap (λ rest. found place (take (suc size) rest) ∷ parts_from table line (suc start) (place.size - 1) (drop (start + 1) line)) (sym (drop_more line start 0 (omega (arith, within))))
+      ∙ ap (λ o. parts_by (get_or line start 0 ∷ drop (start + 1) line) (get_or line start 0)
+      (λ within. parts_from table line (suc start) within (drop (start + 1) line)) o) here
+      ∙ ap (λ k. found place (take k (get_or line start 0 ∷ drop (start + 1) line))
+      ∷ parts_from table line (suc start) (place.size - 1) (drop (start + 1) line)) is
+      ∙ ap (λ rest. found place (take (suc size) rest) ∷ parts_from table line (suc start) (place.size - 1) (drop (start + 1) line))
+      (sym (drop_more line start 0 (omega (arith, within))))
       ∙ ap (λ k. found place (take (suc size) (drop start line)) ∷ parts_from table line (suc start) k (drop (start + 1) line)) less
       ∙ ap (λ parts. found place (take (suc size) (drop start line)) ∷ parts)
       (skipped size (suc start) (drop (start + 1) line) (omega (arith, within, length-drop (start + 1) line))
@@ -87,11 +94,13 @@ others_replaced (byte ∷ bytes) parts = others_replaced bytes parts
 
 module _ (table : List (List ℕ × MapRecord)) (line : List ℕ) where
   module _ (from : ℕ) (place : Place) (is : IsNext table line from place) where
-    next_parts : parts_at table line from ≡ map other (slice_range line from place.start) ++ found (place_seen place) (slice_range line place.start place.end) ∷ parts_at table line place.end
+    next_parts : parts_at table line from ≡ map other (slice_range line from place.start)
+        ++ found (place_seen place) (slice_range line place.start place.end) ∷ parts_at table line place.end
     next_parts =
         let front : from + (place.start - from) ≡ place.start = omega (arith, is.after) in
         let back : place.start + (place.end - place.start) ≡ place.end = omega (arith, is.some) in
-        others table line (place.start - from) from (omega (arith, is.after, is.some, is.within)) (λ i least below. is.first i least (omega (arith, below, is.after)))
+        others table line (place.start - from) from (omega (arith, is.after, is.some, is.within))
+        (λ i least below. is.first i least (omega (arith, below, is.after)))
         ∙ ap (λ k. map other (slice_range line from place.start) ++ parts_at table line k) front
         ∙ ap (λ parts. map other (slice_range line from place.start) ++ parts)
         (one_place table line place.start (place.end - place.start) (place_seen place) is.here refl (omega (arith, is.some)) (omega (arith, is.some, is.within))
@@ -105,20 +114,24 @@ module _ (table : List (List ℕ × MapRecord)) (line : List ℕ) where
     next_text =
         ap parts_text next_parts
         ∙ others_text (slice_range line from place.start) (found (place_seen place) (slice_range line place.start place.end) ∷ parts_at table line place.end)
-        ∙ sym (append_assoc (slice_range line from place.start) (part_text (found (place_seen place) (slice_range line place.start place.end))) (parts_text (parts_at table line place.end)))
+        ∙ sym (append_assoc (slice_range line from place.start)
+        (part_text (found (place_seen place) (slice_range line place.start place.end))) (parts_text (parts_at table line place.end)))
 
     pub next_found : length (filter is_place (parts_at table line from)) ≡ 1 + length (filter is_place (parts_at table line place.end))
     next_found =
         ap (λ parts. length (filter is_place parts)) next_parts
-        ∙ ap length (others_found (slice_range line from place.start) (found (place_seen place) (slice_range line place.start place.end) ∷ parts_at table line place.end))
+        ∙ ap length (others_found (slice_range line from place.start)
+        (found (place_seen place) (slice_range line place.start place.end) ∷ parts_at table line place.end))
         ∙ omega arith
 
     pub next_replaced : length (filter is_replaced (parts_at table line from))
         ≡ cond (is_some (replacement (place_seen place))) 1 0 + length (filter is_replaced (parts_at table line place.end))
     next_replaced =
         ap (λ parts. length (filter is_replaced parts)) next_parts
-        ∙ ap length (others_replaced (slice_range line from place.start) (found (place_seen place) (slice_range line place.start place.end) ∷ parts_at table line place.end))
-        ∙ one_more (is_some (replacement (place_seen place))) (found (place_seen place) (slice_range line place.start place.end)) (filter is_replaced (parts_at table line place.end))
+        ∙ ap length (others_replaced (slice_range line from place.start)
+        (found (place_seen place) (slice_range line place.start place.end) ∷ parts_at table line place.end))
+        ∙ one_more (is_some (replacement (place_seen place))) (found (place_seen place) (slice_range line place.start place.end))
+        (filter is_replaced (parts_at table line place.end))
 
   -- ---- and the last one's end
 
@@ -158,10 +171,12 @@ text_replaced front text new place is = ap (λ o. front ++ unwrap_or o text) is
 
 -- ---- a line without URLs
 
-pub without_urls : (table : List (List ℕ × MapRecord)) (line : Line) → ((url before after : List ℕ) → is_some (record_for url table) ≡ true → line.bytes ≢ before ++ url ++ after) → placed_line table line ≡ line_text line
+pub without_urls : (table : List (List ℕ × MapRecord)) (line : Line)
+    → ((url before after : List ℕ) → is_some (record_for url table) ≡ true → line.bytes ≢ before ++ url ++ after) → placed_line table line ≡ line_text line
 without_urls table line none =
     let unknown : (start : ℕ) → place_at table (drop start line.bytes) ≡ None = λ start. none_known table (drop start line.bytes) (λ bytes.
     false_from_ne_true _ (λ some. none (take bytes (drop start line.bytes)) (take start line.bytes) (drop bytes (drop start line.bytes)) some
     (sym (take-append-drop start line.bytes) ∙ ap (λ rest. take start line.bytes ++ rest) (sym (take-append-drop bytes (drop start line.bytes)))
     ∙ sym (append_assoc (take start line.bytes) (take bytes (drop start line.bytes)) (drop bytes (drop start line.bytes)))))) in
-    ap (λ text. text ++ end_in line.is_ended) (ap parts_text (from_start table line.bytes) ∙ last_text table line.bytes 0 (omega arith) (λ start _. not_begun table line.bytes start (unknown start)))
+    ap (λ text. text ++ end_in line.is_ended)
+    (ap parts_text (from_start table line.bytes) ∙ last_text table line.bytes 0 (omega arith) (λ start _. not_begun table line.bytes start (unknown start)))

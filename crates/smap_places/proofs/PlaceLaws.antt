@@ -1,5 +1,6 @@
 -- Where no place begins, and which is the longest of those that do.
-use Rattle.std.proofs.Common.{◌≡◌, ◌==◌, ◌||◌, ◌+◌, ◌-◌, ◌<◌, ◌≤◌, ◌⊎◌, inl, inr, ℕ, zero, suc, Bool, true, false, cond, List, [], ◌∷◌, length, take, drop, get_or, map, max, Option, Some, None, is_some, refl, sym, ap, ◌∙◌, arith, length-drop}
+use Rattle.std.proofs.Common.{◌≡◌, ◌==◌, ◌||◌, ◌+◌, ◌-◌, ◌<◌, ◌≤◌, ◌⊎◌, inl, inr, ℕ, zero, suc, Bool, true, false, cond, List, [], ◌∷◌, length, take}
+use Rattle.std.proofs.Common.{drop, get_or, map, max, Option, Some, None, is_some, refl, sym, ap, ◌∙◌, arith, length-drop}
 use Rattle.std.specs.Str.{bytes_eq}
 use Rattle.std.proofs.lemmas.Bool.{cases_lt, cond-true, cond-false, eq-eqb, eqb-true, false_from_ne_true}
 use Rattle.std.proofs.lemmas.Slice.Eq.{bytes_eq-Decides}
@@ -143,13 +144,15 @@ module _ (table : List (List ℕ × MapRecord)) (line : List ℕ) where
 
   module _ (lengths : List ℕ) (greatest : ℕ) (covers : Covers lengths greatest table) where
     -- no place begins before these numbers by more than the greatest length, where none stand before them
-    pub none_before : (start : ℕ) → ((bytes : ℕ) → 1 ≤ bytes → bytes ≤ greatest → numbers_after (drop (start + bytes) line) ≡ None) → begun_at table line start ≡ None
+    pub none_before : (start : ℕ) → ((bytes : ℕ) → 1 ≤ bytes → bytes ≤ greatest → numbers_after (drop (start + bytes) line) ≡ None)
+        → begun_at table line start ≡ None
     none_before start none =
         not_begun start (none_begins table (drop start line) lengths greatest covers
         (λ bytes some few. ap numbers_after (drop-drop bytes start line) ∙ none bytes some few))
 
     -- none begins before the numbers by more than the greatest length, where none stand before them
-    pub none_between : (start numbers low : ℕ) → ((i : ℕ) → start + 1 ≤ i → i < numbers → numbers_after (drop i line) ≡ None) → low ≡ max (numbers - greatest) start →
+    pub none_between : (start numbers low : ℕ) → ((i : ℕ) → start + 1 ≤ i → i < numbers → numbers_after (drop i line) ≡ None)
+        → low ≡ max (numbers - greatest) start →
         (i : ℕ) → start ≤ i → i < low → begun_at table line i ≡ None
     none_between start numbers low none is i least below =
         none_before i (λ bytes some few. none (i + bytes) (omega (arith, least, some)) (omega (arith, is, least, below, few)))
@@ -158,14 +161,16 @@ module _ (table : List (List ℕ × MapRecord)) (line : List ℕ) where
     pub none_after : (start : ℕ) → ((i : ℕ) → start + 1 ≤ i → numbers_after (drop i line) ≡ None) → (i : ℕ) → start ≤ i → begun_at table line i ≡ None
     none_after start none i least = none_before i (λ bytes some few. none (i + bytes) (omega (arith, least, some)))
 
-  pub none_joined : (from start high : ℕ) → ((i : ℕ) → from ≤ i → i < start → begun_at table line i ≡ None) → ((i : ℕ) → start ≤ i → i < high → begun_at table line i ≡ None) →
+  pub none_joined : (from start high : ℕ) → ((i : ℕ) → from ≤ i → i < start → begun_at table line i ≡ None)
+      → ((i : ℕ) → start ≤ i → i < high → begun_at table line i ≡ None) →
       (i : ℕ) → from ≤ i → i < high → begun_at table line i ≡ None
   none_joined from start high before after i least below = elim (cases_lt i start) [
     | inl early ↦ before i least early
     | inr late ↦ after i late below
   ]
 
-  pub none_on : (from start : ℕ) → ((i : ℕ) → from ≤ i → i < start → begun_at table line i ≡ None) → ((i : ℕ) → start ≤ i → begun_at table line i ≡ None) → NoNext table line from
+  pub none_on : (from start : ℕ) → ((i : ℕ) → from ≤ i → i < start → begun_at table line i ≡ None)
+      → ((i : ℕ) → start ≤ i → begun_at table line i ≡ None) → NoNext table line from
   none_on from start before after i least = elim (cases_lt i start) [
     | inl early ↦ before i least early
     | inr late ↦ after i late
@@ -178,7 +183,8 @@ module _ (table : List (List ℕ × MapRecord)) (line : List ℕ) where
   pub none_past : (i : ℕ) → length line ≤ i → begun_at table line i ≡ None
   none_past i past = not_begun i (ap (λ rest. place_at table rest) (drop_all i line past) ∙ at_end)
 
-  pub next_from : (from low : ℕ) (place : Place) → from ≤ low → ((i : ℕ) → from ≤ i → i < low → begun_at table line i ≡ None) → IsNext table line low place → IsNext table line from place
+  pub next_from : (from low : ℕ) (place : Place) → from ≤ low → ((i : ℕ) → from ≤ i → i < low → begun_at table line i ≡ None)
+      → IsNext table line low place → IsNext table line from place
   next_from from low place least before is = record {
     after = omega (arith, least, is.after);
     some = is.some;
@@ -187,7 +193,8 @@ module _ (table : List (List ℕ × MapRecord)) (line : List ℕ) where
     first = λ i early below. none_joined from low place.start before is.first i early below;
   }
 
-  pub none_up_to : (low start : ℕ) → ((i : ℕ) → low ≤ i → i < start → begun_at table line i ≡ None) → begun_at table line start ≡ None → (i : ℕ) → low ≤ i → i < start + 1 → begun_at table line i ≡ None
+  pub none_up_to : (low start : ℕ) → ((i : ℕ) → low ≤ i → i < start → begun_at table line i ≡ None) → begun_at table line start ≡ None
+      → (i : ℕ) → low ≤ i → i < start + 1 → begun_at table line i ≡ None
   none_up_to low start before here i least below = elim (cases_lt i start) [
     | inl early ↦ before i least early
     | inr late ↦ let same : i ≡ start = omega (arith, late, below) in ap (λ k. begun_at table line k) same ∙ here
@@ -211,10 +218,12 @@ none_further line from place further before none i least below = elim (cases_lt 
   | inl early ↦ before i least early
   | inr late ↦
       let same : place + (i - place) ≡ i = omega (arith, late) in
-      none_at line i (λ is. none (i - place) (omega (arith, late, below)) (ap (λ b. b == 58) (get_or-drop place line (i - place) 0 ∙ ap (λ k. get_or line k 0) same) ∙ is))
+      none_at line i (λ is. none (i - place) (omega (arith, late, below))
+      (ap (λ b. b == 58) (get_or-drop place line (i - place) 0 ∙ ap (λ k. get_or line k 0) same) ∙ is))
 ]
 
-pub none_to : (line : List ℕ) (from place : ℕ) → ((i : ℕ) → from ≤ i → i < place → numbers_after (drop i line) ≡ None) → numbers_after (drop place line) ≡ None →
+pub none_to : (line : List ℕ) (from place : ℕ) → ((i : ℕ) → from ≤ i → i < place → numbers_after (drop i line) ≡ None)
+    → numbers_after (drop place line) ≡ None →
     (i : ℕ) → from ≤ i → i < place + 1 → numbers_after (drop i line) ≡ None
 none_to line from place before here i least below = elim (cases_lt i place) [
   | inl early ↦ before i least early
@@ -226,7 +235,8 @@ pub none_left : (line : List ℕ) (from place : ℕ) → ((i : ℕ) → from ≤
 none_left line from place before none i least = elim (cases_lt i (length line)) [
   | inl inside ↦ elim (cases_lt i place) [
     | inl early ↦ before i least early
-    | inr late ↦ none_further line from place (length line - place) before (λ k below. none k (omega (arith, below, length-drop place line))) i least (omega (arith, inside, late))
+    | inr late ↦ none_further line from place (length line - place) before
+        (λ k below. none k (omega (arith, below, length-drop place line))) i least (omega (arith, inside, late))
   ]
   | inr outside ↦ ap numbers_after (drop_all i line outside) ∙ no_numbers
 ]
@@ -245,15 +255,19 @@ head_or x n xs (inr among) = ap (λ b. (x == n) || b) among ∙ or_true (x == n)
     or_true true = refl
     or_true false = refl
 
-pub url_among : (table : List (List ℕ × MapRecord)) (url : List ℕ) → is_some (record_for url table) ≡ true → is_among (map (λ pair. length pair.0) table) (length url) ≡ true
+pub url_among : (table : List (List ℕ × MapRecord)) (url : List ℕ) → is_some (record_for url table) ≡ true
+    → is_among (map (λ pair. length pair.0) table) (length url) ≡ true
 url_among [] url some = cc
 url_among ((there, stated) ∷ pairs) url some = go (bytes_eq url there) refl (url_among pairs url) some
   where
-    go : (same : Bool) → bytes_eq url there ≡ same → (is_some (record_for url pairs) ≡ true → is_among (map (λ pair. length pair.0) pairs) (length url) ≡ true) → is_some (cond same (Some stated) (record_for url pairs)) ≡ true → is_among (length there ∷ map (λ pair. length pair.0) pairs) (length url) ≡ true
+    go : (same : Bool) → bytes_eq url there ≡ same
+        → (is_some (record_for url pairs) ≡ true → is_among (map (λ pair. length pair.0) pairs) (length url) ≡ true)
+        → is_some (cond same (Some stated) (record_for url pairs)) ≡ true → is_among (length there ∷ map (λ pair. length pair.0) pairs) (length url) ≡ true
     go true same more some = head_or (length there) (length url) _ (inl (ap length (sym ((bytes_eq-Decides url there).0 same))))
     go false other more some = head_or (length there) (length url) _ (inr (more some))
 
-among_next : (numbers : List ℕ) (i n : ℕ) → i < length numbers → is_among (take (suc i) numbers) n ≡ true → (is_among (take i numbers) n ≡ true) ⊎ (get_or numbers i 0 ≡ n)
+among_next : (numbers : List ℕ) (i n : ℕ) → i < length numbers → is_among (take (suc i) numbers) n ≡ true
+    → (is_among (take i numbers) n ≡ true) ⊎ (get_or numbers i 0 ≡ n)
 among_next [] i n inside among = absurd (omega (arith, inside))
 among_next (x ∷ numbers) zero n inside among = go (x == n) refl among
   where
@@ -262,17 +276,21 @@ among_next (x ∷ numbers) zero n inside among = go (x == n) refl among
     go false other is = cc
 among_next (x ∷ numbers) (suc i) n inside among = go (x == n) (λ is. among_next numbers i n (omega (arith, inside)) is) among
   where
-    go : (same : Bool) → (is_among (take (suc i) numbers) n ≡ true → (is_among (take i numbers) n ≡ true) ⊎ (get_or numbers i 0 ≡ n)) → (same || is_among (take (suc i) numbers) n) ≡ true → ((same || is_among (take i numbers) n) ≡ true) ⊎ (get_or numbers i 0 ≡ n)
+    go : (same : Bool) → (is_among (take (suc i) numbers) n ≡ true → (is_among (take i numbers) n ≡ true) ⊎ (get_or numbers i 0 ≡ n))
+        → (same || is_among (take (suc i) numbers) n) ≡ true → ((same || is_among (take i numbers) n) ≡ true) ⊎ (get_or numbers i 0 ≡ n)
     go true more is = inl refl
     go false more is = more is
 
-pub among_more : (numbers : List ℕ) (i n : ℕ) → i < length numbers → is_among (take (i + 1) numbers) n ≡ true → (is_among (take i numbers) n ≡ true) ⊎ (get_or numbers i 0 ≡ n)
+pub among_more : (numbers : List ℕ) (i n : ℕ) → i < length numbers → is_among (take (i + 1) numbers) n ≡ true
+    → (is_among (take i numbers) n ≡ true) ⊎ (get_or numbers i 0 ≡ n)
 among_more numbers i n inside among =
     let one : suc i ≡ i + 1 = omega arith in
     among_next numbers i n inside (ap (λ k. is_among (take k numbers) n) one ∙ among)
 
-pub covers_all : (table : List (List ℕ × MapRecord)) (all lengths : List ℕ) (greatest index : ℕ) → all ≡ map (λ pair. length pair.0) table → length all ≤ index →
-    ((n : ℕ) → is_among (take index all) n ≡ true → is_among lengths n ≡ true) → ((n : ℕ) → is_among (take index all) n ≡ true → n ≤ greatest) → Covers lengths greatest table
+pub covers_all : (table : List (List ℕ × MapRecord)) (all lengths : List ℕ) (greatest index : ℕ) → all ≡ map (λ pair. length pair.0) table
+    → length all ≤ index →
+    ((n : ℕ) → is_among (take index all) n ≡ true → is_among lengths n ≡ true)
+    → ((n : ℕ) → is_among (take index all) n ≡ true → n ≤ greatest) → Covers lengths greatest table
 covers_all table all lengths greatest index is end among most url some =
     let here : is_among (take index all) (length url) ≡ true = ap (λ l. is_among l (length url)) (take_all index all end ∙ is) ∙ url_among table url some in
     (among (length url) here, most (length url) here)
@@ -287,21 +305,24 @@ module _ (table : List (List ℕ × MapRecord)) (text : List ℕ) where
   module _ (lengths : List ℕ) (i most : ℕ) (inside : i < length lengths)
       (before : (bytes : ℕ) → is_among (take i lengths) bytes ≡ true → most < bytes → place_with table text bytes ≡ None) where
     -- one is found
-    pub longer_found : most < get_or lengths i 0 → (bytes : ℕ) → is_among (take (i + 1) lengths) bytes ≡ true → get_or lengths i 0 < bytes → place_with table text bytes ≡ None
+    pub longer_found : most < get_or lengths i 0 → (bytes : ℕ) → is_among (take (i + 1) lengths) bytes ≡ true → get_or lengths i 0 < bytes
+        → place_with table text bytes ≡ None
     longer_found more bytes among greater = elim (among_more lengths i bytes inside among) [
       | inl early ↦ before bytes early (omega (arith, more, greater))
       | inr here ↦ absurd (omega (arith, here, greater))
     ]
 
     -- none is
-    pub none_longer : (get_or lengths i 0 ≤ most) ⊎ (place_with table text (get_or lengths i 0) ≡ None) → (bytes : ℕ) → is_among (take (i + 1) lengths) bytes ≡ true → most < bytes →
+    pub none_longer : (get_or lengths i 0 ≤ most) ⊎ (place_with table text (get_or lengths i 0) ≡ None) → (bytes : ℕ)
+        → is_among (take (i + 1) lengths) bytes ≡ true → most < bytes →
         place_with table text bytes ≡ None
     none_longer none bytes among greater = elim (among_more lengths i bytes inside among) [
       | inl early ↦ before bytes early greater
       | inr here ↦ none_at_length none bytes here greater
     ]
       where
-        none_at_length : (get_or lengths i 0 ≤ most) ⊎ (place_with table text (get_or lengths i 0) ≡ None) → (bytes : ℕ) → get_or lengths i 0 ≡ bytes → most < bytes → place_with table text bytes ≡ None
+        none_at_length : (get_or lengths i 0 ≤ most) ⊎ (place_with table text (get_or lengths i 0) ≡ None) → (bytes : ℕ)
+            → get_or lengths i 0 ≡ bytes → most < bytes → place_with table text bytes ≡ None
         none_at_length (inl small) bytes here greater = absurd (omega (arith, small, here, greater))
         none_at_length (inr none) bytes here greater = ap (λ n. place_with table text n) (sym here) ∙ none
 
@@ -319,7 +340,8 @@ module _ (table : List (List ℕ × MapRecord)) (text : List ℕ) where
       go bytes greater false other = other_length table text lengths greatest covers bytes other
 
 -- where no front of a text is a URL of the table, no place begins it
-pub none_known : (table : List (List ℕ × MapRecord)) (text : List ℕ) → ((bytes : ℕ) → is_some (record_for (take bytes text) table) ≡ false) → place_at table text ≡ None
+pub none_known : (table : List (List ℕ × MapRecord)) (text : List ℕ) → ((bytes : ℕ) → is_some (record_for (take bytes text) table) ≡ false)
+    → place_at table text ≡ None
 unfolding place_at
 none_known table text none = go (length text)
   where

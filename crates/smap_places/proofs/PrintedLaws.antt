@@ -1,5 +1,6 @@
 -- The numbers of a place are read as they are printed.
-use Rattle.std.proofs.Common.{◌≡◌, ◌==◌, ◌&&◌, ◌+◌, ◌-◌, ◌*◌, ℕ, suc, Bool, true, false, cond, List, [], ◌∷◌, ◌++◌, codes, length, take, drop, get_or, leb, ltb, Option, Some, None, option_map, refl, sym, ap, ◌∙◌, arith, append_assoc, ◌↔◌}
+use Rattle.std.proofs.Common.{◌≡◌, ◌==◌, ◌&&◌, ◌+◌, ◌-◌, ◌*◌, ℕ, suc, Bool, true, false, cond, List, [], ◌∷◌, ◌++◌, codes, length, take, drop, get_or}
+use Rattle.std.proofs.Common.{leb, ltb, Option, Some, None, option_map, refl, sym, ap, ◌∙◌, arith, append_assoc, ◌↔◌}
 use Rattle.std.specs.Char.{is_ascii_digit}
 use Rattle.std.specs.Fmt.{decimal}
 use Rattle.std.proofs.lemmas.Bool.{and_parts, cond-true, eqb-true}
@@ -19,7 +20,8 @@ run_stops : (text : List ℕ) → has_digit (drop (digits text) text) ≡ false
 run_stops [] = refl
 run_stops (byte ∷ text) = go (is_ascii_digit byte) refl (run_stops text)
   where
-    go : (is : Bool) → is_ascii_digit byte ≡ is → has_digit (drop (digits text) text) ≡ false → has_digit (drop (cond is (1 + digits text) 0) (byte ∷ text)) ≡ false
+    go : (is : Bool) → is_ascii_digit byte ≡ is → has_digit (drop (digits text) text) ≡ false
+        → has_digit (drop (cond is (1 + digits text) 0) (byte ∷ text)) ≡ false
     go true e more = let one : 1 + digits text ≡ suc (digits text) = omega arith in ap (λ k. has_digit (drop k (byte ∷ text))) one ∙ more
     go false e more = e
 
@@ -28,7 +30,8 @@ run_is [] [] all ended = refl
 run_is [] (byte ∷ after) all ended = ap (λ b. cond b (1 + digits after) 0) ended
 run_is (byte ∷ ds) after all ended = go (is_ascii_digit byte) all (λ all. run_is ds after all ended)
   where
-    go : (is : Bool) → cond is (all_digits ds) false ≡ true → (all_digits ds ≡ true → digits (ds ++ after) ≡ length ds) → cond is (1 + digits (ds ++ after)) 0 ≡ suc (length ds)
+    go : (is : Bool) → cond is (all_digits ds) false ≡ true → (all_digits ds ≡ true → digits (ds ++ after) ≡ length ds)
+        → cond is (1 + digits (ds ++ after)) 0 ≡ suc (length ds)
     go true all more = let is = more all in omega (arith, is)
     go false all more = cc
 
@@ -77,9 +80,11 @@ read_digits (byte ∷ text) n m e =
     cond-true (is_ascii_digit byte) (all_digits text) false digit ∙ read_digits text (10 * n + (byte - 48)) m parts.1
 
 decimal_digits : Reads → (n : ℕ) → IsPrinted n → all_digits (decimal n) ≡ true
-decimal_digits reads n printed = read_digits (decimal n) 0 n (some_of (ltb 48 (get_or (decimal n) 0 0)) (read_on 0 (decimal n)) n ((reads (decimal n) n).1 (refl, printed))).1
+decimal_digits reads n printed = read_digits (decimal n) 0 n
+    (some_of (ltb 48 (get_or (decimal n) 0 0)) (read_on 0 (decimal n)) n ((reads (decimal n) n).1 (refl, printed))).1
 
-number_printed : Reads → (n : ℕ) (after : List ℕ) → IsPrinted n → has_digit after ≡ false → number_after (58 ∷ (decimal n ++ after)) ≡ Some (n, length (decimal n) + 1)
+number_printed : Reads → (n : ℕ) (after : List ℕ) → IsPrinted n → has_digit after ≡ false
+    → number_after (58 ∷ (decimal n ++ after)) ≡ Some (n, length (decimal n) + 1)
 number_printed reads n after printed ended =
     let run = run_is (decimal n) after (decimal_digits reads n printed) ended in
     ap (λ k. option_map {U = ℕ × ℕ} (λ m. (m, k + 1)) (decimal_number (take k (decimal n ++ after)))) run
@@ -89,14 +94,21 @@ number_printed reads n after printed ended =
 regrouped : (front number after : List ℕ) → front ++ (codes ":" ++ number ++ after) ≡ front ++ codes ":" ++ number ++ after
 regrouped front number after = sym (append_assoc front (codes ":" ++ number) after) ∙ ap (λ l. l ++ after) (sym (append_assoc front (codes ":") number))
 
-column_is : Reads → (text : List ℕ) (l line column size first : ℕ) (found : Option (ℕ × ℕ)) → number_after (drop first text) ≡ found → with_column l first found ≡ Some (line, column, size) →
+column_is : Reads → (text : List ℕ) (l line column size first : ℕ) (found : Option (ℕ × ℕ)) → number_after (drop first text) ≡ found
+    → with_column l first found ≡ Some (line, column, size) →
     (l ≡ line) × ((more : ℕ) × IsNumber (drop first text) column more × (first + more ≡ size))
 column_is reads text l line column size first None is e = cc
 column_is reads text l line column size first (Some (c, more)) is e =
     let lines : Some l ≡ Some line = ap (option_map {U = ℕ} (λ p. p.0)) e in
     let columns : Some c ≡ Some column = ap (option_map {U = ℕ} (λ p. p.1)) e in
-    let sizes : Some (first + more) ≡ Some size = ap (option_map {U = ℕ} (λ p. p.2)) e in
-    (some_is l line lines, (more, number_is reads (drop first text) column more (is ∙ ap (λ k. Some (k, more)) (some_is c column columns)), some_is (first + more) size sizes))
+    let sizes : Some (first + more) ≡ Some size = ap (option_map {U = ℕ} (λ p. p.2)) e in (
+      some_is l line lines,
+      (
+        more,
+        number_is reads (drop first text) column more (is ∙ ap (λ k. Some (k, more)) (some_is c column columns)),
+        some_is (first + more) size sizes,
+      ),
+    )
 
 pub numbers_are : Reads → (text : List ℕ) (line column size : ℕ) → numbers_after text ≡ Some (line, column, size) → IsNumbers text line column size
 unfolding numbers_after
@@ -109,7 +121,8 @@ numbers_are reads text line column size e = go (number_after text) refl e
         let one = number_is reads text line first (is ∙ ap (λ k. Some (k, first)) more.0) in
         let two = more.1.1 in record {
           after = drop more.1.0 (drop first text);
-          joined = one.joined ∙ ap (λ l. codes ":" ++ decimal line ++ l) two.joined ∙ regrouped (codes ":" ++ decimal line) (decimal column) (drop more.1.0 (drop first text));
+          joined = one.joined ∙ ap (λ l. codes ":" ++ decimal line ++ l) two.joined
+              ∙ regrouped (codes ":" ++ decimal line) (decimal column) (drop more.1.0 (drop first text));
           size_is = omega (arith, one.size_is, two.size_is, more.1.2);
           line_printed = one.printed;
           column_printed = two.printed;

@@ -1,7 +1,8 @@
 -- The places in a line, anywhere in it (this project's own): a URL of a table, `:`, a line, `:` and a column, in decimal
 -- without leading zeros, from 1 to 2147483648, and no digit after them. No place begins after a byte of a word. Places
 -- are taken from the left; of those that begin at one byte, the one with the longest URL; the next is sought after it.
-use Rattle.std.specs.Prelude.{ℕ, zero, suc, ◌+◌, ◌-◌, ◌==◌, ◌||◌, Bool, true, not, nat_le, List, [], ◌∷◌, Option, Some, None, codes, length, take, drop, slice_index, if◌then◌else◌, option_map}
+use Rattle.std.specs.Prelude.{ℕ, zero, suc, ◌+◌, ◌-◌, ◌==◌, ◌||◌, Bool, true, not, nat_le, List, [], ◌∷◌, Option, Some, None, codes, length, take}
+use Rattle.std.specs.Prelude.{drop, slice_index, if◌then◌else◌, option_map}
 use Rattle.std.specs.Char.{is_ascii_digit, is_ascii_alphanumeric}
 use Rattle.std.specs.List.{list_any, prefix_len}
 use Rattle.smap_record.specs.Record.{MapRecord}

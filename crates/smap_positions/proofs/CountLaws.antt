@@ -24,12 +24,14 @@ bad_after None number true later = refl
 bad_after None number false later = refl
 
 -- a line that is too long is passed over
-only_short : (answerer : PositionAnswerer) (lines : List Line) → fold (after_line after_position) answerer lines ≡ fold after_position answerer (filter is_short lines)
+only_short : (answerer : PositionAnswerer) (lines : List Line)
+    → fold (after_line after_position) answerer lines ≡ fold after_position answerer (filter is_short lines)
 only_short answerer [] = refl
 only_short answerer (line ∷ lines) = go (is_short line) (λ next. only_short next lines)
   where
     go : (short : Bool) → ((next : PositionAnswerer) → fold (after_line after_position) next lines ≡ fold after_position next (filter is_short lines)) →
-        fold (after_line after_position) (cond short (after_position answerer line) answerer) lines ≡ fold after_position answerer (cond short (line ∷ filter is_short lines) (filter is_short lines))
+        fold (after_line after_position) (cond short (after_position answerer line) answerer) lines
+        ≡ fold after_position answerer (cond short (line ∷ filter is_short lines) (filter is_short lines))
     go true later = later (after_position answerer line)
     go false later = later answerer
 
@@ -43,10 +45,12 @@ counted_over answerer (line ∷ lines) =
     let more = counted_over (after_position answerer line) lines in
     (omega (arith, more.0), more.1 ∙ bad_after answerer.first_bad (answerer.lines + 1) (is_position_line line) (first_bad_from (answerer.lines + 1 + 1) lines))
 
-module _ (answerer new : PositionAnswerer) (bytes : List ℕ) (none_counted : answerer.lines ≡ 0) (none_bad : answerer.first_bad ≡ None) (after : new ≡ after_text after_position answerer bytes) where
+module _ (answerer new : PositionAnswerer) (bytes : List ℕ) (none_counted : answerer.lines ≡ 0) (none_bad : answerer.first_bad ≡ None)
+    (after : new ≡ after_text after_position answerer bytes) where
   counted : Counted answerer (short_lines bytes) new
   unfolding after_text
-  counted = subst (λ n. Counted answerer (short_lines bytes) n) (sym (after ∙ only_short answerer (lines_with_ends bytes))) (counted_over answerer (short_lines bytes))
+  counted = subst (λ n. Counted answerer (short_lines bytes) n) (sym (after ∙ only_short answerer (lines_with_ends bytes)))
+      (counted_over answerer (short_lines bytes))
 
   pub answered_is : new.lines ≡ length (short_lines bytes)
   answered_is = omega (arith, counted.0, none_counted)

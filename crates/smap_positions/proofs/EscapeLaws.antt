@@ -13,7 +13,8 @@ or_parts true b e = cc
 or_parts false b e = (refl, e)
 
 -- a text in which each byte stands for itself
-pub same_text : (f : ℕ → List ℕ) (test : ℕ → Bool) → ((byte : ℕ) → test byte ≡ false → f byte ≡ byte ∷ []) → (text : List ℕ) → list_any test text ≡ false → flat_map f text ≡ text
+pub same_text : (f : ℕ → List ℕ) (test : ℕ → Bool) → ((byte : ℕ) → test byte ≡ false → f byte ≡ byte ∷ []) → (text : List ℕ)
+    → list_any test text ≡ false → flat_map f text ≡ text
 same_text f test same [] none = refl
 same_text f test same (byte ∷ text) none =
     let parts = or_parts (test byte) (list_any test text) none in
@@ -47,7 +48,8 @@ escaped_short byte letter is =
     let at = short_at byte letter (escape_letter byte) (ltb 0 (escape_letter byte)) (sym is) in
     sym (cond-true (ltb 0 (escape_letter byte)) (92 ∷ escape_letter byte ∷ []) _ at.0 ∙ ap (λ l. 92 ∷ l ∷ []) at.1)
 
-pub escaped_number : (byte : ℕ) → None ≡ short_escape byte → ltb byte 32 ≡ true → 92 ∷ 117 ∷ 48 ∷ 48 ∷ digit_char (byte / 16) ∷ digit_char (byte % 16) ∷ [] ≡ escape_byte byte
+pub escaped_number : (byte : ℕ) → None ≡ short_escape byte → ltb byte 32 ≡ true
+    → 92 ∷ 117 ∷ 48 ∷ 48 ∷ digit_char (byte / 16) ∷ digit_char (byte % 16) ∷ [] ≡ escape_byte byte
 unfolding escape_byte
 escaped_number byte none small =
     let long = none_at (escape_letter byte) (ltb 0 (escape_letter byte)) (sym none) in

@@ -1,5 +1,6 @@
 -- A line is a position in one way: the one that is computed.
-use Rattle.std.proofs.Common.{◌≡◌, ◌≢◌, ◌≤◌, ◌+◌, ◌-◌, ◌*◌, ◌==◌, ◌&&◌, ℕ, Bool, true, false, cond, leb, ltb, List, [], ◌∷◌, ◌++◌, length, get_or, take, drop, Option, Some, None, refl, sym, ap, ◌∙◌, subst, inl, inr, arith, zero, suc}
+use Rattle.std.proofs.Common.{◌≡◌, ◌≢◌, ◌≤◌, ◌+◌, ◌-◌, ◌*◌, ◌==◌, ◌&&◌, ℕ, Bool, true, false, cond, leb, ltb, List, [], ◌∷◌, ◌++◌, length, get_or}
+use Rattle.std.proofs.Common.{take, drop, Option, Some, None, refl, sym, ap, ◌∙◌, subst, inl, inr, arith, zero, suc}
 use Rattle.std.specs.Prelude.{◌↔◌, IsTrue, decimal}
 use Rattle.std.specs.Char.{is_ascii_digit}
 use Rattle.std.specs.List.{AllByRecursion, prefix_len}
@@ -8,7 +9,8 @@ use Rattle.std.proofs.lemmas.List.{drop_at, take-append-drop, take_at}
 use Rattle.smap_trace.specs.Frame.{IsLineEnd, IsPrinted, is_blank}
 use Rattle.smap_trace.specs.FrameOf.{decimal_number, read_on}
 use Rattle.smap_positions.specs.Position.{AreBlanks, IsPosition, IsSeparator}
-use Rattle.smap_positions.specs.PositionOf.{after_blanks, after_digits, column_after, column_of, first_number, is_line_end, position_in, position_of, position_with, separator_len}
+use Rattle.smap_positions.specs.PositionOf.{after_blanks, after_digits, column_after, column_of, first_number, is_line_end, position_in, position_of}
+use Rattle.smap_positions.specs.PositionOf.{position_with, separator_len}
 use Rattle.smap_positions.specs.declared.printed_position.PrintedPosition.{PrintedPosition}
 
 none_else : {A : Type 0} (b : Bool) (o : Option A) (y : A) → cond b o None ≡ Some y → (b ≡ true) × (o ≡ Some y)
@@ -53,7 +55,8 @@ module _ (test : ℕ → Bool) where
   stops_after [] = refl
   stops_after (x ∷ text) = go (test x) refl (stops_after text)
     where
-      go : (t : Bool) → test x ≡ t → begins test (drop (prefix_len test text) text) ≡ false → begins test (drop (cond t (1 + prefix_len test text) 0) (x ∷ text)) ≡ false
+      go : (t : Bool) → test x ≡ t → begins test (drop (prefix_len test text) text) ≡ false
+          → begins test (drop (cond t (1 + prefix_len test text) 0) (x ∷ text)) ≡ false
       go true is later =
           let P : ℕ → Type 0 = λ n. begins test (drop n (x ∷ text)) ≡ false in
           let one : suc (prefix_len test text) ≡ 1 + prefix_len test text = omega arith in
@@ -167,7 +170,8 @@ some_taken : (byte : ℕ) (text : List ℕ) (m : ℕ) → 1 ≤ m → take m (by
 some_taken byte text zero some none = absurd (omega arith)
 some_taken byte text (suc m) some none = absurd (cc)
 
-separates : (rest : List ℕ) (n : ℕ) → begins is_ascii_digit rest ≡ false → first_number (drop (separator_len rest) rest) ≡ Some n → IsSeparator (take (separator_len rest) rest)
+separates : (rest : List ℕ) (n : ℕ) → begins is_ascii_digit rest ≡ false → first_number (drop (separator_len rest) rest) ≡ Some n
+    → IsSeparator (take (separator_len rest) rest)
 separates [] n stops is = cc
 separates (byte ∷ rest) n stops is = go (byte == 58) refl is
   where
@@ -223,10 +227,13 @@ module _ (numbers : (text : List ℕ) (n : ℕ) → (decimal_number text ≡ Som
       let end = end_stops form.end form.ends in
       let first = first_is (decimal position.line) rest position.line l (separator_stops form.between tail form.separates) in
       let second = first_is (decimal position.column) more position.column c (after_stops form.after form.end form.blank_after form.ends) in
-      let begun : after_blanks line ≡ text = ap after_blanks form.joined ∙ after_span is_blank form.before text form.blank_before (number_not_blank (decimal position.line) rest position.line l) in
+      let begun : after_blanks line ≡ text = ap after_blanks form.joined
+      ∙ after_span is_blank form.before text form.blank_before (number_not_blank (decimal position.line) rest position.line l) in
       let ended : is_line_end (after_blanks (after_digits tail)) ≡ true =
       ap (λ t. is_line_end (after_blanks t)) second.1 ∙ ap is_line_end (after_span is_blank form.after form.end form.blank_after end.1) ∙ end.2 in
-      let column : column_of tail ≡ Some position.column = cond-true (is_line_end (after_blanks (after_digits tail))) (first_number tail) None ended ∙ second.0 in
+      let column : column_of tail ≡ Some position.column =
+      cond-true (is_line_end (after_blanks (after_digits tail))) (first_number tail) None ended ∙ second.0 in
       let after : column_after (after_digits text) ≡ Some position.column =
-      ap column_after first.1 ∙ ap column_of (separator_is form.between tail form.separates (number_not_blank (decimal position.column) more position.column c)) ∙ column in
+      ap column_after first.1 ∙ ap column_of (separator_is form.between tail form.separates
+      (number_not_blank (decimal position.column) more position.column c)) ∙ column in
       ap position_in begun ∙ (λ i. position_with (first.0 i) (after i))

@@ -16,7 +16,8 @@ use smap_trace::{blanks, digits, number};
 #[tactic(auto, unfolding(crate::specs::PositionOf::position_of))]
 pub fn read_position(line: &[u8]) -> Option<PrintedPosition>
     ensures position { result ≡ position_of line.now }
-    ensures form { (position : PrintedPosition) → (position_of line.now ≡ Some position) ↔ IsPosition
+    ensures form { (position : PrintedPosition)
+        → (position_of line.now ≡ Some position) ↔ IsPosition
         line.now position }
 {
     numbers_are_read_as_printed();

@@ -27,5 +27,6 @@ written_where sources some = if some then Some (list_value (λ source. value_of_
 pub no_contents : (sources : List SourceEntry) → list_any has_text sources ≡ false → None ≡ contents_value (map source_of sources)
 no_contents sources none = ap (written_where (map source_of sources)) (sym (sym (any_content sources) ∙ none))
 
-pub some_contents : (sources : List SourceEntry) (value : Data) → list_any has_text sources ≡ true → value ≡ list_value (λ source. value_of_text (content_of_source source)) (map source_of sources) → Some value ≡ contents_value (map source_of sources)
+pub some_contents : (sources : List SourceEntry) (value : Data) → list_any has_text sources ≡ true
+    → value ≡ list_value (λ source. value_of_text (content_of_source source)) (map source_of sources) → Some value ≡ contents_value (map source_of sources)
 some_contents sources value some is = ap Some is ∙ ap (written_where (map source_of sources)) (sym (sym (any_content sources) ∙ some))

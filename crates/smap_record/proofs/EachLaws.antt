@@ -1,5 +1,6 @@
 -- What a walk over the items of a list knows after each of them.
-use Rattle.std.proofs.Common.{◌≡◌, ℕ, ◌+◌, ◌<◌, ◌++◌, List, [], ◌∷◌, length, drop, slice_index_or, Option, Some, None, option_map, Vec, Global, refl, sym, ap, ◌∙◌, arith}
+use Rattle.std.proofs.Common.{◌≡◌, ℕ, ◌+◌, ◌<◌, ◌++◌, List, [], ◌∷◌, length, drop, slice_index_or, Option, Some, None, option_map, Vec, Global, refl}
+use Rattle.std.proofs.Common.{sym, ap, ◌∙◌, arith}
 use Rattle.std.specs.Prelude.{option_and_then}
 use Rattle.std.specs.Vec.Iter.{into_iter_items, into_iter_len}
 use Rattle.std.specs.declared.vec.IntoIter.{IntoIter}
@@ -15,16 +16,19 @@ module _ {A : Type 0} (read : Data → Option A) where
   abbrev pub after : List A → List Value → Option (List A)
   after before values = option_map (λ others. before ++ others) (readings read (items_view values))
 
-  added : (before : List A) (first : A) (others : Option (List A)) → option_map (λ more. (before ++ first ∷ []) ++ more) others ≡ option_map (λ more. before ++ more) (option_map (λ more. first ∷ more) others)
+  added : (before : List A) (first : A) (others : Option (List A))
+      → option_map (λ more. (before ++ first ∷ []) ++ more) others ≡ option_map (λ more. before ++ more) (option_map (λ more. first ∷ more) others)
   added before first None = refl
   added before first (Some more) = ap Some (append_assoc before (first ∷ []) more)
 
   -- what is read of a value and of others, by what is read of it
   abbrev opened : List A → List Value → Option A → Option (List A)
-  opened before values found = option_map (λ more. before ++ more) (option_and_then (λ first. option_map (λ others. first ∷ others) (readings read (items_view values))) found)
+  opened before values found = option_map (λ more. before ++ more)
+      (option_and_then (λ first. option_map (λ others. first ∷ others) (readings read (items_view values))) found)
 
   -- one more item was read
-  pub one_more : (before : List A) (value : Value) (values : List Value) (first : A) → read (view value) ≡ Some first → after (before ++ first ∷ []) values ≡ after before (value ∷ values)
+  pub one_more : (before : List A) (value : Value) (values : List Value) (first : A) → read (view value) ≡ Some first
+      → after (before ++ first ∷ []) values ≡ after before (value ∷ values)
   one_more before value values first is = added before first (readings read (items_view values)) ∙ ap (opened before values) (sym is)
 
   -- an item is no such value
@@ -44,7 +48,8 @@ module _ {A : Type 0} (read : Data → Option A) where
   none_yet value items is = same (readings read (items_view items.items)) ∙ sym (ap (λ v. list_of read (view v)) is ∙ ap (list_of read) (view-Array items))
 
 -- the value at a place, and those after it
-pub next_value : (values : List Value) (i : ℕ) (value : Value) → i < length values → value ≡ slice_index_or values i value → drop i values ≡ value ∷ drop (i + 1) values
+pub next_value : (values : List Value) (i : ℕ) (value : Value) → i < length values → value ≡ slice_index_or values i value
+    → drop i values ≡ value ∷ drop (i + 1) values
 next_value values i value within is = drop_more values i value within ∙ ap (λ first. first ∷ drop (i + 1) values) (sym is)
 
 no_length : {A : Type 0} (xs : List A) → length xs ≡ 0 → xs ≡ []

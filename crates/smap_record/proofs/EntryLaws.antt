@@ -1,5 +1,6 @@
 -- A section's sources, one after another.
-use Rattle.std.proofs.Common.{◌≡◌, ℕ, suc, zero, ◌+◌, Bool, option_map, string_bytes, String, Global, List, [], ◌∷◌, ◌++◌, length, drop, map, Option, refl, sym, ap, ◌∙◌, arith}
+use Rattle.std.proofs.Common.{◌≡◌, ℕ, suc, zero, ◌+◌, Bool, option_map, string_bytes, String, Global, List, [], ◌∷◌, ◌++◌, length, drop, map, Option}
+use Rattle.std.proofs.Common.{refl, sym, ap, ◌∙◌, arith}
 use Rattle.std.specs.List.{enumerate_from, sum_by}
 use Rattle.std.specs.Prelude.{false, flat_map, slice_get, unwrap_or}
 use Rattle.std.proofs.lemmas.List.Sums.{sum_by-cons}
@@ -33,7 +34,8 @@ first_from (x ∷ xs) zero = refl
 first_from (x ∷ xs) (suc i) = first_from xs i
 
 -- the next content is the one at this place
-pub content_at : (rest contents : List (Option (String Global))) (i : ℕ) → rest ≡ drop i contents → option_flatten (slice_get (texts_seen rest) 0) ≡ option_flatten (slice_get (texts_seen contents) i)
+pub content_at : (rest contents : List (Option (String Global))) (i : ℕ) → rest ≡ drop i contents
+    → option_flatten (slice_get (texts_seen rest) 0) ≡ option_flatten (slice_get (texts_seen contents) i)
 content_at rest contents i is =
     ap option_flatten (slice_get-map (option_map string_bytes) rest 0 ∙ ap (λ texts. option_map (option_map string_bytes) (slice_get texts 0)) is
     ∙ ap (option_map (option_map string_bytes)) (first_from contents i) ∙ sym (slice_get-map (option_map string_bytes) contents i))
@@ -48,7 +50,8 @@ same_source name_is content_is ignored_is = rw (name_is, content_is, ignored_is)
 
 -- a source from its parts
 pub at_place : (base : Option Parts) (stated : StatedSources) (i : ℕ) (text content : Option (List ℕ)) (name : Option Name) (flag : Bool)
-    → name ≡ option_map (λ t. source_name stated.root t base) text → content ≡ option_flatten (slice_get stated.contents i) → flag ≡ unwrap_or (slice_get stated.ignored i) false
+    → name ≡ option_map (λ t. source_name stated.root t base) text → content ≡ option_flatten (slice_get stated.contents i)
+    → flag ≡ unwrap_or (slice_get stated.ignored i) false
     → record { name = name; content = content; ignored = flag } ≡ source_at base stated i text
 at_place base stated i text content name flag name_is content_is flag_is = same_source name_is content_is flag_is
 
@@ -60,7 +63,8 @@ length-sources_stated base sources =
     length-map (enumerate_from 0 (texts_seen sources.texts.items)) (λ at. source_at base (sources_seen sources) at.0 at.1)
     ∙ length-enumerate_from 0 (texts_seen sources.texts.items) ∙ length-map sources.texts.items (option_map string_bytes)
 
-pub length-all_sources : (base : Option Parts) (all : List SectionSources) → length (flat_map (sources_stated base) (map sources_seen all)) ≡ sum_by (λ (s : SectionSources). length s.texts.items) all
+pub length-all_sources : (base : Option Parts) (all : List SectionSources)
+    → length (flat_map (sources_stated base) (map sources_seen all)) ≡ sum_by (λ (s : SectionSources). length s.texts.items) all
 length-all_sources base [] = refl
 length-all_sources base (sources ∷ all) =
     length-append (sources_stated base (sources_seen sources)) (flat_map (sources_stated base) (map sources_seen all))

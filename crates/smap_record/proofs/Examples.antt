@@ -42,7 +42,10 @@ called text = record { name = Some (kept text); content = None; ignored = false 
 
 -- what an example unfolds to compute the record of a file
 unfoldable record_on_literals : ⊤
-unfolding record_of record_in outer_in entries_in sections_after section_in mappings_in source_name parse_url split_scheme scheme_len split_once strip_tabs_and_new_lines trim_c0_control_and_space is_utf8 chars serde_json_on_literals whole called build_fault part_fault order_fault overlap_fault range_fault placed mappings_of mapping_after deltas_of first_fault spelling_fault delta_fault values_on segments_of segments_from segments_on fields_of number_of unsigned_of digit_of
+unfolding record_of record_in outer_in entries_in sections_after section_in mappings_in source_name parse_url split_scheme scheme_len
+    split_once strip_tabs_and_new_lines trim_c0_control_and_space is_utf8 chars serde_json_on_literals whole called build_fault part_fault
+    order_fault overlap_fault range_fault placed mappings_of mapping_after deltas_of first_fault spelling_fault delta_fault values_on
+    segments_of segments_from segments_on fields_of number_of unsigned_of digit_of
 record_on_literals = tt
 
 -- the refusal of a file, where it is refused
@@ -83,7 +86,13 @@ after_both = refl
 
 -- a source at null has no name, and a content beyond the sources is ignored
 all_fields : record_of (codes "{\"version\":3,\"file\":\"o.js\",\"sourceRoot\":\"src\",\"sources\":[\"a.ts\",null],\"names\":[\"f\"],\"sourcesContent\":[null,\"x\",\"y\"],\"ignoreList\":[1,1],\"mappings\":\"AAAAA\"}") None 1
-    ≡ Ok (record { parts = whole (codes "AAAAA"); sources = called (codes "src/a.ts") ∷ record { name = None; content = Some (codes "x"); ignored = true } ∷ []; names = codes "f" ∷ []; file = Some (codes "o.js") })
+    ≡ Ok (record {
+      parts = whole (codes "AAAAA");
+      sources = called (codes "src/a.ts") ∷ record { name = None; content = Some (codes "x"); ignored = true } ∷ [];
+      names =
+          codes "f" ∷ [];
+      file = Some (codes "o.js");
+    })
 unfolding record_on_literals
 all_fields = refl
 
@@ -105,15 +114,21 @@ nulls_are_absent = refl
 
 -- ---- ignored sources
 
-ignored_by_the_older_key : sources_of (record_of (codes "{\"version\":3,\"sources\":[\"a.js\"],\"x_google_ignoreList\":[0],\"mappings\":\"AAAA\"}") None 1) ≡ record { name = Some (kept (codes "a.js")); content = None; ignored = true } ∷ []
+ignored_by_the_older_key : sources_of (record_of
+    (codes "{\"version\":3,\"sources\":[\"a.js\"],\"x_google_ignoreList\":[0],\"mappings\":\"AAAA\"}") None 1)
+    ≡ record { name = Some (kept (codes "a.js")); content = None; ignored = true } ∷ []
 unfolding record_on_literals
 ignored_by_the_older_key = refl
 
-ignored_where_the_newer_key_is_null : sources_of (record_of (codes "{\"version\":3,\"sources\":[\"a.js\"],\"ignoreList\":null,\"x_google_ignoreList\":[0],\"mappings\":\"AAAA\"}") None 1) ≡ record { name = Some (kept (codes "a.js")); content = None; ignored = true } ∷ []
+ignored_where_the_newer_key_is_null : sources_of
+    (record_of (codes "{\"version\":3,\"sources\":[\"a.js\"],\"ignoreList\":null,\"x_google_ignoreList\":[0],\"mappings\":\"AAAA\"}") None
+    1) ≡ record { name = Some (kept (codes "a.js")); content = None; ignored = true } ∷ []
 unfolding record_on_literals
 ignored_where_the_newer_key_is_null = refl
 
-not_ignored_where_the_newer_list_is_empty : sources_of (record_of (codes "{\"version\":3,\"sources\":[\"a.js\"],\"ignoreList\":[],\"x_google_ignoreList\":[0],\"mappings\":\"AAAA\"}") None 1) ≡ called (codes "a.js") ∷ []
+not_ignored_where_the_newer_list_is_empty : sources_of
+    (record_of (codes "{\"version\":3,\"sources\":[\"a.js\"],\"ignoreList\":[],\"x_google_ignoreList\":[0],\"mappings\":\"AAAA\"}") None 1)
+    ≡ called (codes "a.js") ∷ []
 unfolding record_on_literals
 not_ignored_where_the_newer_list_is_empty = refl
 
@@ -130,7 +145,8 @@ not_an_object : refusals_of (codes "[]" ∷ codes "3" ∷ codes "null" ∷ [])
 unfolding record_on_literals
 not_an_object = refl
 
-other_versions : refusals_of (codes "{}" ∷ codes "{\"version\":2}" ∷ codes "{\"version\":\"3\"}" ∷ codes "{\"version\":3.0}" ∷ codes "{\"version\":3e0}" ∷ codes "{\"version\":null}" ∷ [])
+other_versions : refusals_of (codes "{}" ∷ codes "{\"version\":2}" ∷ codes "{\"version\":\"3\"}" ∷ codes "{\"version\":3.0}"
+    ∷ codes "{\"version\":3e0}" ∷ codes "{\"version\":null}" ∷ [])
     ≡ Some refusals.Version ∷ Some refusals.Version ∷ Some refusals.Version ∷ Some refusals.Version ∷ Some refusals.Version ∷ Some refusals.Version ∷ []
 unfolding record_on_literals
 other_versions = refl
@@ -144,7 +160,12 @@ part_with line column text source_base name_base = record { line = line; column 
 -- sources and names are joined; nothing but `version`, `sections` and `file` is read of the outer object, and neither
 -- `version` nor `file` of a section's map
 two_sections : record_of (codes "{\"version\":3,\"file\":\"o.js\",\"sources\":7,\"sections\":[{\"offset\":{\"line\":0,\"column\":0},\"map\":{\"version\":2,\"file\":7,\"sources\":[\"a.js\"],\"names\":[\"f\"],\"mappings\":\"AAAA\"}},{\"offset\":{\"line\":0,\"column\":10},\"map\":{\"sourceRoot\":\"src\",\"sources\":[\"b.js\"],\"mappings\":\"AAAA\"}}]}") None 1
-    ≡ Ok (record { parts = part_with 0 0 (codes "AAAA") 0 0 ∷ part_with 0 10 (codes "AAAA") 1 1 ∷ []; sources = called (codes "a.js") ∷ called (codes "src/b.js") ∷ []; names = codes "f" ∷ []; file = Some (codes "o.js") })
+    ≡ Ok (record {
+      parts = part_with 0 0 (codes "AAAA") 0 0 ∷ part_with 0 10 (codes "AAAA") 1 1 ∷ [];
+      sources = called (codes "a.js") ∷ called (codes "src/b.js") ∷ [];
+      names = codes "f" ∷ [];
+      file = Some (codes "o.js");
+    })
 unfolding record_on_literals part_with
 two_sections = refl
 
@@ -153,13 +174,17 @@ unfolding record_on_literals
 no_sections = refl
 
 -- no list; an entry without a map; one with a map that is no object
-bad_sections : refusals_of (codes "{\"version\":3,\"sections\":7}" ∷ codes "{\"version\":3,\"sections\":[{\"offset\":{\"line\":0,\"column\":0}}]}" ∷ codes "{\"version\":3,\"sections\":[{\"map\":[]}]}" ∷ [])
+bad_sections : refusals_of (codes "{\"version\":3,\"sections\":7}"
+    ∷ codes "{\"version\":3,\"sections\":[{\"offset\":{\"line\":0,\"column\":0}}]}" ∷ codes "{\"version\":3,\"sections\":[{\"map\":[]}]}" ∷ [])
     ≡ Some refusals.Sections ∷ Some refusals.Sections ∷ Some refusals.Sections ∷ []
 unfolding record_on_literals
 bad_sections = refl
 
 -- no offset; no column; a line that is no whole number; one past the limit, after an index map
-bad_offsets : refusals_of (codes "{\"version\":3,\"sections\":[{\"map\":{}}]}" ∷ codes "{\"version\":3,\"sections\":[{\"offset\":{\"line\":0},\"map\":{}}]}" ∷ codes "{\"version\":3,\"sections\":[{\"offset\":{\"line\":1.0,\"column\":0},\"map\":{}}]}" ∷ codes "{\"version\":3,\"sections\":[{\"offset\":{\"line\":0,\"column\":0},\"map\":{\"sections\":[]}},{\"offset\":{\"line\":2147483648,\"column\":0},\"map\":{}}]}" ∷ [])
+bad_offsets : refusals_of (codes "{\"version\":3,\"sections\":[{\"map\":{}}]}"
+    ∷ codes "{\"version\":3,\"sections\":[{\"offset\":{\"line\":0},\"map\":{}}]}"
+    ∷ codes "{\"version\":3,\"sections\":[{\"offset\":{\"line\":1.0,\"column\":0},\"map\":{}}]}"
+    ∷ codes "{\"version\":3,\"sections\":[{\"offset\":{\"line\":0,\"column\":0},\"map\":{\"sections\":[]}},{\"offset\":{\"line\":2147483648,\"column\":0},\"map\":{}}]}" ∷ [])
     ≡ Some (refusals.SectionOffset 0) ∷ Some (refusals.SectionOffset 0) ∷ Some (refusals.SectionOffset 0) ∷ Some (refusals.SectionOffset 1) ∷ []
 unfolding record_on_literals
 bad_offsets = refl
@@ -179,18 +204,29 @@ faulty_sections = refl
 -- ---- fields of a map
 
 -- also where `mappings` is missing, which is asked later
-bad_sources : refusals_of (codes "{\"version\":3}" ∷ codes "{\"version\":3,\"sources\":null}" ∷ codes "{\"version\":3,\"sources\":[7],\"names\":7}" ∷ codes "{\"version\":3,\"sources\":\"a.js\"}" ∷ [])
+bad_sources : refusals_of (codes "{\"version\":3}" ∷ codes "{\"version\":3,\"sources\":null}"
+    ∷ codes "{\"version\":3,\"sources\":[7],\"names\":7}" ∷ codes "{\"version\":3,\"sources\":\"a.js\"}" ∷ [])
     ≡ Some refusals.Sources ∷ Some refusals.Sources ∷ Some refusals.Sources ∷ Some refusals.Sources ∷ []
 unfolding record_on_literals
 bad_sources = refl
 
-bad_fields : refusals_of (codes "{\"version\":3,\"sources\":[\"a.js\"],\"names\":[null],\"sourcesContent\":7}" ∷ codes "{\"version\":3,\"sources\":[\"a.js\"],\"sourcesContent\":[7],\"ignoreList\":7}" ∷ codes "{\"version\":3,\"sources\":[\"a.js\"],\"ignoreList\":[1],\"mappings\":\"\"}" ∷ codes "{\"version\":3,\"sources\":[\"a.js\"],\"ignoreList\":[-1],\"sourceRoot\":7}" ∷ codes "{\"version\":3,\"sources\":[\"a.js\"],\"sourceRoot\":7}" ∷ codes "{\"version\":3,\"file\":7}" ∷ codes "{\"version\":3,\"sources\":[\"a.js\"],\"ignoreList\":[0.0]}" ∷ codes "{\"version\":3,\"sources\":[\"a.js\"],\"mappings\":7}" ∷ codes "{\"version\":3,\"sources\":[],\"mappings\":null}" ∷ codes "{\"version\":3,\"sources\":[]}" ∷ [])
-    ≡ Some refusals.Names ∷ Some refusals.SourcesContent ∷ Some refusals.IgnoreList ∷ Some refusals.IgnoreList ∷ Some refusals.FileOrRoot ∷ Some refusals.FileOrRoot ∷ Some refusals.IgnoreList ∷ Some refusals.Mappings ∷ Some refusals.Mappings ∷ Some refusals.Mappings ∷ []
+bad_fields : refusals_of (codes "{\"version\":3,\"sources\":[\"a.js\"],\"names\":[null],\"sourcesContent\":7}"
+    ∷ codes "{\"version\":3,\"sources\":[\"a.js\"],\"sourcesContent\":[7],\"ignoreList\":7}"
+    ∷ codes "{\"version\":3,\"sources\":[\"a.js\"],\"ignoreList\":[1],\"mappings\":\"\"}"
+    ∷ codes "{\"version\":3,\"sources\":[\"a.js\"],\"ignoreList\":[-1],\"sourceRoot\":7}"
+    ∷ codes "{\"version\":3,\"sources\":[\"a.js\"],\"sourceRoot\":7}" ∷ codes "{\"version\":3,\"file\":7}"
+    ∷ codes "{\"version\":3,\"sources\":[\"a.js\"],\"ignoreList\":[0.0]}" ∷ codes "{\"version\":3,\"sources\":[\"a.js\"],\"mappings\":7}"
+    ∷ codes "{\"version\":3,\"sources\":[],\"mappings\":null}" ∷ codes "{\"version\":3,\"sources\":[]}" ∷ [])
+    ≡ Some refusals.Names ∷ Some refusals.SourcesContent ∷ Some refusals.IgnoreList ∷ Some refusals.IgnoreList ∷ Some refusals.FileOrRoot
+    ∷ Some refusals.FileOrRoot ∷ Some refusals.IgnoreList ∷ Some refusals.Mappings ∷ Some refusals.Mappings ∷ Some refusals.Mappings ∷ []
 unfolding record_on_literals
 bad_fields = refl
 
-faulty_mappings : refusals_of (codes "{\"version\":3,\"sources\":[\"a.js\"],\"mappings\":\"ACAA\"}" ∷ codes "{\"version\":3,\"sources\":[\"a.js\"],\"mappings\":\"AAAAA\"}" ∷ codes "{\"version\":3,\"sources\":[\"a.js\"],\"mappings\":\"CAAA,DAAA\"}" ∷ [])
-    ≡ Some (refusals.Text 0 (record { byte = 0; line = 0; kind = kinds.SourceIndex })) ∷ Some (refusals.Text 0 (record { byte = 0; line = 0; kind = kinds.NameIndex })) ∷ Some (refusals.Text 0 (record { byte = 5; line = 0; kind = kinds.ColumnFalls })) ∷ []
+faulty_mappings : refusals_of (codes "{\"version\":3,\"sources\":[\"a.js\"],\"mappings\":\"ACAA\"}"
+    ∷ codes "{\"version\":3,\"sources\":[\"a.js\"],\"mappings\":\"AAAAA\"}" ∷ codes "{\"version\":3,\"sources\":[\"a.js\"],\"mappings\":\"CAAA,DAAA\"}" ∷ [])
+    ≡ Some (refusals.Text 0 (record { byte = 0; line = 0; kind = kinds.SourceIndex }))
+    ∷ Some (refusals.Text 0 (record { byte = 0; line = 0; kind = kinds.NameIndex }))
+    ∷ Some (refusals.Text 0 (record { byte = 5; line = 0; kind = kinds.ColumnFalls })) ∷ []
 unfolding record_on_literals
 faulty_mappings = refl
 
@@ -213,7 +249,8 @@ abbrev answer_in : Result MapRecord MapRefusal → ℕ → ℕ → Option Answer
 answer_in (Ok stated) line column = Some (answer_of_map stated line column)
 answer_in (Err refusal) line column = None
 
-last_on_the_line : answer_in (record_of (codes "{\"version\":3,\"sources\":[\"a.ts\"],\"mappings\":\"AAAA,CAAC\"}") None 1) 0 5 ≡ Some (Found 1 (record { source = 0; line = 0; column = 1; name = None }))
+last_on_the_line : answer_in (record_of (codes "{\"version\":3,\"sources\":[\"a.ts\"],\"mappings\":\"AAAA,CAAC\"}") None 1) 0 5
+    ≡ Some (Found 1 (record { source = 0; line = 0; column = 1; name = None }))
 unfolding record_on_literals answer_at_or_before
 last_on_the_line = refl
 
@@ -224,7 +261,8 @@ nothing_on_the_next_line = refl
 -- ---- written maps
 
 -- a content where one source has it, the index of an ignored source, and null for a source without a name
-all_keys : written (record { name = Some (kept (codes "a.js")); content = Some (codes "x"); ignored = false } ∷ record { name = None; content = None; ignored = true } ∷ []) [] (Some (codes "o.js")) (codes "AAAA")
+all_keys : written (record { name = Some (kept (codes "a.js")); content = Some (codes "x"); ignored = false }
+    ∷ record { name = None; content = None; ignored = true } ∷ []) [] (Some (codes "o.js")) (codes "AAAA")
     ≡ codes "{\"file\":\"o.js\",\"ignoreList\":[1],\"mappings\":\"AAAA\",\"names\":[],\"sources\":[\"a.js\",null],\"sourcesContent\":[\"x\",null],\"version\":3}"
 unfolding written serde_json_on_literals digits
 all_keys = refl

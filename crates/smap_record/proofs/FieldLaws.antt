@@ -28,7 +28,8 @@ module _ (other key : List ℕ) (apart : bytes_eq other key ≡ false) where
   kept [] = refl
   kept (e ∷ es) =
       ⊎_elim
-      (λ is. ap (λ rest. get_member other (members_view rest)) (cond-true (is_key e.0) es (e ∷ remove_entry is_key es) is) ∙ sym (member_later other e es (not_there e is)))
+      (λ is. ap (λ rest. get_member other (members_view rest)) (cond-true (is_key e.0) es (e ∷ remove_entry is_key es) is)
+      ∙ sym (member_later other e es (not_there e is)))
       (λ no. ap (λ rest. get_member other (members_view rest)) (cond-false (is_key e.0) es (e ∷ remove_entry is_key es) no)
       ∙ ap (λ found. match_ordering (slice_cmp nat_cmp other (string_bytes e.0)) found (Some (view e.1)) found) (kept es))
       (cases_Bool (is_key e.0))

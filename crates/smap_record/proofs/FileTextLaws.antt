@@ -1,5 +1,6 @@
 -- From the bytes of a file to its JSON text: what stands after the first element that passes a test, and UTF-8.
-use Rattle.std.proofs.Common.{◌≡◌, ℕ, ◌+◌, ◌-◌, List, [], length, drop, take, Bool, true, false, Some, None, cond, nat_lt, ltb-false, ⊎_elim, refl, sym, ap, ◌∙◌, arith}
+use Rattle.std.proofs.Common.{◌≡◌, ℕ, ◌+◌, ◌-◌, List, [], length, drop, take, Bool, true, false, Some, None, cond, nat_lt, ltb-false, ⊎_elim, refl}
+use Rattle.std.proofs.Common.{sym, ap, ◌∙◌, arith}
 use Rattle.std.specs.List.{position, position_or_len, after_first}
 use Rattle.std.specs.Str.{IsUtf8, is_utf8}
 use Rattle.std.proofs.lemmas.Bool.{cond-true, cond-false, cases_Bool}

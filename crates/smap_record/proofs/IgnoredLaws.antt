@@ -1,5 +1,6 @@
 -- The flags of ignored sources, one index after another.
-use Rattle.std.proofs.Common.{◌≡◌, ℕ, ◌<◌, List, [], ◌∷◌, ◌++◌, length, Bool, true, false, ◌||◌, ◌==◌, get_or, set, refl, sym, ap, ◌∙◌, arith, ⊎_elim, Option, Some, None, nat_lt, if◌then◌else◌}
+use Rattle.std.proofs.Common.{◌≡◌, ℕ, ◌<◌, List, [], ◌∷◌, ◌++◌, length, Bool, true, false, ◌||◌, ◌==◌, get_or, set, refl, sym, ap, ◌∙◌, arith, ⊎_elim}
+use Rattle.std.proofs.Common.{Option, Some, None, nat_lt, if◌then◌else◌}
 use Rattle.std.specs.Prelude.{option_and_then}
 use Rattle.std.proofs.Math.ListN.{replicate}
 use Rattle.std.proofs.lemmas.Bool.{cases_Bool, eqb-true, eqb-false, ltb-true}
@@ -19,7 +20,8 @@ length-ignored_flags sources ignored = length-map-range_with_len (is_ignored ign
 
 -- none is ignored
 pub no_flag : (sources : ℕ) → replicate sources false ≡ ignored_flags sources []
-no_flag sources = fill_by_all (is_ignored []) (replicate sources false) sources false (length-replicate sources false) (λ i within. get_or-replicate sources i false false within)
+no_flag sources = fill_by_all (is_ignored []) (replicate sources false) sources false (length-replicate sources false)
+    (λ i within. get_or-replicate sources i false false within)
 
 at_last : (a b : Bool) → b ≡ true → true ≡ (a || (b || false))
 at_last true b is = refl
@@ -32,7 +34,8 @@ not_at_last false false is = refl
 not_at_last false true is = absurd (cc)
 
 -- one more is ignored
-pub one_flag : (sources : ℕ) (ignored : List ℕ) (index : ℕ) → index < sources → set (ignored_flags sources ignored) index true ≡ ignored_flags sources (ignored ++ index ∷ [])
+pub one_flag : (sources : ℕ) (ignored : List ℕ) (index : ℕ) → index < sources
+    → set (ignored_flags sources ignored) index true ≡ ignored_flags sources (ignored ++ index ∷ [])
 one_flag sources ignored index below =
     let flags = ignored_flags sources ignored in
     fill_by_all (is_ignored (ignored ++ index ∷ [])) (set flags index true) sources false
@@ -41,7 +44,8 @@ one_flag sources ignored index below =
     ⊎_elim
     (λ (here : (index == i) ≡ true).
     let same : index ≡ i = eqb-true index i here in
-    ap (λ j. get_or (set flags index true) j false) (sym same) ∙ get_or-set_same flags index true false (omega (arith, below, length-ignored_flags sources ignored))
+    ap (λ j. get_or (set flags index true) j false) (sym same)
+    ∙ get_or-set_same flags index true false (omega (arith, below, length-ignored_flags sources ignored))
     ∙ at_last (is_ignored ignored i) (index == i) here ∙ sym (list_any-append (λ j. j == i) ignored (index ∷ [])))
     (λ (there : (index == i) ≡ false).
     get_or-set_other flags index i true false (λ same. absurd (eqb-false index i there (sym same)))

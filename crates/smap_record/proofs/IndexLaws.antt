@@ -1,5 +1,6 @@
 -- The indices of the ignored sources.
-use Rattle.std.proofs.Common.{◌≡◌, ℕ, ◌+◌, ◌<◌, ◌≤◌, List, [], ◌∷◌, ◌++◌, length, take, map, filter, get_or, Bool, true, false, if◌then◌else◌, Some, None, Vec, Global, refl, sym, ap, ◌∙◌, arith}
+use Rattle.std.proofs.Common.{◌≡◌, ℕ, ◌+◌, ◌<◌, ◌≤◌, List, [], ◌∷◌, ◌++◌, length, take, map, filter, get_or, Bool, true, false, if◌then◌else◌, Some}
+use Rattle.std.proofs.Common.{None, Vec, Global, refl, sym, ap, ◌∙◌, arith}
 use Rattle.std.specs.List.{enumerate_from, list_any}
 use Rattle.std.proofs.lemmas.List.{append-nil, map-append, take_more, take_all, length-map, length-take-le}
 use Rattle.std.proofs.lemmas.List.Elements.{filter-append}
@@ -17,16 +18,19 @@ use Rattle.smap_record.proofs.WithinLaws.{both_false}
 abbrev pub indices_from : ℕ → List StatedSource → List ℕ
 indices_from n sources = map (λ at. at.0) (filter (λ at. is_ignored_source at.1) (enumerate_from n sources))
 
-one_index : (n : ℕ) (source : StatedSource) (ignored : Bool) → is_ignored_source source ≡ ignored → map (λ (at : ℕ × StatedSource). at.0) (filter (λ at. is_ignored_source at.1) ((n, source) ∷ [])) ≡ (if ignored then n ∷ [] else [])
+one_index : (n : ℕ) (source : StatedSource) (ignored : Bool) → is_ignored_source source ≡ ignored
+    → map (λ (at : ℕ × StatedSource). at.0) (filter (λ at. is_ignored_source at.1) ((n, source) ∷ [])) ≡ (if ignored then n ∷ [] else [])
 one_index n source true is = rw is
 one_index n source false is = rw is
 
 -- one source more
-pub indices_push : (sources : List StatedSource) (source : StatedSource) → ignored_indices (sources ++ source ∷ []) ≡ ignored_indices sources ++ (if is_ignored_source source then length sources ∷ [] else [])
+pub indices_push : (sources : List StatedSource) (source : StatedSource)
+    → ignored_indices (sources ++ source ∷ []) ≡ ignored_indices sources ++ (if is_ignored_source source then length sources ∷ [] else [])
 indices_push sources source =
     ap (λ all. map (λ (at : ℕ × StatedSource). at.0) (filter (λ at. is_ignored_source at.1) all)) (enumerate_push 0 sources source)
     ∙ ap (map (λ (at : ℕ × StatedSource). at.0)) (filter-append (λ at. is_ignored_source at.1) (enumerate_from 0 sources) ((length sources + 0, source) ∷ []))
-    ∙ map-append (λ (at : ℕ × StatedSource). at.0) (filter (λ at. is_ignored_source at.1) (enumerate_from 0 sources)) (filter (λ at. is_ignored_source at.1) ((length sources + 0, source) ∷ []))
+    ∙ map-append (λ (at : ℕ × StatedSource). at.0) (filter (λ at. is_ignored_source at.1) (enumerate_from 0 sources))
+    (filter (λ at. is_ignored_source at.1) ((length sources + 0, source) ∷ []))
     ∙ ap (λ last. ignored_indices sources ++ last) (one_index (length sources + 0) source (is_ignored_source source) refl)
     ∙ ap (λ (n : ℕ). ignored_indices sources ++ (if is_ignored_source source then n ∷ [] else [])) (omega arith)
 
@@ -34,7 +38,8 @@ indices_push sources source =
 abbrev pub found_first : ℕ → List StatedSource → Bool → List ℕ
 found_first n sources ignored = if ignored then n ∷ indices_from (n + 1) sources else indices_from (n + 1) sources
 
-pub first_index : (n : ℕ) (source : StatedSource) (sources : List StatedSource) (ignored : Bool) → is_ignored_source source ≡ ignored → indices_from n (source ∷ sources) ≡ found_first n sources ignored
+pub first_index : (n : ℕ) (source : StatedSource) (sources : List StatedSource) (ignored : Bool) → is_ignored_source source ≡ ignored
+    → indices_from n (source ∷ sources) ≡ found_first n sources ignored
 first_index n source sources true is = rw is refl
 first_index n source sources false is = rw is refl
 
@@ -70,7 +75,8 @@ index_value index = number (unsigned index)
 abbrev pub AreIndices : List Value → List SourceEntry → ℕ → Type 0
 AreIndices values sources i = map view values ≡ map index_value (ignored_indices (map source_of (take i sources)))
 
-module _ (values : List Value) (sources : List SourceEntry) (i : ℕ) (source : SourceEntry) (within : i < length sources) (is : source ≡ get_or sources i source) (are : AreIndices values sources i) where
+module _ (values : List Value) (sources : List SourceEntry) (i : ℕ) (source : SourceEntry) (within : i < length sources)
+    (is : source ≡ get_or sources i source) (are : AreIndices values sources i) where
   abbrev before : List StatedSource
   before = map source_of (take i sources)
 
@@ -83,7 +89,8 @@ module _ (values : List Value) (sources : List SourceEntry) (i : ℕ) (source : 
       ap ignored_indices (ap (map source_of) (take_more sources i source within) ∙ map-append source_of (take i sources) (get_or sources i source ∷ []))
       ∙ ap (λ s. ignored_indices (before ++ source_of s ∷ [])) (sym is)
       ∙ indices_push before (source_of source)
-      ∙ ap (λ (n : ℕ). ignored_indices before ++ (if source.ignored then n ∷ [] else [])) (length-map (take i sources) source_of ∙ length-take-le i sources (omega (arith, within)))
+      ∙ ap (λ (n : ℕ). ignored_indices before ++ (if source.ignored then n ∷ [] else []))
+      (length-map (take i sources) source_of ∙ length-take-le i sources (omega (arith, within)))
 
   -- one source more, which is not ignored
   pub skipped : source.ignored ≡ false → AreIndices values sources (i + 1)

@@ -14,10 +14,12 @@ use Rattle.smap_record.specs.declared.section.SectionSources.{SectionSources}
 
 pub same_place : {number number' line line' column column' source_base source_base' name_base name_base' : ℕ}
     → number ≡ number' → line ≡ line' → column ≡ column' → source_base ≡ source_base' → name_base ≡ name_base'
-    → ◌≡◌ {A = SectionPlace} (record { number = number; line = line; column = column; source_base = source_base; name_base = name_base }) (record { number = number'; line = line'; column = column'; source_base = source_base'; name_base = name_base' })
+    → ◌≡◌ {A = SectionPlace} (record { number = number; line = line; column = column; source_base = source_base; name_base = name_base })
+    (record { number = number'; line = line'; column = column'; source_base = source_base'; name_base = name_base' })
 same_place number_is line_is column_is source_base_is name_base_is = rw (number_is, line_is, column_is, source_base_is, name_base_is) refl
 
-pub same_sections : {parts parts' : List Part} {sources sources' : List StatedSources} {names names' : List (List ℕ)} → parts ≡ parts' → sources ≡ sources' → names ≡ names'
+pub same_sections : {parts parts' : List Part} {sources sources' : List StatedSources} {names names' : List (List ℕ)} → parts ≡ parts'
+    → sources ≡ sources' → names ≡ names'
     → ◌≡◌ {A = StatedSections} (record { parts = parts; sources = sources; names = names }) (record { parts = parts'; sources = sources'; names = names' })
 same_sections parts_are sources_are names_are = rw (parts_are, sources_are, names_are) refl
 
@@ -34,12 +36,15 @@ count_seen (section ∷ sections) =
     ∙ sym (sum_by-cons (λ (s : SectionSources). length s.texts.items) section sections)
 
 -- the next section is read at its place
-module _ (before : StatedSections) (entry : SectionEntry) (entries : List SectionEntry) (place : SectionPlace) (place_is : place ≡ place_after before entry) where
-  pub next_section : sections_after before (entry ∷ entries) ≡ (section_in place entry.fields >>= λ section. sections_after (with_section before place section) entries)
+module _ (before : StatedSections) (entry : SectionEntry) (entries : List SectionEntry) (place : SectionPlace)
+    (place_is : place ≡ place_after before entry) where
+  pub next_section : sections_after before (entry ∷ entries)
+      ≡ (section_in place entry.fields >>= λ section. sections_after (with_section before place section) entries)
   unfolding sections_after
   next_section = ap (λ (p : SectionPlace). section_in p entry.fields >>= λ section. sections_after (with_section before p section) entries) (sym place_is)
 
-  pub one_more : (section : StatedSection) → section_in place entry.fields ≡ Ok section → sections_after before (entry ∷ entries) ≡ sections_after (with_section before place section) entries
+  pub one_more : (section : StatedSection) → section_in place entry.fields ≡ Ok section
+      → sections_after before (entry ∷ entries) ≡ sections_after (with_section before place section) entries
   one_more section read = next_section ∙ rw read refl
 
 pub no_more : (before : StatedSections) → sections_after before [] ≡ Ok before

@@ -15,16 +15,19 @@ tail contents = member_where (codes "sourcesContent") contents (member (codes "v
 abbrev pub middle : Data → Data → Data → Option Data → Members
 middle mappings names sources contents = member (codes "mappings") mappings (member (codes "names") names (member (codes "sources") sources (tail contents)))
 
-pub contents_put : (contents : Option Data) → put_where (codes "sourcesContent") contents (put_where (codes "version") (Some version_value) no_members) ≡ tail contents
+pub contents_put : (contents : Option Data)
+    → put_where (codes "sourcesContent") contents (put_where (codes "version") (Some version_value) no_members) ≡ tail contents
 contents_put None = refl
 contents_put (Some value) = refl
 
-pub sources_put : (sources : Data) (contents : Option Data) → put_where (codes "sources") (Some sources) (tail contents) ≡ member (codes "sources") sources (tail contents)
+pub sources_put : (sources : Data) (contents : Option Data)
+    → put_where (codes "sources") (Some sources) (tail contents) ≡ member (codes "sources") sources (tail contents)
 sources_put sources None = refl
 sources_put sources (Some value) = refl
 
 pub mappings_put : (mappings names sources : Data) (contents : Option Data)
-    → put_where (codes "mappings") (Some mappings) (put_where (codes "names") (Some names) (member (codes "sources") sources (tail contents))) ≡ middle mappings names sources contents
+    → put_where (codes "mappings") (Some mappings)
+    (put_where (codes "names") (Some names) (member (codes "sources") sources (tail contents))) ≡ middle mappings names sources contents
 mappings_put mappings names sources contents = refl
 
 pub file_put : (file ignored : Option Data) (mappings names sources : Data) (contents : Option Data)
@@ -46,7 +49,8 @@ pub all_put : (file ignored contents : Option Data) (mappings names sources : Da
     (put_where (codes "version") (Some version_value) no_members))))))
     ≡ member_where (codes "file") file (member_where (codes "ignoreList") ignored (middle mappings names sources contents))
 all_put file ignored contents mappings names sources =
-    ap (λ members. put_where (codes "file") file (put_where (codes "ignoreList") ignored (put_where (codes "mappings") (Some mappings) (put_where (codes "names") (Some names) members))))
+    ap (λ members. put_where (codes "file") file
+    (put_where (codes "ignoreList") ignored (put_where (codes "mappings") (Some mappings) (put_where (codes "names") (Some names) members))))
     (ap (put_where (codes "sources") (Some sources)) (contents_put contents) ∙ sources_put sources contents)
     ∙ ap (λ members. put_where (codes "file") file (put_where (codes "ignoreList") ignored members)) (mappings_put mappings names sources contents)
     ∙ file_put file ignored mappings names sources contents

@@ -1,5 +1,6 @@
 -- Where a source's name is asked for, one of the map's sources has a name.
-use Rattle.std.proofs.Common.{◌≡◌, ℕ, ◌+◌, ◌++◌, ◌||◌, ◌⊎◌, inl, inr, List, [], ◌∷◌, Option, Some, None, Bool, true, true≢false, is_some, map, option_map, String, string_bytes, Global, refl, sym, ap, subst, ◌∙◌}
+use Rattle.std.proofs.Common.{◌≡◌, ℕ, ◌+◌, ◌++◌, ◌||◌, ◌⊎◌, inl, inr, List, [], ◌∷◌, Option, Some, None, Bool, true, true≢false, is_some, map}
+use Rattle.std.proofs.Common.{option_map, String, string_bytes, Global, refl, sym, ap, subst, ◌∙◌}
 use Rattle.std.specs.List.{enumerate_from, list_any}
 use Rattle.std.specs.Prelude.{flat_map}
 use Rattle.std.proofs.lemmas.Bool.{or_right}
@@ -23,11 +24,13 @@ named_at base stated n [] (Some text) rest is = refl
 named_at base stated n (other ∷ before) text rest is = or_right _ _ (named_at base stated (n + 1) before text rest is)
 
 -- where a section names a source, the map does
-pub named_in : {A : Type 0} (sources_of : A → List StatedSource) (before : List A) (section : A) (rest : List A) → NamesASource (sources_of section) → NamesASource (flat_map sources_of (before ++ section ∷ rest))
+pub named_in : {A : Type 0} (sources_of : A → List StatedSource) (before : List A) (section : A) (rest : List A)
+    → NamesASource (sources_of section) → NamesASource (flat_map sources_of (before ++ section ∷ rest))
 named_in sources_of before section rest is =
     let here = sources_of section in
     let later = flat_map sources_of rest in
-    ap (list_any is_named) (flat_map-append sources_of before (section ∷ rest) ∙ ap (λ list. flat_map sources_of before ++ list) (flat_map-cons sources_of section rest))
+    ap (list_any is_named) (flat_map-append sources_of before (section ∷ rest)
+    ∙ ap (λ list. flat_map sources_of before ++ list) (flat_map-cons sources_of section rest))
     ∙ list_any-append is_named (flat_map sources_of before) (here ++ later)
     ∙ or_right _ _ (list_any-append is_named here later ∙ ap (λ some. some || list_any is_named later) is)
 
@@ -41,7 +44,8 @@ text_named None is = absurd (true≢false (sym is))
 text_named (Some text) is = refl
 
 -- where one of a section's texts is there, the section names a source
-pub section_named : (base : Option Parts) (section : SectionSources) (before : List (Option (String Global))) (text : Option (String Global)) (rest : List (Option (String Global)))
+pub section_named : (base : Option Parts) (section : SectionSources) (before : List (Option (String Global)))
+    (text : Option (String Global)) (rest : List (Option (String Global)))
     → before ++ text ∷ rest ≡ section.texts.items → is_some text ≡ true → NamesASource (sources_stated base (sources_seen section))
 section_named base section before text rest are is =
     subst (λ texts. NamesASource (sources_with base (sources_seen section) (texts_seen texts))) are
@@ -50,7 +54,8 @@ section_named base section before text rest are is =
 
 -- where one of the sections names a source, all together do
 pub map_named : (base : Option Parts) (sections before : List SectionSources) (section : SectionSources) (rest : List SectionSources)
-    → before ++ section ∷ rest ≡ sections → NamesASource (sources_stated base (sources_seen section)) → NamesASource (flat_map (sources_stated base) (map sources_seen sections))
+    → before ++ section ∷ rest ≡ sections → NamesASource (sources_stated base (sources_seen section))
+    → NamesASource (flat_map (sources_stated base) (map sources_seen sections))
 map_named base sections before section rest are named =
     subst (λ list. NamesASource (flat_map (sources_stated base) (map sources_seen list))) are
     (subst (λ list. NamesASource (flat_map (sources_stated base) list)) (sym (map-append sources_seen before (section ∷ rest)))

@@ -1,5 +1,6 @@
 -- A written map, read again.
-use Rattle.std.proofs.Common.{◌≡◌, ℕ, ◌+◌, ◌≤◌, List, [], ◌∷◌, length, map, Bool, true, false, nat_lt, if◌then◌else◌, Option, Some, None, Result, Ok, Err, codes, refl, sym, ap, subst, ◌∙◌, arith}
+use Rattle.std.proofs.Common.{◌≡◌, ℕ, ◌+◌, ◌≤◌, List, [], ◌∷◌, length, map, Bool, true, false, nat_lt, if◌then◌else◌, Option, Some, None, Result, Ok}
+use Rattle.std.proofs.Common.{Err, codes, refl, sym, ap, subst, ◌∙◌, arith}
 use Rattle.std.specs.Prelude.{ok_or, option_and_then, option_map}
 use Rattle.std.specs.List.{list_any}
 use Rattle.std.specs.Str.{IsUtf8}
@@ -26,7 +27,8 @@ use Rattle.smap_record.specs.Record.{MapRecord, members_in}
 use Rattle.smap_record.specs.Refusals.{◌>>=◌, unless}
 use Rattle.smap_record.specs.Section.{contents_in, few, ignored_in, mappings_in, names_in, section_in, sources_in, text_in}
 use Rattle.smap_record.specs.Sources.{StatedSource}
-use Rattle.smap_record.specs.Written.{content_of_source, has_content, ignored_indices, is_ignored_source, list_value, text_of_source, value_of_text, written, written_members, written_value}
+use Rattle.smap_record.specs.Written.{content_of_source, has_content, ignored_indices, is_ignored_source, list_value, text_of_source, value_of_text}
+use Rattle.smap_record.specs.Written.{written, written_members, written_value}
 use Rattle.smap_record.specs.declared.refusal.MapRefusal.{MapRefusal}
 use Rattle.smap_record.specs.declared.refusal.MapRefusal.TheVariants as refusals
 use Rattle.smap_record.specs.declared.section.SectionPlace.{SectionPlace}
@@ -54,7 +56,8 @@ value_there rest value utf8 is = ap read_utf8 (begins rest) ∙ value_of_utf8 (1
 pub members_there : (bytes : List ℕ) (ms : Members) → length bytes ≤ most_file_bytes → value_of_file bytes ≡ Some (object ms) → members_in bytes ≡ Ok ms
 members_there bytes ms short is =
     ap (λ found. found >>= λ value. ok_or (as_object value) refusals.NotObject)
-    (cond-false (nat_lt most_file_bytes (length bytes)) (Err refusals.TooLarge) (ok_or (value_of_file bytes) refusals.NotJson) (le-ltb most_file_bytes (length bytes) short)
+    (cond-false (nat_lt most_file_bytes (length bytes)) (Err refusals.TooLarge) (ok_or (value_of_file bytes) refusals.NotJson)
+    (le-ltb most_file_bytes (length bytes) short)
     ∙ ap (λ found. ok_or found refusals.NotJson) is)
 
 few_of : {A : Type 0} (entries : List A) → length entries ≤ most_listed → few 0 entries ≡ Some entries
@@ -81,12 +84,14 @@ module _ (sources : List StatedSource) (names : List (List ℕ)) (file : Option 
 
   entries_are : entries_in (field (codes "sections") value) (section_fields_of value) ≡ Ok (regular_entry fields ∷ [])
   unfolding entries_in
-  entries_are = ap (λ sections. entries_in sections (section_fields_of value)) (sections_field sources names file mappings) ∙ ap (entries_in None) (fields_are sources names file mappings)
+  entries_are = ap (λ sections. entries_in sections (section_fields_of value)) (sections_field sources names file mappings)
+      ∙ ap (entries_in None) (fields_are sources names file mappings)
 
   outer_read : outer_in value ≡ Ok outer
   unfolding outer_in
   outer_read =
-      ap (λ version. version_in version >>= λ three. outer_of (entries_in (field (codes "sections") value) (section_fields_of value)) (text_in (field (codes "file") value))) (version_field sources names file mappings)
+      ap (λ version. version_in version >>= λ three. outer_of (entries_in (field (codes "sections") value) (section_fields_of value))
+      (text_in (field (codes "file") value))) (version_field sources names file mappings)
       ∙ ap (λ entries. outer_of entries (text_in (field (codes "file") value))) entries_are
       ∙ ap (outer_of (Ok outer.entries)) (ap text_in (file_field sources names file mappings) ∙ file_stated file)
     where
@@ -95,7 +100,8 @@ module _ (sources : List StatedSource) (names : List (List ℕ)) (file : Option 
 
   -- ---- the section
 
-  contents_by : (some : Bool) → contents_in (if some then Some (list_value (λ source. value_of_text (content_of_source source)) sources) else None) ≡ Ok (contents_list sources some)
+  contents_by : (some : Bool) → contents_in
+      (if some then Some (list_value (λ source. value_of_text (content_of_source source)) sources) else None) ≡ Ok (contents_list sources some)
   contents_by true = ap (λ found. ok_or found refusals.SourcesContent) (nullable_read content_of_source sources)
   contents_by false = refl
 
@@ -103,8 +109,10 @@ module _ (sources : List StatedSource) (names : List (List ℕ)) (file : Option 
   contents_are = contents_by (list_any has_content sources)
 
   ignored_by : (some : Bool) → list_any is_ignored_source sources ≡ some
-      → ignored_in (length sources) (if some then Some (list_value (λ index. number (unsigned index)) (ignored_indices sources)) else None) ≡ Ok (ignored_flags (length sources) (ignored_indices sources))
-  ignored_by true is = ap (λ found. ok_or (option_map (ignored_flags (length sources)) found) refusals.IgnoreList) (indices_read (length sources) (ignored_indices sources) (indices_below (length sources) 0 sources (omega arith)))
+      → ignored_in (length sources) (if some then Some (list_value (λ index. number (unsigned index)) (ignored_indices sources)) else None)
+      ≡ Ok (ignored_flags (length sources) (ignored_indices sources))
+  ignored_by true is = ap (λ found. ok_or (option_map (ignored_flags (length sources)) found) refusals.IgnoreList)
+      (indices_read (length sources) (ignored_indices sources) (indices_below (length sources) 0 sources (omega arith)))
   ignored_by false is = ap (λ indices. Ok (ignored_flags (length sources) indices)) (sym (no_index sources is))
 
   ignored_are : ignored_in (length sources) fields.ignored ≡ Ok (map is_ignored_source sources)
@@ -128,7 +136,8 @@ module _ (sources : List StatedSource) (names : List (List ℕ)) (file : Option 
       text_is : mappings_in 0 (length sources) (length names) fields.mappings ≡ Ok mappings
       unfolding mappings_in
       text_is =
-          ap (λ (long : Bool). ok_or (if long then None else Some mappings) refusals.Mappings >>= λ text. unless (option_map (refusals.Text 0) (first_fault text (length sources) (length names))) text)
+          ap (λ (long : Bool). ok_or (if long then None else Some mappings) refusals.Mappings >>= λ text. unless
+          (option_map (refusals.Text 0) (first_fault text (length sources) (length names))) text)
           (le-ltb most_text_bytes (length mappings) regular.short)
           ∙ ap (λ fault. unless (option_map (refusals.Text 0) fault) mappings) clean
 
@@ -161,7 +170,8 @@ module _ (sources : List StatedSource) (names : List (List ℕ)) (file : Option 
           file_is = refl;
         }
 
-        pub reads_back : (bytes : List ℕ) → length bytes ≤ most_file_bytes → value_of_file bytes ≡ Some value → ReadsBackAs bytes (mappings_of mappings) sources names file
+        pub reads_back : (bytes : List ℕ) → length bytes ≤ most_file_bytes → value_of_file bytes ≡ Some value
+            → ReadsBackAs bytes (mappings_of mappings) sources names file
         reads_back bytes short value_is k interval = (
           back,
           stated bytes None k members outer sections sections.parts (members_there bytes members short value_is) outer_read sections_read
@@ -172,19 +182,25 @@ module _ (sources : List StatedSource) (names : List (List ℕ)) (file : Option 
 
 -- ---- the text of a written map
 
-module _ (sources : List StatedSource) (names : List (List ℕ)) (file : Option (List ℕ)) (mappings : List ℕ) (bytes : List ℕ) (seen : Data) (seen_is : seen ≡ written_value sources names file mappings) where
+module _ (sources : List StatedSource) (names : List (List ℕ)) (file : Option (List ℕ)) (mappings : List ℕ) (bytes : List ℕ) (seen : Data)
+    (seen_is : seen ≡ written_value sources names file mappings) where
   pub is_written : (has_float seen ≡ false → bytes ≡ compact_text seen) → bytes ≡ written sources names file mappings
   unfolding written
   is_written text = text (ap has_float seen_is ∙ no_float sources names file mappings) ∙ ap compact_text seen_is
 
-  pub reads_as : bytes ≡ written sources names file mappings → IsUtf8 bytes → (depth seen ≤ max_depth → read bytes ≡ Some seen) → value_of_file bytes ≡ Some (written_value sources names file mappings)
+  pub reads_as : bytes ≡ written sources names file mappings → IsUtf8 bytes → (depth seen ≤ max_depth → read bytes ≡ Some seen)
+      → value_of_file bytes ≡ Some (written_value sources names file mappings)
   unfolding written
   reads_as text utf8 back =
-      let found : read bytes ≡ Some (written_value sources names file mappings) = back (subst (λ d. depth d ≤ max_depth) (sym seen_is) (not_deep sources names file mappings)) ∙ ap Some seen_is in
-      subst (λ b. IsUtf8 b → read b ≡ Some (written_value sources names file mappings) → value_of_file b ≡ Some (written_value sources names file mappings)) (sym text)
+      let found : read bytes ≡ Some (written_value sources names file mappings) =
+      back (subst (λ d. depth d ≤ max_depth) (sym seen_is) (not_deep sources names file mappings)) ∙ ap Some seen_is in
+      subst (λ b. IsUtf8 b → read b ≡ Some (written_value sources names file mappings)
+      → value_of_file b ≡ Some (written_value sources names file mappings)) (sym text)
       (value_there _ (written_value sources names file mappings)) utf8 found
 
 -- with the counts of the lists that are seen as these
-pub regular_seen : {A B X Y : Type 0} (f : A → X) (g : B → Y) (sources : List A) (names : List B) (text : List ℕ) → IsRegularMap (length sources) (length names) text → IsRegularMap (length (map f sources)) (length (map g names)) text
+pub regular_seen : {A B X Y : Type 0} (f : A → X) (g : B → Y) (sources : List A) (names : List B) (text : List ℕ)
+    → IsRegularMap (length sources) (length names) text → IsRegularMap (length (map f sources)) (length (map g names)) text
 regular_seen f g sources names text regular =
-    subst (λ n. IsRegularMap n (length (map g names)) text) (sym (length-map sources f)) (subst (λ n. IsRegularMap (length sources) n text) (sym (length-map names g)) regular)
+    subst (λ n. IsRegularMap n (length (map g names)) text) (sym (length-map sources f))
+    (subst (λ n. IsRegularMap (length sources) n text) (sym (length-map names g)) regular)

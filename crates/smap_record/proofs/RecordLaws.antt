@@ -17,7 +17,12 @@ unless_is (Some refusal) value given is = absurd (cc)
 
 pub stated : (bytes : List ℕ) (base : Option Parts) (k : ℕ) (ms : Members) (outer : StatedOuter) (sections : StatedSections) (parts : List Part)
     → members_in bytes ≡ Ok ms → outer_in (object ms) ≡ Ok outer → sections_after no_sections outer.entries ≡ Ok sections → indexed sections.parts k ≡ Ok parts
-    → record_of bytes base k ≡ Ok (record { parts = parts; sources = flat_map (sources_stated base) sections.sources; names = sections.names; file = outer.file })
+    → record_of bytes base k ≡ Ok (record {
+      parts = parts;
+      sources = flat_map (sources_stated base) sections.sources;
+      names = sections.names;
+      file = outer.file;
+    })
 unfolding record_of record_in
 stated bytes base k ms outer sections parts members_read outer_read sections_read built =
     rw (members_read, outer_read, sections_read, built) refl

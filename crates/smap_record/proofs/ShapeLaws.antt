@@ -8,7 +8,8 @@ use Rattle.serde_json.specs.Read.{max_depth}
 use Rattle.serde_json.specs.View.{items_of}
 use Rattle.serde_json.specs.Written.{has_float, items_have_float, members_have_float}
 use Rattle.smap_record.specs.Sources.{StatedSource}
-use Rattle.smap_record.specs.Written.{content_of_source, contents_value, has_content, ignored_indices, ignored_value, is_ignored_source, list_value, member_where, text_of_source, value_of_text, written_members, written_value}
+use Rattle.smap_record.specs.Written.{content_of_source, contents_value, has_content, ignored_indices, ignored_value, is_ignored_source, list_value}
+use Rattle.smap_record.specs.Written.{member_where, text_of_source, value_of_text, written_members, written_value}
 
 -- no number of it is a float, and it nests no deeper than a list
 pub record IsShallow (value : Data) : Type 0 where
@@ -79,21 +80,26 @@ module _ (sources : List StatedSource) (names : List (List ℕ)) (file : Option 
   version_shallow : AreShallow (member (codes "version") (number (unsigned 3)) no_members)
   version_shallow = record { exact = refl; deep = omega arith }
 
-  sources_shallow : AreShallow (member (codes "sources") (list_value name_value sources) (member_where (codes "sourcesContent") (contents_value sources) (member (codes "version") (number (unsigned 3)) no_members)))
+  sources_shallow : AreShallow (member (codes "sources") (list_value name_value sources)
+      (member_where (codes "sourcesContent") (contents_value sources) (member (codes "version") (number (unsigned 3)) no_members)))
   sources_shallow =
       with_member (codes "sources") (list_value name_value sources) _ (list_shallow name_value (λ source. plain_or_null (text_of_source source)) sources)
       (where_there (codes "sourcesContent") (contents_value sources) _
-      (if_shallow (list_any has_content sources) (list_value content_value sources) (list_shallow content_value (λ source. plain_or_null (content_of_source source)) sources))
+      (if_shallow (list_any has_content sources) (list_value content_value sources)
+      (list_shallow content_value (λ source. plain_or_null (content_of_source source)) sources))
       version_shallow)
 
-  all_shallow : (members : Members) → AreShallow members → IsShallow (string mappings) → AreShallow (member (codes "mappings") (string mappings) (member (codes "names") (list_value string names) members))
-  all_shallow members rest text = with_member (codes "mappings") (string mappings) _ text (with_member (codes "names") (list_value string names) members (list_shallow string plain_text names) rest)
+  all_shallow : (members : Members) → AreShallow members → IsShallow (string mappings)
+      → AreShallow (member (codes "mappings") (string mappings) (member (codes "names") (list_value string names) members))
+  all_shallow members rest text = with_member (codes "mappings") (string mappings) _ text
+      (with_member (codes "names") (list_value string names) members (list_shallow string plain_text names) rest)
 
   members_shallow : AreShallow (written_members sources names file mappings)
   members_shallow =
       where_there (codes "file") (option_map string file) _ (text_shallow file)
       (where_there (codes "ignoreList") (ignored_value sources) _
-      (if_shallow (list_any is_ignored_source sources) (list_value (λ index. number (unsigned index)) (ignored_indices sources)) (list_shallow (λ index. number (unsigned index)) plain_index (ignored_indices sources)))
+      (if_shallow (list_any is_ignored_source sources) (list_value (λ index. number (unsigned index)) (ignored_indices sources))
+      (list_shallow (λ index. number (unsigned index)) plain_index (ignored_indices sources)))
       (all_shallow _ sources_shallow (from_plain (string mappings) (plain_text mappings))))
 
   pub no_float : has_float (written_value sources names file mappings) ≡ false

@@ -1,5 +1,6 @@
 -- The sources of a written map, as they are read again.
-use Rattle.std.proofs.Common.{◌≡◌, ℕ, suc, zero, ◌+◌, ◌<◌, ◌≤◌, List, [], ◌∷◌, ◌++◌, length, map, get_or, Bool, true, false, ◌||◌, ◌==◌, if◌then◌else◌, Option, Some, None, refl, sym, ap, subst, ◌∙◌, arith, eq-eqb}
+use Rattle.std.proofs.Common.{◌≡◌, ℕ, suc, zero, ◌+◌, ◌<◌, ◌≤◌, List, [], ◌∷◌, ◌++◌, length, map, get_or, Bool, true, false, ◌||◌, ◌==◌}
+use Rattle.std.proofs.Common.{if◌then◌else◌, Option, Some, None, refl, sym, ap, subst, ◌∙◌, arith, eq-eqb}
 use Rattle.std.specs.Prelude.{is_some, slice_get, unwrap_or}
 use Rattle.std.specs.List.{AllByRecursion, enumerate_from, list_any}
 use Rattle.std.specs.Option.{option_flatten}
@@ -14,7 +15,8 @@ use Rattle.smap_record.proofs.WithinLaws.{both_false}
 
 -- ---- the indices of the ignored ones
 
-below_first : (limit n : ℕ) (sources : List StatedSource) (ignored : Bool) → n < limit → AllByRecursion (λ index. index < limit) (indices_from (n + 1) sources) → AllByRecursion (λ index. index < limit) (found_first n sources ignored)
+below_first : (limit n : ℕ) (sources : List StatedSource) (ignored : Bool) → n < limit
+    → AllByRecursion (λ index. index < limit) (indices_from (n + 1) sources) → AllByRecursion (λ index. index < limit) (found_first n sources ignored)
 below_first limit n sources true below all = (below, all)
 below_first limit n sources false below all = all
 
@@ -27,7 +29,8 @@ indices_below limit n (source ∷ sources) few =
 abbrev is_in : ℕ → List ℕ → Bool
 is_in i indices = list_any (λ index. index == i) indices
 
-past_first : (n i : ℕ) (sources : List StatedSource) (ignored : Bool) → (n == i) ≡ false → is_in i (found_first n sources ignored) ≡ is_in i (indices_from (n + 1) sources)
+past_first : (n i : ℕ) (sources : List StatedSource) (ignored : Bool) → (n == i) ≡ false
+    → is_in i (found_first n sources ignored) ≡ is_in i (indices_from (n + 1) sources)
 past_first n i sources true apart = ap (λ b. b || is_in i (indices_from (n + 1) sources)) apart
 past_first n i sources false apart = refl
 
@@ -61,7 +64,8 @@ at_zero sources j within = flag_of 0 j sources within ∙ ap (λ (i : ℕ). is_i
 
 -- the flags are those of the sources
 pub flags_are : (sources : List StatedSource) → ignored_flags (length sources) (ignored_indices sources) ≡ map is_ignored_source sources
-flags_are sources = sym (fill_by_all (is_ignored (ignored_indices sources)) (map is_ignored_source sources) (length sources) false (length-map sources is_ignored_source) (at_zero sources))
+flags_are sources = sym (fill_by_all (is_ignored (ignored_indices sources)) (map is_ignored_source sources) (length sources) false
+    (length-map sources is_ignored_source) (at_zero sources))
 
 -- ---- by place
 
@@ -76,14 +80,16 @@ module _ {A B T : Type 0} (out : Option A → B) where
   from_place before [] (text ∷ texts) many = absurd (omega (arith, many))
   from_place before (x ∷ after) [] many = absurd (omega (arith, many))
   from_place before (x ∷ after) (text ∷ texts) many =
-      ap (λ found. out found ∷ map (λ (at : ℕ × T). out (slice_get (before ++ x ∷ after) at.0)) (enumerate_from (length before + 1) texts)) (get_here before x after)
+      ap (λ found. out found ∷ map (λ (at : ℕ × T). out (slice_get (before ++ x ∷ after) at.0)) (enumerate_from (length before + 1) texts))
+      (get_here before x after)
       ∙ ap (λ others. out (Some x) ∷ others)
       (ap (λ all. map (λ (at : ℕ × T). out (slice_get all at.0)) (enumerate_from (length before + 1) texts)) (sym (append_assoc before (x ∷ []) after))
       ∙ ap (λ (n : ℕ). map (λ (at : ℕ × T). out (slice_get ((before ++ x ∷ []) ++ after) at.0)) (enumerate_from n texts)) (sym (length_push before x))
       ∙ from_place (before ++ x ∷ []) after texts (omega (arith, many)))
 
   -- what stands at each place of a list that is as long
-  pub by_place : (list : List A) (texts : List T) → length texts ≡ length list → map (λ (at : ℕ × T). out (slice_get list at.0)) (enumerate_from 0 texts) ≡ map (λ x. out (Some x)) list
+  pub by_place : (list : List A) (texts : List T) → length texts ≡ length list
+      → map (λ (at : ℕ × T). out (slice_get list at.0)) (enumerate_from 0 texts) ≡ map (λ x. out (Some x)) list
   by_place list texts many = from_place [] list texts many
 
   -- and of one that is empty
@@ -101,7 +107,8 @@ none_there : (content : Option (List ℕ)) → is_some content ≡ false → Non
 none_there None is = refl
 none_there (Some text) is = absurd (cc)
 
-no_contents : (sources : List StatedSource) → list_any has_content sources ≡ false → map (λ (text : Option (List ℕ)). None) (map text_of_source sources) ≡ map content_of_source sources
+no_contents : (sources : List StatedSource) → list_any has_content sources ≡ false
+    → map (λ (text : Option (List ℕ)). None) (map text_of_source sources) ≡ map content_of_source sources
 no_contents [] none = refl
 no_contents (source ∷ sources) none =
     let parts = both_false (has_content source) (list_any has_content sources) none in
@@ -113,9 +120,11 @@ abbrev pub contents_list : List StatedSource → Bool → List (Option (List ℕ
 contents_list sources some = if some then map content_of_source sources else []
 
 contents_by : (sources : List StatedSource) (some : Bool) → list_any has_content sources ≡ some
-    → map (λ (at : ℕ × Option (List ℕ)). option_flatten (slice_get (contents_list sources some) at.0)) (enumerate_from 0 (map text_of_source sources)) ≡ map content_of_source sources
+    → map (λ (at : ℕ × Option (List ℕ)). option_flatten (slice_get (contents_list sources some) at.0))
+    (enumerate_from 0 (map text_of_source sources)) ≡ map content_of_source sources
 contents_by sources true is =
-    by_place option_flatten (map content_of_source sources) (map text_of_source sources) (length-map sources text_of_source ∙ sym (length-map sources content_of_source))
+    by_place option_flatten (map content_of_source sources) (map text_of_source sources)
+    (length-map sources text_of_source ∙ sym (length-map sources content_of_source))
     ∙ map-id (map content_of_source sources)
 contents_by sources false is = nowhere option_flatten 0 (map text_of_source sources) ∙ no_contents sources is
 
@@ -142,11 +151,14 @@ module _ (sources : List StatedSource) where
 
   pub same_contents : map content_of_source (read_sources sources) ≡ map content_of_source sources
   same_contents =
-      map_map (λ (at : ℕ × Option (List ℕ)). source_at None (written_sources sources) at.0 at.1) content_of_source (enumerate_from 0 (map text_of_source sources))
+      map_map (λ (at : ℕ × Option (List ℕ)). source_at None (written_sources sources) at.0 at.1) content_of_source
+      (enumerate_from 0 (map text_of_source sources))
       ∙ contents_by sources (list_any has_content sources) refl
 
   pub same_ignored : map is_ignored_source (read_sources sources) ≡ map is_ignored_source sources
   same_ignored =
-      map_map (λ (at : ℕ × Option (List ℕ)). source_at None (written_sources sources) at.0 at.1) is_ignored_source (enumerate_from 0 (map text_of_source sources))
-      ∙ by_place (λ (flag : Option Bool). unwrap_or flag false) (map is_ignored_source sources) (map text_of_source sources) (length-map sources text_of_source ∙ sym (length-map sources is_ignored_source))
+      map_map (λ (at : ℕ × Option (List ℕ)). source_at None (written_sources sources) at.0 at.1) is_ignored_source
+      (enumerate_from 0 (map text_of_source sources))
+      ∙ by_place (λ (flag : Option Bool). unwrap_or flag false) (map is_ignored_source sources) (map text_of_source sources)
+      (length-map sources text_of_source ∙ sym (length-map sources is_ignored_source))
       ∙ map-id (map is_ignored_source sources)

@@ -1,6 +1,7 @@
 -- The sections of an index map (ECMA-426, Index source map). This project's own are: that a regular map is the one
 -- section of itself, the limits, and that an index map in an index map is refused.
-use Rattle.std.specs.Prelude.{ℕ, List, [], ◌∷◌, ◌++◌, Option, Some, None, Result, Ok, Bool, false, is_some, is_none, nat_lt, if◌then◌else◌, length, ok_or, position, option_map, option_and_then, unwrap_or, codes}
+use Rattle.std.specs.Prelude.{ℕ, List, [], ◌∷◌, ◌++◌, Option, Some, None, Result, Ok, Bool, false, is_some, is_none, nat_lt, if◌then◌else◌, length}
+use Rattle.std.specs.Prelude.{ok_or, position, option_map, option_and_then, unwrap_or, codes}
 use Rattle.std.specs.List.{sum_by}
 use Rattle.serde_json.specs.Data.{Data, Members, object}
 use Rattle.serde_json.specs.Find.{as_object}

@@ -19,7 +19,8 @@ pub record IsRegularMap (sources names : ℕ) (text : List ℕ) : Type 0 where
 
 -- a record has these mappings, and as many sources as these, with their contents and their marks of being ignored, and
 -- these names and this generated file. The names of its sources may be others, since they are resolved again
-pub record IsReadBackOf (mappings : List Mapping) (sources : List StatedSource) (names : List (List ℕ)) (file : Option (List ℕ)) (read : MapRecord) : Type 0 where
+pub record IsReadBackOf (mappings : List Mapping) (sources : List StatedSource) (names : List (List ℕ)) (file : Option (List ℕ))
+    (read : MapRecord) : Type 0 where
   pub list : joined read.parts ≡ mappings
   pub many : length read.sources ≡ length sources
   pub contents : map content_of_source read.sources ≡ map content_of_source sources

@@ -20,6 +20,8 @@ spelled c is = ⊎_elim
     (λ (past1 : 128 ≤ c). ⊎_elim
     (λ (low : c < 2048). two past1 low (cond-false _ _ _ (le-ltb c 128 past1) ∙ cond-true _ _ _ (lt-ltb c 2048 low)))
     (λ (past2 : 2048 ≤ c). ⊎_elim
-    (λ (low : c < 65536). three past2 low (cond-false _ _ _ (le-ltb c 128 past1) ∙ cond-false _ _ _ (le-ltb c 2048 past2) ∙ cond-true _ _ _ (lt-ltb c 65536 low)))
-    (λ (past3 : 65536 ≤ c). four past3 (scalar_below c is) (cond-false _ _ _ (le-ltb c 128 past1) ∙ cond-false _ _ _ (le-ltb c 2048 past2) ∙ cond-false _ _ _ (le-ltb c 65536 past3)))
+    (λ (low : c < 65536). three past2 low (cond-false _ _ _ (le-ltb c 128 past1) ∙ cond-false _ _ _ (le-ltb c 2048 past2)
+    ∙ cond-true _ _ _ (lt-ltb c 65536 low)))
+    (λ (past3 : 65536 ≤ c). four past3 (scalar_below c is)
+    (cond-false _ _ _ (le-ltb c 128 past1) ∙ cond-false _ _ _ (le-ltb c 2048 past2) ∙ cond-false _ _ _ (le-ltb c 65536 past3)))
     (cases_lt c 65536)) (cases_lt c 2048)) (cases_lt c 128)

@@ -1,5 +1,6 @@
 -- How the bytes of a character show whether it ends a line.
-use Rattle.std.proofs.Common.{◌≡◌, ◌+◌, ◌-◌, ◌*◌, ◌<◌, ◌≤◌, ◌/◌, ◌⊎◌, ℕ, suc, true, false, eqb, List, ◌∷◌, ◌++◌, length, get_or, take, drop, ap, subst, ◌∙◌, arith, eq-eqb, inl, inr, ⊎_elim}
+use Rattle.std.proofs.Common.{◌≡◌, ◌+◌, ◌-◌, ◌*◌, ◌<◌, ◌≤◌, ◌/◌, ◌⊎◌, ℕ, suc, true, false, eqb, List, ◌∷◌, ◌++◌, length, get_or, take, drop, ap}
+use Rattle.std.proofs.Common.{subst, ◌∙◌, arith, eq-eqb, inl, inr, ⊎_elim}
 use Rattle.std.proofs.lemmas.Bool.{cond-true, cond-false, eqb-true, ne_eqb, or_cases, or_parts, eqb-false}
 use Rattle.std.proofs.lemmas.Bool.Decides.{nat_tests}
 use Rattle.std.proofs.lemmas.List.{drop_all, drop_more, take_rest}
@@ -24,7 +25,8 @@ other_passes : (b : ℕ) (bs : List ℕ) → (b ≡ 10 → ⊥) → (b ≡ 13 �
 other_passes b bs not_lf not_cr not_e2 = grind (arith, nat_tests)
 
 -- nor with E2 that does not begin a separator
-three_pass : (x y z : ℕ) (bs : List ℕ) → (x ≡ 10 → ⊥) → (x ≡ 13 → ⊥) → (x ≡ 226 → y ≡ 128 → z ≡ 168 → ⊥) → (x ≡ 226 → y ≡ 128 → z ≡ 169 → ⊥) → end_bytes (x ∷ y ∷ z ∷ bs) ≡ 0
+three_pass : (x y z : ℕ) (bs : List ℕ) → (x ≡ 10 → ⊥) → (x ≡ 13 → ⊥) → (x ≡ 226 → y ≡ 128 → z ≡ 168 → ⊥) → (x ≡ 226 → y ≡ 128 → z ≡ 169 → ⊥)
+    → end_bytes (x ∷ y ∷ z ∷ bs) ≡ 0
 three_pass x y z bs not_lf not_cr not_28 not_29 = grind (arith, nat_tests)
 
 next_passes : (n : ℕ) (bs : List ℕ) → line_bytes (next n ∷ bs) ≡ suc (line_bytes bs)
@@ -35,7 +37,8 @@ next_passes n bs = byte_passes (next n) bs (other_passes (next n) bs (λ e. omeg
 -- the four ends
 pub ends_are : (c : ℕ) → is_line_end c ≡ true → ((c ≡ 0x0A) ⊎ (c ≡ 0x0D)) ⊎ ((c ≡ 0x2028) ⊎ (c ≡ 0x2029))
 ends_are c is = ⊎_elim
-    (λ h. ⊎_elim (λ h. ⊎_elim (λ h. inl (inl (eqb-true c 0x0A h))) (λ h. inl (inr (eqb-true c 0x0D h))) (or_cases _ _ h)) (λ h. inr (inl (eqb-true c 0x2028 h))) (or_cases _ _ h))
+    (λ h. ⊎_elim (λ h. ⊎_elim (λ h. inl (inl (eqb-true c 0x0A h))) (λ h. inl (inr (eqb-true c 0x0D h))) (or_cases _ _ h))
+    (λ h. inr (inl (eqb-true c 0x2028 h))) (or_cases _ _ h))
     (λ h. inr (inr (eqb-true c 0x2029 h)))
     (or_cases _ _ is)
 
@@ -55,7 +58,8 @@ passes c (one low e) no_end bs =
     let first : line_bytes (c ∷ bs) ≡ suc (line_bytes bs) = byte_passes c bs (other_passes c bs other.0 other.1 (λ e. omega arith)) in
     rw e (omega arith)
 passes c (two past low e) no_end bs =
-    let first : line_bytes ((192 + c / 64) ∷ next c ∷ bs) ≡ suc (line_bytes (next c ∷ bs)) = byte_passes _ _ (other_passes (192 + c / 64) (next c ∷ bs) (λ e. omega arith) (λ e. omega arith) (λ e. omega arith)) in
+    let first : line_bytes ((192 + c / 64) ∷ next c ∷ bs) ≡ suc (line_bytes (next c ∷ bs)) =
+    byte_passes _ _ (other_passes (192 + c / 64) (next c ∷ bs) (λ e. omega arith) (λ e. omega arith) (λ e. omega arith)) in
     let second : line_bytes (next c ∷ bs) ≡ suc (line_bytes bs) = next_passes c bs in
     rw e (omega arith)
 passes c (three past low e) no_end bs =
@@ -67,9 +71,12 @@ passes c (three past low e) no_end bs =
     let third : line_bytes (next c ∷ bs) ≡ suc (line_bytes bs) = next_passes c bs in
     rw e (omega arith)
 passes c (four past low e) no_end bs =
-    let first : line_bytes ((240 + c / 262144) ∷ next (c / 4096) ∷ next (c / 64) ∷ next c ∷ bs) ≡ suc (line_bytes (next (c / 4096) ∷ next (c / 64) ∷ next c ∷ bs)) =
-    byte_passes _ _ (other_passes (240 + c / 262144) (next (c / 4096) ∷ next (c / 64) ∷ next c ∷ bs) (λ e. omega arith) (λ e. omega arith) (λ e. omega arith)) in
-    let second : line_bytes (next (c / 4096) ∷ next (c / 64) ∷ next c ∷ bs) ≡ suc (line_bytes (next (c / 64) ∷ next c ∷ bs)) = next_passes (c / 4096) (next (c / 64) ∷ next c ∷ bs) in
+    let first : line_bytes ((240 + c / 262144) ∷ next (c / 4096) ∷ next (c / 64) ∷ next c ∷ bs)
+    ≡ suc (line_bytes (next (c / 4096) ∷ next (c / 64) ∷ next c ∷ bs)) =
+    byte_passes _ _ (other_passes (240 + c / 262144) (next (c / 4096) ∷ next (c / 64) ∷ next c ∷ bs) (λ e. omega arith) (λ e. omega arith)
+    (λ e. omega arith)) in
+    let second : line_bytes (next (c / 4096) ∷ next (c / 64) ∷ next c ∷ bs) ≡ suc (line_bytes (next (c / 64) ∷ next c ∷ bs)) =
+    next_passes (c / 4096) (next (c / 64) ∷ next c ∷ bs) in
     let third : line_bytes (next (c / 64) ∷ next c ∷ bs) ≡ suc (line_bytes (next c ∷ bs)) = next_passes (c / 64) (next c ∷ bs) in
     let fourth : line_bytes (next c ∷ bs) ≡ suc (line_bytes bs) = next_passes c bs in
     rw e (omega arith)

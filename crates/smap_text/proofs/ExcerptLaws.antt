@@ -12,13 +12,16 @@ joined xs ys =
     ∙ ap (λ l. ((encodes xs ++ encode 0x0A) ++ encodes ys) ++ l) (append-nil (encode 0x5E))
 
 -- what is added one after another
-in_turn : (xs ys empty begun ended spaced all : List ℕ) → empty ≡ [] → begun ≡ empty ++ encodes xs → ended ≡ begun ++ encode 0x0A → spaced ≡ ended ++ encodes ys → all ≡ spaced ++ encode 0x5E
+in_turn : (xs ys empty begun ended spaced all : List ℕ) → empty ≡ [] → begun ≡ empty ++ encodes xs → ended ≡ begun ++ encode 0x0A
+    → spaced ≡ ended ++ encodes ys → all ≡ spaced ++ encode 0x5E
     → all ≡ encodes ((xs ++ 0x0A ∷ ys) ++ 0x5E ∷ [])
 in_turn xs ys empty begun ended spaced all none a b d e =
     e ∙ ap (λ l. l ++ encode 0x5E) (d ∙ ap (λ l. l ++ encodes ys) (b ∙ ap (λ l. l ++ encode 0x0A) (a ∙ ap (λ l. l ++ encodes xs) none))) ∙ sym (joined xs ys)
 
-pub assembled : (line empty begun ended spaced all : List ℕ) (number first before : ℕ) → empty ≡ [] → begun ≡ empty ++ encodes (map shown_character (take 120 (drop first line)))
-    → ended ≡ begun ++ encode 0x0A → spaced ≡ ended ++ encodes (replicate (number - first) 0x20) → all ≡ spaced ++ encode 0x5E → number ≡ before → first ≡ number - 60
+pub assembled : (line empty begun ended spaced all : List ℕ) (number first before : ℕ) → empty ≡ []
+    → begun ≡ empty ++ encodes (map shown_character (take 120 (drop first line)))
+    → ended ≡ begun ++ encode 0x0A → spaced ≡ ended ++ encodes (replicate (number - first) 0x20) → all ≡ spaced ++ encode 0x5E
+    → number ≡ before → first ≡ number - 60
     → all ≡ encodes (excerpt_text line before)
 assembled line empty begun ended spaced all number first before none a b d e counted from =
     in_turn (map shown_character (take 120 (drop first line))) (replicate (number - first) 0x20) empty begun ended spaced all none a b d e

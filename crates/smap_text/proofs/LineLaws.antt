@@ -1,5 +1,6 @@
 -- The first line of a text, by its characters and by its bytes.
-use Rattle.std.proofs.Common.{◌≡◌, ◌+◌, ◌-◌, ◌<◌, ℕ, suc, zero, Bool, true, false, eqb, List, [], ◌∷◌, ◌++◌, length, get_or, take, drop, Some, None, slice_get, refl, sym, ap, subst, ◌∙◌, arith, ⊎_elim}
+use Rattle.std.proofs.Common.{◌≡◌, ◌+◌, ◌-◌, ◌<◌, ℕ, suc, zero, Bool, true, false, eqb, List, [], ◌∷◌, ◌++◌, length, get_or, take, drop, Some, None}
+use Rattle.std.proofs.Common.{slice_get, refl, sym, ap, subst, ◌∙◌, arith, ⊎_elim}
 use Rattle.std.specs.Str.{IsUtf8, IsCharBoundary, chars}
 use Rattle.std.proofs.lemmas.Bool.{cond-false, eqb-true, eqb-false, ne_eqb, and_left, and_parts, and_from, cases_Bool}
 use Rattle.std.proofs.lemmas.List.{append_assoc, length-append, take_at, drop_at, take_all, drop_all, drop-drop, length-drop}
@@ -15,7 +16,8 @@ use Rattle.smap_text.proofs.EndLaws.{byte_ends, cr_ends, character_passes, ends_
 pub data FirstLine : List ℕ → Type 0 where
   last : {cs : List ℕ} → lines_of cs ≡ cs ∷ [] → line_bytes (encodes cs) ≡ length (encodes cs) → FirstLine cs
   ended : {cs : List ℕ} (first ending rest : List ℕ) → cs ≡ first ++ (ending ++ rest) → lines_of cs ≡ first ∷ lines_of rest
-      → line_bytes (encodes cs) ≡ length (encodes first) → end_bytes (encodes (ending ++ rest)) ≡ length (encodes ending) → 0 < length (encodes ending) → FirstLine cs
+      → line_bytes (encodes cs) ≡ length (encodes first) → end_bytes (encodes (ending ++ rest)) ≡ length (encodes ending)
+      → 0 < length (encodes ending) → FirstLine cs
 
 lines_go_on : (c : ℕ) (cs : List ℕ) → is_line_end c ≡ false → lines_of (c ∷ cs) ≡ with_front c (lines_of cs)
 unfolding lines_of
@@ -128,9 +130,11 @@ ended_bytes first ending rest is lines some =
     let later : text ≡ (encodes first ++ encodes ending) ++ encodes rest =
     seam ∙ ap (λ l. encodes first ++ l) (encodes-append ending rest) ∙ sym (append_assoc (encodes first) (encodes ending) (encodes rest)) in
     let both : length (encodes first ++ encodes ending) ≡ length (encodes first) + length (encodes ending) = length-append (encodes first) (encodes ending) in
-    let taken : take (length (encodes first)) text ≡ encodes first = ap (take (length (encodes first))) seam ∙ take_at (encodes first) (encodes (ending ++ rest)) (length (encodes first)) refl in
+    let taken : take (length (encodes first)) text ≡ encodes first =
+    ap (take (length (encodes first))) seam ∙ take_at (encodes first) (encodes (ending ++ rest)) (length (encodes first)) refl in
     let dropped : drop (length (encodes first) + length (encodes ending)) text ≡ encodes rest =
-    ap (drop (length (encodes first) + length (encodes ending))) later ∙ drop_at (encodes first ++ encodes ending) (encodes rest) (length (encodes first) + length (encodes ending)) both in
+    ap (drop (length (encodes first) + length (encodes ending))) later
+    ∙ drop_at (encodes first ++ encodes ending) (encodes rest) (length (encodes first) + length (encodes ending)) both in
     record {
       boundary = IsCharBoundary-at_seam text (encodes first) (encodes (ending ++ rest)) seam (ending ++ rest, (is_first.1, refl));
       first = ap (λ l. slice_get (lines_of l) 0) back ∙ ap (λ l. slice_get l 0) lines ∙ ap Some (sym (ap chars taken ∙ chars-encodes first is_first.0));
@@ -171,9 +175,11 @@ first_read text bytes line is_text same at =
     let here : line_bytes text ≡ line = sym (at ∙ ap line_bytes same) in
     subst (λ n. FirstBytes text n (end_bytes (drop n text))) here (first_bytes text is_text)
 
-pub end_read : (text bytes : List ℕ) (line end : ℕ) → IsUtf8 text → bytes ≡ text → line ≡ line_bytes bytes → end ≡ end_bytes (take (length bytes - line) (drop line bytes)) → FirstBytes text line end
+pub end_read : (text bytes : List ℕ) (line end : ℕ) → IsUtf8 text → bytes ≡ text → line ≡ line_bytes bytes
+    → end ≡ end_bytes (take (length bytes - line) (drop line bytes)) → FirstBytes text line end
 end_read text bytes line end is_text same at read =
-    subst (λ n. FirstBytes text line n) (sym (read_from end line bytes read ∙ ap (λ l. end_bytes (drop line l)) same)) (first_read text bytes line is_text same at)
+    subst (λ n. FirstBytes text line n) (sym (read_from end line bytes read ∙ ap (λ l. end_bytes (drop line l)) same))
+    (first_read text bytes line is_text same at)
 
 -- ---- line after line
 
@@ -188,7 +194,8 @@ slice_get_drop (x ∷ xs) (suc n) = slice_get_drop xs n
 slice_get_past : (xs : List (List ℕ)) (n : ℕ) → drop n xs ≡ [] → slice_get xs n ≡ None
 slice_get_past xs n none = slice_get_drop xs n ∙ ap (λ l. slice_get l 0) none
 
-pub from_next : (content : List ℕ) (line : ℕ) (text rest : List ℕ) → IsRestFrom content line text → drop 1 (lines_of (chars text)) ≡ lines_of (chars rest) → drop (length text - length rest) text ≡ rest
+pub from_next : (content : List ℕ) (line : ℕ) (text rest : List ℕ) → IsRestFrom content line text
+    → drop 1 (lines_of (chars text)) ≡ lines_of (chars rest) → drop (length text - length rest) text ≡ rest
     → IsRestFrom content (line + 1) rest
 from_next content line text rest from lines within = record {
   start = from.start + (length text - length rest);
@@ -197,10 +204,13 @@ from_next content line text rest from lines within = record {
 }
 
 -- where the text ends with the line before, it has no line of that number or a later one
-pub none_after : (content : List ℕ) (line asked : ℕ) (text : List ℕ) → IsRestFrom content line text → line < asked → drop 1 (lines_of (chars text)) ≡ [] → slice_get (lines_of (chars content)) asked ≡ None
+pub none_after : (content : List ℕ) (line asked : ℕ) (text : List ℕ) → IsRestFrom content line text → line < asked
+    → drop 1 (lines_of (chars text)) ≡ [] → slice_get (lines_of (chars content)) asked ≡ None
 none_after content line asked text from later none =
     let gone : drop (line + 1) (lines_of (chars content)) ≡ [] = sym (drop-drop 1 line (lines_of (chars content))) ∙ ap (drop 1) from.lines ∙ none in
-    slice_get_past (lines_of (chars content)) asked (drop_all asked (lines_of (chars content)) (omega (arith, ap length gone, length-drop (line + 1) (lines_of (chars content)))))
+    slice_get_past (lines_of (chars content)) asked
+    (drop_all asked (lines_of (chars content)) (omega (arith, ap length gone, length-drop (line + 1) (lines_of (chars content)))))
 
-pub line_here : (content : List ℕ) (line : ℕ) (text first : List ℕ) → IsRestFrom content line text → slice_get (lines_of (chars text)) 0 ≡ Some (chars first) → slice_get (lines_of (chars content)) line ≡ Some (chars first)
+pub line_here : (content : List ℕ) (line : ℕ) (text first : List ℕ) → IsRestFrom content line text
+    → slice_get (lines_of (chars text)) 0 ≡ Some (chars first) → slice_get (lines_of (chars content)) line ≡ Some (chars first)
 line_here content line text first from is = slice_get_drop (lines_of (chars content)) line ∙ ap (λ l. slice_get l 0) from.lines ∙ is

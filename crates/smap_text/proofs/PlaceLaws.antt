@@ -1,5 +1,6 @@
 -- The three answers of a look for a column, by what the code has counted; and the characters before them.
-use Rattle.std.proofs.Common.{◌≡◌, ◌+◌, ◌-◌, ◌<◌, ◌≤◌, ◌⊎◌, ⊎_elim, ℕ, List, [], ◌∷◌, ◌++◌, length, get_or, take, drop, Some, None, sum_by, refl, sym, ap, subst, ◌∙◌, arith, add-one}
+use Rattle.std.proofs.Common.{◌≡◌, ◌+◌, ◌-◌, ◌<◌, ◌≤◌, ◌⊎◌, ⊎_elim, ℕ, List, [], ◌∷◌, ◌++◌, length, get_or, take, drop, Some, None, sum_by, refl, sym}
+use Rattle.std.proofs.Common.{ap, subst, ◌∙◌, arith, add-one}
 use Rattle.std.specs.Option.{option_map}
 use Rattle.std.specs.Str.{IsUtf8, IsCharBoundary, chars}
 use Rattle.std.proofs.lemmas.Bool.{cond-true, cond-false, le-ltb, lt-ltb, ne_eqb}
@@ -20,7 +21,8 @@ use Rattle.smap_text.proofs.UnitLaws.{all_before, character_at}
 units_of_first : (b u column units : ℕ) → u ≡ units_by_first b → units ≤ column → (units ≡ column → ⊥) → column < units + u → (u ≡ 2) × (units + 1 ≡ column)
 units_of_first b u column units is within other past = let most : units_by_first b ≤ 2 = grind (arith, nat_tests) in (omega arith, omega arith)
 
-pub inside : (line bytes : List ℕ) (column at units u : ℕ) → bytes ≡ line → IsUtf8 bytes → IsCharBoundary bytes at → units ≡ units_before bytes at → at < length bytes
+pub inside : (line bytes : List ℕ) (column at units u : ℕ) → bytes ≡ line → IsUtf8 bytes → IsCharBoundary bytes at
+    → units ≡ units_before bytes at → at < length bytes
     → u ≡ units_by_first (get_or bytes at 0) → units ≤ column → (units ≡ column → ⊥) → column < units + u → IsInside line column at
 inside line bytes column at units u same is_text begins counted within is most other past =
     let known = character_at bytes at (get_or bytes at 0) is_text begins within refl in
@@ -32,7 +34,8 @@ inside line bytes column at units u same is_text begins counted within is most o
       units = ap (λ n. n + 1) (sym counted) ∙ numbers.1;
     })
 
-pub past : (line bytes : List ℕ) (column at units : ℕ) → bytes ≡ line → at ≤ length bytes → length bytes ≤ at → units ≡ units_before bytes at → units ≤ column → (units ≡ column → ⊥)
+pub past : (line bytes : List ℕ) (column at units : ℕ) → bytes ≡ line → at ≤ length bytes → length bytes ≤ at
+    → units ≡ units_before bytes at → units ≤ column → (units ≡ column → ⊥)
     → IsPast line column units
 past line bytes column at units same within end counted most other =
     subst (λ l. IsPast l column units) same (record { all = sym (counted ∙ all_before bytes at within end); fewer = omega arith })
@@ -43,7 +46,8 @@ one_at_least : (c : ℕ) → 1 ≤ units_of c
 one_at_least c = grind (arith, nat_tests)
 
 -- a column so many units after some characters
-counted : (front back : List ℕ) (column n : ℕ) → sum_by units_of front + n ≡ column → characters_before back n ≡ Some 0 → characters_before (front ++ back) column ≡ Some (length front)
+counted : (front back : List ℕ) (column n : ℕ) → sum_by units_of front + n ≡ column → characters_before back n ≡ Some 0
+    → characters_before (front ++ back) column ≡ Some (length front)
 unfolding characters_before
 counted [] back column n all first = let same : n ≡ column = omega arith in ap (characters_before back) (sym same) ∙ first
 counted (c ∷ front) back column n all first =
@@ -70,15 +74,18 @@ second_unit [] never = absurd (omega arith)
 second_unit (c ∷ cs) pair = cond-true _ _ _ (lt-ltb 1 (units_of c) (omega arith))
 
 split : (line : List ℕ) (byte : ℕ) → IsUtf8 line → IsCharBoundary line byte → chars line ≡ chars (take byte line) ++ chars (drop byte line)
-split line byte is_text begins = ap chars (sym (take-append-drop byte line)) ∙ chars-append (take byte line) (drop byte line) (IsUtf8-take line byte is_text begins)
+split line byte is_text begins = ap chars (sym (take-append-drop byte line))
+    ∙ chars-append (take byte line) (drop byte line) (IsUtf8-take line byte is_text begins)
 
-before_at : (line : List ℕ) (column byte : ℕ) → IsUtf8 line → IsAt line column byte → characters_before (chars line) column ≡ Some (length (chars (take byte line)))
+before_at : (line : List ℕ) (column byte : ℕ) → IsUtf8 line → IsAt line column byte
+    → characters_before (chars line) column ≡ Some (length (chars (take byte line)))
 unfolding units_before
 before_at line column byte is_text at =
     ap (λ l. characters_before l column) (split line byte is_text at.boundary)
     ∙ counted (chars (take byte line)) (chars (drop byte line)) column 0 (omega (arith, at.units)) (first_unit (chars (drop byte line)))
 
-before_inside : (line : List ℕ) (column byte : ℕ) → IsUtf8 line → IsInside line column byte → characters_before (chars line) column ≡ Some (length (chars (take byte line)))
+before_inside : (line : List ℕ) (column byte : ℕ) → IsUtf8 line → IsInside line column byte
+    → characters_before (chars line) column ≡ Some (length (chars (take byte line)))
 unfolding units_before
 before_inside line column byte is_text in_pair =
     ap (λ l. characters_before l column) (split line byte is_text in_pair.boundary)

@@ -44,7 +44,8 @@ pub record Character (text : List ℕ) (at first : ℕ) : Type 0 where
   pub units : units_before text (at + bytes_by_first first) ≡ units_before text at + units_by_first first
   pub character : units_of (get_or (chars (drop at text)) 0 0) ≡ units_by_first first
 
-step : (text : List ℕ) (at c : ℕ) (rest : List ℕ) → IsUtf8 text → IsCharBoundary text at → scalar c ≡ true → drop at text ≡ encode c ++ rest → units_before text (at + length (encode c)) ≡ units_before text at + units_of c
+step : (text : List ℕ) (at c : ℕ) (rest : List ℕ) → IsUtf8 text → IsCharBoundary text at → scalar c ≡ true → drop at text ≡ encode c ++ rest
+    → units_before text (at + length (encode c)) ≡ units_before text at + units_of c
 unfolding units_before
 step text at c rest is_text begins is found =
     let front : length (take at text) ≡ at = length-take-le at text begins.0 in
@@ -54,12 +55,15 @@ step text at c rest is_text begins is found =
     let taken : take (at + length (encode c)) text ≡ take at text ++ encode c =
     ap (take (at + length (encode c))) whole ∙ take_at (take at text ++ encode c) rest (at + length (encode c)) both in
     ap (λ l. sum_by units_of (chars l)) taken
-    ∙ ap (sum_by units_of) (chars-append (take at text) (encode c) (IsUtf8-take text at is_text begins) ∙ ap (λ l. chars (take at text) ++ l) (chars_of_one c is))
+    ∙ ap (sum_by units_of) (chars-append (take at text) (encode c) (IsUtf8-take text at is_text begins)
+    ∙ ap (λ l. chars (take at text) ++ l) (chars_of_one c is))
     ∙ sum_by_push units_of (chars (take at text)) c
 
-of_spelled : (text : List ℕ) (at first c : ℕ) (rest : List ℕ) → IsUtf8 text → IsCharBoundary text at → scalar c ≡ true → drop at text ≡ encode c ++ rest → first ≡ get_or text at 0 → Character text at first
+of_spelled : (text : List ℕ) (at first c : ℕ) (rest : List ℕ) → IsUtf8 text → IsCharBoundary text at → scalar c ≡ true
+    → drop at text ≡ encode c ++ rest → first ≡ get_or text at 0 → Character text at first
 of_spelled text at first c rest is_text begins is found is_first =
-    let byte : first ≡ get_or (encode c ++ rest) 0 0 = is_first ∙ sym (get_or-drop at text 0 0 ∙ ap (λ n. get_or text n 0) (add-zero at)) ∙ ap (λ l. get_or l 0 0) found in
+    let byte : first ≡ get_or (encode c ++ rest) 0 0 =
+    is_first ∙ sym (get_or-drop at text 0 0 ∙ ap (λ n. get_or text n 0) (add-zero at)) ∙ ap (λ l. get_or l 0 0) found in
     let known = by_first c (spelled c is) rest in
     let bytes : bytes_by_first first ≡ length (encode c) = ap bytes_by_first byte ∙ known.0 in
     let units : units_by_first first ≡ units_of c = ap units_by_first byte ∙ known.1 in

@@ -1,5 +1,6 @@
 -- The excerpt that shows a place in a line: a part of the line, and a caret under the place.
-use Rattle.std.specs.Prelude.{◌-◌, ◌+◌, ℕ, List, [], ◌∷◌, ◌++◌, Option, Some, None, option_map, option_and_then, nat_lt, ◌==◌, if◌then◌else◌, map, take, drop, slice_get, replicate}
+use Rattle.std.specs.Prelude.{◌-◌, ◌+◌, ℕ, List, [], ◌∷◌, ◌++◌, Option, Some, None, option_map, option_and_then, nat_lt, ◌==◌, if◌then◌else◌, map}
+use Rattle.std.specs.Prelude.{take, drop, slice_get, replicate}
 use Rattle.std.specs.Char.{is_ascii_control}
 use Rattle.std.specs.Str.{chars, encode_utf8_all}
 use Rattle.smap_text.specs.Lines.{lines_of}

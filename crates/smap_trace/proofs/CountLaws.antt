@@ -1,5 +1,6 @@
 -- What the editor of frames has counted after a text.
-use Rattle.std.proofs.Common.{◌≡◌, ◌+◌, ◌≤◌, ℕ, Bool, true, false, cond, List, [], ◌∷◌, length, filter, fold, Option, Some, None, is_some, refl, sym, ap, ◌∙◌, arith, subst}
+use Rattle.std.proofs.Common.{◌≡◌, ◌+◌, ◌≤◌, ℕ, Bool, true, false, cond, List, [], ◌∷◌, length, filter, fold, Option, Some, None, is_some, refl, sym}
+use Rattle.std.proofs.Common.{ap, ◌∙◌, arith, subst}
 use Rattle.std.specs.Prelude.{not, ◌&&◌}
 use Rattle.std.proofs.lemmas.Bool.{cond-false, cond_both}
 use Rattle.smap_lines.specs.Edited.{after_line, after_text, is_short}
@@ -8,7 +9,8 @@ use Rattle.smap_record.specs.Record.{MapRecord}
 use Rattle.smap_trace.specs.Frame.{FrameParts, has_cr_within, is_line}
 use Rattle.smap_trace.specs.FrameOf.{frame_of}
 use Rattle.smap_trace.specs.Private.FrameRewriter.{after_frame, hidden_in, mapped_in, staying_in}
-use Rattle.smap_trace.specs.Rewritten.{Fate, SourceLocation, counts_of, fate, fate_at, fate_of, hidden, is_frame_line, is_hidden, is_hidden_line, is_mapped, is_mapped_line, named_fate, no_frame, original_of, replaced, stays}
+use Rattle.smap_trace.specs.Rewritten.{Fate, SourceLocation, counts_of, fate, fate_at, fate_of, hidden, is_frame_line, is_hidden, is_hidden_line}
+use Rattle.smap_trace.specs.Rewritten.{is_mapped, is_mapped_line, named_fate, no_frame, original_of, replaced, stays}
 use Rattle.smap_trace.specs.declared.frame_rewriter.FrameRewriter.{FrameRewriter}
 
 -- ---- a line
@@ -76,7 +78,8 @@ module _ (table : List (List ℕ × MapRecord)) (hide : Bool) where
       × (new.mapped ≡ rewriter.mapped + cond (is_mapped_line table hide line) 1 0)
       × (new.hidden ≡ rewriter.hidden + cond (is_hidden_line table hide line) 1 0)
 
-  adds_at : (rewriter : FrameRewriter) (line : Line) (short : Bool) → IsOver rewriter → is_short line ≡ short → Adds rewriter line (cond short (after_frame rewriter line) rewriter)
+  adds_at : (rewriter : FrameRewriter) (line : Line) (short : Bool) → IsOver rewriter → is_short line ≡ short
+      → Adds rewriter line (cond short (after_frame rewriter line) rewriter)
   unfolding fate
   adds_at rewriter line true is short =
       let met : Fate = fate line.bytes rewriter.table.now rewriter.hide_ignored in
@@ -114,10 +117,12 @@ module _ (table : List (List ℕ × MapRecord)) (hide : Bool) where
     unfolding after_text
     counted = subst (λ n. Counted rewriter (lines_with_ends bytes) n) (sym after) (counted_over rewriter (lines_with_ends bytes) is)
 
-    pub counts_are : record { lines = lines; frames = new.staying + new.mapped + new.hidden; mapped = new.mapped; hidden = new.hidden } ≡ counts_of bytes table hide
+    pub counts_are : record { lines = lines; frames = new.staying + new.mapped + new.hidden; mapped = new.mapped; hidden = new.hidden }
+        ≡ counts_of bytes table hide
     unfolding counts_of
     counts_are =
-        let frames : new.staying + new.mapped + new.hidden ≡ length (filter is_frame_line (lines_with_ends bytes)) = omega (arith, counted.0, none_staying, none_mapped, none_hidden) in
+        let frames : new.staying + new.mapped + new.hidden ≡ length (filter is_frame_line (lines_with_ends bytes)) =
+        omega (arith, counted.0, none_staying, none_mapped, none_hidden) in
         let mapped : new.mapped ≡ length (filter (is_mapped_line table hide) (lines_with_ends bytes)) = omega (arith, counted.1, none_mapped) in
         let hiding : new.hidden ≡ length (filter (is_hidden_line table hide) (lines_with_ends bytes)) = omega (arith, counted.2, none_hidden) in
         λ i. record { lines = lines_is i; frames = frames i; mapped = mapped i; hidden = hiding i }

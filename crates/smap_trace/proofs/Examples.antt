@@ -6,7 +6,8 @@ use Rattle.smap_trace.specs.FrameOf.{frame_of, decimal_number}
 use Rattle.smap_trace.specs.Rewritten.{SourceLocation, fate_at, hidden, line_after, location_text, printable, replaced, stays}
 use Rattle.smap_trace.specs.Table.{is_bad_url}
 
-a_call : frame_of (codes "  at async f (a.js:1:6)") ≡ Some (record { head = codes "  at async f ("; url = codes "a.js"; line = 1; column = 6; tail = codes ")" })
+a_call : frame_of (codes "  at async f (a.js:1:6)")
+    ≡ Some (record { head = codes "  at async f ("; url = codes "a.js"; line = 1; column = 6; tail = codes ")" })
 unfolding frame_of
 a_call = refl
 
@@ -41,7 +42,8 @@ twice_async : frame_of (codes "at async async u:1:1") ≡ None
 unfolding frame_of
 twice_async = refl
 
-numbers : decimal_number (codes "2147483648") ∷ decimal_number (codes "2147483649") ∷ decimal_number (codes "0") ∷ decimal_number (codes "01") ∷ [] ≡ Some 2147483648 ∷ None ∷ None ∷ None ∷ []
+numbers : decimal_number (codes "2147483648") ∷ decimal_number (codes "2147483649") ∷ decimal_number (codes "0")
+    ∷ decimal_number (codes "01") ∷ [] ≡ Some 2147483648 ∷ None ∷ None ∷ None ∷ []
 numbers = refl
 
 urls : is_bad_url (codes "eval at u") ∷ is_bad_url (codes "") ∷ is_bad_url (codes "a\nb") ∷ is_bad_url (codes "u") ∷ [] ≡ true ∷ true ∷ true ∷ false ∷ []
@@ -55,7 +57,8 @@ of_ignored name = record { name = printable name; ignored = true; line = 1; colu
 abbrev a_parts : FrameParts
 a_parts = record { head = codes "f@"; url = codes "u"; line = 1; column = 6; tail = [] }
 
-hiding : fate_at true a_parts (Some (of_ignored None)) ∷ fate_at true a_parts (Some (of_ignored (Some (kept (codes "a"))))) ∷ fate_at true a_parts None ∷ [] ≡ hidden ∷ hidden ∷ stays ∷ []
+hiding : fate_at true a_parts (Some (of_ignored None)) ∷ fate_at true a_parts (Some (of_ignored (Some (kept (codes "a")))))
+    ∷ fate_at true a_parts None ∷ [] ≡ hidden ∷ hidden ∷ stays ∷ []
 hiding = refl
 
 not_hiding : fate_at false a_parts (Some (of_ignored None)) ∷ fate_at false a_parts (Some (of_ignored (Some (kept (codes "a"))))) ∷ []

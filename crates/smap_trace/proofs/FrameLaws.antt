@@ -1,5 +1,6 @@
 -- A line is a frame of exactly the parts that `frame_of` computes, and so in at most one way.
-use Rattle.std.proofs.Common.{◌≡◌, ◌≢◌, ◌==◌, ◌+◌, ◌<◌, ℕ, Bool, true, false, cond, List, [], ◌∷◌, ◌++◌, length, take, drop, Option, Some, None, IsTrue, refl, sym, ap, ◌∙◌, arith, subst, suc, ◌⊎◌, inl, inr, ⊎_elim, append_assoc, append-nil, length-append}
+use Rattle.std.proofs.Common.{◌≡◌, ◌≢◌, ◌==◌, ◌+◌, ◌<◌, ℕ, Bool, true, false, cond, List, [], ◌∷◌, ◌++◌, length, take, drop, Option, Some, None}
+use Rattle.std.proofs.Common.{IsTrue, refl, sym, ap, ◌∙◌, arith, subst, suc, ◌⊎◌, inl, inr, ⊎_elim, append_assoc, append-nil, length-append}
 use Rattle.std.specs.Fmt.{decimal}
 use Rattle.std.specs.List.{AllByRecursion, prefix_len, starts_with}
 use Rattle.std.specs.Bool.{nat_eq}
@@ -10,8 +11,11 @@ use Rattle.std.proofs.lemmas.List.{take_at, drop_at, take-append-drop, drop-drop
 use Rattle.std.proofs.lemmas.Slice.Eq.{starts_is}
 use Rattle.smap_trace.specs.Cuts.{cut_at_first, cut_at_last, cut_at_call, without_last}
 use Rattle.smap_trace.specs.Frame.{FrameParts, is_line, is_blank, IsLineEnd, IsPrinted, IsCallFrame, IsPlainFrame, IsSignFrame, IsForm, IsFrame}
-use Rattle.smap_trace.specs.FrameOf.{Location, location_of, location_cut, location_before, location_with, parts_with, call_frame, is_async, unless_async, plain_frame, ends_in_digit, sign_frame, sign_frame_at, at_frame, frame_after, frame_in, frame_of, decimal_number}
-use Rattle.smap_trace.proofs.CutLaws.{IsFirstCut, IsLastCut, cut_is_first, cut_is_last, first_cut, last_cut, is_without, IsFirstCall, HasNoCall, call_is_first, first_call, last_is, last_is_other, last_stands}
+use Rattle.smap_trace.specs.FrameOf.{Location, location_of, location_cut, location_before, location_with, parts_with, call_frame, is_async}
+use Rattle.smap_trace.specs.FrameOf.{unless_async, plain_frame, ends_in_digit, sign_frame, sign_frame_at, at_frame, frame_after, frame_in, frame_of}
+use Rattle.smap_trace.specs.FrameOf.{decimal_number}
+use Rattle.smap_trace.proofs.CutLaws.{IsFirstCut, IsLastCut, cut_is_first, cut_is_last, first_cut, last_cut, is_without, IsFirstCall, HasNoCall}
+use Rattle.smap_trace.proofs.CutLaws.{call_is_first, first_call, last_is, last_is_other, last_stands}
 use Rattle.smap_trace.proofs.NumberLaws.{none_else, number_is, number_reads, number_without, number_ends, number_last_digit}
 
 -- ---- places
@@ -26,7 +30,8 @@ record IsLocation (text : List ℕ) (location : Location) : Type 0 where
   line_printed : IsPrinted location.line
   column_printed : IsPrinted location.column
 
-with_is : (text url line column : List ℕ) (location : Location) (l c : Option ℕ) → l ≡ decimal_number line → c ≡ decimal_number column → text ≡ url ++ 58 ∷ (line ++ 58 ∷ column) → location_with url l c ≡ Some location → IsLocation text location
+with_is : (text url line column : List ℕ) (location : Location) (l c : Option ℕ) → l ≡ decimal_number line → c ≡ decimal_number column
+    → text ≡ url ++ 58 ∷ (line ++ 58 ∷ column) → location_with url l c ≡ Some location → IsLocation text location
 with_is text [] line column location l c li ci whole is = cc
 with_is text (b ∷ url) line column location None c li ci whole is = cc
 with_is text (b ∷ url) line column location (Some l) None li ci whole is = cc
@@ -42,22 +47,28 @@ with_is text (b ∷ url) line column location (Some l) (Some c) li ci whole is =
       column_printed = c_is.1;
     })
 
-before_is : (text front column : List ℕ) (location : Location) (cut : Option (List ℕ × List ℕ)) → MatchOption cut (is_without 58 front) (IsLastCut 58 front) → text ≡ front ++ 58 ∷ column → location_before cut (decimal_number column) ≡ Some location → IsLocation text location
+before_is : (text front column : List ℕ) (location : Location) (cut : Option (List ℕ × List ℕ))
+    → MatchOption cut (is_without 58 front) (IsLastCut 58 front) → text ≡ front ++ 58 ∷ column
+    → location_before cut (decimal_number column) ≡ Some location → IsLocation text location
 before_is text front column location None cuts whole is = cc
 before_is text front column location (Some (url, line)) cuts whole is =
-    with_is text url line column location (decimal_number line) (decimal_number column) refl refl (whole ∙ ap (λ f. f ++ 58 ∷ column) cuts.0 ∙ append_assoc url (58 ∷ line) (58 ∷ column)) is
+    with_is text url line column location (decimal_number line) (decimal_number column) refl refl
+    (whole ∙ ap (λ f. f ++ 58 ∷ column) cuts.0 ∙ append_assoc url (58 ∷ line) (58 ∷ column)) is
 
-cut_is : (text : List ℕ) (location : Location) (cut : Option (List ℕ × List ℕ)) → MatchOption cut (is_without 58 text) (IsLastCut 58 text) → location_cut cut ≡ Some location → IsLocation text location
+cut_is : (text : List ℕ) (location : Location) (cut : Option (List ℕ × List ℕ)) → MatchOption cut (is_without 58 text) (IsLastCut 58 text)
+    → location_cut cut ≡ Some location → IsLocation text location
 cut_is text location None cuts is = cc
 cut_is text location (Some (front, column)) cuts is = before_is text front column location (cut_at_last 58 front) (cut_is_last 58 front) cuts.0 is
 
 location_is : (text : List ℕ) (location : Location) → location_of text ≡ Some location → IsLocation text location
 location_is text location is = cut_is text location (cut_at_last 58 text) (cut_is_last 58 text) is
 
-location_reads : (url : List ℕ) (line column : ℕ) → url ≢ [] → IsPrinted line → IsPrinted column → location_of (location_text url line column) ≡ Some (record { url = url; line = line; column = column })
+location_reads : (url : List ℕ) (line column : ℕ) → url ≢ [] → IsPrinted line → IsPrinted column
+    → location_of (location_text url line column) ≡ Some (record { url = url; line = line; column = column })
 location_reads [] line column located l c = absurd (located refl)
 location_reads (b ∷ url) line column located l c =
-    ap location_cut (ap (cut_at_last 58) (sym (append_assoc (b ∷ url) (58 ∷ decimal line) (58 ∷ decimal column))) ∙ last_cut 58 ((b ∷ url) ++ 58 ∷ decimal line) (decimal column) (number_without column c))
+    ap location_cut (ap (cut_at_last 58) (sym (append_assoc (b ∷ url) (58 ∷ decimal line) (58 ∷ decimal column)))
+    ∙ last_cut 58 ((b ∷ url) ++ 58 ∷ decimal line) (decimal column) (number_without column c))
     ∙ ap (λ cut. location_before cut (decimal_number (decimal column))) (last_cut 58 (b ∷ url) (decimal line) (number_without line l))
     ∙ (λ i. location_with (b ∷ url) (number_reads line l i) (number_reads column c i))
 
@@ -92,17 +103,20 @@ blank_prefix (x ∷ text) =
     cond_both (is_blank x) (1 + prefix_len is_blank text) 0 P (λ blank. subst P one (blank, blank_prefix text)) (λ _. tt)
 
 -- a byte that is none ends the blanks
-blanks_end : (blanks : List ℕ) (byte : ℕ) (rest : List ℕ) → AllByRecursion (λ b. IsTrue (is_blank b)) blanks → is_blank byte ≡ false → prefix_len is_blank (blanks ++ byte ∷ rest) ≡ length blanks
+blanks_end : (blanks : List ℕ) (byte : ℕ) (rest : List ℕ) → AllByRecursion (λ b. IsTrue (is_blank b)) blanks → is_blank byte ≡ false
+    → prefix_len is_blank (blanks ++ byte ∷ rest) ≡ length blanks
 blanks_end [] byte rest blank other = cond-false (is_blank byte) (1 + prefix_len is_blank rest) 0 other
 blanks_end (x ∷ blanks) byte rest blank other =
-    cond-true (is_blank x) (1 + prefix_len is_blank (blanks ++ byte ∷ rest)) 0 blank.0 ∙ ap (λ n. 1 + n) (blanks_end blanks byte rest blank.1 other) ∙ omega arith
+    cond-true (is_blank x) (1 + prefix_len is_blank (blanks ++ byte ∷ rest)) 0 blank.0
+    ∙ ap (λ n. 1 + n) (blanks_end blanks byte rest blank.1 other) ∙ omega arith
 
 -- a line whose blanks an `at ` follows
 at_found : (body blanks text : List ℕ) → body ≡ blanks ++ (at_word ++ text) → AllByRecursion (λ b. IsTrue (is_blank b)) blanks →
     (prefix_len is_blank body ≡ length blanks) × (starts_with nat_eq (drop (prefix_len is_blank body) body) at_word ≡ true)
 at_found body blanks text split blank =
     let n : prefix_len is_blank body ≡ length blanks = ap (prefix_len is_blank) split ∙ blanks_end blanks 97 (116 ∷ 32 ∷ text) blank refl in
-    let rest : drop (prefix_len is_blank body) body ≡ at_word ++ text = ap (λ k. drop k body) n ∙ ap (drop (length blanks)) split ∙ drop_at blanks (at_word ++ text) (length blanks) refl in
+    let rest : drop (prefix_len is_blank body) body ≡ at_word ++ text =
+    ap (λ k. drop k body) n ∙ ap (drop (length blanks)) split ∙ drop_at blanks (at_word ++ text) (length blanks) refl in
     (n, (starts_is Decides-eqb (drop (prefix_len is_blank body) body) at_word _ refl).1 text rest)
 
 at_split : (body : List ℕ) → starts_with nat_eq (drop (prefix_len is_blank body) body) at_word ≡ true →
@@ -113,7 +127,8 @@ at_split body holds =
     sym (take-append-drop n body) ∙ ap (λ l. take n body ++ l) (begins ∙ ap (λ l. at_word ++ l) (drop-drop 3 n body))
 
 module _ (line : List ℕ) (bounded : IsTrue (is_line line)) where
-  at_location : (head text tail : List ℕ) (location : Option Location) (parts : FrameParts) → MatchOption location (Unit {0}) (IsLocation text) → line ≡ head ++ (text ++ tail) →
+  at_location : (head text tail : List ℕ) (location : Option Location) (parts : FrameParts)
+      → MatchOption location (Unit {0}) (IsLocation text) → line ≡ head ++ (text ++ tail) →
       parts_with head location tail ≡ Some parts → ((p : FrameParts) → p.head ≡ head → p.tail ≡ tail → p ≡ parts → IsForm p) → IsFrame line parts
   at_location head text tail None parts stands whole is form = cc
   at_location head text tail (Some location) parts stands whole is form =
@@ -137,7 +152,8 @@ module _ (line : List ℕ) (bounded : IsTrue (is_line line)) where
       seen None e = tt
       seen (Some location) e = location_is text location e
 
-  call_is : (blanks inner end : List ℕ) (parts : FrameParts) (cut : Option (List ℕ × List ℕ)) → AllByRecursion (λ byte. IsTrue (is_blank byte)) blanks → IsLineEnd end → MatchOption cut (Unit {0}) (IsFirstCall inner) →
+  call_is : (blanks inner end : List ℕ) (parts : FrameParts) (cut : Option (List ℕ × List ℕ))
+      → AllByRecursion (λ byte. IsTrue (is_blank byte)) blanks → IsLineEnd end → MatchOption cut (Unit {0}) (IsFirstCall inner) →
       line ≡ (blanks ++ at_word) ++ ((inner ++ 41 ∷ []) ++ end) → call_frame (blanks ++ at_word) cut (41 ∷ end) ≡ Some parts → IsFrame line parts
   call_is blanks inner end parts None blank ends first whole is = cc
   call_is blanks inner end parts (Some ([], location)) blank ends first whole is = cc
@@ -160,7 +176,8 @@ module _ (line : List ℕ) (bounded : IsTrue (is_line line)) where
       line ≡ (blanks ++ at_word) ++ (text ++ end) → plain_frame (blanks ++ at_word) text end ≡ Some parts → IsFrame line parts
   plain_is blanks text end parts blank ends whole is = go (is_async text) refl out.0
     where
-      out : (cond (is_async text) (parts_with ((blanks ++ at_word) ++ async_word) (location_of (drop 6 text)) end) (parts_with (blanks ++ at_word) (location_of text) end) ≡ Some parts) × (is_async parts.url ≡ false)
+      out : (cond (is_async text) (parts_with ((blanks ++ at_word) ++ async_word) (location_of (drop 6 text)) end)
+          (parts_with (blanks ++ at_word) (location_of text) end) ≡ Some parts) × (is_async parts.url ≡ false)
       out = unless_is _ parts is
 
       form : (p : FrameParts) → p.tail ≡ end → p ≡ parts → (p.head ≡ blanks ++ at_word) ⊎ (p.head ≡ blanks ++ (97 ∷ 116 ∷ 32 ∷ async_word)) → IsPlainFrame p
@@ -172,20 +189,23 @@ module _ (line : List ℕ) (bounded : IsTrue (is_line line)) where
         tail_is = let P : List ℕ → Type 0 = λ e. IsLineEnd e in subst P (sym tail_is) ends;
       }
 
-      go : (t : Bool) → is_async text ≡ t → cond t (parts_with ((blanks ++ at_word) ++ async_word) (location_of (drop 6 text)) end) (parts_with (blanks ++ at_word) (location_of text) end) ≡ Some parts → IsFrame line parts
+      go : (t : Bool) → is_async text ≡ t → cond t (parts_with ((blanks ++ at_word) ++ async_word) (location_of (drop 6 text)) end)
+          (parts_with (blanks ++ at_word) (location_of text) end) ≡ Some parts → IsFrame line parts
       go true holds e =
           let begins : text ≡ async_word ++ drop 6 text = (starts_is Decides-eqb text async_word (is_async text) refl).0 holds in
           at_text ((blanks ++ at_word) ++ async_word) (drop 6 text) end parts (whole ∙ ap (λ t. (blanks ++ at_word) ++ (t ++ end)) begins ∙ simp append_assoc) e
           (λ p head_is tail_is same. inr (inl (form p tail_is same (inr (head_is ∙ append_assoc blanks at_word async_word)))))
       go false fails e = at_text (blanks ++ at_word) text end parts whole e (λ p head_is tail_is same. inr (inl (form p tail_is same (inl head_is))))
 
-  at_frame_is : (blanks text end : List ℕ) (parts : FrameParts) (inner : Option (List ℕ)) → AllByRecursion (λ byte. IsTrue (is_blank byte)) blanks → IsLineEnd end → MatchOption inner (Unit {0}) (λ front. text ≡ front ++ 41 ∷ []) →
+  at_frame_is : (blanks text end : List ℕ) (parts : FrameParts) (inner : Option (List ℕ))
+      → AllByRecursion (λ byte. IsTrue (is_blank byte)) blanks → IsLineEnd end → MatchOption inner (Unit {0}) (λ front. text ≡ front ++ 41 ∷ []) →
       line ≡ (blanks ++ at_word) ++ (text ++ end) → at_frame (blanks ++ at_word) text inner end ≡ Some parts → IsFrame line parts
   at_frame_is blanks text end parts None blank ends stands whole is = plain_is blanks text end parts blank ends whole is
   at_frame_is blanks text end parts (Some inner) blank ends stands whole is =
       call_is blanks inner end parts (cut_at_call inner) blank ends (call_is_first inner) (whole ∙ ap (λ t. (blanks ++ at_word) ++ (t ++ end)) stands) is
 
-  sign_is : (text end : List ℕ) (parts : FrameParts) (cut : Option (List ℕ × List ℕ)) → IsLineEnd end → starts_with nat_eq (drop (prefix_len is_blank text) text) at_word ≡ false →
+  sign_is : (text end : List ℕ) (parts : FrameParts) (cut : Option (List ℕ × List ℕ)) → IsLineEnd end
+      → starts_with nat_eq (drop (prefix_len is_blank text) text) at_word ≡ false →
       MatchOption cut (is_without 64 text) (IsFirstCut 64 text) → line ≡ text ++ end → sign_frame_at cut end ≡ Some parts → IsFrame line parts
   sign_is text end parts None ends off first whole is = cc
   sign_is text end parts (Some (function, location)) ends off first whole is =
@@ -193,28 +213,37 @@ module _ (line : List ℕ) (bounded : IsTrue (is_line line)) where
       (λ p head_is tail_is same. inr (inr (record {
         function = function;
         first = first.1;
-        not_at = λ blanks rest blank e. both_ways _ off (at_found text blanks (rest ++ 64 ∷ location) (first.0 ∙ ap (λ f. f ++ 64 ∷ location) e ∙ append_assoc (blanks ++ at_word) rest (64 ∷ location) ∙ append_assoc blanks at_word (rest ++ 64 ∷ location)) blank).1;
+        not_at = λ blanks rest blank e. both_ways _ off
+            (at_found text blanks (rest ++ 64 ∷ location)
+            (first.0 ∙ ap (λ f. f ++ 64 ∷ location) e ∙ append_assoc (blanks ++ at_word) rest (64 ∷ location)
+            ∙ append_assoc blanks at_word (rest ++ 64 ∷ location)) blank).1;
         head_is = head_is;
         tail_is = let P : List ℕ → Type 0 = λ e. IsLineEnd e in subst P (sym tail_is) ends;
       })))
 
-  after_is : (body end : List ℕ) (parts : FrameParts) → IsLineEnd end → line ≡ body ++ end → frame_after (prefix_len is_blank body) body end ≡ Some parts → IsFrame line parts
+  after_is : (body end : List ℕ) (parts : FrameParts) → IsLineEnd end → line ≡ body ++ end
+      → frame_after (prefix_len is_blank body) body end ≡ Some parts → IsFrame line parts
   after_is body end parts ends whole is = go (starts_with nat_eq (drop n body) at_word) refl is
     where
       n : ℕ
       n = prefix_len is_blank body
 
       go : (t : Bool) → starts_with nat_eq (drop n body) at_word ≡ t →
-          cond t (at_frame (take (n + 3) body) (drop (n + 3) body) (without_last 41 (drop (n + 3) body)) end) (sign_frame body end) ≡ Some parts → IsFrame line parts
+          cond t (at_frame (take (n + 3) body) (drop (n + 3) body) (without_last 41 (drop (n + 3) body)) end) (sign_frame body end)
+          ≡ Some parts → IsFrame line parts
       go true holds e =
-          let split : body ≡ (take n body ++ at_word) ++ drop (n + 3) body = at_split body holds ∙ sym (append_assoc (take n body) at_word (drop (n + 3) body)) in
-          let head : take (n + 3) body ≡ take n body ++ at_word = append_cancel_right (take (n + 3) body) (take n body ++ at_word) (drop (n + 3) body) (take-append-drop (n + 3) body ∙ split) in
-          at_frame_is (take n body) (drop (n + 3) body) end parts (without_last 41 (drop (n + 3) body)) (blank_prefix body) ends (last_stands 41 (drop (n + 3) body))
+          let split : body ≡ (take n body ++ at_word) ++ drop (n + 3) body =
+          at_split body holds ∙ sym (append_assoc (take n body) at_word (drop (n + 3) body)) in
+          let head : take (n + 3) body ≡ take n body ++ at_word =
+          append_cancel_right (take (n + 3) body) (take n body ++ at_word) (drop (n + 3) body) (take-append-drop (n + 3) body ∙ split) in
+          at_frame_is (take n body) (drop (n + 3) body) end parts (without_last 41 (drop (n + 3) body)) (blank_prefix body) ends
+          (last_stands 41 (drop (n + 3) body))
           (whole ∙ ap (λ b. b ++ end) split ∙ append_assoc (take n body ++ at_word) (drop (n + 3) body) end)
           (ap (λ h. at_frame h (drop (n + 3) body) (without_last 41 (drop (n + 3) body)) end) (sym head) ∙ e)
       go false fails e = sign_is body end parts (cut_at_first 64 body) ends fails (cut_is_first 64 body) whole (none_else (ends_in_digit body) _ parts e).1
 
-  in_is : (parts : FrameParts) (body : Option (List ℕ)) → MatchOption body (Unit {0}) (λ front. line ≡ front ++ 13 ∷ []) → frame_in line body ≡ Some parts → IsFrame line parts
+  in_is : (parts : FrameParts) (body : Option (List ℕ)) → MatchOption body (Unit {0}) (λ front. line ≡ front ++ 13 ∷ [])
+      → frame_in line body ≡ Some parts → IsFrame line parts
   in_is parts None stands is = after_is line [] parts (inl refl) (sym (append-nil line)) is
   in_is parts (Some body) stands is = after_is body (13 ∷ []) parts (inr refl) stands is
 
@@ -227,7 +256,8 @@ parts_are_frame line parts is =
 -- ---- from a frame to the parts that are computed
 
 after_reads : (blanks text end : List ℕ) → AllByRecursion (λ b. IsTrue (is_blank b)) blanks →
-    frame_after (prefix_len is_blank ((blanks ++ at_word) ++ text)) ((blanks ++ at_word) ++ text) end ≡ at_frame (blanks ++ at_word) text (without_last 41 text) end
+    frame_after (prefix_len is_blank ((blanks ++ at_word) ++ text)) ((blanks ++ at_word) ++ text) end
+    ≡ at_frame (blanks ++ at_word) text (without_last 41 text) end
 after_reads blanks text end blank =
     let body : List ℕ = (blanks ++ at_word) ++ text in
     let found = at_found body blanks text (append_assoc blanks at_word text) blank in
@@ -236,10 +266,12 @@ after_reads blanks text end blank =
     let long : length (blanks ++ at_word) ≡ length blanks + 3 = length-append blanks at_word in
     let head : take (length blanks + 3) body ≡ blanks ++ at_word = take_at (blanks ++ at_word) text (length blanks + 3) long in
     let tail : drop (length blanks + 3) body ≡ text = drop_at (blanks ++ at_word) text (length blanks + 3) long in
-    ap (λ k. frame_after k body end) n ∙ cond-true (starts_with nat_eq (drop (length blanks) body) at_word) _ (sign_frame body end) begins ∙ (λ i. at_frame (head i) (tail i) (without_last 41 (tail i)) end)
+    ap (λ k. frame_after k body end) n ∙ cond-true (starts_with nat_eq (drop (length blanks) body) at_word) _ (sign_frame body end) begins
+    ∙ (λ i. at_frame (head i) (tail i) (without_last 41 (tail i)) end)
 
 -- a line that ends in another byte than a CR, and the end of a line after it
-ended : (line body end : List ℕ) → IsLineEnd end → line ≡ body ++ end → without_last 13 body ≡ None → frame_in line (without_last 13 line) ≡ frame_after (prefix_len is_blank body) body end
+ended : (line body end : List ℕ) → IsLineEnd end → line ≡ body ++ end → without_last 13 body ≡ None
+    → frame_in line (without_last 13 line) ≡ frame_after (prefix_len is_blank body) body end
 ended line body end ends whole other = ⊎_elim
     (λ (none : end ≡ []).
     let same : line ≡ body = whole ∙ ap (λ e. body ++ e) none ∙ append-nil body in
@@ -249,18 +281,22 @@ ended line body end ends whole other = ⊎_elim
     ends
 
 -- what a location ends in
-before_column : (opening url : List ℕ) (line column : ℕ) → (opening ++ url ++ 58 ∷ [] ++ decimal line ++ 58 ∷ []) ++ decimal column ≡ opening ++ location_text url line column
+before_column : (opening url : List ℕ) (line column : ℕ)
+    → (opening ++ url ++ 58 ∷ [] ++ decimal line ++ 58 ∷ []) ++ decimal column ≡ opening ++ location_text url line column
 before_column opening url line column = simp append_assoc
 
-location_ends : (byte : ℕ) (opening url : List ℕ) (line column : ℕ) → (byte < 48) ⊎ (57 < byte) → IsPrinted column → without_last byte (opening ++ location_text url line column) ≡ None
+location_ends : (byte : ℕ) (opening url : List ℕ) (line column : ℕ) → (byte < 48) ⊎ (57 < byte) → IsPrinted column
+    → without_last byte (opening ++ location_text url line column) ≡ None
 location_ends byte opening url line column outside printed =
-    ap (without_last byte) (sym (before_column opening url line column)) ∙ number_ends byte (opening ++ url ++ 58 ∷ [] ++ decimal line ++ 58 ∷ []) column outside printed
+    ap (without_last byte) (sym (before_column opening url line column))
+    ∙ number_ends byte (opening ++ url ++ 58 ∷ [] ++ decimal line ++ 58 ∷ []) column outside printed
 
 location_digit : (opening url : List ℕ) (line column : ℕ) → IsPrinted column → ends_in_digit (opening ++ location_text url line column) ≡ true
 location_digit opening url line column printed =
     ap ends_in_digit (sym (before_column opening url line column)) ∙ number_last_digit (opening ++ url ++ 58 ∷ [] ++ decimal line ++ 58 ∷ []) column printed
 
-record_is : (parts : FrameParts) (head tail : List ℕ) → parts.head ≡ head → parts.tail ≡ tail → record { head = head; url = parts.url; line = parts.line; column = parts.column; tail = tail } ≡ parts
+record_is : (parts : FrameParts) (head tail : List ℕ) → parts.head ≡ head → parts.tail ≡ tail
+    → record { head = head; url = parts.url; line = parts.line; column = parts.column; tail = tail } ≡ parts
 record_is parts head tail h t = λ i. record { head = sym h i; url = parts.url; line = parts.line; column = parts.column; tail = sym t i }
 
 call_reads : (line : List ℕ) (parts : FrameParts) (is : IsFrame line parts) (call : IsCallFrame parts) → frame_in line (without_last 13 line) ≡ Some parts
@@ -268,8 +304,11 @@ call_reads line parts is call =
     let location : List ℕ = location_text parts.url parts.line parts.column in
     let inner : List ℕ = call.function ++ 32 ∷ 40 ∷ location in
     let body : List ℕ = (call.blanks ++ at_word) ++ (inner ++ 41 ∷ []) in
-    let whole : line ≡ body ++ call.end = is.joined ∙ (λ i. call.head_is i ++ parts.url ++ 58 ∷ [] ++ decimal parts.line ++ 58 ∷ [] ++ decimal parts.column ++ call.tail_is i) ∙ simp append_assoc in
-    let other : without_last 13 body ≡ None = ap (without_last 13) (sym (append_assoc (call.blanks ++ at_word) inner (41 ∷ []))) ∙ last_is_other 13 41 ((call.blanks ++ at_word) ++ inner) (λ e. cc) in
+    let whole : line ≡ body ++ call.end = is.joined
+    ∙ (λ i. call.head_is i ++ parts.url ++ 58 ∷ [] ++ decimal parts.line ++ 58 ∷ [] ++ decimal parts.column ++ call.tail_is i) ∙ simp append_assoc in
+    let other : without_last 13 body ≡ None =
+    ap (without_last 13) (sym (append_assoc (call.blanks ++ at_word) inner (41 ∷ [])))
+    ∙ last_is_other 13 41 ((call.blanks ++ at_word) ++ inner) (λ e. cc) in
     let uncalled : HasNoCall call.function = λ before after e. call.first before after (e ∙ sym (append_assoc before call_word after)) in
     ended line body call.end call.ends whole other
     ∙ after_reads call.blanks (inner ++ 41 ∷ []) call.end call.blank
@@ -281,7 +320,8 @@ call_reads line parts is call =
         call_frame (call.blanks ++ at_word) (Some (function, location_text parts.url parts.line parts.column)) (41 ∷ call.end) ≡ Some parts
     named [] some head_is = absurd (some refl)
     named (b ∷ function) some head_is =
-        ap (λ p. parts_with ((call.blanks ++ at_word) ++ (b ∷ function) ++ call_word) p (41 ∷ call.end)) (location_reads parts.url parts.line parts.column is.located is.line_printed is.column_printed)
+        ap (λ p. parts_with ((call.blanks ++ at_word) ++ (b ∷ function) ++ call_word) p (41 ∷ call.end))
+        (location_reads parts.url parts.line parts.column is.located is.line_printed is.column_printed)
         ∙ ap Some (record_is parts ((call.blanks ++ at_word) ++ (b ∷ function) ++ call_word) (41 ∷ call.end) head_is call.tail_is)
 
 -- `async ` ends before the first `:`
@@ -300,12 +340,22 @@ not_async_is url none = false_from_ne_true _ (λ holds. none (drop 6 url) ((star
 plain_reads : (line : List ℕ) (parts : FrameParts) (is : IsFrame line parts) (plain : IsPlainFrame parts) → frame_in line (without_last 13 line) ≡ Some parts
 plain_reads line parts is plain = ⊎_elim
     (λ (head_is : parts.head ≡ plain.blanks ++ at_word).
-    to_text location (is.joined ∙ ap (λ h. h ++ parts.url ++ 58 ∷ [] ++ decimal parts.line ++ 58 ∷ [] ++ decimal parts.column ++ parts.tail) head_is ∙ simp append_assoc) [] refl
-    ∙ ap unless_async (cond-false (is_async location) (parts_with ((plain.blanks ++ at_word) ++ async_word) (location_of (drop 6 location)) parts.tail) (parts_with (plain.blanks ++ at_word) (location_of location) parts.tail) (false_from_ne_true _ (λ holds. both_ways _ off (async_stays parts.url (decimal parts.line ++ 58 ∷ decimal parts.column) holds))) ∙ with_head (plain.blanks ++ at_word) head_is)
+    to_text location (is.joined ∙ ap (λ h. h ++ parts.url ++ 58 ∷ [] ++ decimal parts.line ++ 58 ∷ [] ++ decimal parts.column ++ parts.tail)
+    head_is ∙ simp append_assoc) [] refl
+    ∙ ap unless_async (cond-false (is_async location)
+    (parts_with ((plain.blanks ++ at_word) ++ async_word) (location_of (drop 6 location)) parts.tail)
+    (parts_with (plain.blanks ++ at_word) (location_of location) parts.tail)
+    (false_from_ne_true _ (λ holds. both_ways _ off (async_stays parts.url (decimal parts.line ++ 58 ∷ decimal parts.column) holds)))
+    ∙ with_head (plain.blanks ++ at_word) head_is)
     ∙ kept)
     (λ (head_is : parts.head ≡ plain.blanks ++ (at_word ++ async_word)).
-    to_text (async_word ++ location) (is.joined ∙ ap (λ h. h ++ parts.url ++ 58 ∷ [] ++ decimal parts.line ++ 58 ∷ [] ++ decimal parts.column ++ parts.tail) head_is ∙ simp append_assoc) async_word refl
-    ∙ ap unless_async (cond-true (is_async (async_word ++ location)) (parts_with ((plain.blanks ++ at_word) ++ async_word) (location_of location) parts.tail) (parts_with (plain.blanks ++ at_word) (location_of (async_word ++ location)) parts.tail) refl ∙ with_head ((plain.blanks ++ at_word) ++ async_word) (head_is ∙ sym (append_assoc plain.blanks at_word async_word)))
+    to_text (async_word ++ location) (is.joined
+    ∙ ap (λ h. h ++ parts.url ++ 58 ∷ [] ++ decimal parts.line ++ 58 ∷ [] ++ decimal parts.column ++ parts.tail) head_is
+    ∙ simp append_assoc) async_word refl
+    ∙ ap unless_async (cond-true (is_async (async_word ++ location))
+    (parts_with ((plain.blanks ++ at_word) ++ async_word) (location_of location) parts.tail)
+    (parts_with (plain.blanks ++ at_word) (location_of (async_word ++ location)) parts.tail) refl
+    ∙ with_head ((plain.blanks ++ at_word) ++ async_word) (head_is ∙ sym (append_assoc plain.blanks at_word async_word)))
     ∙ kept)
     plain.head_is
   where
@@ -323,22 +373,28 @@ plain_reads line parts is plain = ⊎_elim
         ap (λ p. parts_with head p parts.tail) (location_reads parts.url parts.line parts.column is.located is.line_printed is.column_printed)
         ∙ ap Some (record_is parts head parts.tail head_is refl)
 
-    to_text : (text : List ℕ) → line ≡ ((plain.blanks ++ at_word) ++ text) ++ parts.tail → (word : List ℕ) → word ++ location_text parts.url parts.line parts.column ≡ text →
+    to_text : (text : List ℕ) → line ≡ ((plain.blanks ++ at_word) ++ text) ++ parts.tail → (word : List ℕ)
+        → word ++ location_text parts.url parts.line parts.column ≡ text →
         frame_in line (without_last 13 line) ≡ plain_frame (plain.blanks ++ at_word) text parts.tail
     to_text text whole word text_is =
         let head : List ℕ = plain.blanks ++ at_word in
-        let same : (head ++ word) ++ location_text parts.url parts.line parts.column ≡ head ++ text = append_assoc head word (location_text parts.url parts.line parts.column) ∙ ap (λ t. head ++ t) text_is in
-        ended line (head ++ text) parts.tail plain.tail_is whole (ap (without_last 13) (sym same) ∙ location_ends 13 (head ++ word) parts.url parts.line parts.column (inl (omega arith)) is.column_printed)
+        let same : (head ++ word) ++ location_text parts.url parts.line parts.column ≡ head ++ text =
+        append_assoc head word (location_text parts.url parts.line parts.column) ∙ ap (λ t. head ++ t) text_is in
+        ended line (head ++ text) parts.tail plain.tail_is whole
+        (ap (without_last 13) (sym same) ∙ location_ends 13 (head ++ word) parts.url parts.line parts.column (inl (omega arith)) is.column_printed)
         ∙ after_reads plain.blanks text parts.tail plain.blank
-        ∙ ap (λ o. at_frame head text o parts.tail) (ap (without_last 41) (sym text_is) ∙ location_ends 41 word parts.url parts.line parts.column (inl (omega arith)) is.column_printed)
+        ∙ ap (λ o. at_frame head text o parts.tail)
+        (ap (without_last 41) (sym text_is) ∙ location_ends 41 word parts.url parts.line parts.column (inl (omega arith)) is.column_printed)
 
 -- a byte before an `@` stands at the beginning of what it ends
-before_sign : (function location rest : List ℕ) (byte : ℕ) → (byte == 64) ≡ false → function ++ 64 ∷ location ≡ byte ∷ rest → (more : List ℕ) × (function ≡ byte ∷ more) × (more ++ 64 ∷ location ≡ rest)
+before_sign : (function location rest : List ℕ) (byte : ℕ) → (byte == 64) ≡ false → function ++ 64 ∷ location ≡ byte ∷ rest
+    → (more : List ℕ) × (function ≡ byte ∷ more) × (more ++ 64 ∷ location ≡ rest)
 before_sign [] location rest byte other e = let same : byte ≡ 64 = cc in absurd (both_ways _ other (eq-eqb byte 64 same))
 before_sign (x ∷ function) location rest byte other e = let same : x ≡ byte = cc in (function, ap (λ y. y ∷ function) same, (cc))
 
 -- so do blanks and an `at `
-at_before_sign : (function location blanks rest : List ℕ) → AllByRecursion (λ b. IsTrue (is_blank b)) blanks → function ++ 64 ∷ location ≡ blanks ++ (at_word ++ rest) →
+at_before_sign : (function location blanks rest : List ℕ) → AllByRecursion (λ b. IsTrue (is_blank b)) blanks
+    → function ++ 64 ∷ location ≡ blanks ++ (at_word ++ rest) →
     (more : List ℕ) × (function ≡ blanks ++ (at_word ++ more))
 at_before_sign function location [] rest blank e =
     let one = before_sign function location (116 ∷ 32 ∷ rest) 97 refl e in
@@ -347,7 +403,8 @@ at_before_sign function location [] rest blank e =
     (three.0, one.1 ∙ ap (λ l. 97 ∷ l) (two.1 ∙ ap (λ l. 116 ∷ l) three.1))
 at_before_sign function location (x ∷ blanks) rest blank e =
     let P : ℕ → Type 0 = λ b. IsTrue (is_blank b) in
-    let one = before_sign function location (blanks ++ (at_word ++ rest)) x (false_from_ne_true (x == 64) (λ same. false≢true (subst P (eqb-true x 64 same) blank.0))) e in
+    let one = before_sign function location (blanks ++ (at_word ++ rest)) x
+    (false_from_ne_true (x == 64) (λ same. false≢true (subst P (eqb-true x 64 same) blank.0))) e in
     let more = at_before_sign one.0 location blanks rest blank.1 one.2 in
     (more.0, one.1 ∙ ap (λ l. x ∷ l) more.1)
 
@@ -357,12 +414,16 @@ sign_reads line parts is sign =
     let head : List ℕ = sign.function ++ 64 ∷ [] in
     let body : List ℕ = sign.function ++ 64 ∷ location in
     let joined : head ++ location ≡ body = append_assoc sign.function (64 ∷ []) location in
-    let whole : line ≡ body ++ parts.tail = is.joined ∙ ap (λ h. h ++ parts.url ++ 58 ∷ [] ++ decimal parts.line ++ 58 ∷ [] ++ decimal parts.column ++ parts.tail) sign.head_is ∙ simp append_assoc in
-    let other : without_last 13 body ≡ None = ap (without_last 13) (sym joined) ∙ location_ends 13 head parts.url parts.line parts.column (inl (omega arith)) is.column_printed in
+    let whole : line ≡ body ++ parts.tail = is.joined
+    ∙ ap (λ h. h ++ parts.url ++ 58 ∷ [] ++ decimal parts.line ++ 58 ∷ [] ++ decimal parts.column ++ parts.tail) sign.head_is ∙ simp append_assoc in
+    let other : without_last 13 body ≡ None =
+    ap (without_last 13) (sym joined) ∙ location_ends 13 head parts.url parts.line parts.column (inl (omega arith)) is.column_printed in
     let digit : ends_in_digit body ≡ true = ap ends_in_digit (sym joined) ∙ location_digit head parts.url parts.line parts.column is.column_printed in
     let off : starts_with nat_eq (drop (prefix_len is_blank body) body) at_word ≡ false = false_from_ne_true _ (λ holds.
-    let front = at_before_sign sign.function location (take (prefix_len is_blank body) body) (drop (prefix_len is_blank body + 3) body) (blank_prefix body) (at_split body holds) in
-    sign.not_at (take (prefix_len is_blank body) body) front.0 (blank_prefix body) (front.1 ∙ sym (append_assoc (take (prefix_len is_blank body) body) at_word front.0))) in
+    let front = at_before_sign sign.function location (take (prefix_len is_blank body) body) (drop (prefix_len is_blank body + 3) body)
+    (blank_prefix body) (at_split body holds) in
+    sign.not_at (take (prefix_len is_blank body) body) front.0 (blank_prefix body)
+    (front.1 ∙ sym (append_assoc (take (prefix_len is_blank body) body) at_word front.0))) in
     ended line body parts.tail sign.tail_is whole other
     ∙ cond-false (starts_with nat_eq (drop (prefix_len is_blank body) body) at_word) _ (sign_frame body parts.tail) off
     ∙ cond-true (ends_in_digit body) (sign_frame_at (cut_at_first 64 body) parts.tail) None digit

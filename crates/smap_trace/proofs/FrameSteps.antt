@@ -1,5 +1,7 @@
 -- The steps that the code takes from a line to its frame.
-use Rattle.std.proofs.Common.{◌≡◌, ◌≤◌, ◌+◌, ◌-◌, ◌==◌, ◌&&◌, ℕ, Bool, true, false, not, nat_le, cond, List, [], ◌∷◌, ◌++◌, length, take, drop, slice_range, Option, Some, None, IsSome, is_some, option_map, refl, sym, ap, ◌∙◌, arith, append_assoc, append-nil, length-drop, length-take, length-append}
+use Rattle.std.proofs.Common.{◌≡◌, ◌≤◌, ◌+◌, ◌-◌, ◌==◌, ◌&&◌, ℕ, Bool, true, false, not, nat_le, cond, List, [], ◌∷◌, ◌++◌, length, take, drop}
+use Rattle.std.proofs.Common.{slice_range, Option, Some, None, IsSome, is_some, option_map, refl, sym, ap, ◌∙◌, arith, append_assoc, append-nil}
+use Rattle.std.proofs.Common.{length-drop, length-take, length-append}
 use Rattle.std.specs.List.{prefix_len, starts_with}
 use Rattle.std.specs.Bool.{nat_eq}
 use Rattle.std.proofs.lemmas.Bool.{cond-true, cond-false, le-leb, leb-true}
@@ -10,7 +12,8 @@ use Rattle.std.proofs.lemmas.Bool.Decides.{Decides-eqb}
 use Rattle.smap_trace.specs.Cuts.{cut_at_call, cut_at_first, without_last}
 use Rattle.smap_lines.specs.Lines.{has_line_end}
 use Rattle.smap_trace.specs.Frame.{has_cr_within, is_line, is_blank, is_one_line}
-use Rattle.smap_trace.specs.FrameOf.{ends_in_digit, frame_of, frame_in, frame_after, at_frame, call_frame, plain_frame, parts_with, location_of, is_async, sign_frame, sign_frame_at, unless_async}
+use Rattle.smap_trace.specs.FrameOf.{ends_in_digit, frame_of, frame_in, frame_after, at_frame, call_frame, plain_frame, parts_with, location_of}
+use Rattle.smap_trace.specs.FrameOf.{is_async, sign_frame, sign_frame_at, unless_async}
 use Rattle.smap_trace.proofs.CutLaws.{last_stands, call_is_first, cut_is_first}
 
 -- ---- the whole line
@@ -36,7 +39,8 @@ unfolding frame_of
 no_line line not_one = cond-false (is_line line) _ None not_one
 
 same_cut : (line body end : List ℕ) → line ≡ body ++ end →
-    frame_after (prefix_len is_blank (take (length body) line)) (take (length body) line) (drop (length body) line) ≡ frame_after (prefix_len is_blank body) body end
+    frame_after (prefix_len is_blank (take (length body) line)) (take (length body) line) (drop (length body) line)
+    ≡ frame_after (prefix_len is_blank body) body end
 same_cut line body end is =
     let front : take (length body) line ≡ body = ap (take (length body)) is ∙ take_at body end (length body) refl in
     let rest : drop (length body) line ≡ end = ap (drop (length body)) is ∙ drop_at body end (length body) refl in
@@ -79,7 +83,8 @@ begun blanks line end at within =
     ∙ (λ i. at_frame (head i) (text i) (without_last 41 (text i)) (drop end line))
 
 -- the bytes from one place to another, where the last of them is this one
-last_of_range : (line : List ℕ) (start end : ℕ) (inner : List ℕ) (byte : ℕ) → start ≤ end → end ≤ length line → slice_range line start end ≡ inner ++ byte ∷ [] →
+last_of_range : (line : List ℕ) (start end : ℕ) (inner : List ℕ) (byte : ℕ) → start ≤ end → end ≤ length line
+    → slice_range line start end ≡ inner ++ byte ∷ [] →
     (inner ≡ slice_range line start (end - 1)) × (byte ∷ drop end line ≡ drop (end - 1) line)
 last_of_range line start end inner byte ordered within is =
     let many : length (slice_range line start end) ≡ end - start = length-take (end - start) (drop start line) ∙ omega (arith, length-drop start line) in
@@ -90,7 +95,8 @@ last_of_range line start end inner byte ordered within is =
     rest ∙ (λ i. is i ++ end_is i) ∙ append_assoc inner (byte ∷ []) (drop end line) in
     let less : end - 1 - start ≡ length inner = omega arith in (
       sym (ap (λ n. take n (drop start line)) less ∙ ap (take (length inner)) whole ∙ take_at inner (byte ∷ drop end line) (length inner) refl),
-      sym (drop_at inner (byte ∷ drop end line) (length inner) refl) ∙ ap (drop (length inner)) (sym whole) ∙ drop-drop (length inner) start line ∙ ap (λ n. drop n line) (omega arith),
+      sym (drop_at inner (byte ∷ drop end line) (length inner) refl) ∙ ap (drop (length inner)) (sym whole)
+          ∙ drop-drop (length inner) start line ∙ ap (λ n. drop n line) (omega arith),
     )
 
 -- as the code slices: what stands after the blanks, and after `at `
@@ -101,9 +107,11 @@ pub at_fits : (blanks : ℕ) (line : List ℕ) (end : ℕ) → end ≤ length li
 at_fits blanks line end inside fits =
     omega (arith, ap length (take_rest (take end line) blanks), length-drop blanks (take end line), length-take-le end line inside)
 
-call_form : (blanks : ℕ) (line : List ℕ) (end : ℕ) → starts_with nat_eq (drop blanks (take end line)) (97 ∷ 116 ∷ 32 ∷ []) ≡ true → blanks + 3 ≤ end → end ≤ length line →
+call_form : (blanks : ℕ) (line : List ℕ) (end : ℕ) → starts_with nat_eq (drop blanks (take end line)) (97 ∷ 116 ∷ 32 ∷ []) ≡ true
+    → blanks + 3 ≤ end → end ≤ length line →
     IsSome (without_last 41 (slice_range line (blanks + 3) end)) →
-    call_frame (take (blanks + 3) line) (cut_at_call (slice_range line (blanks + 3) (end - 1))) (drop (end - 1) line) ≡ frame_after blanks (take end line) (drop end line)
+    call_frame (take (blanks + 3) line) (cut_at_call (slice_range line (blanks + 3) (end - 1))) (drop (end - 1) line)
+    ≡ frame_after blanks (take end line) (drop end line)
 call_form blanks line end at within inside some = go (without_last 41 (slice_range line (blanks + 3) end)) refl some ∙ sym (begun blanks line end at within)
   where
     go : (o : Option (List ℕ)) → o ≡ without_last 41 (slice_range line (blanks + 3) end) → IsSome o →
@@ -111,7 +119,8 @@ call_form blanks line end at within inside some = go (without_last 41 (slice_ran
         ≡ at_frame (take (blanks + 3) line) (slice_range line (blanks + 3) end) (without_last 41 (slice_range line (blanks + 3) end)) (drop end line)
     go None is some = cc
     go (Some inner) is some =
-        let cut = last_of_range line (blanks + 3) end inner 41 within inside (MatchOption-at_some (Unit {0}) _ inner (sym is) (last_stands 41 (slice_range line (blanks + 3) end))) in
+        let cut = last_of_range line (blanks + 3) end inner 41 within inside
+        (MatchOption-at_some (Unit {0}) _ inner (sym is) (last_stands 41 (slice_range line (blanks + 3) end))) in
         (λ i. call_frame (take (blanks + 3) line) (cut_at_call (sym cut.0 i)) (sym cut.1 i))
         ∙ ap (λ o. at_frame (take (blanks + 3) line) (slice_range line (blanks + 3) end) o (drop end line)) is
 
@@ -127,12 +136,14 @@ begins : (blanks end : ℕ) (line : List ℕ) (found : Bool) → found ≡ start
     starts_with nat_eq (drop blanks (take end line)) (97 ∷ 116 ∷ 32 ∷ []) ≡ true
 begins blanks end line found is holds = ap (λ l. starts_with nat_eq l (97 ∷ 116 ∷ 32 ∷ [])) (sym (take_rest (take end line) blanks)) ∙ sym is ∙ holds
 
-pub none_begun : (blanks end : ℕ) (line : List ℕ) (found : Bool) → found ≡ starts_with nat_eq (rest_from blanks (take end line)) (97 ∷ 116 ∷ 32 ∷ []) → found ≡ false →
+pub none_begun : (blanks end : ℕ) (line : List ℕ) (found : Bool)
+    → found ≡ starts_with nat_eq (rest_from blanks (take end line)) (97 ∷ 116 ∷ 32 ∷ []) → found ≡ false →
     blanks ≡ prefix_len is_blank (take end line) →
     sign_frame (take end line) (drop end line) ≡ frame_after (prefix_len is_blank (take end line)) (take end line) (drop end line)
 none_begun blanks end line found is fails counted =
     let not_at = ap (λ l. starts_with nat_eq l (97 ∷ 116 ∷ 32 ∷ [])) (sym (take_rest (take end line) blanks)) ∙ sym is ∙ fails in
-    sym (ap (λ n. frame_after n (take end line) (drop end line)) (sym counted) ∙ cond-false (starts_with nat_eq (drop blanks (take end line)) (97 ∷ 116 ∷ 32 ∷ [])) _ (sign_frame (take end line) (drop end line)) not_at)
+    sym (ap (λ n. frame_after n (take end line) (drop end line)) (sym counted)
+    ∙ cond-false (starts_with nat_eq (drop blanks (take end line)) (97 ∷ 116 ∷ 32 ∷ [])) _ (sign_frame (take end line) (drop end line)) not_at)
 
 seen_text : (start end : ℕ) (line : List ℕ) → start ≤ end → rest_from start (take end line) ≡ slice_range line start end
 seen_text start end line within = take_rest (take end line) start ∙ range_of_front line start end within
@@ -157,7 +168,8 @@ pub found_call : {X : Type 0} (f : X → List ℕ) (o : Option X) (blanks end : 
 found_call f o blanks end line found inside is holds fits ends some counted =
     let there : is_some (without_last 41 (slice_range line (blanks + 3) end)) ≡ true =
     ap (λ l. is_some (without_last 41 l)) (sym (seen_text (blanks + 3) end line fits)) ∙ ap is_some (sym ends) ∙ is_some_map f o ∙ some in
-    call_form blanks line end (begins blanks end line found is holds) fits inside (some_if _ there) ∙ ap (λ n. frame_after n (take end line) (drop end line)) counted
+    call_form blanks line end (begins blanks end line found is holds) fits inside (some_if _ there)
+    ∙ ap (λ n. frame_after n (take end line) (drop end line)) counted
 
 pub found_plain : {X : Type 0} (f : X → List ℕ) (o : Option X) (blanks end : ℕ) (line : List ℕ) (found : Bool) →
     found ≡ starts_with nat_eq (rest_from blanks (take end line)) (97 ∷ 116 ∷ 32 ∷ []) → found ≡ true → blanks + 3 ≤ end →
@@ -171,12 +183,14 @@ found_plain f o blanks end line found is holds fits ends none counted =
 
 -- ---- the location in the line
 
-call_fits : (line : List ℕ) (start end : ℕ) (function rest : List ℕ) → end ≤ length line → slice_range line start end ≡ function ++ 32 ∷ 40 ∷ rest → start ≤ end → start + length function + 2 ≤ end
+call_fits : (line : List ℕ) (start end : ℕ) (function rest : List ℕ) → end ≤ length line
+    → slice_range line start end ≡ function ++ 32 ∷ 40 ∷ rest → start ≤ end → start + length function + 2 ≤ end
 call_fits line start end function rest inside is ordered =
     omega (arith, ap length is ∙ length-append function (32 ∷ 40 ∷ rest), length-take (end - start) (drop start line))
 
 -- what a range begins with belongs to the front
-into_range : (line : List ℕ) (start end k : ℕ) (opening rest : List ℕ) → length opening ≡ k → start ≤ end → end ≤ length line → slice_range line start end ≡ opening ++ rest →
+into_range : (line : List ℕ) (start end k : ℕ) (opening rest : List ℕ) → length opening ≡ k → start ≤ end → end ≤ length line
+    → slice_range line start end ≡ opening ++ rest →
     (take (start + k) line ≡ take start line ++ opening) × (slice_range line (start + k) end ≡ rest)
 into_range line start end k opening rest long ordered inside is =
     let text : List ℕ = drop start line in
@@ -184,12 +198,15 @@ into_range line start end k opening rest long ordered inside is =
     let fits : k ≤ end - start = omega (arith, ap length is ∙ length-append opening rest) in
     let front : take k text ≡ opening = sym (take-take k (end - start) text fits) ∙ ap (take k) is ∙ take_at opening rest k long in
     let more : end - start ≡ k + (end - (start + k)) = omega arith in (
-      sym (take-append-drop start (take (start + k) line)) ∙ (λ i. take-take start (start + k) line (omega arith) i ++ drop-take start k line i) ∙ ap (λ l. take start line ++ l) front,
-      ap (take (end - (start + k))) (sym (drop-drop k start line)) ∙ sym (drop-take k (end - (start + k)) text) ∙ ap (λ n. drop k (take n text)) (sym more) ∙ ap (drop k) is ∙ drop_at opening rest k long,
+      sym (take-append-drop start (take (start + k) line))
+          ∙ (λ i. take-take start (start + k) line (omega arith) i ++ drop-take start k line i) ∙ ap (λ l. take start line ++ l) front,
+      ap (take (end - (start + k))) (sym (drop-drop k start line)) ∙ sym (drop-take k (end - (start + k)) text)
+          ∙ ap (λ n. drop k (take n text)) (sym more) ∙ ap (drop k) is ∙ drop_at opening rest k long,
     )
 
 -- the frame of a call is the frame at its location
-called_at : (line : List ℕ) (start end : ℕ) (byte : ℕ) (function rest : List ℕ) → start ≤ end → end ≤ length line → slice_range line start end ≡ (byte ∷ function) ++ 32 ∷ 40 ∷ rest →
+called_at : (line : List ℕ) (start end : ℕ) (byte : ℕ) (function rest : List ℕ) → start ≤ end → end ≤ length line
+    → slice_range line start end ≡ (byte ∷ function) ++ 32 ∷ 40 ∷ rest →
     parts_with (take (start + length (byte ∷ function) + 2) line) (location_of (slice_range line (start + length (byte ∷ function) + 2) end)) (drop end line)
     ≡ parts_with (take start line ++ byte ∷ function ++ 32 ∷ 40 ∷ []) (location_of rest) (drop end line)
 called_at line start end byte function rest ordered inside is =
@@ -198,7 +215,8 @@ called_at line start end byte function rest ordered inside is =
     let long : length opening ≡ n = length-append (byte ∷ function) (32 ∷ 40 ∷ []) in
     let both = into_range line start end n opening rest long ordered inside (is ∙ sym (append_assoc (byte ∷ function) (32 ∷ 40 ∷ []) rest)) in
     let same : start + length (byte ∷ function) + 2 ≡ start + n = omega arith in
-    ap (λ k. parts_with (take k line) (location_of (slice_range line k end)) (drop end line)) same ∙ (λ i. parts_with (both.0 i) (location_of (both.1 i)) (drop end line))
+    ap (λ k. parts_with (take k line) (location_of (slice_range line k end)) (drop end line)) same
+    ∙ (λ i. parts_with (both.0 i) (location_of (both.1 i)) (drop end line))
     ∙ ap (λ head. parts_with head (location_of rest) (drop end line)) (sym (append_assoc (take start line) (byte ∷ function) (32 ∷ 40 ∷ [])))
 
 -- the cut of a call, and what follows from it
@@ -215,15 +233,18 @@ called line start end (byte ∷ function) rest ordered inside named is =
     )
 
 -- the text of the second form after its `async `
-pub after_async : (line : List ℕ) (start end : ℕ) (found : Bool) → start ≤ end → end ≤ length line → found ≡ is_async (slice_range line start end) → found ≡ true →
-    unless_async (parts_with (take (start + 6) line) (location_of (slice_range line (start + 6) end)) (drop end line)) ≡ plain_frame (take start line) (slice_range line start end) (drop end line)
+pub after_async : (line : List ℕ) (start end : ℕ) (found : Bool) → start ≤ end → end ≤ length line
+    → found ≡ is_async (slice_range line start end) → found ≡ true →
+    unless_async (parts_with (take (start + 6) line) (location_of (slice_range line (start + 6) end)) (drop end line))
+    ≡ plain_frame (take start line) (slice_range line start end) (drop end line)
 after_async line start end found ordered inside is holds =
     let text : List ℕ = slice_range line start end in
     let word : List ℕ = 97 ∷ 115 ∷ 121 ∷ 110 ∷ 99 ∷ 32 ∷ [] in
     let begins : text ≡ word ++ drop 6 text = (starts_is Decides-eqb text word found is).0 holds in
     let both = into_range line start end 6 word (drop 6 text) refl ordered inside begins in
     (λ i. unless_async (parts_with (both.0 i) (location_of (both.1 i)) (drop end line)))
-    ∙ ap unless_async (sym (cond-true (is_async text) (parts_with (take start line ++ word) (location_of (drop 6 text)) (drop end line)) (parts_with (take start line) (location_of text) (drop end line)) (sym is ∙ holds)))
+    ∙ ap unless_async (sym (cond-true (is_async text) (parts_with (take start line ++ word) (location_of (drop 6 text)) (drop end line))
+    (parts_with (take start line) (location_of text) (drop end line)) (sym is ∙ holds)))
 
 -- a line that ends in no digit
 pub unsigned : (text tail : List ℕ) → ends_in_digit text ≡ false → None ≡ sign_frame text tail
@@ -238,9 +259,11 @@ uncut text tail none = sym (none_both (ends_in_digit text))
     none_both false = refl
 
 -- the cut at the first `@`, and what follows from it
-pub signed : (line : List ℕ) (end : ℕ) (function rest : List ℕ) → end ≤ length line → ends_in_digit (take end line) ≡ true → Some (function, rest) ≡ cut_at_first 64 (take end line) →
+pub signed : (line : List ℕ) (end : ℕ) (function rest : List ℕ) → end ≤ length line → ends_in_digit (take end line) ≡ true
+    → Some (function, rest) ≡ cut_at_first 64 (take end line) →
     (length function + 1 ≤ end)
-    × (parts_with (take (length function + 1) line) (location_of (slice_range line (length function + 1) end)) (drop end line) ≡ sign_frame (take end line) (drop end line))
+    × (parts_with (take (length function + 1) line) (location_of (slice_range line (length function + 1) end)) (drop end line)
+    ≡ sign_frame (take end line) (drop end line))
 signed line end function rest inside digit is =
     let text : List ℕ = take end line in
     let k : ℕ = length function + 1 in

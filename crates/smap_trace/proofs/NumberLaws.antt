@@ -1,5 +1,6 @@
 -- The lines and columns of frames are what is printed, and are read back.
-use Rattle.std.proofs.Common.{◌≡◌, ◌≢◌, ◌==◌, ◌&&◌, ◌+◌, ◌-◌, ◌*◌, ◌^◌, ◌<◌, ◌≤◌, ℕ, Bool, true, false, cond, leb, ltb, List, [], ◌∷◌, ◌++◌, length, get_or, Option, Some, None, refl, sym, ap, ◌∙◌, arith, rules, zero, suc, ◌⊎◌, inr, append_assoc}
+use Rattle.std.proofs.Common.{◌≡◌, ◌≢◌, ◌==◌, ◌&&◌, ◌+◌, ◌-◌, ◌*◌, ◌^◌, ◌<◌, ◌≤◌, ℕ, Bool, true, false, cond, leb, ltb, List, [], ◌∷◌, ◌++◌, length}
+use Rattle.std.proofs.Common.{get_or, Option, Some, None, refl, sym, ap, ◌∙◌, arith, rules, zero, suc, ◌⊎◌, inr, append_assoc}
 use Rattle.std.specs.Char.{is_ascii_digit}
 use Rattle.std.specs.Fmt.{decimal}
 use Rattle.std.specs.Str.{all_ascii_digits}
@@ -56,7 +57,8 @@ number_is text n is =
     let parts = none_else (ltb 48 (get_or text 0 0)) (read_on 0 text) n is in
     let first : 48 < get_or text 0 0 = ltb-true _ _ parts.0 in
     let read = read_is 0 text n (omega arith) parts.1 in
-    let printed : decimal (value_on 0 text) ≡ text = decimal-digits_value own text read.0 (nonempty text first) (λ zero. absurd (omega arith)) (omega (arith, read.1, read.2)) in
+    let printed : decimal (value_on 0 text) ≡ text =
+    decimal-digits_value own text read.0 (nonempty text first) (λ zero. absurd (omega arith)) (omega (arith, read.1, read.2)) in
     let whole : text ≡ decimal n = sym printed ∙ ap decimal read.1 in
     (whole, (positive n whole first, read.2))
   where
@@ -73,7 +75,8 @@ number_reads n printed =
     ∙ reads 0 (decimal n) (digits_decimal own n small) (omega arith) ∙ ap Some same
 
 digit_is_other : (byte c : ℕ) → (byte < 48) ⊎ (57 < byte) → is_ascii_digit c ≡ true → c ≢ byte
-digit_is_other byte c outside digit same = let parts = and_parts (leb 48 c) (leb c 57) digit in absurd (omega (arith, leb-true 48 c parts.0, leb-true c 57 parts.1))
+digit_is_other byte c outside digit same = let parts = and_parts (leb 48 c) (leb c 57) digit
+    in absurd (omega (arith, leb-true 48 c parts.0, leb-true c 57 parts.1))
 
 -- no `:` stands in a number
 digits_without : (byte : ℕ) (ds : List ℕ) → (byte < 48) ⊎ (57 < byte) → AreDigits ds → is_without byte ds

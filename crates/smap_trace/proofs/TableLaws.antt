@@ -35,20 +35,23 @@ module _ {K V : Type 0} (key : K → List ℕ) (stated : V → MapRecord) where
   pub looked_up : (url : List ℕ) (entries : List (K × V)) → option_map stated (lookup (is_under url) entries) ≡ record_for url (pairs entries)
   looked_up url [] = refl
   looked_up url (e ∷ entries) =
-      picked url e (lookup (is_under url) entries) (record_for url (pairs entries)) (is_under url e.0) (bytes_eq url (key e.0)) (is_eq-slice_cmp url (key e.0)) (looked_up url entries)
+      picked url e (lookup (is_under url) entries) (record_for url (pairs entries)) (is_under url e.0) (bytes_eq url (key e.0))
+      (is_eq-slice_cmp url (key e.0)) (looked_up url entries)
 
   passed : (u : Bool) (one : MapRecord) (found : Option MapRecord) → cond u (Some one) found ≡ None → (u ≡ false) × (found ≡ None)
   passed true one found is = cc
   passed false one found is = (refl, is)
 
-  pub with_more : (k : K) (v : V) (entries : List (K × V)) → record_for (key k) (pairs entries) ≡ None → IsWith (pairs entries) (key k) (stated v) (pairs (insert_entry order entries k v))
+  pub with_more : (k : K) (v : V) (entries : List (K × V)) → record_for (key k) (pairs entries) ≡ None
+      → IsWith (pairs entries) (key k) (stated v) (pairs (insert_entry order entries k v))
   with_more k v [] absent = record { before = []; after = []; old_is = refl; new_is = refl }
   with_more k v (e ∷ entries) absent =
       let parts = passed (bytes_eq (key k) (key e.0)) (stated e.1) (record_for (key k) (pairs entries)) absent in
       go (order k e.0) (is_eq-slice_cmp (key k) (key e.0) ∙ parts.0) (with_more k v entries parts.1)
     where
       go : (o : Ordering) → is_eq o ≡ false → IsWith (pairs entries) (key k) (stated v) (pairs (insert_entry order entries k v)) →
-          IsWith (pairs (e ∷ entries)) (key k) (stated v) (pairs (match_ordering o ((k, v) ∷ e ∷ entries) ((e.0, v) ∷ entries) (e ∷ insert_entry order entries k v)))
+          IsWith (pairs (e ∷ entries)) (key k) (stated v)
+          (pairs (match_ordering o ((k, v) ∷ e ∷ entries) ((e.0, v) ∷ entries) (e ∷ insert_entry order entries k v)))
       go Less off more = record { before = []; after = pairs (e ∷ entries); old_is = refl; new_is = refl }
       go Equal off more = cc
       go Greater off more = record {
@@ -58,7 +61,8 @@ module _ {K V : Type 0} (key : K → List ℕ) (stated : V → MapRecord) where
         new_is = ap (λ l. (key e.0, stated e.1) ∷ l) more.new_is;
       }
 
-pub copied : {R T U : Type 0} (now : R → T) (f : T → U) (o : Option R) (found : Option T) → option_map now o ≡ found → option_map (λ r. f (now r)) o ≡ option_map f found
+pub copied : {R T U : Type 0} (now : R → T) (f : T → U) (o : Option R) (found : Option T) → option_map now o ≡ found
+    → option_map (λ r. f (now r)) o ≡ option_map f found
 copied now f None found is = ap (option_map f) is
 copied now f (Some r) found is = ap (option_map f) is
 

@@ -1,6 +1,7 @@
 -- What a trace becomes: each of its lines by itself, over a table of the maps and their URLs, with the frames of sources
 -- that a map says to ignore hidden or not (this project's own).
-use Rattle.std.specs.Prelude.{ℕ, ◌+◌, ◌-◌, ◌==◌, ◌||◌, ◌&&◌, Bool, true, false, List, [], ◌++◌, Option, Some, None, is_some, codes, length, if◌then◌else◌, option_and_then, slice_get, filter}
+use Rattle.std.specs.Prelude.{ℕ, ◌+◌, ◌-◌, ◌==◌, ◌||◌, ◌&&◌, Bool, true, false, List, [], ◌++◌, Option, Some, None, is_some, codes, length}
+use Rattle.std.specs.Prelude.{if◌then◌else◌, option_and_then, slice_get, filter}
 use Rattle.std.specs.Char.{is_ascii_control}
 use Rattle.std.specs.Fmt.{decimal}
 use Rattle.std.specs.List.{list_any}

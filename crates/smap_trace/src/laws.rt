@@ -6,5 +6,6 @@ ghost use Rattle.smap_trace.specs.FrameOf.{decimal_number};
 
 /// The number that a text writes is the one that is printed as this text.
 pub fn numbers_are_read_as_printed()
-    ensures { (text : List ℕ) (n : ℕ) → (decimal_number text ≡ Some n) ↔ ((text ≡ decimal n) × IsPrinted n) }
+    ensures { (text : List ℕ) (n : ℕ)
+        → (decimal_number text ≡ Some n) ↔ ((text ≡ decimal n) × IsPrinted n) }
 {}

@@ -29,7 +29,8 @@ pub record Now (E : Type 0) : Type 0 where
 
 -- of these bytes, which were read, all but the later ones went through an editor that began as `first`, over an output
 -- that had taken `before`
-pub record IsThrough {E : Type 0} (becomes : E → Line → List ℕ) (step : E → Line → E) (room : E → ℕ) (first : E) (before : Option (List ℕ)) (bytes : List ℕ) (now : Now E) (later : List ℕ) : Type 0 where
+pub record IsThrough {E : Type 0} (becomes : E → Line → List ℕ) (step : E → Line → E) (room : E → ℕ) (first : E) (before : Option (List ℕ))
+    (bytes : List ℕ) (now : Now E) (later : List ℕ) : Type 0 where
   pub done : List ℕ
   pub begun : List ℕ
   pub written : List ℕ

@@ -1,5 +1,6 @@
 -- What reading a number, a field or a segment at a place of a text gives.
-use Rattle.std.specs.Prelude.{◌≡◌, ℕ, ◌+◌, ◌/◌, ◌≤◌, List, [], ◌∷◌, Option, Some, None, Result, Ok, Err, Bool, ◌||◌, not, ◌==◌, nat_lt, if◌then◌else◌, length, drop, unwrap_or, slice_index, IfSome, ℤ}
+use Rattle.std.specs.Prelude.{◌≡◌, ℕ, ◌+◌, ◌/◌, ◌≤◌, List, [], ◌∷◌, Option, Some, None, Result, Ok, Err, Bool, ◌||◌, not, ◌==◌, nat_lt, if◌then◌else◌}
+use Rattle.std.specs.Prelude.{length, drop, unwrap_or, slice_index, IfSome, ℤ}
 use Rattle.std.specs.List.{prefix_len, take_while}
 use Rattle.smap_mappings.specs.Limits.{limit}
 use Rattle.smap_mappings.specs.Vlq.{is_digit, is_continuing, signed_number}

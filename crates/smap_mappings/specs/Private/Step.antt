@@ -36,7 +36,8 @@ cursor_name (Some name) cursor = Some cursor.name
 -- the state's origin, for a segment that has one
 abbrev pub cursor_origin : Option OriginFields → Cursor → Option Origin
 cursor_origin None cursor = None
-cursor_origin (Some origin) cursor = Some (record { source = cursor.source; line = cursor.original_line; column = cursor.original_column; name = cursor_name origin.name cursor })
+cursor_origin (Some origin) cursor = Some
+    (record { source = cursor.source; line = cursor.original_line; column = cursor.original_column; name = cursor_name origin.name cursor })
 
 -- the mapping of a segment, from the state after it
 abbrev pub mapping_in : Segment → Cursor → Mapping

@@ -29,9 +29,11 @@ module _ {W : Type 0} (seen : W → SinkSeen) where
     puts = λ start front put. subst (λ l. IsPut start (line_output seen line) l line.done) (sym (append-nil front)) put;
   }
 
-  pub gathers_both : (old mid new : GatheredLine W) (first second : List ℕ) → Gathers seen old mid first → Gathers seen mid new second → Gathers seen old new (first ++ second)
+  pub gathers_both : (old mid new : GatheredLine W) (first second : List ℕ) → Gathers seen old mid first → Gathers seen mid new second
+      → Gathers seen old new (first ++ second)
   gathers_both old mid new first second one two = record {
     same_gathered = two.same_gathered ∙ one.same_gathered;
     same_output = two.same_output ∙ one.same_output;
-    puts = λ start front put. subst (λ l. IsPut start (line_output seen new) l new.done) (append_assoc front first second) (two.puts start (front ++ first) (one.puts start front put));
+    puts = λ start front put. subst (λ l. IsPut start (line_output seen new) l new.done) (append_assoc front first second)
+        (two.puts start (front ++ first) (one.puts start front put));
   }

@@ -5,7 +5,8 @@ use Rattle.smap_answers.proofs.raw.answer_raw.Goals as goal
 
 pub returns-in-Ok : goal.returns-in-Ok
 returns-in-Ok g c output =
-    let read = raw_input (g.R.ByteSource.seen c.args.input.now).left (g.R.ByteSource.seen c.read_all.new.input).left c.in-Ok.bytes.items c.args.line c.args.column c.in-Ok.ensures.gives
+    let read = raw_input (g.R.ByteSource.seen c.args.input.now).left (g.R.ByteSource.seen c.read_all.new.input).left c.in-Ok.bytes.items
+    c.args.line c.args.column c.in-Ok.ensures.gives
     (omega (arith, c.in-Ok.ensures.fits)) (λ less. c.in-Ok.ensures.whole (omega arith)) in
     record {
       input = read.0;

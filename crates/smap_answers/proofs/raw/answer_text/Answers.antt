@@ -18,7 +18,8 @@ returns-in-Ok c =
     let short : length c.args.bytes.items ≤ most_text_bytes = omega (arith, c.len.ensures) in
     let is_text = subst IsUtf8 items (IsUtf8-string_bytes c.in-Ok.text) in
     rw (text_is_utf8 c.args.bytes.items c.args.line c.args.column short is_text)
-    (subst (λ bytes. OrMemory (λ t. t ≡ fault_or_answer (first_fault bytes most_indices most_indices) (answer_at_or_before (mappings_of bytes) c.args.line c.args.column)) (telling_of c.answer_mappings.result)) items c.answer_mappings.ensures)
+    (subst (λ bytes. OrMemory (λ t. t ≡ fault_or_answer (first_fault bytes most_indices most_indices)
+    (answer_at_or_before (mappings_of bytes) c.args.line c.args.column)) (telling_of c.answer_mappings.result)) items c.answer_mappings.ensures)
 
 pub returns : goal.returns
 returns c =

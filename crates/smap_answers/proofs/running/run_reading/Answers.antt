@@ -6,11 +6,28 @@ use Rattle.smap_answers.proofs.running.run_reading.Goals as goal
 pub returns : goal.returns
 returns g c = elim c.match-command.branch [
   | in-Raw w ↦ rw (w.in-Raw.is, w.input-is) (runs_one _ _ _ _ _ _ (w.answer_raw-outcome.ensures _) (rw (w.output-is, w.outcome-is) at c.tell.ensures))
-  | in-Check w ↦ rw (w.in-Check.is, w.input-is) (runs_one _ _ _ _ _ _ (refl, (rw (w.deref.ensures, w.as_ref.ensures.value) at w.answer_check-outcome.ensures)) (rw (w.output-is, w.outcome-is) at c.tell.ensures))
-  | in-Show w ↦ rw (w.in-Show.is, w.input-is) (runs_one _ _ _ _ _ _ (refl, (rw (w.deref-in-Show.ensures, w.as_ref-in-Show.ensures.value) at w.answer_show-outcome.ensures)) (rw (w.output-is, w.outcome-is) at c.tell.ensures))
-  | in-Lookup w ↦ rw (w.in-Lookup.is, w.input-is) (runs_one _ _ _ _ _ _ (refl, (rw (w.deref-in-Lookup.ensures, w.as_ref-in-Lookup.ensures.value) at w.answer_lookup-outcome.ensures)) (rw (w.output-is, w.outcome-is) at c.tell.ensures))
-  | in-Positions w ↦ rw (w.in-Positions.is, w.input-is) (runs_one _ _ _ _ _ _ (rw (w.deref-in-Positions.ensures, w.as_ref-in-Positions.ensures.value) at w.answer_positions-outcome.ensures) (rw (w.output-is, w.outcome-is) at c.tell.ensures))
-  | in-Rewrite w ↦ rw (w.in-Rewrite.is, w.input-is) (runs_one _ _ _ _ _ _ (rw (w.deref-in-Rewrite.ensures.value, w.as_ref-in-Rewrite.ensures.value) at w.answer_rewrite-outcome.ensures) (rw (w.output-is, w.outcome-is) at c.tell.ensures))
-  | in-RewriteAnywhere w ↦ rw (w.in-RewriteAnywhere.is, w.input-is) (runs_one _ _ _ _ _ _ (rw (w.deref-in-RewriteAnywhere.ensures.value, w.as_ref-in-RewriteAnywhere.ensures.value) at w.answer_anywhere-outcome.ensures) (rw (w.output-is, w.outcome-is) at c.tell.ensures))
-  | in-Compose w ↦ rw (w.in-Compose.is, w.input-is) (runs_one _ _ _ _ _ _ (refl, (rw (w.deref-in-Compose.ensures, w.deref-in-Compose-2.ensures, w.as_ref-in-Compose.ensures.value) at w.answer_compose-outcome.ensures)) (rw (w.output-is, w.outcome-is) at c.tell.ensures))
+  | in-Check w ↦ rw (w.in-Check.is, w.input-is)
+      (runs_one _ _ _ _ _ _ (refl, (rw (w.deref.ensures, w.as_ref.ensures.value) at w.answer_check-outcome.ensures))
+      (rw (w.output-is, w.outcome-is) at c.tell.ensures))
+  | in-Show w ↦ rw (w.in-Show.is, w.input-is)
+      (runs_one _ _ _ _ _ _ (refl, (rw (w.deref-in-Show.ensures, w.as_ref-in-Show.ensures.value) at w.answer_show-outcome.ensures))
+      (rw (w.output-is, w.outcome-is) at c.tell.ensures))
+  | in-Lookup w ↦ rw (w.in-Lookup.is, w.input-is)
+      (runs_one _ _ _ _ _ _ (refl, (rw (w.deref-in-Lookup.ensures, w.as_ref-in-Lookup.ensures.value) at w.answer_lookup-outcome.ensures))
+      (rw (w.output-is, w.outcome-is) at c.tell.ensures))
+  | in-Positions w ↦ rw (w.in-Positions.is, w.input-is)
+      (runs_one _ _ _ _ _ _ (rw (w.deref-in-Positions.ensures, w.as_ref-in-Positions.ensures.value) at w.answer_positions-outcome.ensures)
+      (rw (w.output-is, w.outcome-is) at c.tell.ensures))
+  | in-Rewrite w ↦ rw (w.in-Rewrite.is, w.input-is)
+      (runs_one _ _ _ _ _ _ (rw (w.deref-in-Rewrite.ensures.value, w.as_ref-in-Rewrite.ensures.value) at w.answer_rewrite-outcome.ensures)
+      (rw (w.output-is, w.outcome-is) at c.tell.ensures))
+  | in-RewriteAnywhere w ↦ rw (w.in-RewriteAnywhere.is, w.input-is)
+      (runs_one _ _ _ _ _ _ (rw (w.deref-in-RewriteAnywhere.ensures.value, w.as_ref-in-RewriteAnywhere.ensures.value) at
+      w.answer_anywhere-outcome.ensures) (rw (w.output-is, w.outcome-is) at c.tell.ensures))
+  | in-Compose w ↦ rw (w.in-Compose.is, w.input-is)
+      (runs_one _ _ _ _ _ _ (
+        refl,
+        (rw (w.deref-in-Compose.ensures, w.deref-in-Compose-2.ensures, w.as_ref-in-Compose.ensures.value) at
+            w.answer_compose-outcome.ensures),
+      ) (rw (w.output-is, w.outcome-is) at c.tell.ensures))
 ]

@@ -13,5 +13,6 @@ unwrap-requires c =
 
 pub returns : goal.returns
 returns c =
-    let given = sym (first_value-rows (found_of c.args.matches.now) c.args.name.now) ∙ (sym c.get_str.ensures ∙ ap (option_map (λ s. s.now)) c.unwrap.ensures) in
+    let given = sym (first_value-rows (found_of c.args.matches.now) c.args.name.now)
+    ∙ (sym c.get_str.ensures ∙ ap (option_map (λ s. s.now)) c.unwrap.ensures) in
     IfOk-weaker c.from_str.result _ _ (λ path is. given ∙ ap (λ text. Some text) (sym is)) c.from_str.ensures.ok

@@ -18,7 +18,8 @@ returns c =
     let top : app_of c.subcommand_required.result ≡ bare =
     ap app_of_fields c.subcommand_required.ensures
     ∙ ap (on_top (λ s. record s { subcommand_required = true })) (ap app_of_fields c.after_help.ensures ∙ (ap app_of_fields c.about.ensures ∙ versioned)) in
-    let are : subs ≡ c.in_ok-lookup_command.field-0 ∷ c.in_ok-positions_command.field-0 ∷ c.in_ok-rewrite_command.field-0 ∷ c.in_ok-check_command.field-0 ∷ c.in_ok-show_command.field-0
+    let are : subs ≡ c.in_ok-lookup_command.field-0 ∷ c.in_ok-positions_command.field-0 ∷ c.in_ok-rewrite_command.field-0
+    ∷ c.in_ok-check_command.field-0 ∷ c.in_ok-show_command.field-0
     ∷ c.in_ok-compose_command.field-0 ∷ c.in_ok-raw_command.field-0 ∷ [] = search rules in
     let local : AllByRecursion (λ s. (out-Command s).has_globals ≡ false) subs = subst (AllByRecursion (λ s. (out-Command s).has_globals ≡ false)) (sym are) (
       c.in_ok-lookup_command.ensures.1,

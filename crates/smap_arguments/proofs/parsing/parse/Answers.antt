@@ -13,7 +13,8 @@ pub returns-in-Ok-clause-asked : goal.returns-in-Ok-clause-asked
 returns-in-Ok-clause-asked c =
     let parsed = parsed_smap _ (texts c.as_slice.result.now) c.in-Ok.matches c.in_ok-smap.ensures c.in-Ok.ensures.kinds c.in-Ok.ensures.matches in
     let arguments_are : texts c.as_slice.result.now ≡ texts c.args.arguments.items = ap texts c.as_slice.ensures.value in
-    rw (← arguments_are) (IfOk-weaker c.command_in.result _ (ArgumentsAskFor (texts c.as_slice.result.now)) (λ command asks. (parsed.0, rw parsed.1 asks)) c.command_in.ensures.asked)
+    rw (← arguments_are) (IfOk-weaker c.command_in.result _ (ArgumentsAskFor (texts c.as_slice.result.now))
+    (λ command asks. (parsed.0, rw parsed.1 asks)) c.command_in.ensures.asked)
 
 pub returns-in-Ok-clause-refused : goal.returns-in-Ok-clause-refused
 returns-in-Ok-clause-refused c =

@@ -7,5 +7,6 @@ use Rattle.smap_command.proofs.text.shown.Goals as goal
 
 pub returns : goal.returns
 returns c =
-    let h : IfOk c.collect.result (λ clean. string_bytes clean ≡ encode_utf8_all (map shown_byte (chars c.args.text.now))) = search (rules, chars_from_encodes) in
+    let h : IfOk c.collect.result (λ clean. string_bytes clean ≡ encode_utf8_all (map shown_byte (chars c.args.text.now))) =
+    search (rules, chars_from_encodes) in
     subst (λ bytes. IfOk c.collect.result (λ clean. string_bytes clean ≡ bytes)) (shown_encodes c.args.text.now c.utf8.text) h

@@ -17,8 +17,10 @@ pub invariant_of-result : goal.invariant_of-result
 invariant_of-result c =
     let outer = c.args.outer.now.stated in
     let inner = c.args.inner.now.stated in
-    let few_sources : sources_together outer inner ≤ most_listed = omega (arith, ltb-false _ _ (sym c.if-are_too_many.ensures), c.sources-2.ensures, c.sources-3.ensures) in
-    let few_names : names_together outer inner ≤ most_listed = omega (arith, ltb-false _ _ (sym c.if-are_too_many-2.ensures), c.names.ensures, c.names-else-are_too_many.ensures) in
+    let few_sources : sources_together outer inner ≤ most_listed =
+    omega (arith, ltb-false _ _ (sym c.if-are_too_many.ensures), c.sources-2.ensures, c.sources-3.ensures) in
+    let few_names : names_together outer inner ≤ most_listed =
+    omega (arith, ltb-false _ _ (sym c.if-are_too_many-2.ensures), c.names.ensures, c.names-else-are_too_many.ensures) in
     let same = c.deref.ensures.value in
     let P : List Mapping → Type 0 = λ list. mappings_of (canonical_text list) ≡ list in
     let Q : List Mapping → Type 0 = λ list. IsRegularMap (length c.in_ok-sources.sources.items) (length c.in_ok-names.names.items) (canonical_text list) in

@@ -29,7 +29,8 @@ loop-mapping-preserved c =
       front = (
         front ++ m ∷ [],
         append_assoc front (m ∷ []) _ ∙ ap (λ left. front ++ left) (sym c.in-Some.ensures.steps) ∙ so_far.front.1,
-        pushed ∙ ap (λ items. items ++ c.follow-followed.result ∷ []) so_far.front.2 ∙ ap (λ followed. map following front ++ followed ∷ []) c.follow-followed.ensures.followed
+        pushed ∙ ap (λ items. items ++ c.follow-followed.result ∷ []) so_far.front.2
+            ∙ ap (λ followed. map following front ++ followed ∷ []) c.follow-followed.ensures.followed
             ∙ sym (map-append following front (m ∷ [])),
       );
       length = subst (λ items. IsLengthOf items c.add.new.self) (sym pushed) (c.add.ensures before so_far.length);
@@ -46,5 +47,6 @@ returns-clause-no_fault c =
     let all : front ≡ joined outer.parts = sym (append-nil front) ∙ ap (λ left. front ++ left) (sym c.in-None.ensures.steps.0) ∙ so_far.front.1 in
     let list : c.loop-mapping.list.items ≡ map following (joined outer.parts) = so_far.front.2 ∙ ap (map following) all in
     c.lists_in_order_have_no_fault.ensures.within c.loop-mapping.list.items (sources_together outer inner) (names_together outer inner)
-    (subst IsInOrder (sym list) (followed_in_order (mappings_of_map outer) c.args.source (mappings_of_map inner) (joined outer.parts) c.mappings-mapping-items.ensures.ordered))
+    (subst IsInOrder (sym list) (followed_in_order (mappings_of_map outer) c.args.source (mappings_of_map inner) (joined outer.parts)
+    c.mappings-mapping-items.ensures.ordered))
     so_far.within

@@ -15,6 +15,7 @@ loop-i-preserved c =
           ∙ ap (map string_bytes) w.in_ok-push.ensures.items
           ∙ map-append string_bytes so_far (w.in_ok-from_str.field-0 ∷ [])
           ∙ ap (λ name. map string_bytes so_far ++ name ∷ []) w.in_ok-from_str.ensures.ok
-          ∙ copied_next (map string_bytes c.args.names.now.items) names (map string_bytes so_far) c.loop-i.i w.in-Some.name.now c.loop-i.invariant (sym w.in-Some.ensures)
+          ∙ copied_next (map string_bytes c.args.names.now.items) names (map string_bytes so_far) c.loop-i.i w.in-Some.name.now
+          c.loop-i.invariant (sym w.in-Some.ensures)
       | in_default w ↦ absurd (none_past names c.loop-i.i (sym w.in_default.ensures) inside)
     ]

@@ -17,6 +17,7 @@ loop-i-preserved c =
           ∙ ap (map source_of) w.in_ok-push.ensures.items
           ∙ map-append source_of so_far (w.in_ok-copied_source.field-0 ∷ [])
           ∙ ap (λ source. map source_of so_far ++ source ∷ []) w.in_ok-copied_source.ensures
-          ∙ copied_next (map source_of c.args.sources.now.items) sources (map source_of so_far) c.loop-i.i (source_of w.in-Some.source.now) c.loop-i.invariant (sym w.in-Some.ensures)
+          ∙ copied_next (map source_of c.args.sources.now.items) sources (map source_of so_far) c.loop-i.i (source_of w.in-Some.source.now)
+          c.loop-i.invariant (sym w.in-Some.ensures)
       | in_default w ↦ absurd (none_past sources c.loop-i.i (sym w.in_default.ensures) inside)
     ]

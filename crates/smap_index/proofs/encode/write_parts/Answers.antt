@@ -10,5 +10,10 @@ loop-mapping-preserved c =
     record {
       can = tt;
       finite = tt;
-      written = (so_far.0 ++ m ∷ [], front_next so_far.0 c.loop-mapping.mapping-iterator (joined c.args.parts.now) m _ so_far.1 c.in-Some.ensures.steps, c.in_ok-push.ensures so_far.0 so_far.2);
+      written = (
+        so_far.0 ++ m ∷ [],
+        front_next so_far.0 c.loop-mapping.mapping-iterator (joined c.args.parts.now) m _ so_far.1
+            c.in-Some.ensures.steps,
+        c.in_ok-push.ensures so_far.0 so_far.2,
+      );
     }

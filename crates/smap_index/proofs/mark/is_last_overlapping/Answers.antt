@@ -12,5 +12,6 @@ returns-then-segments-eq0 c =
 pub returns-else-segments-eq0 : goal.returns-else-segments-eq0
 returns-else-segments-eq0 c =
     c.is_after_offset.ensures
-    ∙ sym (overlapping_at_state c.args.part.now c.in-Some.next.now c.args.last.now c.requires.ordered c.requires.last (λ none. c.if-segments-eq0.false (c.segments.ensures.count ∙ none)))
+    ∙ sym (overlapping_at_state c.args.part.now c.in-Some.next.now c.args.last.now c.requires.ordered c.requires.last
+    (λ none. c.if-segments-eq0.false (c.segments.ensures.count ∙ none)))
     ∙ ap (λ next. is_overlapping_next c.args.part.now (option_copied next)) (sym c.in-Some.is)

@@ -29,14 +29,21 @@ loop-mapping-init c =
     }
 
 pub next-requires-clause-room : goal.next-requires-clause-room
-next-requires-clause-room c = omega (arith, c.loop-mapping.invariant.after.count, c.segments-segments.ensures.bound, c.segments-segments.ensures.count, c.start-start.ensures.packed.short)
+next-requires-clause-room c = omega (
+  arith,
+  c.loop-mapping.invariant.after.count,
+  c.segments-segments.ensures.bound,
+  c.segments-segments.ensures.count,
+  c.start-start.ensures.packed.short,
+)
 
 pub walk_after-walk-requires-clause-unmoved : goal.walk_after-walk-requires-clause-unmoved
 walk_after-walk-requires-clause-unmoved c still =
     let j = c.loop-mapping.meter.segments in
     let part = c.args.part.now in
     let packed = c.start-start.ensures.packed in
-    let all = unmoved_in_range part most_indices most_indices (c.is_moving-moves.ensures (still)) (c.accepted_texts_have_no_fault.ensures.within part.text most_indices most_indices packed.short packed.accepted) in
+    let all = unmoved_in_range part most_indices most_indices (c.is_moving-moves.ensures (still))
+    (c.accepted_texts_have_no_fault.ensures.within part.text most_indices most_indices packed.short packed.accepted) in
     within_at part j c.in-Some.mapping c.in-Some.after (c.in-Some.ensures.some j c.loop-mapping.invariant.after) all
 
 pub mark-requires-clause-in_range : goal.mark-requires-clause-in_range
@@ -48,9 +55,11 @@ mark-requires-clause-fitting c none =
     let part = c.args.part.now in
     let m = c.in-Some.mapping in
     let next = c.in-Some.ensures.some j c.loop-mapping.invariant.after in
-    let now : (c.loop-mapping.walk.is_past_limit ≡ false) × (is_mapping_past_limit (placed_mapping part m) ≡ false) = or_parts _ _ (sym c.walk_after-walk.ensures.past_limit ∙ none) in
+    let now : (c.loop-mapping.walk.is_past_limit ≡ false) × (is_mapping_past_limit (placed_mapping part m) ≡ false) =
+    or_parts _ _ (sym c.walk_after-walk.ensures.past_limit ∙ none) in
     let so_far : list_any is_mapping_past_limit (take j (placed part)) ≡ false = (or_parts _ _ (sym c.loop-mapping.invariant.past_limit ∙ now.0)).1 in
-    fitting part (j + 1) _ (after_next part j (j + 1) m c.in-Some.after next refl _ (cc)) c.start-start.ensures.packed.short (none_next part j (j + 1) m c.in-Some.after next refl so_far now.1) (omega arith) (omega arith)
+    fitting part (j + 1) _ (after_next part j (j + 1) m c.in-Some.after next refl _ (cc)) c.start-start.ensures.packed.short
+    (none_next part j (j + 1) m c.in-Some.after next refl so_far now.1) (omega arith) (omega arith)
 
 pub loop-mapping-preserved : goal.loop-mapping-preserved
 loop-mapping-preserved c =
@@ -71,23 +80,29 @@ loop-mapping-preserved c =
       last = last_next part j n m after next counted state same c.in-Some.ensures.values;
       past_limit = any_next part j n m after next counted is_mapping_past_limit _ _ _ c.loop-mapping.invariant.past_limit c.walk_after-walk.ensures.past_limit;
       room = λ has. c.loop-mapping.invariant.room (sym c.walk_after-walk.ensures.room ∙ c.mark.ensures.room has);
-      counting = counting_next part j n m after next counted c.args.k c.loop-mapping.walk.state.line _ c.loop-mapping.walk.number _ some ordered c.loop-mapping.invariant.counting (ap (λ (s : Cursor). s.line) (sym same) ∙ sym c.in-Some.ensures.values.line) number;
+      counting = counting_next part j n m after next counted c.args.k c.loop-mapping.walk.state.line _ c.loop-mapping.walk.number _ some
+          ordered c.loop-mapping.invariant.counting (ap (λ (s : Cursor). s.line) (sym same) ∙ sym c.in-Some.ensures.values.line) number;
       marked = λ none has.
           let before = or_parts _ _ (sym c.walk_after-walk.ensures.past_limit ∙ none) in
-          marked_next part j n m after next counted c.args.k c.args.number c.args.checkpoints.now c.loop-mapping.checkpoints c.mark.new.checkpoints c.walk_after-walk.result.number state same c.in-Some.ensures.values
-          (number_there part j n m after next counted c.args.k c.loop-mapping.walk.state.line c.loop-mapping.walk.number _ ordered c.loop-mapping.invariant.counting number)
+          marked_next part j n m after next counted c.args.k c.args.number c.args.checkpoints.now c.loop-mapping.checkpoints
+          c.mark.new.checkpoints c.walk_after-walk.result.number state same c.in-Some.ensures.values
+          (number_there part j n m after next counted c.args.k c.loop-mapping.walk.state.line c.loop-mapping.walk.number _ ordered
+          c.loop-mapping.invariant.counting number)
           (c.mark.ensures.marked none has) (c.loop-mapping.invariant.marked before.0 (sym c.walk_after-walk.ensures.room ∙ c.mark.ensures.room has));
     }
 
 pub returns-clause-last : goal.returns-clause-last
-returns-clause-last c = subst (λ list. IfSome (last_or None list) (IsMappingAt c.loop-mapping.walk.state)) (all_taken c.args.part.now.text _ (c.in_default.ensures.none _ c.loop-mapping.invariant.after)) c.loop-mapping.invariant.last
+returns-clause-last c = subst (λ list. IfSome (last_or None list) (IsMappingAt c.loop-mapping.walk.state))
+    (all_taken c.args.part.now.text _ (c.in_default.ensures.none _ c.loop-mapping.invariant.after)) c.loop-mapping.invariant.last
 
 pub returns-clause-past_limit : goal.returns-clause-past_limit
 returns-clause-past_limit c =
     c.loop-mapping.invariant.past_limit
-    ∙ ap (λ list. is_number_past_limit c.args.part.now.line || is_number_past_limit c.args.part.now.column || list_any is_mapping_past_limit list) (all_placed c.args.part.now _ (c.in_default.ensures.none _ c.loop-mapping.invariant.after))
+    ∙ ap (λ list. is_number_past_limit c.args.part.now.line || is_number_past_limit c.args.part.now.column || list_any is_mapping_past_limit
+    list) (all_placed c.args.part.now _ (c.in_default.ensures.none _ c.loop-mapping.invariant.after))
 
 pub returns-clause-marked : goal.returns-clause-marked
 returns-clause-marked c none has =
-    subst (λ list. IsMarked c.args.part.now c.args.number c.args.k list c.args.checkpoints.now c.loop-mapping.checkpoints) (all_placed c.args.part.now _ (c.in_default.ensures.none _ c.loop-mapping.invariant.after))
+    subst (λ list. IsMarked c.args.part.now c.args.number c.args.k list c.args.checkpoints.now c.loop-mapping.checkpoints)
+    (all_placed c.args.part.now _ (c.in_default.ensures.none _ c.loop-mapping.invariant.after))
     (c.loop-mapping.invariant.marked none has)

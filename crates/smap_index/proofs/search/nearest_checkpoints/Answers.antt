@@ -29,7 +29,8 @@ loop-low-preserved-then-reaches c =
     let there = read_mapping c.args.checkpoints.now _ c.at-checkpoint.result.now c.at-checkpoint.ensures.read in
     let counted = ap (λ m. m.comparisons) c.at-checkpoint.ensures.counted in
     record {
-      low = in_front c.args.bound.now (mappings_at c.args.checkpoints.now) _ (mapping_of c.at-checkpoint.result.now) c.requires.ordered there (ap (is_up_to c.args.bound.now) (sym c.mapping.ensures) ∙ sym c.reaches.ensures ∙ c.if-reaches.true);
+      low = in_front c.args.bound.now (mappings_at c.args.checkpoints.now) _ (mapping_of c.at-checkpoint.result.now) c.requires.ordered
+          there (ap (is_up_to c.args.bound.now) (sym c.mapping.ensures) ∙ sym c.reaches.ensures ∙ c.if-reaches.true);
       high = c.loop-low.invariant.high;
       inside = c.loop-low.invariant.inside;
       last = sym (last_taken None c.args.checkpoints.now _ c.at-checkpoint.result.now c.at-checkpoint.ensures.read);
@@ -45,7 +46,8 @@ loop-low-preserved c =
     let counted = ap (λ m. m.comparisons) c.at-checkpoint.ensures.counted in
     record {
       low = c.loop-low.invariant.low;
-      high = ends_front c.args.bound.now (mappings_at c.args.checkpoints.now) _ (mapping_of c.at-checkpoint.result.now) there (ap (is_up_to c.args.bound.now) (sym c.mapping.ensures) ∙ sym c.reaches.ensures ∙ c.if-reaches.false);
+      high = ends_front c.args.bound.now (mappings_at c.args.checkpoints.now) _ (mapping_of c.at-checkpoint.result.now) there
+          (ap (is_up_to c.args.bound.now) (sym c.mapping.ensures) ∙ sym c.reaches.ensures ∙ c.if-reaches.false);
       inside = omega (arith, c.loop-low.invariant.inside);
       last = c.loop-low.invariant.last;
       next = sym c.at-checkpoint.ensures.read;

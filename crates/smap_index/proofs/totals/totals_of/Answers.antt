@@ -6,7 +6,17 @@ use Rattle.smap_index.proofs.WalkLaws.{length-placed}
 use Rattle.smap_index.proofs.totals.totals_of.Goals as goal
 
 pub overflow_add-totals-in-loop-part : goal.overflow_add-totals-in-loop-part
-overflow_add-totals-in-loop-part c = omega (arith, c.loop-part.invariant.few, c.loop-part.invariant.short, c.loop-part.invariant.lines, few_used_lines c.part-item.result.text, c.used_lines.ensures, c.segments.ensures.count, c.segments.ensures.bound, c.start-start.ensures.packed.short)
+overflow_add-totals-in-loop-part c = omega (
+  arith,
+  c.loop-part.invariant.few,
+  c.loop-part.invariant.short,
+  c.loop-part.invariant.lines,
+  few_used_lines c.part-item.result.text,
+  c.used_lines.ensures,
+  c.segments.ensures.count,
+  c.segments.ensures.bound,
+  c.start-start.ensures.packed.short,
+)
 
 pub loop-part-preserved : goal.loop-part-preserved
 loop-part-preserved c =

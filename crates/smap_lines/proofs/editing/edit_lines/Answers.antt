@@ -1,7 +1,8 @@
 use Rattle.std.proofs.Common.{◌≡◌, rules, ◌∙◌, ◌++◌, [], arith, ap, cond, refl, take, length-append, length-take, append-nil}
 use Rattle.smap_lines.proofs.EditingLaws.{byte_few, byte_is, gives_both, gives_none, read_fails, too_much, write_fails}
 use Rattle.smap_lines.proofs.LineLaws.{few_lines}
-use Rattle.smap_lines.proofs.ThroughLaws.{through_after, through_counted, through_end, through_end_front, through_few, through_last_front, through_read, through_start}
+use Rattle.smap_lines.proofs.ThroughLaws.{through_after, through_counted, through_end, through_end_front, through_few, through_last_front}
+use Rattle.smap_lines.proofs.ThroughLaws.{through_read, through_start}
 use Rattle.smap_lines.proofs.editing.edit_lines.Goals as goal
 
 pub loop-count-init : goal.loop-count-init
@@ -11,7 +12,8 @@ loop-count-init g c = record {
     gives_none _,
     refl,
     rw (c.in-Ok-Ok.ensures, c.in-Ok-Ok.ensures')
-        (through_start g.row.E.Denot g.E.LineEditor.becomes g.E.LineEditor.step g.E.LineEditor.room g.met.E.LineEditor.same g.met.E.LineEditor.room_for_one c.args.editor.now (g.W.ByteSink.seen c.args.output.now).taken),
+        (through_start g.row.E.Denot g.E.LineEditor.becomes g.E.LineEditor.step g.E.LineEditor.room g.met.E.LineEditor.same
+        g.met.E.LineEditor.room_for_one c.args.editor.now (g.W.ByteSink.seen c.args.output.now).taken),
   );
   none = c.in-Ok-Ok.ensures';
   fits = omega arith;
@@ -35,14 +37,25 @@ returns-then-total-gt-MOST_TEXT_BYTES-clause-front g c =
 pub edit_bytes-requires-clause-countable : goal.edit_bytes-requires-clause-countable
 edit_bytes-requires-clause-countable g c =
     let read = c.loop-count.invariant.read in
-    let few = through_few g.row.E.Denot g.E.LineEditor.becomes g.E.LineEditor.step g.E.LineEditor.room g.met.E.LineEditor.same g.met.E.LineEditor.room_for_one _ _ read.0 [] _ read.3 in
+    let few = through_few g.row.E.Denot g.E.LineEditor.becomes g.E.LineEditor.step g.E.LineEditor.room g.met.E.LineEditor.same
+    g.met.E.LineEditor.room_for_one _ _ read.0 [] _ read.3 in
     omega (arith, few, read.2, c.if-total-gt-MOST_TEXT_BYTES.false, c.in-Ok.ensures.fits, length-take c.in-Ok.count c.read.new.room)
 
 pub edit_bytes-requires-clause-room : goal.edit_bytes-requires-clause-room
 edit_bytes-requires-clause-room g c =
     let read = c.loop-count.invariant.read in
-    let few = through_few g.row.E.Denot g.E.LineEditor.becomes g.E.LineEditor.step g.E.LineEditor.room g.met.E.LineEditor.same g.met.E.LineEditor.room_for_one _ _ read.0 [] _ read.3 in
-    omega (arith, few, read.2, read.3.room_left, c.requires.room, c.if-total-gt-MOST_TEXT_BYTES.false, c.in-Ok.ensures.fits, length-take c.in-Ok.count c.read.new.room)
+    let few = through_few g.row.E.Denot g.E.LineEditor.becomes g.E.LineEditor.step g.E.LineEditor.room g.met.E.LineEditor.same
+    g.met.E.LineEditor.room_for_one _ _ read.0 [] _ read.3 in
+    omega (
+      arith,
+      few,
+      read.2,
+      read.3.room_left,
+      c.requires.room,
+      c.if-total-gt-MOST_TEXT_BYTES.false,
+      c.in-Ok.ensures.fits,
+      length-take c.in-Ok.count c.read.new.room,
+    )
 
 pub loop-count-preserved : goal.loop-count-preserved
 loop-count-preserved g c =
@@ -56,7 +69,8 @@ loop-count-preserved g c =
         gives_both _ _ _ _ _ read.1 c.in-Ok.ensures.gives,
         omega (arith, read.2, length-append read.0 bytes, c.in-Ok.ensures.fits, length-take c.in-Ok.count c.read.new.room),
         c.in-Ok-edit_bytes.ensures.through _ _ _
-            (through_read g.row.E.Denot g.E.LineEditor.becomes g.E.LineEditor.step g.E.LineEditor.room g.met.E.LineEditor.same g.met.E.LineEditor.room_for_one _ _ read.0 bytes _ read.3),
+            (through_read g.row.E.Denot g.E.LineEditor.becomes g.E.LineEditor.step g.E.LineEditor.room g.met.E.LineEditor.same
+            g.met.E.LineEditor.room_for_one _ _ read.0 bytes _ read.3),
       );
       none = c.in-Ok-edit_bytes.ensures.none;
       fits = omega (arith, c.if-total-gt-MOST_TEXT_BYTES.false);
@@ -71,12 +85,14 @@ returns-in_default-edit_bytes-clause-front g c =
     let sink : c.output-1.given.0 ≡ c.edit_bytes.new.output.sink.now = search rules in
     rw sink (write_fails _ _ _ (read.0 ++ bytes) (gives_both _ _ _ _ _ read.1 c.in-Ok.ensures.gives)
     (c.in_default-edit_bytes.ensures.front _ _ _
-    (through_read g.row.E.Denot g.E.LineEditor.becomes g.E.LineEditor.step g.E.LineEditor.room g.met.E.LineEditor.same g.met.E.LineEditor.room_for_one _ _ read.0 bytes _ read.3)))
+    (through_read g.row.E.Denot g.E.LineEditor.becomes g.E.LineEditor.step g.E.LineEditor.room g.met.E.LineEditor.same
+    g.met.E.LineEditor.room_for_one _ _ read.0 bytes _ read.3)))
 
 pub finish-requires : goal.finish-requires
 finish-requires g c =
     let read = c.loop-count.invariant.read in
-    let few = through_few g.row.E.Denot g.E.LineEditor.becomes g.E.LineEditor.step g.E.LineEditor.room g.met.E.LineEditor.same g.met.E.LineEditor.room_for_one _ _ read.0 [] _ read.3 in
+    let few = through_few g.row.E.Denot g.E.LineEditor.becomes g.E.LineEditor.step g.E.LineEditor.room g.met.E.LineEditor.same
+    g.met.E.LineEditor.room_for_one _ _ read.0 [] _ read.3 in
     omega (arith, few, read.2, read.3.room_left, c.requires.room, c.loop-count.invariant.fits)
 
 pub returns-in_default-finish-clause-front : goal.returns-in_default-finish-clause-front
@@ -85,19 +101,22 @@ returns-in_default-finish-clause-front g c =
     let gives = rw c.if-count-eq0.true at c.in-Ok.ensures.gives in
     let sink : c.output-in_default-finish-1.given.0 ≡ c.finish.new.output.sink.now = search rules in
     rw sink (write_fails _ _ _ read.0 (rw (append-nil read.0) at (gives_both _ _ _ _ [] read.1 gives))
-    (through_last_front g.row.E.Denot g.E.LineEditor.becomes g.E.LineEditor.step g.E.LineEditor.room g.met.E.LineEditor.same g.met.E.LineEditor.room_for_one _ _ read.0 _ _ read.3 c.in_default-finish.ensures.put.front))
+    (through_last_front g.row.E.Denot g.E.LineEditor.becomes g.E.LineEditor.step g.E.LineEditor.room g.met.E.LineEditor.same
+    g.met.E.LineEditor.room_for_one _ _ read.0 _ _ read.3 c.in_default-finish.ensures.put.front))
 
 pub overflow_add-result : goal.overflow_add-result
 overflow_add-result g c =
     let read = c.loop-count.invariant.read in
-    let few = through_few g.row.E.Denot g.E.LineEditor.becomes g.E.LineEditor.step g.E.LineEditor.room g.met.E.LineEditor.same g.met.E.LineEditor.room_for_one _ _ read.0 [] _ read.3 in
+    let few = through_few g.row.E.Denot g.E.LineEditor.becomes g.E.LineEditor.step g.E.LineEditor.room g.met.E.LineEditor.same
+    g.met.E.LineEditor.room_for_one _ _ read.0 [] _ read.3 in
     omega (arith, few, read.2, c.loop-count.invariant.fits, c.from.ensures, byte_few c.in-Ok-finish.is_line)
 
 pub returns-in-Ok-write-clause-edits : goal.returns-in-Ok-write-clause-edits
 returns-in-Ok-write-clause-edits g c =
     let read = c.loop-count.invariant.read in
     let gives = rw c.if-count-eq0.true at c.in-Ok.ensures.gives in
-    let counted = through_counted g.row.E.Denot g.E.LineEditor.becomes g.E.LineEditor.step g.E.LineEditor.room g.met.E.LineEditor.same g.met.E.LineEditor.room_for_one _ _ read.0 _ read.3 in
+    let counted = through_counted g.row.E.Denot g.E.LineEditor.becomes g.E.LineEditor.step g.E.LineEditor.room g.met.E.LineEditor.same
+    g.met.E.LineEditor.room_for_one _ _ read.0 _ read.3 in
     let is_line = byte_is c.in-Ok-finish.is_line ∙ ap (λ b. cond b 1 0) c.in-Ok-finish.ensures.is_line in
     let sink : c.output-2-1.given.0 ≡ c.write.new.self.sink.now = search rules in
     rw sink (
@@ -106,10 +125,12 @@ returns-in-Ok-write-clause-edits g c =
         read = rw (append-nil read.0) at (gives_both _ _ _ _ [] read.1 gives);
         ended = c.in-Ok.ensures.ends c.if-count-eq0.true (omega (arith, c.read.auto.room));
         fits = omega (arith, read.2, c.loop-count.invariant.fits);
-        written = through_end g.row.E.Denot g.E.LineEditor.becomes g.E.LineEditor.step g.E.LineEditor.room g.met.E.LineEditor.same g.met.E.LineEditor.room_for_one _ _ read.0 _ _ _ _ read.3 c.in-Ok-finish.ensures.put.put c.in-Ok-write.ensures.written;
+        written = through_end g.row.E.Denot g.E.LineEditor.becomes g.E.LineEditor.step g.E.LineEditor.room g.met.E.LineEditor.same
+            g.met.E.LineEditor.room_for_one _ _ read.0 _ _ _ _ read.3 c.in-Ok-finish.ensures.put.put c.in-Ok-write.ensures.written;
         counted = omega (arith, counted, c.from.ensures, is_line);
       },
-      through_after g.row.E.Denot g.E.LineEditor.becomes g.E.LineEditor.step g.E.LineEditor.room g.met.E.LineEditor.same g.met.E.LineEditor.room_for_one _ (g.W.ByteSink.seen c.args.output.now).taken read.0 _ _ read.3 c.in-Ok-finish.ensures.after,
+      through_after g.row.E.Denot g.E.LineEditor.becomes g.E.LineEditor.step g.E.LineEditor.room g.met.E.LineEditor.same
+          g.met.E.LineEditor.room_for_one _ (g.W.ByteSink.seen c.args.output.now).taken read.0 _ _ read.3 c.in-Ok-finish.ensures.after,
     )
 
 pub returns-clause-front : goal.returns-clause-front
@@ -118,11 +139,13 @@ returns-clause-front g c =
     let gives = rw c.if-count-eq0.true at c.in-Ok.ensures.gives in
     let sink : c.output-2-1.given.0 ≡ c.write.new.self.sink.now = search rules in
     rw sink (write_fails _ _ _ read.0 (rw (append-nil read.0) at (gives_both _ _ _ _ [] read.1 gives))
-    (through_end_front g.row.E.Denot g.E.LineEditor.becomes g.E.LineEditor.step g.E.LineEditor.room g.met.E.LineEditor.same g.met.E.LineEditor.room_for_one _ _ read.0 _ _ _ _ read.3 c.in-Ok-finish.ensures.put.put c.in-Err.ensures.front))
+    (through_end_front g.row.E.Denot g.E.LineEditor.becomes g.E.LineEditor.step g.E.LineEditor.room g.met.E.LineEditor.same
+    g.met.E.LineEditor.room_for_one _ _ read.0 _ _ _ _ read.3 c.in-Ok-finish.ensures.put.put c.in-Err.ensures.front))
 
 pub returns-in-Ok-write-clause-few : goal.returns-in-Ok-write-clause-few
 returns-in-Ok-write-clause-few g c =
     let read = c.loop-count.invariant.read in
-    let counted = through_counted g.row.E.Denot g.E.LineEditor.becomes g.E.LineEditor.step g.E.LineEditor.room g.met.E.LineEditor.same g.met.E.LineEditor.room_for_one _ _ read.0 _ read.3 in
+    let counted = through_counted g.row.E.Denot g.E.LineEditor.becomes g.E.LineEditor.step g.E.LineEditor.room g.met.E.LineEditor.same
+    g.met.E.LineEditor.room_for_one _ _ read.0 _ read.3 in
     let is_line = byte_is c.in-Ok-finish.is_line ∙ ap (λ b. cond b 1 0) c.in-Ok-finish.ensures.is_line in
     omega (arith, counted, c.from.ensures, is_line, few_lines read.0, read.2, c.loop-count.invariant.fits)

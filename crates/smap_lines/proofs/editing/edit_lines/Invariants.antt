@@ -7,7 +7,8 @@ use Rattle.smap_lines.proofs.editing.edit_lines.Given as goal
 abbrev pub invariant-loop-count : goal.invariant-loop-count
 invariant-loop-count g l = record {
   read : (bytes : List ℕ) × Gives (g.R.ByteSource.seen l.initial.input).left (g.R.ByteSource.seen l.input).left bytes × (length bytes ≡ l.total)
-      × IsThrough g.E.LineEditor.becomes g.E.LineEditor.step g.E.LineEditor.room l.initial.editor (g.W.ByteSink.seen l.initial.output).taken bytes (record { editor = l.editor; taken = (g.W.ByteSink.seen l.output).taken; waiting = l.gathered; state = l.line; lines = l.lines }) [];
+      × IsThrough g.E.LineEditor.becomes g.E.LineEditor.step g.E.LineEditor.room l.initial.editor (g.W.ByteSink.seen l.initial.output).taken
+      bytes (record { editor = l.editor; taken = (g.W.ByteSink.seen l.output).taken; waiting = l.gathered; state = l.line; lines = l.lines }) [];
   none : l.gathered ≡ [];
   fits : l.total ≤ most_text_bytes;
   input_works : (g.R.ByteSource.seen l.input).failed ≡ false;

@@ -6,9 +6,15 @@ use Rattle.smap_mappings.proofs.advance.advance_checked.Goals as goal
 
 pub cursor-requires : goal.cursor-requires
 cursor-requires c =
-    sums_in_range most_indices most_indices c.args.segment.now (values_in c.sums_after.result) (ap (sums_fault most_indices most_indices c.args.segment.now) c.sums_after.ensures ∙ c.requires)
+    sums_in_range most_indices most_indices c.args.segment.now (values_in c.sums_after.result)
+    (ap (sums_fault most_indices most_indices c.args.segment.now) c.sums_after.ensures ∙ c.requires)
 
 pub returns : goal.returns
 returns c =
     let same = c.cursor.ensures.values ∙ c.sums_after.ensures in
-    record { place = c.cursor.ensures.at.1; line = c.cursor.ensures.at.0; values = same; allowed = ap (sums_fault most_indices most_indices c.args.segment.now) same ∙ c.requires }
+    record {
+      place = c.cursor.ensures.at.1;
+      line = c.cursor.ensures.at.0;
+      values = same;
+      allowed = ap (sums_fault most_indices most_indices c.args.segment.now) same ∙ c.requires;
+    }

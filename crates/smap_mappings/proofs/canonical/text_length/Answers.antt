@@ -20,7 +20,8 @@ last_is c = c.last.ensures ∙ ap (λ (last : LastValues). last.mapping) c.loop-
 pub returns-in-Some : goal.returns-in-Some
 returns-in-Some c =
     refused_here c.args.list.now c.loop-i.i nowhere (omega arith) c.in-Some.refusal c.loop-i.invariant.faultless
-    (ap (λ earlier. mapping_fault c.loop-i.i earlier (get_or c.args.list.now c.loop-i.i nowhere)) (sym (last_is (goal.at.returns-in-Some c).After-last)) ∙ sym c.mapping_fault.ensures ∙ c.in-Some.is)
+    (ap (λ earlier. mapping_fault c.loop-i.i earlier (get_or c.args.list.now c.loop-i.i nowhere))
+    (sym (last_is (goal.at.returns-in-Some c).After-last)) ∙ sym c.mapping_fault.ensures ∙ c.in-Some.is)
 
 pub loop-i-preserved : goal.loop-i-preserved
 loop-i-preserved c =
@@ -30,7 +31,8 @@ loop-i-preserved c =
       faultless =
           c.loop-i.invariant.faultless
           ∙ passed_here c.args.list.now c.loop-i.i nowhere (omega arith)
-          (ap (λ earlier. mapping_fault c.loop-i.i earlier (get_or c.args.list.now c.loop-i.i nowhere)) (sym (last_is (goal.at.loop-i-preserved c).After-last)) ∙ sym c.mapping_fault.ensures ∙ c.in_default.is);
+          (ap (λ earlier. mapping_fault c.loop-i.i earlier (get_or c.args.list.now c.loop-i.i nowhere))
+          (sym (last_is (goal.at.loop-i-preserved c).After-last)) ∙ sym c.mapping_fault.ensures ∙ c.in_default.is);
     }
 
 pub returns : goal.returns

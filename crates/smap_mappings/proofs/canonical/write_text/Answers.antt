@@ -12,7 +12,9 @@ loop-mapping-init c = record { written = c.in_ok-writer.ensures; faultless = c.r
 
 pub push-requires-clause-in_range : goal.push-requires-clause-in_range
 push-requires-clause-in_range c =
-    within_limit c.loop-mapping.mapping-index (last_or None (take c.loop-mapping.mapping-index c.args.list.now)) (get_or c.args.list.now c.loop-mapping.mapping-index nowhere) (none_here c.args.list.now c.loop-mapping.mapping-index nowhere (omega arith) c.loop-mapping.invariant.faultless)
+    within_limit c.loop-mapping.mapping-index (last_or None (take c.loop-mapping.mapping-index c.args.list.now))
+    (get_or c.args.list.now c.loop-mapping.mapping-index nowhere)
+    (none_here c.args.list.now c.loop-mapping.mapping-index nowhere (omega arith) c.loop-mapping.invariant.faultless)
 
 pub loop-mapping-preserved : goal.loop-mapping-preserved
 loop-mapping-preserved c =

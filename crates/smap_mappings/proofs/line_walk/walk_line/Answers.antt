@@ -20,7 +20,9 @@ returns-clause-walked c j after =
       passed = subst (IsPassed c.args.bytes.now j c.args.cursor.now c.args.end c.loop-passed.passed c.loop-passed.kind) (sym c.new-2.ensures) passed;
       stops = elim c.loop-passed-test.branch [
         | else-loop-passed-test w ↦ inl (omega (arith, c.loop-passed.invariant.few, w.loop-passed-test.false))
-        | then-loop-passed-test+in_default w ↦ inr (later_from c.args.bytes.now j c.args.cursor.now c.args.end c.loop-passed.passed c.loop-passed.kind c.loop-passed.at passed (w.in_default.ensures.none _ passed.after))
+        | then-loop-passed-test+in_default w ↦ inr
+            (later_from c.args.bytes.now j c.args.cursor.now c.args.end c.loop-passed.passed c.loop-passed.kind c.loop-passed.at passed
+            (w.in_default.ensures.none _ passed.after))
       ];
     }
 
@@ -29,15 +31,18 @@ returns-then-after-end-clause-walked c j after =
     let text = c.args.bytes.now in
     let start = c.args.cursor.now in
     let passed = c.loop-passed.invariant.passed j after in
-    let stop = stopped text j start c.args.end c.loop-passed.passed c.loop-passed.kind c.loop-passed.at passed c.in-Some.next_kind c.in-Some.after c.in-Some.ensures.some c.if-after-end.true in
+    let stop = stopped text j start c.args.end c.loop-passed.passed c.loop-passed.kind c.loop-passed.at passed c.in-Some.next_kind
+    c.in-Some.after c.in-Some.ensures.some c.if-after-end.true in
     record {
       few = c.loop-passed.invariant.few;
       passed = subst (IsPassed text j start c.args.end c.loop-passed.passed c.loop-passed.kind) (sym c.new.ensures) passed;
-      stops = subst (λ (next : Cursor). IsStop text (j + c.loop-passed.passed) start c.args.end (mapping_at c.in-Some.next_kind next)) (sym c.new-then-after-end.ensures) stop;
+      stops = subst (λ (next : Cursor). IsStop text (j + c.loop-passed.passed) start c.args.end (mapping_at c.in-Some.next_kind next))
+          (sym c.new-then-after-end.ensures) stop;
     }
 
 pub loop-passed-preserved : goal.loop-passed-preserved
 loop-passed-preserved c = record {
   few = omega (arith, c.loop-passed-test.true);
-  passed = λ j after. one_passed c.args.bytes.now j c.args.cursor.now c.args.end c.loop-passed.passed c.loop-passed.kind c.loop-passed.at (c.loop-passed.invariant.passed j after) c.in-Some.next_kind c.in-Some.after c.in-Some.ensures.some c.if-after-end.false;
+  passed = λ j after. one_passed c.args.bytes.now j c.args.cursor.now c.args.end c.loop-passed.passed c.loop-passed.kind c.loop-passed.at
+      (c.loop-passed.invariant.passed j after) c.in-Some.next_kind c.in-Some.after c.in-Some.ensures.some c.if-after-end.false;
 }

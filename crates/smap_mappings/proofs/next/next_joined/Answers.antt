@@ -8,11 +8,16 @@ use Rattle.smap_mappings.proofs.StepLaws.{skips_comma}
 use Rattle.smap_mappings.proofs.next.next_joined.Goals as goal
 
 pub straight_step-requires-clause-state : goal.straight_step-requires-clause-state
-straight_step-requires-clause-state c =
-    (c.requires.state.0, skips_comma c.args.bytes.now c.requires.state.0 c.args.cursor.now _ c.requires.state.1 (omega (arith, c.is_joined.ensures.room c.if-not-is_joined.false)) (c.is_joined.ensures.comma c.if-not-is_joined.false) refl)
+straight_step-requires-clause-state c = (
+  c.requires.state.0,
+  skips_comma c.args.bytes.now c.requires.state.0 c.args.cursor.now _ c.requires.state.1
+      (omega (arith, c.is_joined.ensures.room c.if-not-is_joined.false)) (c.is_joined.ensures.comma c.if-not-is_joined.false) refl,
+)
 
 -- a step from the place after a `,` is one from the `,`
-from_comma : (text : List ℕ) (cursor : Cursor) → ((j : ℕ) → IsAfter text j cursor → IsAfter text j (record cursor { place = cursor.place + 1 })) → (r : Option (Kind × Cursor)) → IfSome r (λ r. IsSteppedTo text (record cursor { place = cursor.place + 1 }) r.0 r.1) → IfSome r (λ r. IsSteppedTo text cursor r.0 r.1)
+from_comma : (text : List ℕ) (cursor : Cursor)
+    → ((j : ℕ) → IsAfter text j cursor → IsAfter text j (record cursor { place = cursor.place + 1 })) → (r : Option (Kind × Cursor))
+    → IfSome r (λ r. IsSteppedTo text (record cursor { place = cursor.place + 1 }) r.0 r.1) → IfSome r (λ r. IsSteppedTo text cursor r.0 r.1)
 from_comma text cursor skips None stepped = tt
 from_comma text cursor skips (Some r) stepped = record {
   ahead = omega (arith, stepped.ahead);
@@ -24,5 +29,6 @@ from_comma text cursor skips (Some r) stepped = record {
 pub returns : goal.returns
 returns c =
     from_comma c.args.bytes.now c.args.cursor.now
-    (λ j after. skips_comma c.args.bytes.now j c.args.cursor.now _ after (omega (arith, c.is_joined.ensures.room c.if-not-is_joined.false)) (c.is_joined.ensures.comma c.if-not-is_joined.false) refl)
+    (λ j after. skips_comma c.args.bytes.now j c.args.cursor.now _ after (omega (arith, c.is_joined.ensures.room c.if-not-is_joined.false))
+    (c.is_joined.ensures.comma c.if-not-is_joined.false) refl)
     c.straight_step.result c.straight_step.ensures

@@ -9,5 +9,6 @@ returns-then-is_at_line_end-clause-none c j after mapping there =
     let text = c.args.bytes.now in
     let at = c.args.cursor.now in
     let below : Cursor = record at { line = at.line + 1; column = 0; place = at.place + 1 } in
-    let passed = skips_line_end text j at below after (c.is_at_line_end.ensures.within c.if-is_at_line_end.true) (c.is_at_line_end.ensures.is c.if-is_at_line_end.true) refl in
+    let passed = skips_line_end text j at below after (c.is_at_line_end.ensures.within c.if-is_at_line_end.true)
+    (c.is_at_line_end.ensures.is c.if-is_at_line_end.true) refl in
     omega (arith, not_above text j below mapping passed there)

@@ -11,7 +11,8 @@ pub loop-kind-preserved : goal.loop-kind-preserved
 loop-kind-preserved c =
     let decodes = c.loop-kind.invariant in
     let items = c.loop-kind.list.items in
-    decodes_more c.args.bytes.now c.loop-kind.at c.in-Some.after items _ (mapping_at c.in-Some.kind c.in-Some.after) decodes (c.in-Some.ensures.some decodes.j decodes.after)
+    decodes_more c.args.bytes.now c.loop-kind.at c.in-Some.after items _ (mapping_at c.in-Some.kind c.in-Some.after) decodes
+    (c.in-Some.ensures.some decodes.j decodes.after)
     (c.in_ok-push.ensures.items ∙ ap (λ m. items ++ m ∷ []) c.mapping.ensures)
 
 pub returns : goal.returns

@@ -11,7 +11,8 @@ returns-then-is_at_end-clause-some c =
 
 pub returns-in_err-source-clause-none : goal.returns-in_err-source-clause-none
 returns-in_err-source-clause-none c =
-    rw c.from_residual-in_err-source.ensures (not_two c.args.bytes.now c.args.place _ _ c.in_ok-column.ensures.some (λ e. false≢true (c.if-is_at_end.ensures.1 e)) c.in_err-source.ensures.none)
+    rw c.from_residual-in_err-source.ensures (not_two c.args.bytes.now c.args.place _ _ c.in_ok-column.ensures.some
+    (λ e. false≢true (c.if-is_at_end.ensures.1 e)) c.in_err-source.ensures.none)
 
 pub returns-then-is_at_end-2-clause-some : goal.returns-then-is_at_end-2-clause-some
 returns-then-is_at_end-2-clause-some c =
@@ -19,17 +20,25 @@ returns-then-is_at_end-2-clause-some c =
     let b : FitsSigned w32 c.in_ok-source.source = search rules in
     let l : FitsSigned w32 c.in_ok-line.line = search rules in
     let d : FitsSigned w32 c.in_ok-original_column.original_column = search rules in
-    rw (to_z-of_z w32 c.in_ok-column.column a, to_z-of_z w32 c.in_ok-source.source b, to_z-of_z w32 c.in_ok-line.line l, to_z-of_z w32 c.in_ok-original_column.original_column d)
-    (four_fields c.args.bytes.now c.args.place _ _ _ _ _ _ _ _ c.in_ok-column.ensures.some c.in_ok-source.ensures.some c.in_ok-line.ensures.some c.in_ok-original_column.ensures.some (c.if-is_at_end-2.ensures.0 refl))
+    rw (
+      to_z-of_z w32 c.in_ok-column.column a,
+      to_z-of_z w32 c.in_ok-source.source b,
+      to_z-of_z w32 c.in_ok-line.line l,
+      to_z-of_z w32 c.in_ok-original_column.original_column d,
+    )
+    (four_fields c.args.bytes.now c.args.place _ _ _ _ _ _ _ _ c.in_ok-column.ensures.some c.in_ok-source.ensures.some
+    c.in_ok-line.ensures.some c.in_ok-original_column.ensures.some (c.if-is_at_end-2.ensures.0 refl))
 
 pub returns-in_err-name-clause-none : goal.returns-in_err-name-clause-none
 returns-in_err-name-clause-none c =
     rw c.from_residual-in_err-name.ensures
-    (not_five c.args.bytes.now c.args.place _ _ _ _ _ _ _ _ c.in_ok-column.ensures.some c.in_ok-source.ensures.some c.in_ok-line.ensures.some c.in_ok-original_column.ensures.some (λ e. false≢true (c.if-is_at_end-2.ensures.1 e)) c.in_err-name.ensures.none)
+    (not_five c.args.bytes.now c.args.place _ _ _ _ _ _ _ _ c.in_ok-column.ensures.some c.in_ok-source.ensures.some
+    c.in_ok-line.ensures.some c.in_ok-original_column.ensures.some (λ e. false≢true (c.if-is_at_end-2.ensures.1 e)) c.in_err-name.ensures.none)
 
 pub returns-then-not-is_at_end-clause-none : goal.returns-then-not-is_at_end-clause-none
 returns-then-not-is_at_end-clause-none c =
-    not_six c.args.bytes.now c.args.place _ _ _ _ _ _ _ _ _ _ c.in_ok-column.ensures.some c.in_ok-source.ensures.some c.in_ok-line.ensures.some c.in_ok-original_column.ensures.some c.in_ok-name.ensures.some (λ e. false≢true (c.if-not-is_at_end.ensures.1 e))
+    not_six c.args.bytes.now c.args.place _ _ _ _ _ _ _ _ _ _ c.in_ok-column.ensures.some c.in_ok-source.ensures.some
+    c.in_ok-line.ensures.some c.in_ok-original_column.ensures.some c.in_ok-name.ensures.some (λ e. false≢true (c.if-not-is_at_end.ensures.1 e))
 
 pub returns-clause-some : goal.returns-clause-some
 returns-clause-some c =
@@ -38,5 +47,12 @@ returns-clause-some c =
     let l : FitsSigned w32 c.in_ok-line.line = search rules in
     let d : FitsSigned w32 c.in_ok-original_column.original_column = search rules in
     let n : FitsSigned w32 c.in_ok-name.name = search rules in
-    rw (to_z-of_z w32 c.in_ok-column.column a, to_z-of_z w32 c.in_ok-source.source b, to_z-of_z w32 c.in_ok-line.line l, to_z-of_z w32 c.in_ok-original_column.original_column d, to_z-of_z w32 c.in_ok-name.name n)
-    (five_fields c.args.bytes.now c.args.place _ _ _ _ _ _ _ _ _ _ c.in_ok-column.ensures.some c.in_ok-source.ensures.some c.in_ok-line.ensures.some c.in_ok-original_column.ensures.some c.in_ok-name.ensures.some (c.if-not-is_at_end.ensures.0 refl))
+    rw (
+      to_z-of_z w32 c.in_ok-column.column a,
+      to_z-of_z w32 c.in_ok-source.source b,
+      to_z-of_z w32 c.in_ok-line.line l,
+      to_z-of_z w32 c.in_ok-original_column.original_column d,
+      to_z-of_z w32 c.in_ok-name.name n,
+    )
+    (five_fields c.args.bytes.now c.args.place _ _ _ _ _ _ _ _ _ _ c.in_ok-column.ensures.some c.in_ok-source.ensures.some
+    c.in_ok-line.ensures.some c.in_ok-original_column.ensures.some c.in_ok-name.ensures.some (c.if-not-is_at_end.ensures.0 refl))

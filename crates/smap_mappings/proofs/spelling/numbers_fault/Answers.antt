@@ -6,9 +6,11 @@ use Rattle.smap_mappings.specs.Vlq.{is_too_long, is_too_large, is_negative_zero}
 use Rattle.smap_mappings.specs.Segment.{cuts_of}
 use Rattle.smap_mappings.specs.Private.Spelling.{IsClean}
 use Rattle.smap_mappings.specs.declared.vlq.VlqFault.TheVariants.{TooLong, TooLarge, NegativeZero}
-use Rattle.smap_mappings.proofs.CleanNumbers.{NumberAt, number_at_place, any_number, any_more, count_numbers, end_of, digits_at, too_long_at, too_large_at, negative_zero_at, no_fault_at}
+use Rattle.smap_mappings.proofs.CleanNumbers.{NumberAt, number_at_place, any_number, any_more, count_numbers, end_of, digits_at, too_long_at}
+use Rattle.smap_mappings.proofs.CleanNumbers.{too_large_at, negative_zero_at, no_fault_at}
 use Rattle.smap_mappings.proofs.spelling.numbers_fault.Goals as goal
-use Rattle.smap_mappings.proofs.spelling.numbers_fault.Goals.{After-read_vlq, After-number_end-place, in-Err+in-TooLarge, in-Err+in-NegativeZero, in-Err+in_default-fault, in_default}
+use Rattle.smap_mappings.proofs.spelling.numbers_fault.Goals.{After-read_vlq, After-number_end-place, in-Err+in-TooLarge, in-Err+in-NegativeZero}
+use Rattle.smap_mappings.proofs.spelling.numbers_fault.Goals.{in-Err+in_default-fault, in_default}
 
 number : (c : After-read_vlq) → NumberAt c.args.segment.now c.loop-place.place
 number c = number_at_place c.args.segment.now c.loop-place.place c.loop-place-test.true c.loop-place.invariant.clean
@@ -83,9 +85,13 @@ loop-place-preserved c =
     record {
       inside = omega (arith, c.number_end-place.ensures, here.inside);
       clean = subst (λ end. IsClean (drop end segment)) end_is here.rest;
-      long = c.loop-place.invariant.long ∙ any_number segment place here is_too_long ∙ ap (λ b. b || list_any is_too_long (cuts_of (drop (end_of segment place) segment))) tests.short ∙ ap (λ end. list_any is_too_long (cuts_of (drop end segment))) end_is;
-      large = any_more segment place here is_too_large _ _ c.loop-place.invariant.large tests.large ∙ ap (λ end. c.match-read_vlq.has_too_large || list_any is_too_large (cuts_of (drop end segment))) end_is;
-      zero = any_more segment place here is_negative_zero _ _ c.loop-place.invariant.zero tests.zero_is ∙ ap (λ end. c.match-read_vlq.has_negative_zero || list_any is_negative_zero (cuts_of (drop end segment))) end_is;
+      long = c.loop-place.invariant.long ∙ any_number segment place here is_too_long
+          ∙ ap (λ b. b || list_any is_too_long (cuts_of (drop (end_of segment place) segment))) tests.short
+          ∙ ap (λ end. list_any is_too_long (cuts_of (drop end segment))) end_is;
+      large = any_more segment place here is_too_large _ _ c.loop-place.invariant.large tests.large
+          ∙ ap (λ end. c.match-read_vlq.has_too_large || list_any is_too_large (cuts_of (drop end segment))) end_is;
+      zero = any_more segment place here is_negative_zero _ _ c.loop-place.invariant.zero tests.zero_is
+          ∙ ap (λ end. c.match-read_vlq.has_negative_zero || list_any is_negative_zero (cuts_of (drop end segment))) end_is;
       count = omega (arith, c.loop-place.invariant.count, count_numbers segment place here, ap (λ end. length (cuts_of (drop end segment))) end_is);
       few = omega (arith, c.number_end-place.ensures, c.loop-place.invariant.few);
     }

@@ -16,11 +16,13 @@ none c = no_fault_from c.args.bytes.now most_indices most_indices c.requires.sta
 pub unreachable-requires : goal.unreachable-requires
 unreachable-requires c =
     both_ways _ c.in_default.ensures.none
-    (can_be_read c.args.bytes.now c.requires.state.0 c.args.cursor.now most_indices most_indices (none (goal.at.unreachable-requires c).Start) c.requires.state.1 c.requires.within c.requires.inside)
+    (can_be_read c.args.bytes.now c.requires.state.0 c.args.cursor.now most_indices most_indices
+    (none (goal.at.unreachable-requires c).Start) c.requires.state.1 c.requires.within c.requires.inside)
 
 pub advance_checked-requires : goal.advance_checked-requires
 advance_checked-requires c =
-    clean_values c.args.bytes.now c.requires.state.0 c.args.cursor.now most_indices most_indices (none (goal.at.advance_checked-requires c).Start) c.requires.state.1 c.requires.within c.requires.inside
+    clean_values c.args.bytes.now c.requires.state.0 c.args.cursor.now most_indices most_indices
+    (none (goal.at.advance_checked-requires c).Start) c.requires.state.1 c.requires.within c.requires.inside
     c.in-Some-read_segment.segment c.in-Some-read_segment.end c.in-Some-read_segment.ensures.some
 
 pub returns-2 : goal.returns-2
@@ -35,6 +37,7 @@ returns-2 c =
       inside = omega (arith, c.in-Some-read_segment.ensures.some.inside, advances.place);
       line = advances.line;
       next = λ j after.
-          let steps = steps_to text j cursor segment c.in-Some-read_segment.end after c.requires.within c.requires.inside c.in-Some-read_segment.ensures.some most_indices most_indices c.advance_checked.result advances in
+          let steps = steps_to text j cursor segment c.in-Some-read_segment.end after c.requires.within c.requires.inside
+          c.in-Some-read_segment.ensures.some most_indices most_indices c.advance_checked.result advances in
           rw (c.kind_of.ensures, origin_same segment.origin c.advance_checked.result) steps.next;
     }

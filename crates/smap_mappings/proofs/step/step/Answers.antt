@@ -3,12 +3,15 @@ use Rattle.smap_mappings.proofs.step.step.Goals as goal
 
 pub returns-in_default-clause-err : goal.returns-in_default-clause-err
 returns-in_default-clause-err c j after =
-    faulty_spelling c.args.bytes.now j c.args.cursor.now c.args.sources c.args.names c.unread_fault.result after c.requires.within c.requires.inside c.unread_fault.ensures
+    faulty_spelling c.args.bytes.now j c.args.cursor.now c.args.sources c.args.names c.unread_fault.result after c.requires.within
+    c.requires.inside c.unread_fault.ensures
 
 pub returns-in-Ok-clause-ok : goal.returns-in-Ok-clause-ok
 returns-in-Ok-clause-ok c j after =
-    rw c.mapping_in.ensures (steps_to c.args.bytes.now j c.args.cursor.now c.in-Some.segment c.in-Some.end after c.requires.within c.requires.inside c.in-Some.ensures.some c.args.sources c.args.names c.in-Ok.after c.in-Ok.ensures.ok)
+    rw c.mapping_in.ensures (steps_to c.args.bytes.now j c.args.cursor.now c.in-Some.segment c.in-Some.end after c.requires.within
+    c.requires.inside c.in-Some.ensures.some c.args.sources c.args.names c.in-Ok.after c.in-Ok.ensures.ok)
 
 pub returns-in-Err-clause-err : goal.returns-in-Err-clause-err
 returns-in-Err-clause-err c j after =
-    faulty_values c.args.bytes.now j c.args.cursor.now c.in-Some.segment c.in-Some.end after c.requires.within c.requires.inside c.in-Some.ensures.some c.args.sources c.args.names c.in-Err.kind c.in-Err.ensures.err
+    faulty_values c.args.bytes.now j c.args.cursor.now c.in-Some.segment c.in-Some.end after c.requires.within c.requires.inside
+    c.in-Some.ensures.some c.args.sources c.args.names c.in-Err.kind c.in-Err.ensures.err

@@ -18,7 +18,8 @@ returns c =
     let within : cursor.place < length text = omega arith in
     let inside = read_inside text cursor straight read within in
     let none = no_fault_from text most_indices most_indices c.requires.state.0 c.requires.packed.accepted in
-    let clean = clean_values text c.requires.state.0 cursor most_indices most_indices none c.requires.state.1 within inside read.segment straight.after.place read.reads in
+    let clean = clean_values text c.requires.state.0 cursor most_indices most_indices none c.requires.state.1 within inside read.segment
+    straight.after.place read.reads in
     let sums = values_after (values_at cursor) (delta_in cursor.line read.segment) in
     let values = values_from_sums text cursor straight read (sums_in_range most_indices most_indices read.segment sums clean) in
     let advances : IsAdvanced cursor read.segment straight.after.place most_indices most_indices straight.after =
@@ -28,6 +29,7 @@ returns c =
       inside = read.reads.inside;
       line = read.line;
       next = λ j after.
-          let steps = steps_to text j cursor read.segment straight.after.place after within inside read.reads most_indices most_indices straight.after advances in
+          let steps = steps_to text j cursor read.segment straight.after.place after within inside read.reads most_indices most_indices
+          straight.after advances in
           rw (mapping_same text cursor straight read) steps.next;
     }

@@ -12,4 +12,5 @@ unreachable-requires c =
     both_ways _ c.requires.unread (spelled_known (segment_at c.args.bytes.now c.args.place) (sym same ∙ sym c.in-None.ensures))
 
 pub returns : goal.returns
-returns c = ap spelling_fault (sym (segment_is_slice c.args.bytes.now c.args.place c.segment_end-end.result c.segment_end-end.ensures.end)) ∙ sym c.in-Some.ensures
+returns c = ap spelling_fault (sym (segment_is_slice c.args.bytes.now c.args.place c.segment_end-end.result c.segment_end-end.ensures.end))
+    ∙ sym c.in-Some.ensures

@@ -14,7 +14,8 @@ returns-in-Some-name-clause-length c =
     let e : c.spelling_length-3.result ≡ length (shortest_spelling origin.column) = search rules in
     let f : c.spelling_length-in-Some-name.result ≡ length (shortest_spelling c.in-Some-name.name) = search rules in
     (λ i. a i + b i + d i + e i + f i)
-    ∙ sym (ap (λ fields. length (spelled fields)) (fields_are segment origin (Some c.in-Some-name.name) c.in-Some.is c.in-Some-name.is) ∙ five_lengths segment.column origin.source origin.line origin.column c.in-Some-name.name)
+    ∙ sym (ap (λ fields. length (spelled fields)) (fields_are segment origin (Some c.in-Some-name.name) c.in-Some.is c.in-Some-name.is)
+    ∙ five_lengths segment.column origin.source origin.line origin.column c.in-Some-name.name)
 
 pub returns-in-None-clause-length : goal.returns-in-None-clause-length
 returns-in-None-clause-length c =
@@ -25,4 +26,5 @@ returns-in-None-clause-length c =
     let d : c.spelling_length-2.result ≡ length (shortest_spelling origin.line) = search rules in
     let e : c.spelling_length-3.result ≡ length (shortest_spelling origin.column) = search rules in
     (λ i. a i + b i + d i + e i)
-    ∙ sym (ap (λ fields. length (spelled fields)) (fields_are segment origin None c.in-Some.is c.in-None.is) ∙ four_lengths segment.column origin.source origin.line origin.column)
+    ∙ sym (ap (λ fields. length (spelled fields)) (fields_are segment origin None c.in-Some.is c.in-None.is)
+    ∙ four_lengths segment.column origin.source origin.line origin.column)

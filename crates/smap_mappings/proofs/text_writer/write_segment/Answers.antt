@@ -7,14 +7,17 @@ use Rattle.smap_mappings.proofs.text_writer.write_segment.Goals as goal
 use Rattle.smap_mappings.proofs.text_writer.write_segment.Goals.{In_ok-write_vlq-4}
 
 -- the first four fields are written
-four : (c : In_ok-write_vlq-4) → c.write_vlq-4.new.out.items ≡ c.args.out.now.items ++ shortest_spelling c.args.segment.now.column ++ shortest_spelling c.in-Some.origin.source ++ shortest_spelling c.in-Some.origin.line ++ shortest_spelling c.in-Some.origin.column
+four : (c : In_ok-write_vlq-4) → c.write_vlq-4.new.out.items
+    ≡ c.args.out.now.items ++ shortest_spelling c.args.segment.now.column ++ shortest_spelling c.in-Some.origin.source
+    ++ shortest_spelling c.in-Some.origin.line ++ shortest_spelling c.in-Some.origin.column
 four c =
     let origin = c.in-Some.origin in
     let first : c.write_vlq.new.out.items ≡ c.args.out.now.items ++ shortest_spelling c.args.segment.now.column = search rules in
     let second : c.write_vlq-2.new.out.items ≡ c.write_vlq.new.out.items ++ shortest_spelling origin.source = search rules in
     let third : c.write_vlq-3.new.out.items ≡ c.write_vlq-2.new.out.items ++ shortest_spelling origin.line = search rules in
     let fourth : c.write_vlq-4.new.out.items ≡ c.write_vlq-3.new.out.items ++ shortest_spelling origin.column = search rules in
-    fourth ∙ ap (λ out. out ++ shortest_spelling origin.column) (third ∙ ap (λ out. out ++ shortest_spelling origin.line) (second ∙ ap (λ out. out ++ shortest_spelling origin.source) first))
+    fourth ∙ ap (λ out. out ++ shortest_spelling origin.column)
+    (third ∙ ap (λ out. out ++ shortest_spelling origin.line) (second ∙ ap (λ out. out ++ shortest_spelling origin.source) first))
 
 pub returns-in-Some-name : goal.returns-in-Some-name
 returns-in-Some-name c =

@@ -14,4 +14,5 @@ returns-then-unsigned-eq0 c =
 
 pub returns-else-unsigned-eq0 : goal.returns-else-unsigned-eq0
 returns-else-unsigned-eq0 c =
-    ap Ok (signed_odd c.args.unsigned (omega arith) (λ e. absurd (omega arith))) ∙ sym (checked_signed c.args.unsigned (omega arith) (λ e. absurd (omega arith)))
+    ap Ok (signed_odd c.args.unsigned (omega arith) (λ e. absurd (omega arith)))
+    ∙ sym (checked_signed c.args.unsigned (omega arith) (λ e. absurd (omega arith)))

@@ -4,7 +4,8 @@ use Rattle.std.proofs.Math.Nat.{pow-suc}
 use Rattle.std.proofs.lemmas.Result.{err_from_is_err_and}
 use Rattle.smap_mappings.specs.Vlq.{digit_sum, number_at}
 use Rattle.smap_mappings.specs.Private.Reading.{checked_number, number_with_end}
-use Rattle.smap_mappings.proofs.Numbers.{front_more, front_stops, front_stops_at_none, front_at_the_end, at_bad_digit, at_unended, at_long, scale_below, digit_step, digit_product, digit_sum_more, at_last_digit}
+use Rattle.smap_mappings.proofs.Numbers.{front_more, front_stops, front_stops_at_none, front_at_the_end, at_bad_digit, at_unended, at_long}
+use Rattle.smap_mappings.proofs.Numbers.{scale_below, digit_step, digit_product, digit_sum_more, at_last_digit}
 use Rattle.smap_mappings.proofs.vlq.scan_number.Goals as goal
 use Rattle.smap_mappings.proofs.vlq.scan_number.Goals.{After-from, Then-value-lt32}
 
@@ -34,22 +35,26 @@ overflow_add-unsigned c =
     let low = low_scale c in
     record { fits = omega arith }
 
-last_digit : (c : Then-value-lt32) → number_at c.args.bytes.now c.args.place ≡ number_with_end (c.loop-end.end + 1) (checked_number (c.loop-end.unsigned + c.from.result * c.loop-end.scale))
+last_digit : (c : Then-value-lt32) → number_at c.args.bytes.now c.args.place
+    ≡ number_with_end (c.loop-end.end + 1) (checked_number (c.loop-end.unsigned + c.from.result * c.loop-end.scale))
 last_digit c =
     let some = sym c.in-Some.ensures in
     let stops = front_stops c.args.bytes.now c.loop-end.end c.in-Some.value (omega arith) some c.if-value-lt32.true in
-    at_last_digit c.args.bytes.now c.args.place c.loop-end.end c.loop-end.unsigned c.from.result c.loop-end.scale c.in-Some.value (omega arith) (omega arith) (omega arith) some (omega arith)
+    at_last_digit c.args.bytes.now c.args.place c.loop-end.end c.loop-end.unsigned c.from.result c.loop-end.scale c.in-Some.value
+    (omega arith) (omega arith) (omega arith) some (omega arith)
     c.loop-end.invariant.value c.loop-end.invariant.scale c.from.ensures
 
 pub returns-in_err-checked_number : goal.returns-in_err-checked_number
 returns-in_err-checked_number c =
     let p = err_from_is_err_and c.from_residual.result c.from_residual.ensures.1 in
-    rw (p.1, p.2) (ap (number_with_end (c.loop-end.end + 1)) c.in_err-checked_number.ensures ∙ sym (last_digit (goal.at.returns-in_err-checked_number c).Then-value-lt32))
+    rw (p.1, p.2) (ap (number_with_end (c.loop-end.end + 1)) c.in_err-checked_number.ensures
+    ∙ sym (last_digit (goal.at.returns-in_err-checked_number c).Then-value-lt32))
 
 pub returns-then-value-lt32 : goal.returns-then-value-lt32
 returns-then-value-lt32 c =
     let fits : FitsSigned w32 c.in_ok-checked_number.field-0 = search rules in
-    rw (to_z-of_z w32 c.in_ok-checked_number.field-0 fits) (ap (number_with_end (c.loop-end.end + 1)) c.in_ok-checked_number.ensures ∙ sym (last_digit (goal.at.returns-then-value-lt32 c).Then-value-lt32))
+    rw (to_z-of_z w32 c.in_ok-checked_number.field-0 fits)
+    (ap (number_with_end (c.loop-end.end + 1)) c.in_ok-checked_number.ensures ∙ sym (last_digit (goal.at.returns-then-value-lt32 c).Then-value-lt32))
 
 pub overflow_mul-scale : goal.overflow_mul-scale
 overflow_mul-scale c = let low = low_scale (goal.at.overflow_mul-scale c).After-from in record { fits = omega arith }
@@ -59,11 +64,13 @@ loop-end-preserved c =
     let some = sym c.in-Some.ensures in
     let more = front_more c.args.bytes.now c.loop-end.end c.in-Some.value (omega arith) some c.if-value-lt32.false in
     let next : c.loop-end.end + 1 - c.args.place ≡ c.loop-end.end - c.args.place + 1 = omega arith in
-    let counted = digit_sum_more c.args.bytes.now c.args.place c.loop-end.end (c.loop-end.end - c.args.place) c.in-Some.value (omega arith) (omega arith) some in
+    let counted = digit_sum_more c.args.bytes.now c.args.place c.loop-end.end (c.loop-end.end - c.args.place) c.in-Some.value (omega arith)
+    (omega arith) some in
     record {
       front = omega arith;
       few = omega arith;
-      value = (λ i. c.loop-end.invariant.value i + c.from.ensures i * c.loop-end.invariant.scale i) ∙ sym counted ∙ ap (λ k. digit_sum 0 (take k (drop c.args.place c.args.bytes.now))) (sym next);
+      value = (λ i. c.loop-end.invariant.value i + c.from.ensures i * c.loop-end.invariant.scale i) ∙ sym counted
+          ∙ ap (λ k. digit_sum 0 (take k (drop c.args.place c.args.bytes.now))) (sym next);
       scale = ap (λ s. s * 32) c.loop-end.invariant.scale ∙ sym (rw (next, add-one) (pow-suc 32 (c.loop-end.end - c.args.place)));
       below = digit_step c.loop-end.unsigned c.from.result c.loop-end.scale c.loop-end.invariant.below (low_digit (goal.at.loop-end-preserved c).After-from);
     }

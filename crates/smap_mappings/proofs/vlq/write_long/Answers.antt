@@ -36,4 +36,5 @@ push_within-requires-2 c =
 pub returns-clause-appended : goal.returns-clause-appended
 returns-clause-appended c =
     let last = last_digit c.loop-rest.invariant.left c.loop-rest.rest c.loop-rest.invariant.some c.loop-rest-test.false in
-    c.push_within-2.ensures.items ∙ ap (λ byte. c.loop-rest.out.items ++ byte ∷ []) c.letter-2.ensures ∙ ap (λ digits. c.loop-rest.out.items ++ digits) (sym last) ∙ c.loop-rest.invariant.written
+    c.push_within-2.ensures.items ∙ ap (λ byte. c.loop-rest.out.items ++ byte ∷ []) c.letter-2.ensures
+    ∙ ap (λ digits. c.loop-rest.out.items ++ digits) (sym last) ∙ c.loop-rest.invariant.written

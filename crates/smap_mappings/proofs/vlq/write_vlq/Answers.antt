@@ -13,7 +13,8 @@ unfolding shortest_spelling
 returns-in_ok-push-clause-appended c =
     let is : c.unsigned_number-unsigned.result ≡ unsigned_number c.args.n = search rules in
     c.in_ok-push.ensures.items ∙ ap (λ byte. c.args.out.now.items ++ byte ∷ []) c.letter.ensures
-    ∙ ap (λ digits. c.args.out.now.items ++ digits) (sym (last_digit 7 c.unsigned_number-unsigned.result (omega arith) c.if-unsigned-lt32.true) ∙ ap (digits_of 7) is)
+    ∙ ap (λ digits. c.args.out.now.items ++ digits)
+    (sym (last_digit 7 c.unsigned_number-unsigned.result (omega arith) c.if-unsigned-lt32.true) ∙ ap (digits_of 7) is)
 
 pub returns-in_ok-push-clause-shortest : goal.returns-in_ok-push-clause-shortest
 returns-in_ok-push-clause-shortest c = shortest_is_shortest c.args.n (search rules)

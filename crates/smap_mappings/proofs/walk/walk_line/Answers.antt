@@ -15,7 +15,8 @@ loop-next-preserved c =
     let step = c.in_ok-at.ensures in
     record {
       walked = record {
-        checks = checks_on_line text c.args.sources c.args.names walk.at next c.in_ok-at.at step.mapping walk.segments walk.used_lines checks c.loop-next.invariant.some (step.steps walk.segments passed) step.line refl (omega arith) step.ahead;
+        checks = checks_on_line text c.args.sources c.args.names walk.at next c.in_ok-at.at step.mapping walk.segments walk.used_lines
+            checks c.loop-next.invariant.some (step.steps walk.segments passed) step.line refl (omega arith) step.ahead;
         in_range = step.in_range;
       };
       some = omega arith;

@@ -13,9 +13,11 @@ walk_line-requires-clause-walked c =
     let next = c.skip_separators-next.result in
     let step = c.in_ok-at.ensures in
     record {
-      checks = checks_more text c.args.sources c.args.names walk.at next c.in_ok-at.at step.mapping walk.segments walk.used_lines c.from.result checks (step.steps walk.segments (c.skip_separators-next.ensures.after walk.segments checks.after))
+      checks = checks_more text c.args.sources c.args.names walk.at next c.in_ok-at.at step.mapping walk.segments walk.used_lines
+          c.from.result checks (step.steps walk.segments (c.skip_separators-next.ensures.after walk.segments checks.after))
           step.line c.skip_separators-next.ensures.onward step.ahead
-          (is_new text c.args.sources c.args.names walk.at next walk.segments walk.used_lines checks c.skip_separators-next.ensures.down c.is_new_line-is_new.result c.is_new_line-is_new.ensures ∙ sym c.from.ensures)
+          (is_new text c.args.sources c.args.names walk.at next walk.segments walk.used_lines checks c.skip_separators-next.ensures.down
+          c.is_new_line-is_new.result c.is_new_line-is_new.ensures ∙ sym c.from.ensures)
           (rw c.from.ensures (from_bool_most c.is_new_line-is_new.result));
       in_range = step.in_range;
     }

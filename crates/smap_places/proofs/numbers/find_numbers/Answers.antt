@@ -19,7 +19,8 @@ loop-further-preserved c =
       none = none_to c.args.line.now c.args.from _
           (none_further c.args.line.now c.args.from c.loop-further.place c.in-Some.further c.loop-further.invariant.none
           (λ i below. found.0.before i (omega arith) below))
-          (sym (c.numbers_after.ensures.numbers ∙ ap numbers_after (take_rest c.args.line.now _)) ∙ none_of c.numbers_after.result (sym c.is_some.ensures ∙ c.if-is_some.false));
+          (sym (c.numbers_after.ensures.numbers ∙ ap numbers_after (take_rest c.args.line.now _))
+          ∙ none_of c.numbers_after.result (sym c.is_some.ensures ∙ c.if-is_some.false));
     }
 
 pub returns-clause-none : goal.returns-clause-none

@@ -4,7 +4,8 @@ use Rattle.smap_positions.proofs.EscapeLaws.{escaped_number, escaped_plain, esca
 use Rattle.smap_positions.proofs.map_text.put_escaped_byte.Goals as goal
 
 pub returns-in-Some : goal.returns-in-Some
-returns-in-Some g c = subst (λ l. g.O.Output.Puts c.args.output.now c.put.new.self l) (escaped_short c.args.byte c.in-Some.letter c.in-Some.ensures) c.put.ensures
+returns-in-Some g c = subst (λ l. g.O.Output.Puts c.args.output.now c.put.new.self l)
+    (escaped_short c.args.byte c.in-Some.letter c.in-Some.ensures) c.put.ensures
 
 pub returns-in-None : goal.returns-in-None
 returns-in-None g c =

@@ -12,4 +12,5 @@ returns-in-Ok c =
 pub returns-in-Err-2 : goal.returns-in-Err-2
 returns-in-Err-2 c =
     inr (ap (λ found. ok_or found NotJson)
-    (ap read_utf8 (sym c.json_text.ensures) ∙ no_value _ (c.in-Err.ensures.err (λ memory. true≢false (sym (c.is_memory.ensures.1 memory) ∙ c.if-is_memory.false)))))
+    (ap read_utf8 (sym c.json_text.ensures) ∙ no_value _
+    (c.in-Err.ensures.err (λ memory. true≢false (sym (c.is_memory.ensures.1 memory) ∙ c.if-is_memory.false)))))

@@ -9,7 +9,8 @@ use Rattle.smap_record.proofs.ignored.ignored_flags.Goals as goal
 pub loop-item-init : goal.loop-item-init
 loop-item-init c = (
   [],
-  ap (after (number_below c.args.sources) []) c.deref-item-items.ensures.value ∙ none_yet (number_below c.args.sources) c.args.value.now c.in-Array.items c.in-Array.is,
+  ap (after (number_below c.args.sources) []) c.deref-item-items.ensures.value
+      ∙ none_yet (number_below c.args.sources) c.args.value.now c.in-Array.items c.in-Array.is,
   c.in_ok-flags.ensures,
 )
 
@@ -20,7 +21,8 @@ returns-in_default-index_below c =
     let values = drop (c.loop-item.item-index + 1) c.deref-item-items.result.now in
     ap (option_map (ignored_flags c.args.sources))
     (sym (sym c.loop-item.invariant.1
-    ∙ ap (after read indices) (next_value c.deref-item-items.result.now c.loop-item.item-index c.item-item.result (omega (arith, c.loop-item-test.true)) c.item-item.is)
+    ∙ ap (after read indices) (next_value c.deref-item-items.result.now c.loop-item.item-index c.item-item.result
+    (omega (arith, c.loop-item-test.true)) c.item-item.is)
     ∙ not_one read indices c.item-item.result values (sym c.in_default-index_below.ensures)))
 
 pub loop-item-preserved : goal.loop-item-preserved
@@ -30,7 +32,8 @@ loop-item-preserved c =
     let values = drop (c.loop-item.item-index + 1) c.deref-item-items.result.now in (
       indices ++ c.in-Some.index ∷ [],
       one_more read indices c.item-item.result values c.in-Some.index (sym c.in-Some.ensures)
-          ∙ ap (after read indices) (sym (next_value c.deref-item-items.result.now c.loop-item.item-index c.item-item.result (omega (arith, c.loop-item-test.true)) c.item-item.is))
+          ∙ ap (after read indices) (sym (next_value c.deref-item-items.result.now c.loop-item.item-index c.item-item.result
+          (omega (arith, c.loop-item-test.true)) c.item-item.is))
           ∙ c.loop-item.invariant.1,
       ap (λ flags. set flags c.in-Some.index true) c.loop-item.invariant.2
           ∙ one_flag c.args.sources indices c.in-Some.index (below_limit c.args.sources _ c.in-Some.index (sym c.in-Some.ensures)),
@@ -48,4 +51,9 @@ returns c =
 
 pub index_mut-requires : goal.index_mut-requires
 index_mut-requires c =
-    omega (arith, below_limit c.args.sources _ c.in-Some.index (sym c.in-Some.ensures), ap length c.loop-item.invariant.2, length-ignored_flags c.args.sources c.loop-item.invariant.0)
+    omega (
+      arith,
+      below_limit c.args.sources _ c.in-Some.index (sym c.in-Some.ensures),
+      ap length c.loop-item.invariant.2,
+      length-ignored_flags c.args.sources c.loop-item.invariant.0,
+    )

@@ -10,5 +10,6 @@ use Rattle.smap_record.proofs.index_map.first_nested.Goals as goal
 pub returns : goal.returns
 returns c =
     let found : c.position.result ≡ position (λ entry. is_index_map (entry_seen entry)) c.args.entries.now =
-    position_from_yields_List (λ entry. is_index_map (entry_seen entry)) _ _ c.position.result c.position.ensures.ran (YieldsList-from_slice _ c.iter.ensures.rest) (λ x b q k. search (rules, tests)) in
+    position_from_yields_List (λ entry. is_index_map (entry_seen entry)) _ _ c.position.result c.position.ensures.ran
+    (YieldsList-from_slice _ c.iter.ensures.rest) (λ x b q k. search (rules, tests)) in
     found ∙ sym (position-map entry_seen is_index_map c.args.entries.now)

@@ -10,5 +10,6 @@ use Rattle.smap_record.proofs.index_map.first_without_offset.Goals as goal
 pub returns : goal.returns
 returns c =
     let found : c.position.result ≡ position (λ entry. has_no_offset (entry_seen entry)) c.args.entries.now =
-    position_from_yields_List (λ entry. has_no_offset (entry_seen entry)) _ _ c.position.result c.position.ensures.ran (YieldsList-from_slice _ c.iter.ensures.rest) (λ x b q k. search (rules, tests)) in
+    position_from_yields_List (λ entry. has_no_offset (entry_seen entry)) _ _ c.position.result c.position.ensures.ran
+    (YieldsList-from_slice _ c.iter.ensures.rest) (λ x b q k. search (rules, tests)) in
     found ∙ sym (position-map entry_seen has_no_offset c.args.entries.now)

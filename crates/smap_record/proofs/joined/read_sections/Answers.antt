@@ -20,7 +20,8 @@ returns-in_err-section-clause-statement c =
     let p = err_from_is_err_and c.from_residual-in_err-section.result c.from_residual-in_err-section.ensures.1 in
     let so_far = c.loop-entry.invariant in
     let joined = c.loop-entry.joined in
-    let names_before : c.len-in-loop-entry-2.result ≡ length (map string_bytes joined.names.items) = omega (arith, c.len-in-loop-entry-2.ensures, length-map joined.names.items string_bytes) in
+    let names_before : c.len-in-loop-entry-2.result ≡ length (map string_bytes joined.names.items) =
+    omega (arith, c.len-in-loop-entry-2.ensures, length-map joined.names.items string_bytes) in
     let number : c.len-in-loop-entry.result ≡ length joined.parts.items = omega (arith, c.len-in-loop-entry.ensures) in
     let place_is = same_place number (ap (λ (o : Offset). o.line) c.unwrap_or-offset.ensures) (ap (λ (o : Offset). o.column) c.unwrap_or-offset.ensures)
     (sym so_far.source_base ∙ sym (count_seen joined.sources.items)) names_before in
@@ -38,7 +39,8 @@ loop-entry-preserved c =
     let rest = c.next.new.self.rest.items in
     let sources = c.loop-entry.source_base + c.len-in-loop-entry-3.result in
     let names = length c.push.new.self.names.items in
-    let names_before : c.len-in-loop-entry-2.result ≡ length (map string_bytes joined.names.items) = omega (arith, c.len-in-loop-entry-2.ensures, length-map joined.names.items string_bytes) in
+    let names_before : c.len-in-loop-entry-2.result ≡ length (map string_bytes joined.names.items) =
+    omega (arith, c.len-in-loop-entry-2.ensures, length-map joined.names.items string_bytes) in
     let number : c.len-in-loop-entry.result ≡ length joined.parts.items = omega (arith, c.len-in-loop-entry.ensures) in
     let place_is = same_place number (ap (λ (o : Offset). o.line) c.unwrap_or-offset.ensures) (ap (λ (o : Offset). o.column) c.unwrap_or-offset.ensures)
     (sym so_far.source_base ∙ sym (count_seen joined.sources.items)) names_before in
@@ -46,10 +48,12 @@ loop-entry-preserved c =
     (ap (map sources_seen) c.in_ok-push.ensures.sources ∙ map-append sources_seen joined.sources.items (read.sources ∷ []))
     (ap (map string_bytes) c.in_ok-push.ensures.names ∙ map-append string_bytes joined.names.items read.names.items) in
     let part_total = ap length c.in_ok-push.ensures.parts ∙ length_push joined.parts.items _ in
-    let name_total : names ≡ length joined.names.items + length read.names.items = ap length c.in_ok-push.ensures.names ∙ length-append joined.names.items read.names.items in
+    let name_total : names ≡ length joined.names.items + length read.names.items =
+    ap length c.in_ok-push.ensures.names ∙ length-append joined.names.items read.names.items in
     record {
       chain = ap (λ sections. sections_after sections (entries_seen rest)) pushed
-          ∙ sym (one_more (sections_seen joined) (entry_seen c.in-Some.entry) (entries_seen rest) _ place_is (section_seen read) c.in_ok-section.ensures.statement)
+          ∙ sym (one_more (sections_seen joined) (entry_seen c.in-Some.entry) (entries_seen rest) _ place_is (section_seen read)
+          c.in_ok-section.ensures.statement)
           ∙ sym (ap (λ entries. sections_after (sections_seen joined) (entries_seen entries)) c.in-Some.ensures.steps.0) ∙ so_far.chain;
       count = omega (arith, so_far.count, part_total, ap length c.in-Some.ensures.steps.0);
       source_base = ap count_of c.in_ok-push.ensures.sources ∙ sum_by_push (λ (s : SectionSources). length s.texts.items) joined.sources.items read.sources
@@ -58,7 +62,8 @@ loop-entry-preserved c =
       few_names = omega (arith, c.in_ok-section.ensures.few_names, name_total, c.len-in-loop-entry-2.ensures);
       within = subst (All (IsPartWithin sources names)) (sym c.in_ok-push.ensures.parts)
           (All-push (IsPartWithin sources names) joined.parts.items _
-          (more_within c.loop-entry.source_base (length joined.names.items) sources names joined.parts.items (omega arith) (omega (arith, name_total)) so_far.within)
+          (more_within c.loop-entry.source_base (length joined.names.items) sources names joined.parts.items (omega arith)
+          (omega (arith, name_total)) so_far.within)
           (record {
             own_sources = length read.sources.texts.items;
             own_names = length read.names.items;

@@ -27,7 +27,8 @@ returns-clause-reads_back c short regular =
     let members = c.in_ok-members.members in
     let text = string_bytes c.in_ok-text.text in
     let seen_is : view (Object members) ≡ written_value sources names file mappings = view-Object members ∙ ap object c.in_ok-members.ensures in
-    let text_is : text ≡ written sources names file mappings = is_written sources names file mappings text (view (Object members)) seen_is c.in_ok-text.ensures.text in
+    let text_is : text ≡ written sources names file mappings =
+    is_written sources names file mappings text (view (Object members)) seen_is c.in_ok-text.ensures.text in
     let bytes_are : c.into_bytes.result.items ≡ text = ap (λ (bytes : Vec ℕ Global). bytes.items) c.into_bytes.ensures.value in
     let regular_here = regular_seen source_of string_bytes c.args.sources.now c.args.names.now mappings regular in
     reads_back sources names file mappings regular_here
@@ -36,4 +37,5 @@ returns-clause-reads_back c short regular =
     (c.one_text_is_its_mappings.ensures.sound mappings (length sources) (length names)
     (c.accepted_texts_have_no_fault.ensures.within mappings (length sources) (length names) regular_here.short regular_here.accepted))
     c.into_bytes.result.items short
-    (ap value_of_file bytes_are ∙ reads_as sources names file mappings text (view (Object members)) seen_is text_is (IsUtf8-string_bytes c.in_ok-text.text) c.in_ok-text.ensures.reads_back)
+    (ap value_of_file bytes_are ∙ reads_as sources names file mappings text (view (Object members)) seen_is text_is
+    (IsUtf8-string_bytes c.in_ok-text.text) c.in_ok-text.ensures.reads_back)

@@ -13,7 +13,8 @@ pub loop-source-preserved : goal.loop-source-preserved
 loop-source-preserved c =
     let value_of = λ (source : StatedSource). value_of_text (content_of_source source) in
     subst (λ values. AreFirst source_of value_of values c.args.sources.now (c.loop-source.source-index + 1)) (sym {A = List Value} c.in_ok-push.ensures.items)
-    (next_value source_of value_of c.loop-source.values.items c.in_ok-content.field-0 c.args.sources.now c.loop-source.source-index c.source-item.result (omega (arith, c.loop-source-test.true)) c.source-item.is c.in_ok-content.ensures c.loop-source.invariant)
+    (next_value source_of value_of c.loop-source.values.items c.in_ok-content.field-0 c.args.sources.now c.loop-source.source-index
+    c.source-item.result (omega (arith, c.loop-source-test.true)) c.source-item.is c.in_ok-content.ensures c.loop-source.invariant)
 
 pub returns-then-not-any : goal.returns-then-not-any
 returns-then-not-any c =
@@ -27,4 +28,5 @@ returns c =
     let any : c.any.result ≡ list_any has_text c.args.sources.now =
     any_from_yields_List has_text _ _ c.any.result c.any.ensures.ran (YieldsList-from_slice _ c.iter.ensures.rest) (λ x b q k. search (rules, tests)) in
     some_contents c.args.sources.now _ (sym any ∙ c.if-not-any.false)
-    (all_values source_of value_of c.loop-source.values c.args.sources.now c.loop-source.source-index (omega (arith, c.loop-source-test.false)) c.loop-source.invariant)
+    (all_values source_of value_of c.loop-source.values c.args.sources.now c.loop-source.source-index
+    (omega (arith, c.loop-source-test.false)) c.loop-source.invariant)

@@ -10,11 +10,14 @@ loop-i-preserved c =
     let within : c.loop-i.i < length c.args.sources.now = omega (arith, c.loop-i-test.true) in
     elim c.if-source.branch [
       | then-source+in_ok-push w ↦
-          subst (λ values. AreIndices values c.args.sources.now (c.loop-i.i + 1)) (sym w.in_ok-push.ensures.items ∙ ap (λ (values : Vec Value Global). values.items) (sym w.values-is))
-          (added c.loop-i.values.items c.args.sources.now c.loop-i.i c.index-sources-i.result within c.index-sources-i.is c.loop-i.invariant w.if-source.true w.from.result w.from.ensures)
+          subst (λ values. AreIndices values c.args.sources.now (c.loop-i.i + 1))
+          (sym w.in_ok-push.ensures.items ∙ ap (λ (values : Vec Value Global). values.items) (sym w.values-is))
+          (added c.loop-i.values.items c.args.sources.now c.loop-i.i c.index-sources-i.result within c.index-sources-i.is c.loop-i.invariant
+          w.if-source.true w.from.result w.from.ensures)
       | else-source w ↦
           subst (λ values. AreIndices values c.args.sources.now (c.loop-i.i + 1)) (ap (λ (values : Vec Value Global). values.items) (sym w.values-is))
-          (skipped c.loop-i.values.items c.args.sources.now c.loop-i.i c.index-sources-i.result within c.index-sources-i.is c.loop-i.invariant w.if-source.false)
+          (skipped c.loop-i.values.items c.args.sources.now c.loop-i.i c.index-sources-i.result within c.index-sources-i.is
+          c.loop-i.invariant w.if-source.false)
     ]
 
 pub returns-then-is_empty : goal.returns-then-is_empty

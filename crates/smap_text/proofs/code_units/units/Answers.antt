@@ -14,7 +14,8 @@ loop-at-init c = record {
 
 pub loop-at-preserved : goal.loop-at-preserved
 loop-at-preserved c =
-    let first = character_at c.as_bytes-bytes.result.now c.loop-at.at (get_or c.as_bytes-bytes.result.now c.loop-at.at 0) c.as_bytes-bytes.ensures.utf8 c.loop-at.invariant.begins c.loop-at-test.true refl in
+    let first = character_at c.as_bytes-bytes.result.now c.loop-at.at (get_or c.as_bytes-bytes.result.now c.loop-at.at 0)
+    c.as_bytes-bytes.ensures.utf8 c.loop-at.invariant.begins c.loop-at-test.true refl in
     let few = units_within (get_or c.as_bytes-bytes.result.now c.loop-at.at 0) in
     record {
       begins = subst (λ n. IsCharBoundary c.as_bytes-bytes.result.now (c.loop-at.at + n)) (sym c.bytes_by_first-at.ensures) first.boundary;
@@ -24,4 +25,5 @@ loop-at-preserved c =
 
 pub returns : goal.returns
 returns c =
-    c.loop-at.invariant.counted ∙ all_before c.as_bytes-bytes.result.now c.loop-at.at c.loop-at.invariant.begins.0 c.loop-at-test.false ∙ ap units_in c.as_bytes-bytes.ensures.value
+    c.loop-at.invariant.counted ∙ all_before c.as_bytes-bytes.result.now c.loop-at.at c.loop-at.invariant.begins.0 c.loop-at-test.false
+    ∙ ap units_in c.as_bytes-bytes.ensures.value

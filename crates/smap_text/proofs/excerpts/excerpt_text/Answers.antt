@@ -8,4 +8,5 @@ pub returns : goal.returns
 returns c =
     assembled (chars c.args.line.now) _ _ _ _ _ c.characters-number.result c.saturating_sub-first.result _ c.in_ok-shown.ensures.bytes c.in_ok-push_line.ensures
     c.in_ok-push.ensures.bytes c.in_ok-push_spaces.ensures c.in_ok-push-2.ensures.bytes
-    (c.characters-number.ensures ∙ ap (λ l. length (chars l)) (c.range.ensures.value ∙ between_from_start c.args.line.now c.args.byte)) c.saturating_sub-first.ensures
+    (c.characters-number.ensures ∙ ap (λ l. length (chars l)) (c.range.ensures.value ∙ between_from_start c.args.line.now c.args.byte))
+    c.saturating_sub-first.ensures

@@ -3,4 +3,5 @@ use Rattle.std.proofs.lemmas.Iterator.Adapters.{YieldsList-from_repeat_n, items_
 use Rattle.smap_text.proofs.excerpts.push_spaces.Goals as goal
 
 pub returns : goal.returns
-returns c = items_from_extend c.extend.result c.extend.ensures.ran (YieldsList-from_repeat_n (λ x y. y ≡ x) c.args.count 32 c.repeat_n.ensures.count c.repeat_n.ensures.item (λ y e. e))
+returns c = items_from_extend c.extend.result c.extend.ensures.ran
+    (YieldsList-from_repeat_n (λ x y. y ≡ x) c.args.count 32 c.repeat_n.ensures.count c.repeat_n.ensures.item (λ y e. e))

@@ -10,13 +10,15 @@ loop-passed-init c = (search rules, from_start c.args.content.now)
 pub loop-passed-preserved : goal.loop-passed-preserved
 loop-passed-preserved c = (
   search rules,
-  from_next c.args.content.now c.loop-passed._passed c.loop-passed.rest.now c.in_ok-rest.rest.now c.loop-passed.invariant.1 c.in_ok-rest.ensures.lines c.in_ok-rest.ensures.rest,
+  from_next c.args.content.now c.loop-passed._passed c.loop-passed.rest.now c.in_ok-rest.rest.now c.loop-passed.invariant.1
+      c.in_ok-rest.ensures.lines c.in_ok-rest.ensures.rest,
 )
 
 pub returns-in_err-rest-clause-text : goal.returns-in_err-rest-clause-text
 returns-in_err-rest-clause-text c =
     rw c.from_residual.ensures
-    (sym (none_after c.args.content.now c.loop-passed._passed c.args.line c.loop-passed.rest.now c.loop-passed.invariant.1 c.loop-passed-test.true c.in_err-rest.ensures.lines))
+    (sym (none_after c.args.content.now c.loop-passed._passed c.args.line c.loop-passed.rest.now c.loop-passed.invariant.1
+    c.loop-passed-test.true c.in_err-rest.ensures.lines))
 
 pub returns-clause-text : goal.returns-clause-text
 returns-clause-text c =

@@ -15,12 +15,15 @@ loop-at-init c = record {
 
 pub returns-then-units-column-2 : goal.returns-then-units-column-2
 returns-then-units-column-2 c =
-    inside c.args.line.now c.as_bytes-bytes.result.now c.args.column c.loop-at.at c.loop-at.units c.units_by_first-units.result c.as_bytes-bytes.ensures.value c.as_bytes-bytes.ensures.utf8
-    c.loop-at.invariant.begins c.loop-at.invariant.counted c.loop-at-test.true c.units_by_first-units.ensures (omega arith) (λ e. c.if-units-column.false (e ∙ sym c.from-column.ensures)) (omega arith)
+    inside c.args.line.now c.as_bytes-bytes.result.now c.args.column c.loop-at.at c.loop-at.units c.units_by_first-units.result
+    c.as_bytes-bytes.ensures.value c.as_bytes-bytes.ensures.utf8
+    c.loop-at.invariant.begins c.loop-at.invariant.counted c.loop-at-test.true c.units_by_first-units.ensures (omega arith)
+    (λ e. c.if-units-column.false (e ∙ sym c.from-column.ensures)) (omega arith)
 
 pub loop-at-preserved : goal.loop-at-preserved
 loop-at-preserved c =
-    let first = character_at c.as_bytes-bytes.result.now c.loop-at.at (get_or c.as_bytes-bytes.result.now c.loop-at.at 0) c.as_bytes-bytes.ensures.utf8 c.loop-at.invariant.begins c.loop-at-test.true refl in
+    let first = character_at c.as_bytes-bytes.result.now c.loop-at.at (get_or c.as_bytes-bytes.result.now c.loop-at.at 0)
+    c.as_bytes-bytes.ensures.utf8 c.loop-at.invariant.begins c.loop-at-test.true refl in
     let few = units_within (get_or c.as_bytes-bytes.result.now c.loop-at.at 0) in
     record {
       begins = subst (λ n. IsCharBoundary c.as_bytes-bytes.result.now (c.loop-at.at + n)) (sym c.bytes_by_first-at.ensures) first.boundary;
@@ -31,5 +34,6 @@ loop-at-preserved c =
 
 pub returns-else-units-column-3 : goal.returns-else-units-column-3
 returns-else-units-column-3 c =
-    past c.args.line.now c.as_bytes-bytes.result.now c.args.column c.loop-at.at c.loop-at.units c.as_bytes-bytes.ensures.value c.loop-at.invariant.begins.0 c.loop-at-test.false
+    past c.args.line.now c.as_bytes-bytes.result.now c.args.column c.loop-at.at c.loop-at.units c.as_bytes-bytes.ensures.value
+    c.loop-at.invariant.begins.0 c.loop-at-test.false
     c.loop-at.invariant.counted (omega arith) (λ e. c.if-units-column-3.false (e ∙ sym c.from-column.ensures))

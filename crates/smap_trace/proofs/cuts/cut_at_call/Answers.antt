@@ -2,7 +2,8 @@ use Rattle.std.proofs.Common.{◌+◌, ◌<◌, length, ◌∙◌, sym, arith}
 use Rattle.std.proofs.lemmas.Bool.{and_left, and_right, ne_eqb}
 use Rattle.smap_trace.proofs.CutLaws.{call_later, call_nowhere}
 use Rattle.smap_trace.proofs.cuts.cut_at_call.Goals as goal
-use Rattle.smap_trace.proofs.cuts.cut_at_call.Goals.{else-text-place-eq32-via-then-text-place-eq32+else-text-place-eq40, else-text-place-eq32-via-else-text-place-eq32}
+use Rattle.smap_trace.proofs.cuts.cut_at_call.Goals.{else-text-place-eq32-via-then-text-place-eq32+else-text-place-eq40}
+use Rattle.smap_trace.proofs.cuts.cut_at_call.Goals.{else-text-place-eq32-via-else-text-place-eq32}
 
 pub loop-place-preserved : goal.loop-place-preserved
 loop-place-preserved c =

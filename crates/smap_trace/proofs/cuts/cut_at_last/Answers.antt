@@ -12,9 +12,11 @@ returns-then-text-end c =
     let rest : drop (end - 1) text ≡ c.args.byte ∷ drop end text =
     drop_more text (end - 1) 0 (omega arith) ∙ ap (λ n. get_or text (end - 1) 0 ∷ drop n text) on ∙ ap (λ b. b ∷ drop end text) c.if-text-end.true in
     let whole : take (end - 1) text ++ c.args.byte ∷ drop end text ≡ text = ap (λ l. take (end - 1) text ++ l) (sym rest) ∙ take-append-drop (end - 1) text in
-    ap (λ l. Some (take (end - 1) text, l)) (take_rest text end) ∙ sym (last_cut c.args.byte (take (end - 1) text) (drop end text) c.loop-end.invariant.without) ∙ ap (cut_at_last c.args.byte) whole
+    ap (λ l. Some (take (end - 1) text, l)) (take_rest text end)
+    ∙ sym (last_cut c.args.byte (take (end - 1) text) (drop end text) c.loop-end.invariant.without) ∙ ap (cut_at_last c.args.byte) whole
 
 pub returns : goal.returns
 returns c =
     let none : c.loop-end.end ≡ 0 = omega arith in
-    sym (no_cut c.args.byte c.args.text.now (let P : ℕ → Type 0 = λ n. is_without c.args.byte (drop n c.args.text.now) in subst P none c.loop-end.invariant.without))
+    sym (no_cut c.args.byte c.args.text.now (let P : ℕ
+    → Type 0 = λ n. is_without c.args.byte (drop n c.args.text.now) in subst P none c.loop-end.invariant.without))

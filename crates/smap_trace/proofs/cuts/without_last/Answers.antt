@@ -11,4 +11,5 @@ returns-then-last-byte c =
 
 pub returns-else-last-byte : goal.returns-else-last-byte
 returns-else-last-byte c =
-    sym (ap (without_last c.args.byte) c.in_ok-last.ensures.cases.0 ∙ last_is_other c.args.byte c.in_ok-last.last.now c.in_ok-last.front.now c.if-last-byte.false)
+    sym (ap (without_last c.args.byte) c.in_ok-last.ensures.cases.0
+    ∙ last_is_other c.args.byte c.in_ok-last.last.now c.in_ok-last.front.now c.if-last-byte.false)

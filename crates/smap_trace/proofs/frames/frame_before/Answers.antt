@@ -17,4 +17,5 @@ pub returns-else-is_some : goal.returns-else-is_some
 returns-else-is_some c =
     let fits = at_fits c.blanks-blanks.result c.args.line.now c.args.end c.requires (c.starts_with.ensures.bound c.if-not-starts_with.false) in
     c.plain_frame.ensures ∙ found_plain _ c.without_last.result c.blanks-blanks.result c.args.end c.args.line.now c.starts_with.result
-    c.starts_with.ensures.value c.if-not-starts_with.false fits c.without_last.ensures (sym c.is_some.ensures ∙ c.if-is_some.false) c.blanks-blanks.ensures.count
+    c.starts_with.ensures.value c.if-not-starts_with.false fits c.without_last.ensures (sym c.is_some.ensures ∙ c.if-is_some.false)
+    c.blanks-blanks.ensures.count

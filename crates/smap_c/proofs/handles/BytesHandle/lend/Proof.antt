@@ -8,7 +8,8 @@ use mir.Val.{Val, vptr, vstruct, vcons, vnil, of_list}
 use base.Logic.{ent, sep, id⊢}
 use base.Fml.{Fml, GName, ftrue, flft, fsep}
 use types.Logic.{Logic, sem}
-use types.Kit.{‵, raw, ◌⊛◌, some, later, at_ret, ◌$◌, ◌∵◌, !, qed, move, keep, drop, use1, split, join, pick, await, rewrite, fsplit, fsplit3, fjoin, fpick, fpack, feq_i, feq_l, suffices, frame, group, done}
+use types.Kit.{‵, raw, ◌⊛◌, some, later, at_ret, ◌$◌, ◌∵◌, !, qed, move, keep, drop, use1, split, join, pick, await, rewrite, fsplit, fsplit3, fjoin}
+use types.Kit.{fpick, fpack, feq_i, feq_l, suffices, frame, group, done}
 use types.Run.{stop, fld, load, of_opd, addr, first, blocks, exec, returns, enter}
 use types.Part.{whole, sub, look_in}
 use types.ByLocal.{alloc_all, pass_all, free_all, look_at, get, through, sets, sets_last, env}
@@ -55,7 +56,8 @@ module _ {M : Type 1} {𝓤 : Ura M} (𝓛 : Logic 𝓤) (h : BytesHandle) (rb r
   back e w =
       qed 𝓛 (‵ (part_at R full_share w b o) ∷ ‵ Rest ∷ []) ∵ move ! (1 ∷ []) $ fsplit ! $ move ! (2 ∷ 0 ∷ []) $ fjoin ! $
       rewrite ! 0 (λ (p : Ptr). ‵ (Rattle.std.specs.Box.Ownership.box_owns chunk R p w)) (sym e) refl $
-      nothing ! $ feq_i ! (List Val) (vptr b o ∷ []) (ptr_val h.at ∷ []) (ap (λ (p : Ptr). ptr_val p ∷ []) (sym e)) $ fjoin ! $ feq_i ! (List Val) (word b o ∷ []) (word b o ∷ []) refl $ fjoin ! $
+      nothing ! $ feq_i ! (List Val) (vptr b o ∷ []) (ptr_val h.at ∷ []) (ap (λ (p : Ptr). ptr_val p ∷ []) (sym e)) $ fjoin ! $ feq_i !
+      (List Val) (word b o ∷ []) (word b o ∷ []) refl $ fjoin ! $
       fpack ! (Valss (RawPtr ∷ [])) (within (shape the_type) (h.at, tt) (word b o ∷ [])) (vptr b o ∷ [], tt) $ fjoin ! $ move ! (1 ∷ 0 ∷ []) $ fjoin ! $
       fpack ! (List Val) (λ us. fsep (cell_at full_share B.mir us rb ro) (B.own_val (with_bytes h w) us)) (word b o ∷ []) $ done !
 
@@ -72,7 +74,8 @@ lend_spec 𝓤 𝓛 𝓜 𝓡 wired =
     fsplit3 ! $ move ! (1 ∷ 2 ∷ 3 ∷ []) $ opens ! tt B rb ro (λ us. move ! (1 ∷ []) $
     fsplit ! $ fpick ! (λ vss. fsplit ! $ feq_l ! (λ ev. fsplit ! $ feq_l ! (λ ep. drop ! $
     held_out R ! h.at h.held has (λ b o x e m. fsplit ! $
-    let ws : us ≡ word b o ∷ [] = subst (λ (p : Ptr). us ≡ vstruct (of_list (ptr_val p ∷ [])) ∷ []) e (subst (λ (ps : List Val). us ≡ vstruct (of_list (ps ++ [])) ∷ []) ep ev) in
+    let ws : us ≡ word b o ∷ [] = subst (λ (p : Ptr). us ≡ vstruct (of_list (ptr_val p ∷ [])) ∷ []) e
+    (subst (λ (ps : List Val). us ≡ vstruct (of_list (ps ++ [])) ∷ []) ep ev) in
     rewrite ! 2 (λ (xs : List Val). ‵ (cell_at full_share B.mir xs rb ro)) ws refl $
     first ! $ blocks ! $
     sets ! (of_opd ! (load ! (through ! refl (fld ! refl (stop !))) (look_in ! 2 (sub ! 0 refl (whole !))))) refl (tt, tt) $
@@ -82,8 +85,10 @@ lend_spec 𝓤 𝓛 𝓜 𝓡 wired =
     sets ! (of_opd ! (get ! refl)) refl (tt, tt) $
     move ! (1 ∷ 2 ∷ []) $ fjoin ! $ move ! (2 ∷ 3 ∷ 4 ∷ 1 ∷ 0 ∷ []) $ group ! 5 $
     use1 𝓛 (later (some (λ (γ' : GName). raw (Part 𝓛 B R (with_bytes h) (named 0) κ q rb ro b o γ (sem 𝓛 (Rest 𝓛 h rb ro b o)) (back 𝓛 h rb ro b o e) x γ'))))
-    (lends_Part 𝓛 B R (with_bytes h) (named 0) κ q rb ro b o γ (sem 𝓛 (Rest 𝓛 h rb ro b o)) (back 𝓛 h rb ro b o e) (B.coded.code h) (B.coded.code h) x) $ await ! tt $ pick ! (λ γ'.
+    (lends_Part 𝓛 B R (with_bytes h) (named 0) κ q rb ro b o γ (sem 𝓛 (Rest 𝓛 h rb ro b o)) (back 𝓛 h rb ro b o e) (B.coded.code h)
+    (B.coded.code h) x) $ await ! tt $ pick ! (λ γ'.
     returns ! (look_at ! 0 refl) $ free_all ! refl $ keep ! (0 ∷ []) $
-    use1 𝓛 (‵ ((MutRef (named 0) κ R).own_val (record { ref_ptr = (b, o); ghost_name = γ'; now = x }) (vptr b o ∷ [])) ⊛ (‵ (flft κ q) ⊛ ‵ (follows B R γ γ' (with_bytes h)))) (id⊢ 𝓤 _) $ split ! $ move ! (1 ∷ []) $ split ! $ move ! (2 ∷ 0 ∷ 1 ∷ []) $
+    use1 𝓛 (‵ ((MutRef (named 0) κ R).own_val (record { ref_ptr = (b, o); ghost_name = γ'; now = x }) (vptr b o ∷ [])) ⊛
+    (‵ (flft κ q) ⊛ ‵ (follows B R γ γ' (with_bytes h)))) (id⊢ 𝓤 _) $ split ! $ move ! (1 ∷ []) $ split ! $ move ! (2 ∷ 0 ∷ 1 ∷ []) $
     suffices ! _ (ends_at 𝓛 ended hs c y (vptr b o) (record { ref_ptr = (b, o); ghost_name = γ'; now = x }) (tt, tt) (tt, tt)) $
     nothing ! $ nothing ! $ fjoin ! $ join ! $ nothing ! $ move ! (2 ∷ 0 ∷ []) $ join ! $ join ! $ frame ! $ says ! (sym m) $ done !)))))))))

@@ -44,8 +44,11 @@ returns c =
     let range = seen range_fault _ _ _ _ c.deref-3.ensures.value (c.mark_parts-walk.ensures.past_limit c.in_default-overlap.is) c.in_default-past_limit.is in
     let texts = let P = AllByRecursion IsTextInOrder in subst P c.deref-3.ensures.value (c.mark_parts-walk.ensures.ordered c.in_default-overlap.is) in
     rw (at_none c.args.parts.items c.args.k (sym c.is_interval.ensures ∙ c.if-not-is_interval.false) order overlap range) (
-    index_made c.deref-2.result.now c.deref-3.result.now c.args.parts.items c.args.k c.reserve.new.self c.mark_parts-walk.new.checkpoints c.totals_of-totals.result.segments c.totals_of-totals.result.used_lines c.deref-2.ensures.value c.deref-3.ensures.value (c.reserve.ensures ∙ c.new-checkpoints.ensures)
-    (c.mark_parts-walk.ensures.marked c.in_default-overlap.is c.in_default-past_limit.is (not-false _ c.if-not-walk.false)) c.totals_of-totals.ensures.segments c.totals_of-totals.ensures.used_lines c.totals_of-totals.ensures.few
+    index_made c.deref-2.result.now c.deref-3.result.now c.args.parts.items c.args.k c.reserve.new.self c.mark_parts-walk.new.checkpoints
+    c.totals_of-totals.result.segments c.totals_of-totals.result.used_lines c.deref-2.ensures.value c.deref-3.ensures.value
+    (c.reserve.ensures ∙ c.new-checkpoints.ensures)
+    (c.mark_parts-walk.ensures.marked c.in_default-overlap.is c.in_default-past_limit.is (not-false _ c.if-not-walk.false))
+    c.totals_of-totals.ensures.segments c.totals_of-totals.ensures.used_lines c.totals_of-totals.ensures.few
     (joined_in_order c.args.parts.items order overlap texts) (joined_in_range c.args.parts.items range))
 
 pub invariant_of-result : goal.invariant_of-result
@@ -56,7 +59,10 @@ invariant_of-result c =
     let texts = let P = AllByRecursion IsTextInOrder in subst P c.deref-3.ensures.value (c.mark_parts-walk.ensures.ordered c.in_default-overlap.is) in
     record {
       sound = at_none c.args.parts.items c.args.k (sym c.is_interval.ensures ∙ c.if-not-is_interval.false) order overlap range;
-      holds = index_made c.deref-2.result.now c.deref-3.result.now c.args.parts.items c.args.k c.reserve.new.self c.mark_parts-walk.new.checkpoints c.totals_of-totals.result.segments c.totals_of-totals.result.used_lines c.deref-2.ensures.value c.deref-3.ensures.value (c.reserve.ensures ∙ c.new-checkpoints.ensures)
-          (c.mark_parts-walk.ensures.marked c.in_default-overlap.is c.in_default-past_limit.is (not-false _ c.if-not-walk.false)) c.totals_of-totals.ensures.segments c.totals_of-totals.ensures.used_lines c.totals_of-totals.ensures.few
+      holds = index_made c.deref-2.result.now c.deref-3.result.now c.args.parts.items c.args.k c.reserve.new.self
+          c.mark_parts-walk.new.checkpoints c.totals_of-totals.result.segments c.totals_of-totals.result.used_lines c.deref-2.ensures.value
+          c.deref-3.ensures.value (c.reserve.ensures ∙ c.new-checkpoints.ensures)
+          (c.mark_parts-walk.ensures.marked c.in_default-overlap.is c.in_default-past_limit.is (not-false _ c.if-not-walk.false))
+          c.totals_of-totals.ensures.segments c.totals_of-totals.ensures.used_lines c.totals_of-totals.ensures.few
           (joined_in_order c.args.parts.items order overlap texts) (joined_in_range c.args.parts.items range);
     }

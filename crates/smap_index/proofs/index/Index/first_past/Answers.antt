@@ -2,29 +2,38 @@ use Rattle.std.proofs.Common.{sym, ap, ◌∙◌, arith}
 use Rattle.std.specs.Prelude.{option_map}
 use Rattle.std.specs.Option.{option_or, option_copied}
 use Rattle.smap_index.specs.Checkpoint.{mapping_of}
-use Rattle.smap_index.proofs.IndexLaws.{interval_within, index_in_order, mappings_in_order, compared, part_within, state_between, state_on_line, part_in_range, first_after, first_elsewhere, first_of_checkpoints}
+use Rattle.smap_index.proofs.IndexLaws.{interval_within, index_in_order, mappings_in_order, compared, part_within, state_between, state_on_line}
+use Rattle.smap_index.proofs.IndexLaws.{part_in_range, first_after, first_elsewhere, first_of_checkpoints}
 use Rattle.smap_index.proofs.index.Index.first_past.Goals as goal
 
 pub nearest_checkpoints-nearest-requires-clause-ordered : goal.nearest_checkpoints-nearest-requires-clause-ordered
 nearest_checkpoints-nearest-requires-clause-ordered c = index_in_order _ c.self.invariant
 
 pub index-part-requires : goal.index-part-requires
-index-part-requires c = let inside = part_within _ c.self.invariant c.args.bound.now _ (ap option_copied (sym c.in-Some.is) ∙ c.nearest_checkpoints-nearest.ensures.last) in omega arith
+index-part-requires c = let inside = part_within _ c.self.invariant c.args.bound.now _
+    (ap option_copied (sym c.in-Some.is) ∙ c.nearest_checkpoints-nearest.ensures.last) in omega arith
 
 pub overflow_sub-self-inside : goal.overflow_sub-self-inside
 overflow_sub-self-inside c = (interval_within _ c.self.invariant).0
 
 pub decode_after-decoded-requires-clause-state : goal.decode_after-decoded-requires-clause-state
-decode_after-decoded-requires-clause-state c = state_between _ c.self.invariant c.args.bound.now _ (ap option_copied (sym c.in-Some.is) ∙ c.nearest_checkpoints-nearest.ensures.last) c.index-part.result.now c.index-part.ensures
+decode_after-decoded-requires-clause-state c =
+    state_between _ c.self.invariant c.args.bound.now _ (ap option_copied (sym c.in-Some.is) ∙ c.nearest_checkpoints-nearest.ensures.last)
+    c.index-part.result.now c.index-part.ensures
 
 pub decode_after-decoded-requires-clause-on_line : goal.decode_after-decoded-requires-clause-on_line
-decode_after-decoded-requires-clause-on_line c = state_on_line _ c.self.invariant c.args.bound.now _ (ap option_copied (sym c.in-Some.is) ∙ c.nearest_checkpoints-nearest.ensures.last) c.index-part.result.now c.index-part.ensures c.if-checkpoint-bound.true
+decode_after-decoded-requires-clause-on_line c =
+    state_on_line _ c.self.invariant c.args.bound.now _ (ap option_copied (sym c.in-Some.is) ∙ c.nearest_checkpoints-nearest.ensures.last)
+    c.index-part.result.now c.index-part.ensures c.if-checkpoint-bound.true
 
 pub decode_after-decoded-requires-clause-in_range : goal.decode_after-decoded-requires-clause-in_range
-decode_after-decoded-requires-clause-in_range c = part_in_range _ c.self.invariant c.args.bound.now _ (ap option_copied (sym c.in-Some.is) ∙ c.nearest_checkpoints-nearest.ensures.last) c.index-part.result.now c.index-part.ensures
+decode_after-decoded-requires-clause-in_range c =
+    part_in_range _ c.self.invariant c.args.bound.now _ (ap option_copied (sym c.in-Some.is) ∙ c.nearest_checkpoints-nearest.ensures.last)
+    c.index-part.result.now c.index-part.ensures
 
 pub decode_after-decoded-requires-clause-room : goal.decode_after-decoded-requires-clause-room
-decode_after-decoded-requires-clause-room c = omega (arith, (interval_within _ c.self.invariant).1, c.nearest_checkpoints-nearest.ensures.none_decoded, c.requires.room.1)
+decode_after-decoded-requires-clause-room c =
+    omega (arith, (interval_within _ c.self.invariant).1, c.nearest_checkpoints-nearest.ensures.none_decoded, c.requires.room.1)
 
 pub returns-in-Some-clause-compared : goal.returns-in-Some-clause-compared
 returns-in-Some-clause-compared c b below =
@@ -39,13 +48,16 @@ returns-in-None-clause-compared c = compared _ c.self.invariant _ c.self.view_is
 
 pub returns-in-Some-clause-first : goal.returns-in-Some-clause-first
 returns-in-Some-clause-first c =
-    c.or.ensures ∙ ap (option_or c.decode_after-decoded.result.next) (c.mapping_at-next.ensures ∙ ap (option_map mapping_of) c.nearest_checkpoints-nearest.ensures.next)
-    ∙ first_after _ c.self.invariant c.args.bound.now _ (ap option_copied (sym c.in-Some.is) ∙ c.nearest_checkpoints-nearest.ensures.last) c.index-part.result.now c.index-part.ensures _ c.self.view_is c.decode_after-decoded.result.next c.decode_after-decoded.ensures.next
+    c.or.ensures ∙ ap (option_or c.decode_after-decoded.result.next)
+    (c.mapping_at-next.ensures ∙ ap (option_map mapping_of) c.nearest_checkpoints-nearest.ensures.next)
+    ∙ first_after _ c.self.invariant c.args.bound.now _ (ap option_copied (sym c.in-Some.is) ∙ c.nearest_checkpoints-nearest.ensures.last)
+    c.index-part.result.now c.index-part.ensures _ c.self.view_is c.decode_after-decoded.result.next c.decode_after-decoded.ensures.next
 
 pub returns-in-Some-2-clause-first : goal.returns-in-Some-2-clause-first
 returns-in-Some-2-clause-first c =
     c.mapping_at-next.ensures ∙ ap (option_map mapping_of) c.nearest_checkpoints-nearest.ensures.next
-    ∙ first_elsewhere _ c.self.invariant c.args.bound.now _ (ap option_copied (sym c.in-Some.is) ∙ c.nearest_checkpoints-nearest.ensures.last) _ c.self.view_is c.if-checkpoint-bound.false
+    ∙ first_elsewhere _ c.self.invariant c.args.bound.now _
+    (ap option_copied (sym c.in-Some.is) ∙ c.nearest_checkpoints-nearest.ensures.last) _ c.self.view_is c.if-checkpoint-bound.false
 
 pub returns-in-None-clause-first : goal.returns-in-None-clause-first
 returns-in-None-clause-first c =

@@ -9,7 +9,10 @@ pub loop-part-init : goal.loop-part-init
 loop-part-init c = record { same = c.self.view_is; walk = c.self.invariant }
 
 pub next-requires-clause-state : goal.next-requires-clause-state
-next-requires-clause-state c = (c.loop-part.self-inside.meter.segments, first_state _ _ _ c.in-Some.ensures.cases.0 _ _ c.loop-part.invariant.walk _ c.state_at-state.ensures)
+next-requires-clause-state c = (
+  c.loop-part.self-inside.meter.segments,
+  first_state _ _ _ c.in-Some.ensures.cases.0 _ _ c.loop-part.invariant.walk _ c.state_at-state.ensures,
+)
 
 pub next-requires-clause-room : goal.next-requires-clause-room
 next-requires-clause-room c =
@@ -20,19 +23,23 @@ pub unreachable-requires : goal.unreachable-requires
 unreachable-requires c =
     let walk = c.loop-part.invariant.walk in
     let next = c.in-Some-next.ensures.some _ (first_state _ _ _ c.in-Some.ensures.cases.0 _ _ walk _ c.state_at-state.ensures) in
-    placed_in_range c.in-Some.part.now _ c.in-Some-next.mapping c.in-Some-next.after next (first_in_range _ _ _ c.in-Some.ensures.cases.0 _ _ walk) (sym c.placed_mapping.ensures ∙ c.in_default-placed_mapping.is)
+    placed_in_range c.in-Some.part.now _ c.in-Some-next.mapping c.in-Some-next.after next
+    (first_in_range _ _ _ c.in-Some.ensures.cases.0 _ _ walk) (sym c.placed_mapping.ensures ∙ c.in_default-placed_mapping.is)
 
 pub invariant_of-self : goal.invariant_of-self
 invariant_of-self c =
     let walk = c.loop-part.invariant.walk in
     let next = c.in-Some-next.ensures.some _ (first_state _ _ _ c.in-Some.ensures.cases.0 _ _ walk _ c.state_at-state.ensures) in
-    walk_on _ _ _ c.in-Some.ensures.cases.0 _ _ walk c.in-Some-next.mapping c.in-Some-next.after next c.next.new.meter.segments (ap (λ m. m.segments) c.in-Some-next.ensures.counted) _ (cc)
+    walk_on _ _ _ c.in-Some.ensures.cases.0 _ _ walk c.in-Some-next.mapping c.in-Some-next.after next c.next.new.meter.segments
+    (ap (λ m. m.segments) c.in-Some-next.ensures.counted) _ (cc)
 
-given : (c : In-Some-placed_mapping) → left_of c.loop-part.self-inside.parts.now c.loop-part.self-inside.meter.segments ≡ c.in-Some-placed_mapping.placed ∷ left_of c.loop-part.self-inside.parts.now c.next.new.meter.segments
+given : (c : In-Some-placed_mapping) → left_of c.loop-part.self-inside.parts.now c.loop-part.self-inside.meter.segments
+    ≡ c.in-Some-placed_mapping.placed ∷ left_of c.loop-part.self-inside.parts.now c.next.new.meter.segments
 given c =
     let walk = c.loop-part.invariant.walk in
     let next = c.in-Some-next.ensures.some _ (first_state _ _ _ c.in-Some.ensures.cases.0 _ _ walk _ c.state_at-state.ensures) in
-    first_given _ _ _ c.in-Some.ensures.cases.0 _ _ walk c.in-Some-next.mapping c.in-Some-next.after next c.next.new.meter.segments (ap (λ m. m.segments) c.in-Some-next.ensures.counted) c.in-Some-placed_mapping.placed (sym c.placed_mapping.ensures ∙ c.in-Some-placed_mapping.is)
+    first_given _ _ _ c.in-Some.ensures.cases.0 _ _ walk c.in-Some-next.mapping c.in-Some-next.after next c.next.new.meter.segments
+    (ap (λ m. m.segments) c.in-Some-next.ensures.counted) c.in-Some-placed_mapping.placed (sym c.placed_mapping.ensures ∙ c.in-Some-placed_mapping.is)
 
 pub returns-in-Some-next-clause-steps : goal.returns-in-Some-next-clause-steps
 returns-in-Some-next-clause-steps c = sym c.loop-part.invariant.same ∙ given c

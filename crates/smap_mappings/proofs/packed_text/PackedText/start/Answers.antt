@@ -10,4 +10,5 @@ pub returns-clause-before_all : goal.returns-clause-before_all
 returns-clause-before_all c = rw c.new.ensures (after_none c.args.self.now)
 
 pub returns-clause-ordered : goal.returns-clause-ordered
-returns-clause-ordered c = subst (λ text. IsInOrder (mappings_of text)) c.self.view_is (mappings_in_order _ most_indices most_indices c.self.invariant.packed.accepted)
+returns-clause-ordered c = subst (λ text. IsInOrder (mappings_of text)) c.self.view_is
+    (mappings_in_order _ most_indices most_indices c.self.invariant.packed.accepted)

@@ -6,7 +6,8 @@ use Rattle.smap_places.proofs.finder.PlaceFinder.first_between.Goals.{then-may_b
 pub returns-in-Some : goal.returns-in-Some
 returns-in-Some c =
     let here = c.in-Some.ensures.here in (
-      place_is_next c.args.self.now c.args.line.now c.args.low c.loop-start.start c.in-Some.place c.loop-start.auto.start here.0 here.1 here.2 c.loop-start.invariant
+      place_is_next c.args.self.now c.args.line.now c.args.low c.loop-start.start c.in-Some.place c.loop-start.auto.start here.0 here.1
+          here.2 c.loop-start.invariant
           (begun c.args.self.now c.args.line.now c.loop-start.start (sym c.may_begin.ensures ∙ c.if-may_begin.true) ∙ sym c.in-Some.ensures.place),
       omega (arith, here.0, c.loop-start-test.true),
     )

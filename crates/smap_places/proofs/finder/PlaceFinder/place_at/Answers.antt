@@ -14,28 +14,33 @@ loop-bytes-preserved c =
           rw (w.found-is, w.most-is) (record {
             value = value;
             some = inr (sym (ap is_some value));
-            longest = longer_found c.args.self.now text lengths c.loop-bytes.bytes-index c.loop-bytes.most c.loop-bytes-test.true c.loop-bytes.invariant.longest w.if-bytes-most.true;
+            longest = longer_found c.args.self.now text lengths c.loop-bytes.bytes-index c.loop-bytes.most c.loop-bytes-test.true
+                c.loop-bytes.invariant.longest w.if-bytes-most.true;
             here = w.in-Some.ensures.here;
           })
       | then-bytes-most+in_default w ↦
           rw (w.found-is, w.most-is) (record {
             value = c.loop-bytes.invariant.value;
             some = c.loop-bytes.invariant.some;
-            longest = none_longer c.args.self.now text lengths c.loop-bytes.bytes-index c.loop-bytes.most c.loop-bytes-test.true c.loop-bytes.invariant.longest (inr (sym w.in_default.ensures.place));
+            longest = none_longer c.args.self.now text lengths c.loop-bytes.bytes-index c.loop-bytes.most c.loop-bytes-test.true
+                c.loop-bytes.invariant.longest (inr (sym w.in_default.ensures.place));
             here = c.loop-bytes.invariant.here;
           })
       | else-bytes-most w ↦
           rw (w.found-is, w.most-is) (record {
             value = c.loop-bytes.invariant.value;
             some = c.loop-bytes.invariant.some;
-            longest = none_longer c.args.self.now text lengths c.loop-bytes.bytes-index c.loop-bytes.most c.loop-bytes-test.true c.loop-bytes.invariant.longest (inl w.if-bytes-most.false);
+            longest = none_longer c.args.self.now text lengths c.loop-bytes.bytes-index c.loop-bytes.most c.loop-bytes-test.true
+                c.loop-bytes.invariant.longest (inl w.if-bytes-most.false);
             here = c.loop-bytes.invariant.here;
           })
     ]
 
 pub returns-clause-place : goal.returns-clause-place
 returns-clause-place c =
-    let covers = subst (λ l. Covers l c.self.inside.longest c.args.self.now) (sym c.deref-bytes-items.ensures.value) (subst (λ t. Covers c.self.inside.lengths.items c.self.inside.longest t) c.self.view_is c.self.invariant) in
+    let covers = subst (λ l. Covers l c.self.inside.longest c.args.self.now) (sym c.deref-bytes-items.ensures.value)
+    (subst (λ t. Covers c.self.inside.lengths.items c.self.inside.longest t) c.self.view_is c.self.invariant) in
     c.loop-bytes.invariant.value
-    ∙ sym (longest_of c.args.self.now (drop c.args.start c.args.line.now) c.deref-bytes-items.result.now c.self.inside.longest c.loop-bytes.bytes-index c.loop-bytes.most
+    ∙ sym (longest_of c.args.self.now (drop c.args.start c.args.line.now) c.deref-bytes-items.result.now c.self.inside.longest
+    c.loop-bytes.bytes-index c.loop-bytes.most
     covers (omega (arith, c.loop-bytes-test.false)) c.loop-bytes.invariant.longest c.loop-bytes.invariant.some)

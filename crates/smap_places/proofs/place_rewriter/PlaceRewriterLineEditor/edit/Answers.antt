@@ -81,7 +81,8 @@ returns-clause-put g c =
 pub returns-clause-after : goal.returns-clause-after
 returns-clause-after g c =
     let none = subst (λ t. NoNext t c.args.line.now c.loop-place.from) c.loop-place.invariant.finder c.in_default.ensures in
-    let is = after_is c.args.self.now.finder (record { bytes = c.args.line.now; is_ended = c.args.is_ended }) c.args.self.now c.loop-place.self refl c.requires.short c.loop-place.invariant.alloc c.loop-place.invariant.finder
+    let is = after_is c.args.self.now.finder (record { bytes = c.args.line.now; is_ended = c.args.is_ended }) c.args.self.now
+    c.loop-place.self refl c.requires.short c.loop-place.invariant.alloc c.loop-place.invariant.finder
     (omega (arith, c.loop-place.invariant.places, last_found c.args.self.now.finder c.args.line.now c.loop-place.from c.loop-place.invariant.within none))
     (omega (arith, c.loop-place.invariant.mapped, last_replaced c.args.self.now.finder c.args.line.now c.loop-place.from c.loop-place.invariant.within none)) in
     on_ok_always c.put_line.result is

@@ -10,7 +10,8 @@ abbrev pub invariant-loop-place : goal.invariant-loop-place
 invariant-loop-place g l = record {
   within : l.from ≤ length l.line;
   put : IsDone g.W.ByteSink.seen l.initial.self.finder l.line l.initial.output l.from l.output;
-  places : l.self.places + length (filter is_place (parts_at l.initial.self.finder l.line l.from)) ≡ l.initial.self.places + length (filter is_place (parts_of l.initial.self.finder l.line));
+  places : l.self.places + length (filter is_place (parts_at l.initial.self.finder l.line l.from))
+      ≡ l.initial.self.places + length (filter is_place (parts_of l.initial.self.finder l.line));
   mapped : l.self.mapped + length (filter is_replaced (parts_at l.initial.self.finder l.line l.from))
       ≡ l.initial.self.mapped + length (filter is_replaced (parts_of l.initial.self.finder l.line));
   alloc : l.self.alloc ≡ l.initial.self.alloc;

@@ -17,7 +17,8 @@ invariant_of-result c =
     let all = c.in_ok-joined.joined.sources.items in
     let names = length c.in_ok-joined.joined.names.items in
     let parts_are : c.in_ok-index.index.parts ≡ c.in_ok-joined.joined.parts.items = unless_is _ _ _ c.in_ok-index.ensures.parts in
-    let many = sym (length-all_sources (option_copied c.args.base) all) ∙ sym (ap length c.in_ok-sources.ensures.list) ∙ length-map c.in_ok-sources.sources.items source_of in
+    let many = sym (length-all_sources (option_copied c.args.base) all) ∙ sym (ap length c.in_ok-sources.ensures.list)
+    ∙ length-map c.in_ok-sources.sources.items source_of in
     record {
       sections = omega (arith, c.len-sections.ensures, ap length parts_are);
       few_sources = omega (arith, many, c.in_ok-joined.ensures.few_sources);

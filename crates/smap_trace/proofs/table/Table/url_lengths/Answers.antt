@@ -10,4 +10,6 @@ returns c =
     IfOk-weaker c.collect.result _ _
     (λ lengths is. is ∙ same_lengths (λ k. k.items) (λ map. map.stated) c.self.inside.maps.entries ∙ ap (λ t. map (λ pair. length pair.0) t) c.self.view_is)
     (items_from_collect c.collect.result c.collect.ensures.ran
-    (YieldsList-from_map _ (λ url. length url.items) (YieldsList-at c.map.ensures.source (YieldsList-from_rest (map (λ e. e.0) c.self.inside.maps.entries) c.keys.ensures.rest)) c.map.ensures.closure (λ x r q k. search (rules, tests))))
+    (YieldsList-from_map _ (λ url. length url.items)
+    (YieldsList-at c.map.ensures.source (YieldsList-from_rest (map (λ e. e.0) c.self.inside.maps.entries) c.keys.ensures.rest))
+    c.map.ensures.closure (λ x r q k. search (rules, tests))))
