@@ -1,3 +1,5 @@
 pub mod Held
+pub mod Holders
 pub mod Refusals
 pub mod Values
+pub mod Walks

@@ -1,0 +1,54 @@
+-- The three handles, as the walks take them.
+use Rattle.std.proofs.Common.{refl}
+use Rattle.smap_record.specs.contracts.map_file.MapFile as map_file
+use Rattle.smap_trace.specs.contracts.table.Table as trace_table
+use Rattle.smap_c.specs.contracts.bytes.Bytes as handed
+use Rattle.smap_c.specs.declared.handles.MapHandle.{MapHandle}
+use Rattle.smap_c.specs.declared.handles.TableHandle.{TableHandle}
+use Rattle.smap_c.specs.declared.handles.BytesHandle.{BytesHandle}
+use Rattle.smap_c.specs.contracts.handles.MapHandle as map_handle
+use Rattle.smap_c.specs.contracts.handles.TableHandle as table_handle
+use Rattle.smap_c.specs.contracts.handles.BytesHandle as bytes_handle
+use Rattle.smap_c.proofs.Walks.{Kind}
+
+abbrev pub map : Kind
+map = record {
+  R = map_file.the_row;
+  name = map_handle.the_type.name;
+  D = MapHandle;
+  at = λ h. h.at;
+  held = λ h. h.held;
+  make = λ p o. record { at = p; held = o };
+  eta = λ h. refl;
+  at_made = λ p o. refl;
+  held_made = λ p o. refl;
+  codes = map_handle.the_codes;
+}
+
+abbrev pub table : Kind
+table = record {
+  R = trace_table.the_row;
+  name = table_handle.the_type.name;
+  D = TableHandle;
+  at = λ h. h.at;
+  held = λ h. h.held;
+  make = λ p o. record { at = p; held = o };
+  eta = λ h. refl;
+  at_made = λ p o. refl;
+  held_made = λ p o. refl;
+  codes = table_handle.the_codes;
+}
+
+abbrev pub bytes : Kind
+bytes = record {
+  R = handed.the_row;
+  name = bytes_handle.the_type.name;
+  D = BytesHandle;
+  at = λ h. h.at;
+  held = λ h. h.held;
+  make = λ p o. record { at = p; held = o };
+  eta = λ h. refl;
+  at_made = λ p o. refl;
+  held_made = λ p o. refl;
+  codes = bytes_handle.the_codes;
+}
