@@ -1,12 +1,13 @@
 -- Pieces that are put one after another.
-use Rattle.std.proofs.Common.{◌≡◌, ◌+◌, ◌<◌, ℕ, List, [], ◌∷◌, ◌++◌, Option, length, map, get_or, take, drop, sym, ap, ◌∙◌, subst, append_assoc, append-nil}
+use Rattle.std.proofs.Common.{◌≡◌, ◌+◌, ◌<◌, ℕ, List, [], ◌∷◌, ◌++◌, length, map, get_or, take, drop, sym, ap, ◌∙◌, subst, append-nil}
 use Rattle.std.specs.Borrow.{Bor}
 use Rattle.std.specs.List.{concat}
 use Rattle.std.proofs.lemmas.List.{get_or-map, length-map, take-append-drop, take_more}
 use Rattle.std.proofs.lemmas.List.Folds.{concat-append}
-use Rattle.smap_io.specs.Device.{TakesFront}
-use Rattle.smap_lines.specs.Gathered.{HandsOn}
-use Rattle.smap_lines.proofs.TakingLaws.{front_of_more, put_both, put_then_front}
+use Rattle.smap_io.specs.Device.{SinkSeen}
+use Rattle.smap_lines.specs.LineOutput.{FailsToPut, Puts}
+use Rattle.smap_lines.specs.PutLaws.{fails_first, fails_second, puts_both}
+use Rattle.smap_lines.specs.declared.line_output.LineOutput.{LineOutput}
 
 abbrev pub texts : List (Bor (List ℕ)) → List (List ℕ)
 texts = map (λ piece. piece.now)
@@ -17,22 +18,12 @@ module _ (pieces : List (Bor (List ℕ))) (i : ℕ) (none : Bor (List ℕ)) (wit
       ap concat (take_more (texts pieces) i [] (rw length-map within)) ∙ concat-append (take i (texts pieces)) (get_or (texts pieces) i [] ∷ [])
       ∙ ap (λ l. concat (take i (texts pieces)) ++ l) (append-nil (get_or (texts pieces) i []) ∙ get_or-map (λ piece. piece.now) pieces i none [] within)
 
-  module _ (old mid new : Option (List ℕ)) (before between : List ℕ) where
-    pub put_next : (after : List ℕ) → HandsOn old mid (before ++ concat (take i (texts pieces))) between
-        → HandsOn mid new (between ++ (get_or pieces i none).now) after
-        → HandsOn old new (before ++ concat (take (i + 1) (texts pieces))) after
-    put_next after one two =
-        subst (λ l. HandsOn old new (before ++ l) after) (sym next_piece)
-        (put_both old mid before between (concat (take i (texts pieces))) (get_or pieces i none).now new after one two)
+  module _ {W : Type 0} {seen : W → SinkSeen} {old mid new : LineOutput W} (put : Puts seen old mid (concat (take i (texts pieces)))) where
+    pub next_put : Puts seen mid new (get_or pieces i none).now → Puts seen old new (concat (take (i + 1) (texts pieces)))
+    next_put next = subst (λ l. Puts seen old new l) (sym next_piece) (puts_both put next)
 
-    pub next_front : HandsOn old mid (before ++ concat (take i (texts pieces))) between → TakesFront mid new (between ++ (get_or pieces i none).now)
-        → TakesFront old new (before ++ concat (texts pieces))
-    next_front one two =
-        let whole : (before ++ concat (take (i + 1) (texts pieces))) ++ concat (drop (i + 1) (texts pieces)) ≡ before ++ concat (texts pieces) =
-        append_assoc before (concat (take (i + 1) (texts pieces))) (concat (drop (i + 1) (texts pieces)))
-        ∙ ap (λ l. before ++ l) (sym (concat-append (take (i + 1) (texts pieces)) (drop (i + 1) (texts pieces)))
-        ∙ ap concat (take-append-drop (i + 1) (texts pieces))) in
-        subst (λ l. TakesFront old new l) whole
-        (front_of_more old new (before ++ concat (take (i + 1) (texts pieces))) (concat (drop (i + 1) (texts pieces)))
-        (subst (λ l. TakesFront old new (before ++ l)) (sym next_piece)
-        (put_then_front old mid before between (concat (take i (texts pieces))) (get_or pieces i none).now new one two)))
+    pub next_fails : FailsToPut seen mid new (get_or pieces i none).now → FailsToPut seen old new (concat (texts pieces))
+    next_fails next =
+        let whole = sym (concat-append (take (i + 1) (texts pieces)) (drop (i + 1) (texts pieces))) ∙ ap concat (take-append-drop (i + 1) (texts pieces)) in
+        let front = subst (λ l. FailsToPut seen old new l) (sym next_piece) (fails_second put next) in
+        subst (λ l. FailsToPut seen old new l) whole (fails_first (concat (drop (i + 1) (texts pieces))) front)

@@ -26,27 +26,3 @@ front_after old mid new bytes more first took = (
 -- all of both
 pub all_after : (old mid new : Option (List ℕ)) (bytes more : List ℕ) → Takes old mid bytes → Takes mid new more → HandsOn old new (bytes ++ more) []
 all_after old mid new bytes more first second = (bytes ++ more, takes_both old mid new bytes more first second, sym (append-nil (bytes ++ more)))
-
--- ---- bytes that wait, and pieces that are put after them
-
-module _ (old mid : Option (List ℕ)) (before between first second : List ℕ) where
-  -- a piece, and then a second one
-  pub put_both : (new : Option (List ℕ)) (after : List ℕ) → HandsOn old mid (before ++ first) between → HandsOn mid new (between ++ second) after
-      → HandsOn old new (before ++ (first ++ second)) after
-  put_both new after one two = (
-    one.0 ++ two.0,
-    takes_both old mid new one.0 two.0 one.1 two.1,
-    sym (append_assoc before first second) ∙ ap (λ l. l ++ second) one.2 ∙ append_assoc one.0 between second
-        ∙ ap (λ l. one.0 ++ l) two.2 ∙ sym (append_assoc one.0 two.0 after),
-  )
-
-  -- a piece, and a front of a second one
-  pub put_then_front : (new : Option (List ℕ)) → HandsOn old mid (before ++ first) between → TakesFront mid new (between ++ second)
-      → TakesFront old new (before ++ (first ++ second))
-  put_then_front new one two = (
-    one.0 ++ two.0,
-    two.1,
-    sym (append_assoc before first second) ∙ ap (λ l. l ++ second) one.2 ∙ append_assoc one.0 between second
-        ∙ ap (λ l. one.0 ++ l) two.2 ∙ sym (append_assoc one.0 two.0 two.1),
-    takes_both old mid new one.0 two.0 one.1 two.3,
-  )

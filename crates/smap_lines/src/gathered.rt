@@ -1,6 +1,5 @@
 //! Output that is gathered until it is written.
-ghost use Rattle.std.specs.Prelude.{◌≡◌, ◌-◌, ◌≤◌, ◌++◌, [], true, length, map, IfOk, OnErr, OnOk};
-ghost use Rattle.std.specs.List.{concat};
+ghost use Rattle.std.specs.Prelude.{◌≡◌, ◌-◌, ◌≤◌, ◌++◌, [], true, length, IfOk, OnErr, OnOk};
 ghost use Rattle.smap_io.specs.Device.{Takes, TakesFront};
 ghost use Rattle.smap_lines.specs.Gathered.{HandsOn, most_gathered};
 
@@ -45,7 +44,11 @@ impl Gathered {
     /// Puts bytes after those that wait. Where they don't fit, the output takes those first; and where they are more
     /// than ever wait, them too. Where a write fails, it took a front of all of them.
     #[inline(always)]
-    pub fn put<W: ByteSink>(&mut self, bytes: &[u8], output: &mut W) -> Result<(), DeviceFault>
+    pub(crate) fn put<W: ByteSink>(
+        &mut self,
+        bytes: &[u8],
+        output: &mut W,
+    ) -> Result<(), DeviceFault>
         ensures put { OnOk result
             (HandsOn (W.seen output.old).taken (W.seen output.new).taken (self.old ++ bytes.now)
             self.new) }
@@ -91,27 +94,6 @@ impl Gathered {
         let len = self.len;
         self.room[len..len + bytes.len()].copy_from_slice(bytes);
         self.len = len + bytes.len();
-    }
-
-    /// Puts pieces after the bytes that wait, one after another.
-    #[inline(always)]
-    pub fn put_all<W: ByteSink>(
-        &mut self,
-        pieces: &[&[u8]],
-        output: &mut W,
-    ) -> Result<(), DeviceFault>
-        ensures put { OnOk result (HandsOn (W.seen output.old).taken (W.seen output.new).taken
-            (self.old ++ concat (map (λ piece. piece.now) pieces.now)) self.new) }
-        ensures no_failure { OnOk result ((W.seen output.new).failed ≡ (W.seen output.old).failed) }
-
-        ensures front { OnErr result (TakesFront (W.seen output.old).taken (W.seen output.new).taken
-            (self.old ++ concat (map (λ piece. piece.now) pieces.now))) }
-        ensures failure { OnErr result ((W.seen output.new).failed ≡ true) }
-    {
-        for piece in pieces {
-            self.put(piece, output)?;
-        }
-        Ok(())
     }
 
     /// Writes the bytes that wait. Where a write fails, the output took a front of them.

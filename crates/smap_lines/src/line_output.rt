@@ -40,7 +40,10 @@ impl<W: ByteSink> LineOutput<'_, W> {
         ensures { IsPut W.seen self.old self.new
             (concat (map (λ piece. piece.now) pieces.now)) result }
     {
-        self.gathered.put_all(pieces, self.sink)
+        for piece in pieces {
+            self.put(piece)?;
+        }
+        Ok(())
     }
 
     /// Writes the bytes that wait.

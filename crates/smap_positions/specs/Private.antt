@@ -1,7 +1,6 @@
 -- What contracts of private functions alone cite.
 pub mod Answerer
 pub mod AnswererLaws
-pub mod Putting
 pub mod GrowingText
 pub mod ShortText
 pub mod GatheredLine

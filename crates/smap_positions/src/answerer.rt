@@ -1,7 +1,7 @@
 //! The positions of a text, answered line by line.
 ghost use Rattle.std.specs.Prelude.{None, Some};
+ghost use Rattle.smap_lines.specs.LineOutput.{IsPut};
 ghost use Rattle.smap_positions.specs.Positions.{position_line};
-ghost use Rattle.smap_positions.specs.Private.Putting.{IsPut, output_seen};
 
 use crate::answer::lookup_answer;
 use crate::gathered_line::GatheredLine;
@@ -12,7 +12,7 @@ use crate::reading::read_position;
 use crate::short_text::ShortText;
 use crate::text_form::{BAD_POSITION, put_answer_line};
 use smap_io::{ByteSink, DeviceFault};
-use smap_lines::{Gathered, LineEditor, LineOutput};
+use smap_lines::{LineEditor, LineOutput};
 use smap_record::MapFile;
 use std::alloc::Global;
 
@@ -50,7 +50,7 @@ impl LineEditor for PositionAnswerer<'_> {
         if position.is_none() && self.first_bad.is_none() {
             self.first_bad = Some(self.lines);
         }
-        self.put_gathered(position, output.gathered, output.sink)
+        self.put_gathered(position, output)
     }
 
     ghost same = { λ answerer line other. refl };
@@ -63,15 +63,12 @@ impl PositionAnswerer<'_> {
     fn put_gathered<W: ByteSink>(
         &self,
         position: Option<PrintedPosition>,
-        gathered: &mut Gathered,
-        output: &mut W,
+        output: &mut LineOutput<'_, W>,
     ) -> Result<(), DeviceFault>
-        ensures { IsPut (output_seen (W.seen output.old) gathered.old)
-            (output_seen (W.seen output.new) gathered.new)
+        ensures { IsPut W.seen output.old output.new
             (position_line self.now.after self.now.json self.now.map.now.stated position) result }
     {
         let mut line = GatheredLine {
-            gathered,
             output,
             text: ShortText::new(),
             done: Ok(()),

@@ -1,25 +1,23 @@
 //! A line that is put after others that wait to be written.
 ghost use Rattle.std.specs.Prelude.{◌≡◌, [], OnOk};
 ghost use Rattle.smap_positions.specs.Private.GatheredLine.{Gathers};
-ghost use Rattle.smap_positions.specs.Private.Putting.{IsPut, output_seen};
 
 use crate::output::Output;
 use crate::short_text::ShortText;
 use itoa::Buffer;
 use smap_io::{ByteSink, DeviceFault};
-use smap_lines::Gathered;
+use smap_lines::LineOutput;
 
 /// A line that is put after the bytes that wait, or what of it could be put until a write failed. It takes no memory. Its
 /// pieces are joined in a short text first, since each call of the output asks for room.
 #[derive(Drop)]
-pub struct GatheredLine<'l, W> {
-    pub gathered: &'l mut Gathered,
-    pub output: &'l mut W,
+pub struct GatheredLine<'l, 'o, W: ByteSink> {
+    pub output: &'l mut LineOutput<'o, W>,
     pub text: ShortText,
     pub done: Result<(), DeviceFault>,
 }
 
-impl<W: ByteSink> Output for GatheredLine<'_, W> {
+impl<W: ByteSink> Output for GatheredLine<'_, '_, W> {
     ghost use Rattle.smap_positions.specs.Private.GatheredLine.{gathers_both, gathers_none};
 
     ghost Puts = { λ old new bytes. Gathers W.seen old new bytes };
@@ -44,7 +42,7 @@ impl<W: ByteSink> Output for GatheredLine<'_, W> {
     ghost puts_both = { λ old mid new first second. gathers_both W.seen old mid new first second };
 }
 
-impl<W: ByteSink> GatheredLine<'_, W> {
+impl<W: ByteSink> GatheredLine<'_, '_, W> {
     // Puts bytes for which the short text has no room. It seldom happens, so it stands out of line.
     #[inline(never)]
     fn put_long(&mut self, bytes: &[u8])
@@ -52,7 +50,7 @@ impl<W: ByteSink> GatheredLine<'_, W> {
     {
         self.hand_on();
         if self.done.is_ok() {
-            self.done = put_gathered(bytes, self.gathered, self.output);
+            self.done = self.output.put(bytes);
         }
     }
 
@@ -62,21 +60,8 @@ impl<W: ByteSink> GatheredLine<'_, W> {
         ensures empty { OnOk self.new.done (self.new.text ≡ []) }
     {
         if self.done.is_ok() {
-            self.done = put_gathered(self.text.bytes(), self.gathered, self.output);
+            self.done = self.output.put(self.text.bytes());
             self.text.clear();
         }
     }
-}
-
-// Puts bytes after those that wait.
-#[inline(always)]
-fn put_gathered<W: ByteSink>(
-    bytes: &[u8],
-    gathered: &mut Gathered,
-    output: &mut W,
-) -> Result<(), DeviceFault>
-    ensures { IsPut (output_seen (W.seen output.old) gathered.old)
-        (output_seen (W.seen output.new) gathered.new) bytes.now result }
-{
-    gathered.put(bytes, output)
 }

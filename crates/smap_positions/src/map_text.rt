@@ -1,7 +1,7 @@
 //! The texts of a map, put as text and as JSON.
 ghost use Rattle.std.specs.Prelude.{◌≡◌, ◌<◌, option_map};
 ghost use Rattle.std.specs.List.{list_any};
-ghost use Rattle.std.specs.Char.{digit_char, is_ascii_control};
+ghost use Rattle.std.specs.Char.{digit_char};
 ghost use Rattle.json.specs.Print.{escape, escape_byte, quoted};
 ghost use Rattle.serde_json.specs.Written.{compact_text};
 ghost use Rattle.smap_record.specs.Written.{value_of_text};
@@ -9,6 +9,7 @@ ghost use Rattle.smap_command.specs.Shown.{shown, shown_byte};
 ghost use Rattle.smap_positions.specs.Private.Escapes.{is_escaped, short_escape};
 
 use crate::output::Output;
+use smap_trace::has_control;
 
 /// Puts a text of the user's as it prints: a `?` stands for each ASCII control character.
 pub fn put_shown<O: Output>(text: &str, output: &mut O)
@@ -21,18 +22,6 @@ pub fn put_shown<O: Output>(text: &str, output: &mut O)
     for byte in bytes {
         output.put(&[shown_byte(*byte)]);
     }
-}
-
-// Whether a control character of ASCII stands in a text.
-fn has_control(text: &[u8]) -> bool
-    ensures { result ≡ list_any is_ascii_control text.now }
-{
-    // No byte is asked whether to stop, so that many are tested at once.
-    let mut found = false;
-    for byte in text {
-        found |= byte.is_ascii_control();
-    }
-    found
 }
 
 fn shown_byte(byte: u8) -> u8

@@ -6,7 +6,6 @@ pub returns-else-not-add : goal.returns-else-not-add
 returns-else-not-add g c =
     let added : c.add.new.self ≡ c.args.self.now.text ++ c.args.bytes.now = search rules in
     record {
-      same_gathered = refl;
-      same_output = refl;
-      puts = λ start front before. rw added (put_short start _ c.args.self.now.text front c.args.bytes.now c.args.self.now.done before);
+      same = refl;
+      puts = λ start front before. rw added (put_short g.W.ByteSink.seen start _ _ front _ _ before);
     }

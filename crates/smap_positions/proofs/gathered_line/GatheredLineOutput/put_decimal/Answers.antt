@@ -6,7 +6,6 @@ pub returns-else-not-add_number : goal.returns-else-not-add_number
 returns-else-not-add_number g c =
     let added : c.add_number.new.self ≡ c.args.self.now.text ++ decimal c.args.number = search rules in
     record {
-      same_gathered = refl;
-      same_output = refl;
-      puts = λ start front before. rw added (put_short start _ c.args.self.now.text front (decimal c.args.number) c.args.self.now.done before);
+      same = refl;
+      puts = λ start front before. rw added (put_short g.W.ByteSink.seen start _ _ front _ _ before);
     }
