@@ -1,5 +1,8 @@
 pub mod Limits
 pub mod Lines
+pub mod Bytes
+pub mod Numbers
+pub mod NumberLaws
 pub mod Edited
 pub mod Editing
 pub mod Gathered

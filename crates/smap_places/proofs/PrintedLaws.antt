@@ -6,8 +6,7 @@ use Rattle.std.specs.Fmt.{decimal}
 use Rattle.std.proofs.lemmas.Bool.{and_parts, cond-true, eqb-true}
 use Rattle.std.proofs.lemmas.List.{drop_at, length-take-le, take-append-drop, take_at}
 use Rattle.std.proofs.lemmas.List.Sums.{prefix_len-le-length}
-use Rattle.smap_trace.specs.Frame.{IsPrinted}
-use Rattle.smap_trace.specs.FrameOf.{decimal_number, read_on}
+use Rattle.smap_lines.specs.Numbers.{IsPrinted, decimal_number, read_on}
 use Rattle.smap_places.specs.Places.{digits, number_after, numbers_after, with_column, with_line}
 use Rattle.smap_places.specs.Printed.{IsNumbers, has_digit}
 

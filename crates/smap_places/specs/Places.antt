@@ -6,7 +6,7 @@ use Rattle.std.specs.Prelude.{drop, slice_index, if◌then◌else◌, option_map
 use Rattle.std.specs.Char.{is_ascii_digit, is_ascii_alphanumeric}
 use Rattle.std.specs.List.{list_any, prefix_len}
 use Rattle.smap_record.specs.Record.{MapRecord}
-use Rattle.smap_trace.specs.FrameOf.{decimal_number}
+use Rattle.smap_lines.specs.Numbers.{decimal_number}
 use Rattle.smap_trace.specs.Table.{record_for}
 
 -- ---- the numbers of a place

@@ -2,7 +2,7 @@
 use Rattle.std.specs.Prelude.{◌≡◌, ℕ, ◌+◌, Bool, false, List, [], ◌∷◌, ◌++◌, codes, length}
 use Rattle.std.specs.Char.{is_ascii_digit}
 use Rattle.std.specs.Fmt.{decimal}
-use Rattle.smap_trace.specs.Frame.{IsPrinted}
+use Rattle.smap_lines.specs.Numbers.{IsPrinted}
 
 -- a text begins with a digit
 abbrev pub has_digit : List ℕ → Bool

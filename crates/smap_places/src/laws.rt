@@ -7,7 +7,7 @@ ghost use Rattle.smap_places.specs.PlacesRewritten.{placed_line};
 ghost use Rattle.smap_places.specs.Printed.{IsNumbers};
 ghost use Rattle.smap_trace.specs.Table.{record_for};
 
-use smap_trace::laws::numbers_are_read_as_printed;
+use smap_lines::laws::numbers_are_read_as_printed;
 
 /// A line in which no URL of the table occurs stays.
 pub fn line_without_urls_stays()

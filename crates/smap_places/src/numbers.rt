@@ -3,7 +3,7 @@ ghost use Rattle.std.specs.Prelude.{◌≡◌, ◌<◌, ◌≤◌, ℕ, IfSome, 
 ghost use Rattle.smap_places.specs.Places.{number_after, numbers_after};
 
 use memchr::memchr;
-use smap_trace::{digits, number};
+use smap_lines::{digits, number};
 
 /// The line and the column after a URL, and how many bytes they are with the `:` before each.
 #[tactic(auto, unfolding(crate::specs::Places::numbers_after))]

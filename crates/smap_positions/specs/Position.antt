@@ -3,7 +3,8 @@
 use Rattle.std.specs.Prelude.{◌≡◌, ◌≢◌, ◌⊎◌, ℕ, List, [], ◌++◌, IsTrue, codes}
 use Rattle.std.specs.Fmt.{decimal}
 use Rattle.std.specs.List.{AllByRecursion}
-use Rattle.smap_trace.specs.Frame.{IsLineEnd, IsPrinted, is_blank}
+use Rattle.smap_lines.specs.Bytes.{IsLineEnd, is_blank}
+use Rattle.smap_lines.specs.Numbers.{IsPrinted}
 use Rattle.smap_positions.specs.declared.printed_position.PrintedPosition.{PrintedPosition}
 
 -- spaces and tabs

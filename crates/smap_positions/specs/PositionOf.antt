@@ -2,8 +2,8 @@
 use Rattle.std.specs.Prelude.{ℕ, ◌==◌, Bool, true, false, List, [], ◌∷◌, Option, Some, None, if◌then◌else◌, take, drop}
 use Rattle.std.specs.Char.{is_ascii_digit}
 use Rattle.std.specs.List.{prefix_len}
-use Rattle.smap_trace.specs.Frame.{is_blank}
-use Rattle.smap_trace.specs.FrameOf.{decimal_number}
+use Rattle.smap_lines.specs.Bytes.{is_blank}
+use Rattle.smap_lines.specs.Numbers.{decimal_number}
 use Rattle.smap_positions.specs.declared.printed_position.PrintedPosition.{PrintedPosition}
 
 -- what stands after the blanks that a text begins with

@@ -9,7 +9,7 @@ ghost use Rattle.smap_command.specs.Shown.{shown, shown_byte};
 ghost use Rattle.smap_positions.specs.Private.Escapes.{is_escaped, short_escape};
 
 use crate::output::Output;
-use smap_trace::has_control;
+use smap_lines::has_control;
 
 /// Puts a text of the user's as it prints: a `?` stands for each ASCII control character.
 pub fn put_shown<O: Output>(text: &str, output: &mut O)

@@ -7,8 +7,8 @@ ghost use Rattle.smap_positions.specs.PositionOf.{column_after, column_of, first
 ghost use Rattle.smap_positions.specs.declared.printed_position.PrintedPosition.{PrintedPosition};
 
 use crate::printed_position::PrintedPosition;
-use smap_trace::laws::numbers_are_read_as_printed;
-use smap_trace::{blanks, digits, number};
+use smap_lines::laws::numbers_are_read_as_printed;
+use smap_lines::{blanks, digits, number};
 
 /// The position that a line, without its LF, is: a line and a column without signs or leading zeros, between them blanks
 /// (spaces and tabs) or one `:` alone. Blanks before and after them, and a CR at the end, are passed over. The call takes

@@ -2,7 +2,7 @@
 use Rattle.std.proofs.Common.{◌≡◌, true, false, [], ◌∷◌, ◌++◌, Option, Some, None, refl, codes}
 use Rattle.smap_resolve.specs.SourceName.{Name, kept}
 use Rattle.smap_trace.specs.Frame.{FrameParts}
-use Rattle.smap_trace.specs.FrameOf.{frame_of, decimal_number}
+use Rattle.smap_trace.specs.FrameOf.{frame_of}
 use Rattle.smap_trace.specs.Rewritten.{SourceLocation, fate_at, hidden, line_after, location_text, printable, replaced, stays}
 use Rattle.smap_trace.specs.Table.{is_bad_url}
 
@@ -41,10 +41,6 @@ no_function = refl
 twice_async : frame_of (codes "at async async u:1:1") ≡ None
 unfolding frame_of
 twice_async = refl
-
-numbers : decimal_number (codes "2147483648") ∷ decimal_number (codes "2147483649") ∷ decimal_number (codes "0")
-    ∷ decimal_number (codes "01") ∷ [] ≡ Some 2147483648 ∷ None ∷ None ∷ None ∷ []
-numbers = refl
 
 urls : is_bad_url (codes "eval at u") ∷ is_bad_url (codes "") ∷ is_bad_url (codes "a\nb") ∷ is_bad_url (codes "u") ∷ [] ≡ true ∷ true ∷ true ∷ false ∷ []
 unfolding is_bad_url

@@ -9,14 +9,16 @@ use Rattle.std.proofs.lemmas.Bool.{cond-true, cond-false, cond_both, eqb-true, e
 use Rattle.std.proofs.lemmas.Bool.Decides.{Decides-eqb}
 use Rattle.std.proofs.lemmas.List.{take_at, drop_at, take-append-drop, drop-drop, append_cancel_right}
 use Rattle.std.proofs.lemmas.Slice.Eq.{starts_is}
+use Rattle.smap_lines.specs.Bytes.{IsLineEnd, is_blank}
+use Rattle.smap_lines.specs.NumberLaws.{none_else, number_is, number_reads}
+use Rattle.smap_lines.specs.Numbers.{IsPrinted, decimal_number}
 use Rattle.smap_trace.specs.Cuts.{cut_at_first, cut_at_last, cut_at_call, without_last}
-use Rattle.smap_trace.specs.Frame.{FrameParts, is_line, is_blank, IsLineEnd, IsPrinted, IsCallFrame, IsPlainFrame, IsSignFrame, IsForm, IsFrame}
+use Rattle.smap_trace.specs.Frame.{FrameParts, is_line, IsCallFrame, IsPlainFrame, IsSignFrame, IsForm, IsFrame}
 use Rattle.smap_trace.specs.FrameOf.{Location, location_of, location_cut, location_before, location_with, parts_with, call_frame, is_async}
 use Rattle.smap_trace.specs.FrameOf.{unless_async, plain_frame, ends_in_digit, sign_frame, sign_frame_at, at_frame, frame_after, frame_in, frame_of}
-use Rattle.smap_trace.specs.FrameOf.{decimal_number}
 use Rattle.smap_trace.proofs.CutLaws.{IsFirstCut, IsLastCut, cut_is_first, cut_is_last, first_cut, last_cut, is_without, IsFirstCall, HasNoCall}
 use Rattle.smap_trace.proofs.CutLaws.{call_is_first, first_call, last_is, last_is_other, last_stands}
-use Rattle.smap_trace.proofs.NumberLaws.{none_else, number_is, number_reads, number_without, number_ends, number_last_digit}
+use Rattle.smap_trace.proofs.NumberLaws.{number_without, number_ends, number_last_digit}
 
 -- ---- places
 

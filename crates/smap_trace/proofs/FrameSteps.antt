@@ -9,9 +9,10 @@ use Rattle.std.proofs.lemmas.Option.{MatchOption-at_some}
 use Rattle.std.proofs.lemmas.List.{take_at, drop_at, take-take, take_rest, length-take-le, take-append-drop, drop-drop, drop-take}
 use Rattle.std.proofs.lemmas.Slice.Eq.{starts_is}
 use Rattle.std.proofs.lemmas.Bool.Decides.{Decides-eqb}
+use Rattle.smap_lines.specs.Bytes.{is_blank}
 use Rattle.smap_trace.specs.Cuts.{cut_at_call, cut_at_first, without_last}
 use Rattle.smap_lines.specs.Lines.{has_line_end}
-use Rattle.smap_trace.specs.Frame.{has_cr_within, is_line, is_blank, is_one_line}
+use Rattle.smap_trace.specs.Frame.{has_cr_within, is_line, is_one_line}
 use Rattle.smap_trace.specs.FrameOf.{ends_in_digit, frame_of, frame_in, frame_after, at_frame, call_frame, plain_frame, parts_with, location_of}
 use Rattle.smap_trace.specs.FrameOf.{is_async, sign_frame, sign_frame_at, unless_async}
 use Rattle.smap_trace.proofs.CutLaws.{last_stands, call_is_first, cut_is_first}

@@ -4,12 +4,13 @@
 -- and as Firefox and Safari do, in a line that does not begin with `at ` after its blanks,
 --   a function, `@`, a URL, `:`, a line, `:`, a column
 -- A CR may end each. Lines and columns count from 1.
-use Rattle.std.specs.Prelude.{◌≡◌, ◌≢◌, ◌≤◌, ◌-◌, ℕ, ◌==◌, ◌||◌, ◌&&◌, Bool, false, not, nat_le, IsTrue, List, [], ◌++◌, ◌⊎◌, codes, length, take}
+use Rattle.std.specs.Prelude.{◌≡◌, ◌≢◌, ◌-◌, ℕ, ◌==◌, ◌&&◌, Bool, false, not, nat_le, IsTrue, List, [], ◌++◌, ◌⊎◌, codes, length, take}
 use Rattle.std.specs.Fmt.{decimal}
 use Rattle.std.specs.List.{AllByRecursion, list_any}
+use Rattle.smap_lines.specs.Bytes.{IsLineEnd, is_blank}
 use Rattle.smap_lines.specs.Limits.{most_line_bytes}
 use Rattle.smap_lines.specs.Lines.{has_line_end}
-use Rattle.smap_trace.specs.Limits.{most_printed}
+use Rattle.smap_lines.specs.Numbers.{IsPrinted}
 
 -- what a frame line is made of
 pub record FrameParts : Type 0 where
@@ -30,18 +31,6 @@ has_cr_within line = list_any (λ byte. byte == 13) (take (length line - 1) line
 -- a line has at most 65,536 bytes, no LF, and a CR at most as its last byte
 abbrev pub is_line : List ℕ → Bool
 is_line line = is_one_line line && not (has_cr_within line)
-
--- a space or a tab
-abbrev pub is_blank : ℕ → Bool
-is_blank byte = byte == 32 || byte == 9
-
--- nothing, or a CR
-abbrev pub IsLineEnd : List ℕ → Type 0
-IsLineEnd end = (end ≡ []) ⊎ (end ≡ codes "\r")
-
--- a line or a column as it is printed
-abbrev pub IsPrinted : ℕ → Type 0
-IsPrinted n = (1 ≤ n) × (n ≤ most_printed)
 
 -- the first form: what stands before the URL and after the column. The first ` (` after `at ` ends the function
 pub record IsCallFrame (parts : FrameParts) : Type 0 where

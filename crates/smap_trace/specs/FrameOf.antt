@@ -1,24 +1,12 @@
 -- The parts of a frame line: the one choice of them of which `IsFrame` holds.
-use Rattle.std.specs.Prelude.{ℕ, ◌+◌, ◌-◌, ◌*◌, ◌&&◌, Bool, false, nat_lt, nat_le, List, [], ◌∷◌, ◌++◌, Option, Some, None, if◌then◌else◌, codes}
-use Rattle.std.specs.Prelude.{take, drop, slice_index}
+use Rattle.std.specs.Prelude.{ℕ, ◌+◌, Bool, false, List, [], ◌∷◌, ◌++◌, Option, Some, None, if◌then◌else◌, codes, take, drop}
 use Rattle.std.specs.Char.{is_ascii_digit}
 use Rattle.std.specs.List.{prefix_len, starts_with}
 use Rattle.std.specs.Bool.{nat_eq}
+use Rattle.smap_lines.specs.Bytes.{is_blank}
+use Rattle.smap_lines.specs.Numbers.{decimal_number}
 use Rattle.smap_trace.specs.Cuts.{cut_at_first, cut_at_last, cut_at_call, without_last}
-use Rattle.smap_trace.specs.Frame.{FrameParts, is_line, is_blank}
-use Rattle.smap_trace.specs.Limits.{most_printed}
-
--- ---- numbers
-
--- the number that these digits write after those of n, if it is at most 2147483648
-abbrev pub read_on : ℕ → List ℕ → Option ℕ
-read_on n [] = Some n
-read_on n (byte ∷ text) =
-    if is_ascii_digit byte && nat_le (10 * n + (byte - 48)) most_printed then read_on (10 * n + (byte - 48)) text else None
-
--- the number from 1 to 2147483648 that a text writes without leading zeros
-abbrev pub decimal_number : List ℕ → Option ℕ
-decimal_number text = if nat_lt 48 (slice_index text 0) then read_on 0 text else None
+use Rattle.smap_trace.specs.Frame.{FrameParts, is_line}
 
 -- ---- a location: a URL, `:`, a line, `:`, a column
 

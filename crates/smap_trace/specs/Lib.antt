@@ -1,4 +1,3 @@
-pub mod Limits
 pub mod Cuts
 pub mod Frame
 pub mod FrameOf

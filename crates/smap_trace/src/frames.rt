@@ -1,19 +1,19 @@
 //! The frames of a stack trace.
 ghost use Rattle.std.specs.Prelude.{◌≡◌, ◌≤◌, ◌↔◌, Some, false, length, take, drop, slice_range, option_map};
 ghost use Rattle.std.specs.List.{prefix_len};
+ghost use Rattle.smap_lines.specs.Bytes.{is_blank};
 ghost use Rattle.smap_lines.specs.Limits.{most_line_bytes};
 ghost use Rattle.smap_lines.specs.Lines.{has_line_end};
 ghost use Rattle.smap_trace.specs.Cuts.{cut_at_call, without_last};
-ghost use Rattle.smap_trace.specs.Frame.{FrameParts, IsFrame, has_cr_within, is_blank, is_one_line};
+ghost use Rattle.smap_trace.specs.Frame.{FrameParts, IsFrame, has_cr_within, is_one_line};
 ghost use Rattle.smap_trace.specs.FrameOf.{call_frame, frame_after, frame_of, parts_with, location_of};
 ghost use Rattle.smap_trace.specs.FrameOf.{ends_in_digit, plain_frame, sign_frame, unless_async};
 ghost use Rattle.smap_trace.specs.FrameSeen.{parts_seen};
 ghost use Rattle.smap_trace.specs.Private.LocationSeen.{location_seen};
 
 use crate::cuts::{cut_at_call, cut_at_first, cut_at_last, without_last};
-use crate::numbers::number;
 use crate::parts::Frame;
-use smap_lines::MOST_LINE_BYTES;
+use smap_lines::{MOST_LINE_BYTES, blanks, number};
 
 /// The parts of a line, without its LF, that is a frame. The call takes no memory, and goes over the line a fixed number
 /// of times.
@@ -75,16 +75,6 @@ fn frame_before(line: &[u8], end: usize) -> Option<Frame<'_>>
     } else {
         plain_frame(line, start, end)
     }
-}
-
-/// How many blanks, which are spaces and tabs, a text begins with.
-pub fn blanks(text: &[u8]) -> usize
-    ensures count { result ≡ prefix_len is_blank text.now }
-    ensures within { result ≤ length text.now }
-{
-    text.iter()
-        .take_while(|byte| **byte == b' ' || **byte == b'\t')
-        .count()
 }
 
 // The frame of the first form whose function and location stand from `start` to `end`.

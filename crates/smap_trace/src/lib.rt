@@ -13,8 +13,6 @@
 mod cuts;
 mod frame_rewriter;
 mod frames;
-pub mod laws;
-mod numbers;
 mod original;
 mod outcome;
 mod parts;
@@ -23,9 +21,8 @@ mod rewriting;
 mod sight;
 mod table;
 
-pub use frames::{blanks, frame};
-pub use numbers::{digits, number};
-pub use original::{Original, Replacement, has_control, original_at};
+pub use frames::frame;
+pub use original::{Original, Replacement, original_at};
 pub use outcome::{RewriteFault, Summary};
 pub use parts::Frame;
 pub use refusal::TableRefusal;

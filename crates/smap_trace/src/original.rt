@@ -1,11 +1,10 @@
 //! Where a place of a generated program comes from.
 ghost use Rattle.std.specs.Prelude.{◌≡◌, option_map};
-ghost use Rattle.std.specs.Char.{is_ascii_control};
-ghost use Rattle.std.specs.List.{list_any};
 ghost use Rattle.smap_record.specs.Sources.{source_of};
 ghost use Rattle.smap_trace.specs.Rewritten.{is_ignored, name_in, original_at};
 ghost use Rattle.smap_trace.specs.SightSeen.{original_seen};
 
+use smap_lines::has_control;
 use smap_record::{Answer, MapFile, Meter, SourceEntry};
 use std::alloc::Global;
 
@@ -72,16 +71,4 @@ fn printable_name(source: Option<&SourceEntry>) -> Option<&str>
         return None;
     }
     Some(name)
-}
-
-/// Whether a control character of ASCII stands in a text.
-pub fn has_control(text: &[u8]) -> bool
-    ensures { result ≡ list_any is_ascii_control text.now }
-{
-    // No byte is asked whether to stop, so that many are tested at once.
-    let mut found = false;
-    for byte in text {
-        found |= byte.is_ascii_control();
-    }
-    found
 }

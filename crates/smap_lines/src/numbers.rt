@@ -1,10 +1,10 @@
-//! The lines and columns of frames.
+//! Lines and columns as a line of text prints them.
 ghost use Rattle.std.specs.Prelude.{◌≡◌, ◌≤◌, length};
 ghost use Rattle.std.specs.Char.{is_ascii_digit};
 ghost use Rattle.std.specs.List.{prefix_len};
-ghost use Rattle.smap_trace.specs.FrameOf.{decimal_number};
+ghost use Rattle.smap_lines.specs.Numbers.{decimal_number};
 
-// The largest line or column that a frame may print: a map's largest, counted from 1.
+// The largest line or column that may be printed: a map's largest, counted from 1.
 const MOST: u64 = 2147483648;
 
 /// The number from 1 to 2147483648 that a text writes in decimal without leading zeros.

@@ -1,6 +1,6 @@
 use Rattle.std.proofs.Common.{◌≡◌, ◌≤◌, drop}
-use Rattle.smap_trace.specs.FrameOf.{read_on}
-use Rattle.smap_trace.proofs.numbers.number.Given as goal
+use Rattle.smap_lines.specs.Numbers.{read_on}
+use Rattle.smap_lines.proofs.numbers.number.Given as goal
 
 -- the rest is read on from the value so far
 abbrev pub invariant-loop-byte : goal.invariant-loop-byte
