@@ -32,7 +32,7 @@ module _ (index : IndexContents) (is : IsIndex index) where
   -- its interval is one at which checkpoints may stand
   pub interval_within : (1 ≤ index.k) × (index.k ≤ most_interval)
   interval_within =
-      let parts = and_parts _ _ (faultless index.parts index.k is.sound).interval in
+      let parts = and_parts _ _ (faultless index.parts index.k is.sound).in_range in
       (leb-true 1 index.k parts.0, leb-true index.k most_interval parts.1)
 
   -- the checkpoints lie on the joined list as tiles

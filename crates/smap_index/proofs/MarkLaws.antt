@@ -25,18 +25,20 @@ slice_get-after (a ∷ front) x after = slice_get-after front x after
 
 -- ---- an index that is built
 
-pub index_made : (counted walked parts : List Part) (k : ℕ) (start checkpoints : List Checkpoint) (segments used_lines : ℕ)
+pub index_made : (counted walked parts : List Part) (interval : ℕ) (start checkpoints : List Checkpoint) (segments used_lines : ℕ)
     → counted ≡ parts → walked ≡ parts → start ≡ []
-    → (added : List Checkpoint) × (checkpoints ≡ start ++ added) × AreCheckpointsOf walked k added → segments ≡ length (joined counted)
+    → (added : List Checkpoint) × (checkpoints ≡ start ++ added) × AreCheckpointsOf walked interval added → segments ≡ length (joined counted)
     → used_lines ≡ used_lines_in counted → 2 * segments ≤ bytes_in counted + length counted → IsInOrder (joined parts)
     → list_any is_mapping_past_limit (joined parts) ≡ false
-    → IsIndexOf (record { parts = parts; k = k; checkpoints = checkpoints; segments = segments; used_lines = used_lines }) parts k
-index_made counted walked parts k start checkpoints segments used_lines same_counted same_walked none (added, all, marked) number lines few order in_range =
+    → IsIndexOf (record { parts = parts; k = interval; checkpoints = checkpoints; segments = segments; used_lines = used_lines }) parts interval
+index_made counted walked parts interval start checkpoints segments used_lines same_counted same_walked none (added, all, marked) number lines few order
+    in_range =
     let whole : checkpoints ≡ added = all ∙ ap (λ front. front ++ added) none in
     record {
       parts_are = refl;
       k_is = refl;
-      marked = subst (λ checkpoints. AreCheckpointsOf parts k checkpoints) (sym whole) (subst (λ parts. AreCheckpointsOf parts k added) same_walked marked);
+      marked = subst (λ checkpoints. AreCheckpointsOf parts interval checkpoints) (sym whole)
+          (subst (λ parts. AreCheckpointsOf parts interval added) same_walked marked);
       segments_are = number ∙ ap (λ parts. length (joined parts)) same_counted;
       used_lines_are = lines ∙ ap used_lines_in same_counted;
       few = subst (λ n. 2 * n ≤ bytes_in parts + length parts) (number ∙ ap (λ parts. length (joined parts)) same_counted)

@@ -13,16 +13,17 @@ use Rattle.smap_index.proofs.ListLaws.{tail_in_order}
 -- ---- remainders
 
 -- the next number's remainder is one more, or it is 0 after the greatest
-pub next_remainder : (n k : ℕ) → 0 < k → (((n + 1) % k ≡ n % k + 1) × (n % k + 1 < k)) ⊎ (((n + 1) % k ≡ 0) × (n % k + 1 ≡ k))
-next_remainder n k positive =
-    let same : (n % k + 1) % k ≡ (n + 1) % k = mod-add-mod n k 1 in
+pub next_remainder : (n interval : ℕ) → 0 < interval → (((n + 1) % interval ≡ n % interval + 1) × (n % interval + 1 < interval))
+    ⊎ (((n + 1) % interval ≡ 0) × (n % interval + 1 ≡ interval))
+next_remainder n interval positive =
+    let same : (n % interval + 1) % interval ≡ (n + 1) % interval = mod-add-mod n interval 1 in
     ⊎_elim
-    (λ (less : n % k + 1 < k). inl (sym same ∙ mod-eq_of_lt less, less))
-    (λ (full : k ≤ n % k + 1).
+    (λ (less : n % interval + 1 < interval). inl (sym same ∙ mod-eq_of_lt less, less))
+    (λ (full : interval ≤ n % interval + 1).
     let below = mod-lt n positive in
-    let whole : n % k + 1 ≡ k = omega (arith, below) in
-    inr (sym same ∙ ap (λ m. m % k) whole ∙ mod_self k, whole))
-    (cases_lt (n % k + 1) k)
+    let whole : n % interval + 1 ≡ interval = omega (arith, below) in
+    inr (sym same ∙ ap (λ m. m % interval) whole ∙ mod_self interval, whole))
+    (cases_lt (n % interval + 1) interval)
 
 -- ---- lists in order
 

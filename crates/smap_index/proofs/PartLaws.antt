@@ -15,14 +15,14 @@ use Rattle.smap_index.specs.declared.checkpoint.Checkpoint.{Checkpoint}
 use Rattle.smap_index.proofs.CountingLaws.{IsMarked}
 use Rattle.smap_index.proofs.MarkLaws.{AllZip-append}
 
-marks_from-push : (i n : ℕ) (parts : List Part) (part : Part) (k : ℕ) → n ≡ i + length parts
-    → marks_from i (parts ++ part ∷ []) k ≡ marks_from i parts k ++ map (mark_in n) (marked_segments k [] (placed part))
-marks_from-push i n [] part k is = let e : i ≡ n = omega arith
-    in append-nil (map (mark_in i) (marked_segments k [] (placed part))) ∙ ap (λ i. map (mark_in i) (marked_segments k [] (placed part))) e
-marks_from-push i n (p ∷ parts) part k is =
-    let here = marked_segments k [] (placed p) in
-    ap (λ rest. map (mark_in i) here ++ rest) (marks_from-push (i + 1) n parts part k (omega arith))
-    ∙ sym (append_assoc (map (mark_in i) here) (marks_from (i + 1) parts k) (map (mark_in n) (marked_segments k [] (placed part))))
+marks_from-push : (i n : ℕ) (parts : List Part) (part : Part) (interval : ℕ) → n ≡ i + length parts
+    → marks_from i (parts ++ part ∷ []) interval ≡ marks_from i parts interval ++ map (mark_in n) (marked_segments interval [] (placed part))
+marks_from-push i n [] part interval is = let e : i ≡ n = omega arith
+    in append-nil (map (mark_in i) (marked_segments interval [] (placed part))) ∙ ap (λ i. map (mark_in i) (marked_segments interval [] (placed part))) e
+marks_from-push i n (p ∷ parts) part interval is =
+    let here = marked_segments interval [] (placed p) in
+    ap (λ rest. map (mark_in i) here ++ rest) (marks_from-push (i + 1) n parts part interval (omega arith))
+    ∙ sym (append_assoc (map (mark_in i) here) (marks_from (i + 1) parts interval) (map (mark_in n) (marked_segments interval [] (placed part))))
 
 -- the table is its start and one checkpoint for each of these marks
 abbrev pub IsFilled : List Part → List Mark → List Checkpoint → List Checkpoint → Type 0
@@ -56,17 +56,17 @@ module _ (parts : List Part) (i : ℕ) (part : Part) (within : i < length parts)
   marks_of_part (segment ∷ segments) [] zip = absurd zip
   marks_of_part (segment ∷ segments) (c ∷ added) zip = (record { part = part; part_is = part_at; inside = zip.0 }, marks_of_part segments added zip.1)
 
-  pub marks_next : (k : ℕ) (start old new : List Checkpoint) → IsFilled parts (marks (take i parts) k) start old
-      → IsMarked part i k (placed part) old new → IsFilled parts (marks (take (i + 1) parts) k) start new
-  marks_next k start old new (front, front_is, front_zip) (added, added_is, added_zip) =
-      let segments = marked_segments k [] (placed part) in
+  pub marks_next : (interval : ℕ) (start old new : List Checkpoint) → IsFilled parts (marks (take i parts) interval) start old
+      → IsMarked part i interval (placed part) old new → IsFilled parts (marks (take (i + 1) parts) interval) start new
+  marks_next interval start old new (front, front_is, front_zip) (added, added_is, added_zip) =
+      let segments = marked_segments interval [] (placed part) in
       let IsHere : List Mark → List Checkpoint → Type 0 = AllZip (IsCheckpointOf parts) in
-      let longer : marks (take (i + 1) parts) k ≡ marks (take i parts) k ++ map (mark_in i) segments =
-      ap (λ parts. marks parts k) taken ∙ marks_from-push 0 i (take i parts) part k (omega (arith, length-take-le i parts (omega arith))) in (
+      let longer : marks (take (i + 1) parts) interval ≡ marks (take i parts) interval ++ map (mark_in i) segments =
+      ap (λ parts. marks parts interval) taken ∙ marks_from-push 0 i (take i parts) part interval (omega (arith, length-take-le i parts (omega arith))) in (
         front ++ added,
         added_is ∙ ap (λ list. list ++ added) front_is ∙ append_assoc start front added,
         subst (λ marks. IsHere marks (front ++ added)) (sym longer)
-            (AllZip-append (IsCheckpointOf parts) (marks (take i parts) k) (map (mark_in i) segments) front added front_zip
+            (AllZip-append (IsCheckpointOf parts) (marks (take i parts) interval) (map (mark_in i) segments) front added front_zip
             (marks_of_part segments added added_zip)),
       )
 

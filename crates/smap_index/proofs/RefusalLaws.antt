@@ -25,22 +25,22 @@ unmapped f None none = refl
 unmapped f (Some i) none = absurd (cc)
 
 -- what parts without a fault meet
-pub record IsFaultless (parts : List Part) (k : ℕ) : Type 0 where
-  pub interval : is_interval k ≡ true
+pub record IsFaultless (parts : List Part) (interval : ℕ) : Type 0 where
+  pub in_range : is_interval interval ≡ true
   pub order : order_fault parts ≡ None
   pub overlap : overlap_fault parts ≡ None
   pub range : range_fault parts ≡ None
 
-pub faultless : (parts : List Part) (k : ℕ) → build_fault parts k ≡ None → IsFaultless parts k
+pub faultless : (parts : List Part) (interval : ℕ) → build_fault parts interval ≡ None → IsFaultless parts interval
 unfolding build_fault part_fault
-faultless parts k none =
+faultless parts interval none =
     ⊎_elim
     (λ one.
-    let order = neither SectionOrder (order_fault parts) _ (sym (cond-true (is_interval k) (part_fault parts) (Some Interval) one) ∙ none) in
+    let order = neither SectionOrder (order_fault parts) _ (sym (cond-true (is_interval interval) (part_fault parts) (Some Interval) one) ∙ none) in
     let overlap = neither SectionOverlap (overlap_fault parts) _ order.1 in
-    record { interval = one; order = order.0; overlap = overlap.0; range = unmapped PositionRange (range_fault parts) overlap.1 })
-    (λ other. absurd (let e = cond-false (is_interval k) (part_fault parts) (Some Interval) other in cc (e, none)))
-    (cases_Bool (is_interval k))
+    record { in_range = one; order = order.0; overlap = overlap.0; range = unmapped PositionRange (range_fault parts) overlap.1 })
+    (λ other. absurd (let e = cond-false (is_interval interval) (part_fault parts) (Some Interval) other in cc (e, none)))
+    (cases_Bool (is_interval interval))
 
 none_at : (test : Part → Bool) (i : ℕ) (parts : List Part) (k : ℕ) (part : Part) → position_from test i parts ≡ None → k < length parts
     → part ≡ get_or parts k part → test part ≡ false
@@ -66,36 +66,37 @@ joined_in_range parts none = none_joined 0 parts none
 
 -- ---- the first fault
 
-pub at_interval : (parts : List Part) (k : ℕ) → is_interval k ≡ false → build_fault parts k ≡ Some Interval
+pub at_interval : (parts : List Part) (interval : ℕ) → is_interval interval ≡ false → build_fault parts interval ≡ Some Interval
 unfolding build_fault
-at_interval parts k other = cond-false _ _ _ other
+at_interval parts interval other = cond-false _ _ _ other
 
-module _ (parts : List Part) (k : ℕ) (in_range : is_interval k ≡ true) where
-  of_parts : build_fault parts k ≡ part_fault parts
+module _ (parts : List Part) (interval : ℕ) (in_range : is_interval interval ≡ true) where
+  of_parts : build_fault parts interval ≡ part_fault parts
   unfolding build_fault
   of_parts = cond-true _ _ _ in_range
 
-  pub at_order : (i : ℕ) → order_fault parts ≡ Some i → build_fault parts k ≡ Some (SectionOrder i)
+  pub at_order : (i : ℕ) → order_fault parts ≡ Some i → build_fault parts interval ≡ Some (SectionOrder i)
   unfolding part_fault
   at_order i is = of_parts ∙ ap (λ o. option_or (option_map SectionOrder o)
       (option_or (option_map SectionOverlap (overlap_fault parts)) (option_map PositionRange (range_fault parts)))) is
 
-  after_order : order_fault parts ≡ None → build_fault parts k
+  after_order : order_fault parts ≡ None → build_fault parts interval
       ≡ option_or (option_map SectionOverlap (overlap_fault parts)) (option_map PositionRange (range_fault parts))
   unfolding part_fault
   after_order none = of_parts ∙ ap (λ o. option_or (option_map SectionOrder o)
       (option_or (option_map SectionOverlap (overlap_fault parts)) (option_map PositionRange (range_fault parts)))) none
 
-  pub at_overlap : (i : ℕ) → order_fault parts ≡ None → overlap_fault parts ≡ Some i → build_fault parts k ≡ Some (SectionOverlap i)
+  pub at_overlap : (i : ℕ) → order_fault parts ≡ None → overlap_fault parts ≡ Some i → build_fault parts interval ≡ Some (SectionOverlap i)
   at_overlap i none is = after_order none ∙ ap (λ o. option_or (option_map SectionOverlap o) (option_map PositionRange (range_fault parts))) is
 
-  after_overlap : order_fault parts ≡ None → overlap_fault parts ≡ None → build_fault parts k ≡ option_map PositionRange (range_fault parts)
+  after_overlap : order_fault parts ≡ None → overlap_fault parts ≡ None → build_fault parts interval ≡ option_map PositionRange (range_fault parts)
   after_overlap none none' = after_order none ∙ ap (λ o. option_or (option_map SectionOverlap o) (option_map PositionRange (range_fault parts))) none'
 
-  pub at_range : (i : ℕ) → order_fault parts ≡ None → overlap_fault parts ≡ None → range_fault parts ≡ Some i → build_fault parts k ≡ Some (PositionRange i)
+  pub at_range : (i : ℕ) → order_fault parts ≡ None → overlap_fault parts ≡ None → range_fault parts ≡ Some i
+      → build_fault parts interval ≡ Some (PositionRange i)
   at_range i none none' is = after_overlap none none' ∙ ap (option_map PositionRange) is
 
-  pub at_none : order_fault parts ≡ None → overlap_fault parts ≡ None → range_fault parts ≡ None → build_fault parts k ≡ None
+  pub at_none : order_fault parts ≡ None → overlap_fault parts ≡ None → range_fault parts ≡ None → build_fault parts interval ≡ None
   at_none none none' none'' = after_overlap none none' ∙ ap (option_map PositionRange) none''
 
 -- what a search over these parts found is what there is

@@ -171,10 +171,10 @@ module _ (bound : Bound) where
       → checkpoint_from e (c ∷ checkpoints) ≡ e
   checkpoint_stops e c checkpoints past = ap (λ n. last_or e (take n (c ∷ checkpoints))) (stops bound (mapping_of c) (mappings_at checkpoints) past)
 
-  module _ (parts : List Part) (k : ℕ) where
+  module _ (parts : List Part) (interval : ℕ) where
     -- what a look-up decodes after a segment
     abbrev pub walked : Part → ℕ → List Mapping
-    walked part segment = take (k - 1) (drop (segment + 1) (placed part))
+    walked part segment = take (interval - 1) (drop (segment + 1) (placed part))
 
     -- what is next to the bound is found from this checkpoint: the last up to it on the checkpoint's line, and the first
     -- after that one there too, or it is the next checkpoint's mapping; which it is where the line is another
@@ -191,14 +191,14 @@ module _ (bound : Bound) where
       pub first_elsewhere : ((mapping_of c).line ≡ bound.line → ⊥) → first_past bound list ≡ first_past bound (mappings_at checkpoints)
 
     -- a checkpoint that stands up to the bound, where the rest does not
-    in_tile : (list : List Mapping) (c : Checkpoint) (rest : List Mapping) (checkpoints : List Checkpoint) → IsTile parts k list c rest
+    in_tile : (list : List Mapping) (c : Checkpoint) (rest : List Mapping) (checkpoints : List Checkpoint) → IsTile parts interval list c rest
         → is_up_to bound (mapping_of c) ≡ true → IsPast rest → first_past bound rest ≡ first_past bound (mappings_at checkpoints)
         → IsResumed list (c ∷ checkpoints) c
     in_tile list c rest checkpoints tile reached after next =
-        let n = k - 1 - length tile.after in
-        let all : k - 1 ≡ length tile.after + n = omega (arith, tile.few) in
+        let n = interval - 1 - length tile.after in
+        let all : interval - 1 ≡ length tile.after + n = omega (arith, tile.few) in
         let there : walked tile.part tile.segment ≡ tile.after ++ take n tile.part_rest =
-        ap (take (k - 1)) tile.part_after ∙ ap (λ n. take n (tile.after ++ tile.part_rest)) all ∙ take-append-add tile.after tile.part_rest n in
+        ap (take (interval - 1)) tile.part_after ∙ ap (λ n. take n (tile.after ++ tile.part_rest)) all ∙ take-append-add tile.after tile.part_rest n in
         let past : IsPast (tile.part_rest ++ tile.later) = subst IsPast tile.rest_is after in
         let stopped : IsPast (take n tile.part_rest) = after_taken n tile.part_rest (after_front tile.part_rest tile.later past) in
         let short : last_from bound (Some (mapping_of c)) (walked tile.part tile.segment) ≡ last_from bound (Some (mapping_of c)) tile.after =
@@ -238,7 +238,7 @@ module _ (bound : Bound) where
 
     -- where the next checkpoint stands up to the bound, what is found in the rest
     to_next : (list : List Mapping) (c : Checkpoint) (rest : List Mapping) (next : Checkpoint) (after : List Mapping)
-        (checkpoints : List Checkpoint) (found : Checkpoint) → IsInOrder list → IsTile parts k list c rest → rest ≡ mapping_of next ∷ after
+        (checkpoints : List Checkpoint) (found : Checkpoint) → IsInOrder list → IsTile parts interval list c rest → rest ≡ mapping_of next ∷ after
         → is_up_to bound (mapping_of c) ≡ true → is_up_to bound (mapping_of next) ≡ true → IsResumed rest checkpoints found
         → IsResumed list (c ∷ checkpoints) found
     to_next list c rest next after checkpoints found order tile begins here reached resumed =
@@ -262,11 +262,11 @@ module _ (bound : Bound) where
           first_elsewhere = λ other. first ∙ resumed.first_elsewhere other ∙ sym others;
         }
 
-    rest_in_order : (list : List Mapping) (c : Checkpoint) (rest : List Mapping) → IsTile parts k list c rest → IsInOrder list → IsInOrder rest
+    rest_in_order : (list : List Mapping) (c : Checkpoint) (rest : List Mapping) → IsTile parts interval list c rest → IsInOrder list → IsInOrder rest
     rest_in_order list c rest tile order = back_in_order (mapping_of c ∷ tile.after) rest (subst IsInOrder tile.list_is order)
 
     -- the list begins as its table does
-    begins_past : (list : List Mapping) (next : Checkpoint) (checkpoints : List Checkpoint) → IsTiled parts k list (next ∷ checkpoints)
+    begins_past : (list : List Mapping) (next : Checkpoint) (checkpoints : List Checkpoint) → IsTiled parts interval list (next ∷ checkpoints)
         → is_up_to bound (mapping_of next) ≡ false → first_past bound list ≡ first_past bound (mappings_at (next ∷ checkpoints))
     begins_past list next checkpoints (rest, tile, tiled) past =
         ap (first_past bound) tile.list_is ∙ first_stops bound (mapping_of next) (tile.after ++ rest) past
@@ -274,7 +274,7 @@ module _ (bound : Bound) where
 
     -- both are found from the last checkpoint that stands up to the bound
     pub resumed : (list : List Mapping) (checkpoints : List Checkpoint) (found : Checkpoint) → IsInOrder list
-        → IsTiled parts k list checkpoints → last_checkpoint bound checkpoints ≡ Some found → IsResumed list checkpoints found
+        → IsTiled parts interval list checkpoints → last_checkpoint bound checkpoints ≡ Some found → IsResumed list checkpoints found
     resumed list [] found order tiled last = absurd (cc)
     resumed list (c ∷ []) found order (rest, tile, tiled) last =
         ⊎_elim
@@ -303,7 +303,7 @@ module _ (bound : Bound) where
         (cases_Bool (is_up_to bound (mapping_of c)))
 
     -- where no checkpoint stands up to the bound, no mapping does, and the first of the list is the first of the table
-    pub none_resumed : (list : List Mapping) (checkpoints : List Checkpoint) → IsTiled parts k list checkpoints
+    pub none_resumed : (list : List Mapping) (checkpoints : List Checkpoint) → IsTiled parts interval list checkpoints
         → last_checkpoint bound checkpoints ≡ None → (last_from bound None list ≡ None) × (first_past bound list ≡ first_past bound (mappings_at checkpoints))
     none_resumed list [] tiled none = (ap (last_from bound None) tiled, ap (first_past bound) tiled)
     none_resumed list (c ∷ checkpoints) (rest, tile, tiled) none =
@@ -317,20 +317,21 @@ module _ (bound : Bound) where
         ))
         (cases_Bool (is_up_to bound (mapping_of c)))
 
-module _ (line column : ℕ) (parts : List Part) (k : ℕ) where
+module _ (line column : ℕ) (parts : List Part) (interval : ℕ) where
   -- ---- the answer
 
   -- where no checkpoint is at the position or before it, nothing answers
-  pub none_answers : (list : List Mapping) (checkpoints : List Checkpoint) → IsInOrder list → IsTiled parts k list checkpoints
+  pub none_answers : (list : List Mapping) (checkpoints : List Checkpoint) → IsInOrder list → IsTiled parts interval list checkpoints
       → last_checkpoint (through line column) checkpoints ≡ None → answer_at_or_before list line column ≡ Nothing
   none_answers list checkpoints order tiled none =
-      last_answers line column list order ∙ ap (λ o. answer_of_last (on_line line o)) (none_resumed (through line column) parts k list checkpoints tiled none).0
+      last_answers line column list order
+      ∙ ap (λ o. answer_of_last (on_line line o)) (none_resumed (through line column) parts interval list checkpoints tiled none).0
 
   module _ (list : List Mapping) (checkpoints : List Checkpoint) (c : Checkpoint) (order : IsInOrder list)
-      (resumed : IsResumed (through line column) parts k list checkpoints c) where
+      (resumed : IsResumed (through line column) parts interval list checkpoints c) where
     -- where the checkpoint stands on the line, the last up to the position answers
     pub last_answers_on_line : (mapping_of c).line ≡ line → (m : Mapping)
-        → Some m ≡ last_from (through line column) (Some (mapping_of c)) (walked (through line column) parts k resumed.part resumed.segment)
+        → Some m ≡ last_from (through line column) (Some (mapping_of c)) (walked (through line column) parts interval resumed.part resumed.segment)
         → answer_at_or_before list line column ≡ answer_of m
     last_answers_on_line same m is =
         last_answers line column list order ∙ ap (λ o. answer_of_last (on_line line o)) (resumed.last_is None ∙ sym is)
@@ -339,7 +340,7 @@ module _ (line column : ℕ) (parts : List Part) (k : ℕ) where
     -- where it stands on another line, nothing does
     pub none_on_line : ((mapping_of c).line ≡ line → ⊥) → answer_at_or_before list line column ≡ Nothing
     none_on_line other =
-        let after = walked (through line column) parts k resumed.part resumed.segment in
+        let after = walked (through line column) parts interval resumed.part resumed.segment in
         let m = some_last (mapping_of c) (take (front_up_to (through line column) after) after) in
         last_answers line column list order ∙ ap (λ o. answer_of_last (on_line line o)) (resumed.last_is None ∙ m.1)
         ∙ ap answer_of_last (on_line_other line column m.0 (λ same. other (sym (resumed.last_line m.0 m.1) ∙ same)))

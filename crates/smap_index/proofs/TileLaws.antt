@@ -30,40 +30,40 @@ without_after : (a : Mapping) (after rest : List Mapping) → IsInOrder (a ∷ a
 without_after a [] rest order = order
 without_after a (b ∷ after) rest order = without_second a b rest order.0 (without_after b after rest order.1)
 
-pub checkpoints_in_order : (parts : List Part) (k : ℕ) (list : List Mapping) (checkpoints : List Checkpoint) → IsInOrder list
-    → IsTiled parts k list checkpoints → IsInOrder (mappings_at checkpoints)
-checkpoints_in_order parts k list [] order tiled = tt
-checkpoints_in_order parts k list (c ∷ []) order tiled = tt
-checkpoints_in_order parts k list (c ∷ d ∷ checkpoints) order tiled =
+pub checkpoints_in_order : (parts : List Part) (interval : ℕ) (list : List Mapping) (checkpoints : List Checkpoint) → IsInOrder list
+    → IsTiled parts interval list checkpoints → IsInOrder (mappings_at checkpoints)
+checkpoints_in_order parts interval list [] order tiled = tt
+checkpoints_in_order parts interval list (c ∷ []) order tiled = tt
+checkpoints_in_order parts interval list (c ∷ d ∷ checkpoints) order tiled =
     let ahead : IsInOrder (mapping_of c ∷ tiled.0) = without_after (mapping_of c) tiled.1.after tiled.0 (subst IsInOrder tiled.1.list_is order) in
     let next : IsInOrder (mapping_of c ∷ mapping_of d ∷ tiled.2.1.after ++ tiled.2.0) =
     subst (λ (rest : List Mapping). IsInOrder (mapping_of c ∷ rest)) tiled.2.1.list_is ahead in
-    (next.0, checkpoints_in_order parts k tiled.0 (d ∷ checkpoints) (tail_in_order (mapping_of c) tiled.0 ahead) tiled.2)
+    (next.0, checkpoints_in_order parts interval tiled.0 (d ∷ checkpoints) (tail_in_order (mapping_of c) tiled.0 ahead) tiled.2)
 
 -- ---- the tiles of a part
 
 -- After a mapping stand those up to the next mark, and then the tiles of the rest. Those up to the mark are on the
 -- mapping's line and, counted on from the remainder of its number, fewer than the interval.
-record IsRun (parts : List Part) (k : ℕ) (later before : List Mapping) (mapping : Mapping) (mappings : List Mapping)
+record IsRun (parts : List Part) (interval : ℕ) (later before : List Mapping) (mapping : Mapping) (mappings : List Mapping)
     (checkpoints : List Checkpoint) : Type 0 where
   after : List Mapping
   part_rest : List Mapping
   split : mappings ≡ after ++ part_rest
   on_line : AllByRecursion (λ (m : Mapping). m.line ≡ mapping.line) after
-  few : length after + number_on_line before mapping % k < k
-  tiles : IsTiled parts k (part_rest ++ later) checkpoints
+  few : length after + number_on_line before mapping % interval < interval
+  tiles : IsTiled parts interval (part_rest ++ later) checkpoints
 
 -- after the part stand the later mappings, which the later marks tile
-module _ (parts : List Part) (k : ℕ) (positive : 0 < k) (i : ℕ) (part : Part) (part_is : slice_get parts i ≡ Some part)
+module _ (parts : List Part) (interval : ℕ) (positive : 0 < interval) (i : ℕ) (part : Part) (part_is : slice_get parts i ≡ Some part)
     (order : IsInOrder (placed part)) (later : List Mapping) (later_marks : List Mark)
-    (later_tiled : (checkpoints : List Checkpoint) → AllZip (IsCheckpointOf parts) later_marks checkpoints → IsTiled parts k later checkpoints) where
+    (later_tiled : (checkpoints : List Checkpoint) → AllZip (IsCheckpointOf parts) later_marks checkpoints → IsTiled parts interval later checkpoints) where
   -- the table's front is of these segments of the part, and the rest of the later marks
   abbrev IsMarked : List ℕ → List Checkpoint → Type 0
   IsMarked segments checkpoints = AllZip (IsCheckpointOf parts) (map (mark_in i) segments ++ later_marks) checkpoints
 
   tile : (before : List Mapping) (m : Mapping) (mappings : List Mapping) (c : Checkpoint) (checkpoints : List Checkpoint)
-      → before ++ m ∷ mappings ≡ placed part → number_on_line before m % k ≡ 0 → IsCheckpointOf parts (mark_in i (length before)) c
-      → IsRun parts k later before m mappings checkpoints → IsTiled parts k (m ∷ mappings ++ later) (c ∷ checkpoints)
+      → before ++ m ∷ mappings ≡ placed part → number_on_line before m % interval ≡ 0 → IsCheckpointOf parts (mark_in i (length before)) c
+      → IsRun parts interval later before m mappings checkpoints → IsTiled parts interval (m ∷ mappings ++ later) (c ∷ checkpoints)
   tile before m mappings c checkpoints whole marked is run =
       let same : is.part ≡ part = cc (is.part_is, part_is) in
       let inside : IsCheckpointIn part i (length before) c = subst (λ (p : Part). IsCheckpointIn p i (length before) c) same is.inside in
@@ -73,7 +73,7 @@ module _ (parts : List Part) (k : ℕ) (positive : 0 < k) (i : ℕ) (part : Part
       let dropped : drop (length before + 1) (placed part) ≡ mappings =
       ap (drop (length before + 1)) (sym whole ∙ sym (append_assoc before (m ∷ []) mappings))
       ∙ drop_at (before ++ m ∷ []) mappings (length before + 1) (length-append before (m ∷ [])) in
-      let here : IsTile parts k (m ∷ mappings ++ later) c (run.part_rest ++ later) = record {
+      let here : IsTile parts interval (m ∷ mappings ++ later) c (run.part_rest ++ later) = record {
         part = part;
         segment = length before;
         part_is = ap (slice_get parts) inside.number_is ∙ part_is;
@@ -92,37 +92,37 @@ module _ (parts : List Part) (k : ℕ) (positive : 0 < k) (i : ℕ) (part : Part
 
   -- a mark begins a tile
   with_mark : (before : List Mapping) (m : Mapping) (mappings : List Mapping) (after : List ℕ) (checkpoints : List Checkpoint)
-      → before ++ m ∷ mappings ≡ placed part → number_on_line before m % k ≡ 0 → IsMarked (length before ∷ after) checkpoints
-      → ((checkpoints : List Checkpoint) → IsMarked after checkpoints → IsRun parts k later before m mappings checkpoints)
-      → IsTiled parts k (m ∷ mappings ++ later) checkpoints
+      → before ++ m ∷ mappings ≡ placed part → number_on_line before m % interval ≡ 0 → IsMarked (length before ∷ after) checkpoints
+      → ((checkpoints : List Checkpoint) → IsMarked after checkpoints → IsRun parts interval later before m mappings checkpoints)
+      → IsTiled parts interval (m ∷ mappings ++ later) checkpoints
   with_mark before m mappings after [] whole marked zip run = absurd zip
   with_mark before m mappings after (c ∷ checkpoints) whole marked zip run = tile before m mappings c checkpoints whole marked zip.0 (run checkpoints zip.1)
 
   from_mark : (before : List Mapping) (m : Mapping) (mappings : List Mapping) (checkpoints : List Checkpoint)
-      → before ++ m ∷ mappings ≡ placed part → number_on_line before m % k ≡ 0
-      → IsMarked (marked_segments k before (m ∷ mappings)) checkpoints
-      → ((checkpoints : List Checkpoint) → IsMarked (marked_segments k (before ++ m ∷ []) mappings) checkpoints
-      → IsRun parts k later before m mappings checkpoints) → IsTiled parts k (m ∷ mappings ++ later) checkpoints
+      → before ++ m ∷ mappings ≡ placed part → number_on_line before m % interval ≡ 0
+      → IsMarked (marked_segments interval before (m ∷ mappings)) checkpoints
+      → ((checkpoints : List Checkpoint) → IsMarked (marked_segments interval (before ++ m ∷ []) mappings) checkpoints
+      → IsRun parts interval later before m mappings checkpoints) → IsTiled parts interval (m ∷ mappings ++ later) checkpoints
   from_mark before m mappings checkpoints whole marked zip run =
-      let after = marked_segments k (before ++ m ∷ []) mappings in
+      let after = marked_segments interval (before ++ m ∷ []) mappings in
       with_mark before m mappings after checkpoints whole marked
       (subst (λ segments. IsMarked segments checkpoints)
-      (cond-true (eqb (number_on_line before m % k) 0) (length before ∷ after) after (eq-eqb _ _ marked)) zip) run
+      (cond-true (eqb (number_on_line before m % interval) 0) (length before ∷ after) after (eq-eqb _ _ marked)) zip) run
 
   run_after : (before : List Mapping) (m : Mapping) (mappings : List Mapping) (checkpoints : List Checkpoint)
-      → before ++ m ∷ mappings ≡ placed part → IsMarked (marked_segments k (before ++ m ∷ []) mappings) checkpoints
-      → IsRun parts k later before m mappings checkpoints
+      → before ++ m ∷ mappings ≡ placed part → IsMarked (marked_segments interval (before ++ m ∷ []) mappings) checkpoints
+      → IsRun parts interval later before m mappings checkpoints
   run_after before m [] checkpoints whole zip = record {
     after = [];
     part_rest = [];
     split = refl;
     on_line = tt;
-    few = let below = mod_below (number_on_line before m) k positive in omega arith;
+    few = let below = mod_below (number_on_line before m) interval positive in omega arith;
     tiles = later_tiled checkpoints zip;
   }
   run_after before m (next ∷ mappings) checkpoints whole zip =
       let number = number_on_line (before ++ m ∷ []) next in
-      let after = marked_segments k ((before ++ m ∷ []) ++ next ∷ []) mappings in
+      let after = marked_segments interval ((before ++ m ∷ []) ++ next ∷ []) mappings in
       let further : (before ++ m ∷ []) ++ next ∷ mappings ≡ placed part = append_assoc before (m ∷ []) (next ∷ mappings) ∙ whole in
       let front : IsInOrder (before ++ m ∷ next ∷ []) =
       front_in_order (before ++ m ∷ next ∷ []) mappings (subst IsInOrder (sym whole ∙ sym (append_assoc before (m ∷ next ∷ []) mappings)) order) in
@@ -133,21 +133,21 @@ module _ (parts : List Part) (k : ℕ) (positive : 0 < k) (i : ℕ) (part : Part
         part_rest = next ∷ mappings;
         split = refl;
         on_line = tt;
-        few = let below = mod_below (number_on_line before m) k positive in omega arith;
+        few = let below = mod_below (number_on_line before m) interval positive in omega arith;
         tiles = from_mark (before ++ m ∷ []) next mappings checkpoints further (eqb-true _ _ yes) zip
             (λ checkpoints zip. run_after (before ++ m ∷ []) next mappings checkpoints further zip);
       })
       (λ no.
-      let other : number % k ≡ 0 → ⊥ = eqb-false _ _ no in
+      let other : number % interval ≡ 0 → ⊥ = eqb-false _ _ no in
       let rest = run_after (before ++ m ∷ []) next mappings checkpoints further
-      (subst (λ segments. IsMarked segments checkpoints) (cond-false (eqb (number % k) 0) (length (before ++ m ∷ []) ∷ after) after no) zip) in
+      (subst (λ segments. IsMarked segments checkpoints) (cond-false (eqb (number % interval) 0) (length (before ++ m ∷ []) ∷ after) after no) zip) in
       ⊎_elim
       (λ same.
       let one_more : number ≡ number_on_line before m + 1 = counted ∙ cond-true (eqb m.line next.line) _ _ same in
-      let remainder : number % k ≡ number_on_line before m % k + 1 = ap (λ n. n % k) one_more ∙ ⊎_elim
+      let remainder : number % interval ≡ number_on_line before m % interval + 1 = ap (λ n. n % interval) one_more ∙ ⊎_elim
       (λ more. more.0)
-      (λ none. absurd (other (ap (λ n. n % k) one_more ∙ none.0)))
-      (next_remainder (number_on_line before m) k positive) in
+      (λ none. absurd (other (ap (λ n. n % interval) one_more ∙ none.0)))
+      (next_remainder (number_on_line before m) interval positive) in
       let line : next.line ≡ m.line = sym (eqb-true m.line next.line same) in
       record {
         after = next ∷ rest.after;
@@ -157,34 +157,35 @@ module _ (parts : List Part) (k : ℕ) (positive : 0 < k) (i : ℕ) (part : Part
         few = omega (arith, rest.few, remainder);
         tiles = rest.tiles;
       })
-      (λ different. absurd (other (ap (λ n. n % k) (counted ∙ cond-false (eqb m.line next.line) _ _ different) ∙ zero-mod k)))
+      (λ different. absurd (other (ap (λ n. n % interval) (counted ∙ cond-false (eqb m.line next.line) _ _ different) ∙ zero-mod interval)))
       (cases_Bool (eqb m.line next.line)))
-      (cases_Bool (eqb (number % k) 0))
+      (cases_Bool (eqb (number % interval) 0))
 
   -- a part that has a mapping has its first mark there
-  part_tiled : (list : List Mapping) (checkpoints : List Checkpoint) → list ≡ placed part → IsMarked (marked_segments k [] list) checkpoints
-      → IsTiled parts k (list ++ later) checkpoints
+  part_tiled : (list : List Mapping) (checkpoints : List Checkpoint) → list ≡ placed part → IsMarked (marked_segments interval [] list) checkpoints
+      → IsTiled parts interval (list ++ later) checkpoints
   part_tiled [] checkpoints whole zip = later_tiled checkpoints zip
   part_tiled (m ∷ mappings) checkpoints whole zip =
-      from_mark [] m mappings checkpoints whole (zero-mod k) zip (λ checkpoints zip. run_after [] m mappings checkpoints whole zip)
+      from_mark [] m mappings checkpoints whole (zero-mod interval) zip (λ checkpoints zip. run_after [] m mappings checkpoints whole zip)
 
 -- ---- the tiles of all parts
 
-parts_tiled : (all : List Part) (k : ℕ) → 0 < k → (front parts : List Part) → front ++ parts ≡ all → IsInOrder (joined parts)
-    → (checkpoints : List Checkpoint) → AllZip (IsCheckpointOf all) (marks_from (length front) parts k) checkpoints → IsTiled all k (joined parts) checkpoints
-parts_tiled all k positive front [] whole order [] zip = refl
-parts_tiled all k positive front [] whole order (c ∷ checkpoints) zip = absurd zip
-parts_tiled all k positive front (part ∷ parts) whole order checkpoints zip =
+parts_tiled : (all : List Part) (interval : ℕ) → 0 < interval → (front parts : List Part) → front ++ parts ≡ all → IsInOrder (joined parts)
+    → (checkpoints : List Checkpoint) → AllZip (IsCheckpointOf all) (marks_from (length front) parts interval) checkpoints
+    → IsTiled all interval (joined parts) checkpoints
+parts_tiled all interval positive front [] whole order [] zip = refl
+parts_tiled all interval positive front [] whole order (c ∷ checkpoints) zip = absurd zip
+parts_tiled all interval positive front (part ∷ parts) whole order checkpoints zip =
     let part_is = ap (λ parts. slice_get parts (length front)) (sym whole) ∙ slice_get-after front part parts in
-    let later_tiled : (checkpoints : List Checkpoint) → AllZip (IsCheckpointOf all) (marks_from (length front + 1) parts k) checkpoints
-    → IsTiled all k (joined parts) checkpoints =
+    let later_tiled : (checkpoints : List Checkpoint) → AllZip (IsCheckpointOf all) (marks_from (length front + 1) parts interval) checkpoints
+    → IsTiled all interval (joined parts) checkpoints =
     λ checkpoints zip.
-    parts_tiled all k positive (front ++ part ∷ []) parts (append_assoc front (part ∷ []) parts ∙ whole)
+    parts_tiled all interval positive (front ++ part ∷ []) parts (append_assoc front (part ∷ []) parts ∙ whole)
     (back_in_order (placed part) (joined parts) order) checkpoints
-    (subst (λ i. AllZip (IsCheckpointOf all) (marks_from i parts k) checkpoints) (sym (length-append front (part ∷ []))) zip) in
-    part_tiled all k positive (length front) part part_is (front_in_order (placed part) (joined parts) order) (joined parts)
-    (marks_from (length front + 1) parts k) later_tiled (placed part) checkpoints refl zip
+    (subst (λ i. AllZip (IsCheckpointOf all) (marks_from i parts interval) checkpoints) (sym (length-append front (part ∷ []))) zip) in
+    part_tiled all interval positive (length front) part part_is (front_in_order (placed part) (joined parts) order) (joined parts)
+    (marks_from (length front + 1) parts interval) later_tiled (placed part) checkpoints refl zip
 
-pub tiled : (parts : List Part) (k : ℕ) → 0 < k → IsInOrder (joined parts) → (checkpoints : List Checkpoint)
-    → AreCheckpointsOf parts k checkpoints → IsTiled parts k (joined parts) checkpoints
-tiled parts k positive order checkpoints is = parts_tiled parts k positive [] parts refl order checkpoints is
+pub tiled : (parts : List Part) (interval : ℕ) → 0 < interval → IsInOrder (joined parts) → (checkpoints : List Checkpoint)
+    → AreCheckpointsOf parts interval checkpoints → IsTiled parts interval (joined parts) checkpoints
+tiled parts interval positive order checkpoints is = parts_tiled parts interval positive [] parts refl order checkpoints is

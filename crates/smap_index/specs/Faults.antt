@@ -71,11 +71,11 @@ most_interval = 4096
 
 -- checkpoints may stand at this interval
 abbrev pub is_interval : ℕ → Bool
-is_interval k = nat_le 1 k && nat_le k most_interval
+is_interval interval = nat_le 1 interval && nat_le interval most_interval
 
--- the first refusal of these parts at the interval k, if there is one
+-- the first refusal of these parts at this interval, if there is one
 unfoldable pub build_fault : List Part → ℕ → Option BuildRefusal
-build_fault parts k = if is_interval k then part_fault parts else Some Interval
+build_fault parts interval = if is_interval interval then part_fault parts else Some Interval
 
 -- ---- encoding
 

@@ -20,10 +20,10 @@ pub record IndexContents : Type 0 where
 -- the index is of these parts at this interval: its table has, in order, one checkpoint for each mark and no other,
 -- its counts are right, twice its segments are at most the bytes and the number of the texts, and its mappings are in
 -- order and not past the limit
-pub record IsIndexOf (index : IndexContents) (parts : List Part) (k : ℕ) : Type 0 where
+pub record IsIndexOf (index : IndexContents) (parts : List Part) (interval : ℕ) : Type 0 where
   pub parts_are : index.parts ≡ parts
-  pub k_is : index.k ≡ k
-  pub marked : AreCheckpointsOf parts k index.checkpoints
+  pub k_is : index.k ≡ interval
+  pub marked : AreCheckpointsOf parts interval index.checkpoints
   pub segments_are : index.segments ≡ length (joined parts)
   pub used_lines_are : index.used_lines ≡ used_lines_in parts
   pub few : 2 * length (joined parts) ≤ bytes_in parts + length parts

@@ -22,21 +22,21 @@ abbrev pub number_on_line : List Mapping → Mapping → ℕ
 number_on_line before mapping = length (filter (λ earlier. earlier.line == mapping.line) before)
 
 -- of some mappings of a part, where the others stand before them, the segment numbers of those whose number on their
--- line is a multiple of k
+-- line is a multiple of the interval
 abbrev pub marked_segments : ℕ → List Mapping → List Mapping → List ℕ
-marked_segments k before [] = []
-marked_segments k before (mapping ∷ mappings) =
-    let after = marked_segments k (before ++ mapping ∷ []) mappings in
-    if number_on_line before mapping % k == 0 then length before ∷ after else after
+marked_segments interval before [] = []
+marked_segments interval before (mapping ∷ mappings) =
+    let after = marked_segments interval (before ++ mapping ∷ []) mappings in
+    if number_on_line before mapping % interval == 0 then length before ∷ after else after
 
 -- the marks of these parts, the first of which has this number
 abbrev pub marks_from : ℕ → List Part → ℕ → List Mark
-marks_from i [] k = []
-marks_from i (part ∷ parts) k = map (mark_in i) (marked_segments k [] (placed part)) ++ marks_from (i + 1) parts k
+marks_from i [] interval = []
+marks_from i (part ∷ parts) interval = map (mark_in i) (marked_segments interval [] (placed part)) ++ marks_from (i + 1) parts interval
 
--- in order, the segments whose number on their part's line is a multiple of k
+-- in order, the segments whose number on their part's line is a multiple of the interval
 abbrev pub marks : List Part → ℕ → List Mark
-marks parts k = marks_from 0 parts k
+marks parts interval = marks_from 0 parts interval
 
 -- the checkpoint is of this segment of the part that has this number: its mapping is the segment's, at its place, and
 -- its state is the one after the segment
@@ -53,7 +53,7 @@ pub record IsCheckpointOf (parts : List Part) (mark : Mark) (checkpoint : Checkp
 
 -- the table has, in order, one checkpoint for each mark and no other
 abbrev pub AreCheckpointsOf : List Part → ℕ → List Checkpoint → Type 0
-AreCheckpointsOf parts k checkpoints = AllZip (IsCheckpointOf parts) (marks parts k) checkpoints
+AreCheckpointsOf parts interval checkpoints = AllZip (IsCheckpointOf parts) (marks parts interval) checkpoints
 
 -- how many lines hold a mapping, each part's lines counted by themselves
 abbrev pub used_lines_in : List Part → ℕ

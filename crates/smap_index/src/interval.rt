@@ -7,8 +7,8 @@ ghost use Rattle.smap_index.specs.Faults.{is_interval};
 pub const MOST_INTERVAL: u32 = 4096;
 
 // Whether checkpoints may stand at this interval.
-pub fn is_interval(k: u32) -> bool
-    ensures { result ≡ is_interval k }
+pub fn is_interval(interval: u32) -> bool
+    ensures { result ≡ is_interval interval }
 {
-    1 <= k && k <= MOST_INTERVAL
+    1 <= interval && interval <= MOST_INTERVAL
 }

@@ -24,7 +24,7 @@ use std::alloc::Global;
 // first part with a number past the limit, and whether there was room for all checkpoints. A walk that found the first
 // went no further.
 #[derive(Clone, Copy)]
-pub struct Walk {
+pub struct MarkedParts {
     pub overlap: Option<u64>,
     pub past_limit: Option<u64>,
     pub has_room: bool,
@@ -34,7 +34,7 @@ pub struct Walk {
 // whether a number of the part is past the limit, and whether there was room for all checkpoints. The number counts
 // from 0 anew at each checkpoint of the line; before the first mapping it is the one after which a checkpoint stands.
 #[derive(Clone, Copy)]
-struct PartWalk {
+struct MarkedPart {
     state: State,
     number: u32,
     is_past_limit: bool,
@@ -45,24 +45,24 @@ struct PartWalk {
 pub fn mark_parts(
     alloc: Global,
     parts: &[Part],
-    k: u32,
+    interval: u32,
     has_room: bool,
     checkpoints: &mut Checkpoints,
-) -> Walk
+) -> MarkedParts
     requires few { length parts.now ≤ most_parts }
-    requires interval { is_interval k ≡ true }
+    requires interval { is_interval interval ≡ true }
     ensures overlap { result.overlap ≡ overlap_fault parts.now }
     ensures past_limit { result.overlap ≡ None → result.past_limit ≡ range_fault parts.now }
     ensures marked { result.overlap ≡ None → result.past_limit ≡ None → IsTrue result.has_room →
-        (added : List Checkpoint) × (checkpoints.new ≡ checkpoints.old ++ added) × AreCheckpointsOf parts.now k added }
+        (added : List Checkpoint) × (checkpoints.new ≡ checkpoints.old ++ added) × AreCheckpointsOf parts.now interval added }
     ensures ordered { result.overlap ≡ None → AllByRecursion IsTextInOrder parts.now }
 {
     let mut past_limit = None;
     let mut has_room = has_room;
     for (i, part) in parts.iter().enumerate() {
-        let walk = mark_part(alloc, i as u16, part, k, has_room, checkpoints);
+        let walk = mark_part(alloc, i as u16, part, interval, has_room, checkpoints);
         if is_last_overlapping(part, &walk.state.cursor(), parts.get(i + 1)) {
-            return Walk {
+            return MarkedParts {
                 overlap: Some(i as u64 + 1),
                 past_limit,
                 has_room,
@@ -71,7 +71,7 @@ pub fn mark_parts(
         past_limit = past_limit.or(walk.is_past_limit.then_some(i as u64));
         has_room = walk.has_room;
     }
-    Walk {
+    MarkedParts {
         overlap: None,
         past_limit,
         has_room,
@@ -101,17 +101,17 @@ fn mark_part(
     alloc: Global,
     number: u16,
     part: &Part,
-    k: u32,
+    interval: u32,
     has_room: bool,
     checkpoints: &mut Checkpoints,
-) -> PartWalk
-    requires interval { is_interval k ≡ true }
+) -> MarkedPart
+    requires interval { is_interval interval ≡ true }
     ensures last { IfSome (last_or None (mappings_of part.now.text)) (IsMappingAt result.state) }
     ensures past_limit { result.is_past_limit ≡ is_part_past_limit part.now }
     ensures room { IsTrue result.has_room → IsTrue has_room }
     ensures marked { result.is_past_limit ≡ false → IsTrue result.has_room →
         (added : List Checkpoint) × (checkpoints.new ≡ checkpoints.old ++ added)
-        × AllZip (IsCheckpointIn part.now number) (marked_segments k [] (placed part.now)) added }
+        × AllZip (IsCheckpointIn part.now number) (marked_segments interval [] (placed part.now)) added }
     ensures ordered { IsTextInOrder part.now }
 {
     // The contract of `segments` says that they are few, so that the meter has room. A walk is no look-up, so it counts
@@ -125,14 +125,14 @@ fn mark_part(
     accepted_texts_have_no_fault();
     let start = part.text.start();
     let moves = is_moving(part);
-    let mut walk = PartWalk {
+    let mut walk = MarkedPart {
         state: start,
-        number: k - 1,
+        number: interval - 1,
         is_past_limit: is_offset_past_limit(part),
         has_room,
     };
     while let Some((mapping, after)) = part.text.next(&walk.state, &mut meter) {
-        walk = walk_after(part, k, moves, &mapping, after, &walk);
+        walk = walk_after(part, interval, moves, &mapping, after, &walk);
         walk.has_room = mark(number, part, &mapping, &walk, checkpoints);
     }
     walk
@@ -148,25 +148,30 @@ fn is_moving(part: &Part) -> bool
 // The walk after one mapping more, with room as before.
 fn walk_after(
     part: &Part,
-    k: u32,
+    interval: u32,
     moves: bool,
     mapping: &Mapping,
     after: State,
-    walk: &PartWalk,
-) -> PartWalk
-    requires interval { is_interval k ≡ true }
+    walk: &MarkedPart,
+) -> MarkedPart
+    requires interval { is_interval interval ≡ true }
     requires unmoved { moves ≡ false →
         is_mapping_past_limit (placed_mapping part.now mapping.now) ≡ false }
     ensures state { result.state ≡ after }
     ensures number { result.number
-        ≡ number_after k walk.now.state.line walk.now.number mapping.now.line }
+        ≡ number_after interval walk.now.state.line walk.now.number mapping.now.line }
     ensures past_limit { result.is_past_limit ≡ (walk.now.is_past_limit
         || is_mapping_past_limit (placed_mapping part.now mapping.now)) }
     ensures room { result.has_room ≡ walk.now.has_room }
 {
-    PartWalk {
+    MarkedPart {
         state: after,
-        number: number_after(k, walk.state.cursor().line, walk.number, mapping.line),
+        number: number_after(
+            interval,
+            walk.state.cursor().line,
+            walk.number,
+            mapping.line,
+        ),
         is_past_limit: walk.is_past_limit || (moves && is_past_limit(part, mapping)),
         has_room: walk.has_room,
     }
@@ -174,11 +179,11 @@ fn walk_after(
 
 // The number on its line of a mapping on the next line, counted from 0 anew at each checkpoint of the line, where one
 // with this number on this line stands before it.
-fn number_after(k: u32, line: u32, number: u32, next: u32) -> u32
-    requires interval { is_interval k ≡ true }
-    ensures { result ≡ number_after k line number next }
+fn number_after(interval: u32, line: u32, number: u32, next: u32) -> u32
+    requires interval { is_interval interval ≡ true }
+    ensures { result ≡ number_after interval line number next }
 {
-    if line == next && number < k - 1 {
+    if line == next && number < interval - 1 {
         number + 1
     } else {
         0
@@ -191,7 +196,7 @@ fn mark(
     number: u16,
     part: &Part,
     mapping: &Mapping,
-    walk: &PartWalk,
+    walk: &MarkedPart,
     checkpoints: &mut Checkpoints,
 ) -> bool
     requires values { IsMappingAt walk.now.state mapping.now }

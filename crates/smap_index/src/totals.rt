@@ -35,12 +35,12 @@ pub fn totals_of(parts: &[Part]) -> Totals
 }
 
 // For how many checkpoints to make room: no more than there are segments, and no more than one a line and one for each
-// `k` segments.
-pub fn most_checkpoints(totals: &Totals, k: u32) -> usize
-    requires interval { is_interval k ≡ true }
+// `interval` segments.
+pub fn most_checkpoints(totals: &Totals, interval: u32) -> usize
+    requires interval { is_interval interval ≡ true }
     ensures { let segments = totals.now.segments in
-        result ≡ min (segments / k + totals.now.used_lines) segments }
+        result ≡ min (segments / interval + totals.now.used_lines) segments }
 {
-    let most = (totals.segments / k as u64).saturating_add(totals.used_lines);
+    let most = (totals.segments / interval as u64).saturating_add(totals.used_lines);
     most.min(totals.segments) as usize
 }

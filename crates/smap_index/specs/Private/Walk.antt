@@ -50,7 +50,7 @@ pub record IsFitting (part : Part) (state : Cursor) : Type 0 where
 -- the number on its line of a mapping on the next line, counted from 0 anew at each checkpoint of the line, where one
 -- with this number on this line stands before it
 abbrev pub number_after : ℕ → ℕ → ℕ → ℕ → ℕ
-number_after k line number next = if line == next && nat_lt (number + 1) k then number + 1 else 0
+number_after interval line number next = if line == next && nat_lt (number + 1) interval then number + 1 else 0
 
 -- a mapping of these values that has no origin
 abbrev pub position_of : Cursor → Mapping

@@ -18,14 +18,14 @@ pub loop-mapping-init : goal.loop-mapping-init
 loop-mapping-init c =
     let none : c.new-meter.result.segments ≡ 0 = ap (λ m. m.segments) c.new-meter.ensures in
     let part = c.args.part.now in
-    let some = leb-true 1 c.args.k (and_parts _ _ c.requires.interval).0 in
+    let some = leb-true 1 c.args.interval (and_parts _ _ c.requires.interval).0 in
     record {
       after = subst (λ j. IsAfter part.text j c.start-start.result) (sym none) c.start-start.ensures.before_all;
       last = last_none _ (mappings_of part.text) c.start-start.result none;
-      counting = counting_none c.args.k _ _ _ (mappings_of part.text) some refl none;
+      counting = counting_none c.args.interval _ _ _ (mappings_of part.text) some refl none;
       past_limit = c.is_offset_past_limit.ensures ∙ any_none is_mapping_past_limit _ _ (placed part) none;
       room = λ has. has;
-      marked = λ within has. marked_none part c.args.number c.args.k (placed part) _ _ none;
+      marked = λ within has. marked_none part c.args.number c.args.interval (placed part) _ _ none;
     }
 
 pub next-requires-clause-room : goal.next-requires-clause-room
@@ -70,7 +70,7 @@ loop-mapping-preserved c =
     let after = c.in-Some.after in
     let next = c.in-Some.ensures.some j c.loop-mapping.invariant.after in
     let counted = ap (λ m. m.segments) c.in-Some.ensures.counted in
-    let some = leb-true 1 c.args.k (and_parts _ _ c.requires.interval).0 in
+    let some = leb-true 1 c.args.interval (and_parts _ _ c.requires.interval).0 in
     let ordered = c.start-start.ensures.ordered in
     let number = c.walk_after-walk.ensures.number in
     let state = c.walk_after-walk.result.state in
@@ -80,13 +80,13 @@ loop-mapping-preserved c =
       last = last_next part j n m after next counted state same c.in-Some.ensures.values;
       past_limit = any_next part j n m after next counted is_mapping_past_limit _ _ _ c.loop-mapping.invariant.past_limit c.walk_after-walk.ensures.past_limit;
       room = λ has. c.loop-mapping.invariant.room (sym c.walk_after-walk.ensures.room ∙ c.mark.ensures.room has);
-      counting = counting_next part j n m after next counted c.args.k c.loop-mapping.walk.state.line _ c.loop-mapping.walk.number _ some
+      counting = counting_next part j n m after next counted c.args.interval c.loop-mapping.walk.state.line _ c.loop-mapping.walk.number _ some
           ordered c.loop-mapping.invariant.counting (ap (λ (s : Cursor). s.line) (sym same) ∙ sym c.in-Some.ensures.values.line) number;
       marked = λ none has.
           let before = or_parts _ _ (sym c.walk_after-walk.ensures.past_limit ∙ none) in
-          marked_next part j n m after next counted c.args.k c.args.number c.args.checkpoints.now c.loop-mapping.checkpoints
+          marked_next part j n m after next counted c.args.interval c.args.number c.args.checkpoints.now c.loop-mapping.checkpoints
           c.mark.new.checkpoints c.walk_after-walk.result.number state same c.in-Some.ensures.values
-          (number_there part j n m after next counted c.args.k c.loop-mapping.walk.state.line c.loop-mapping.walk.number _ ordered
+          (number_there part j n m after next counted c.args.interval c.loop-mapping.walk.state.line c.loop-mapping.walk.number _ ordered
           c.loop-mapping.invariant.counting number)
           (c.mark.ensures.marked none has) (c.loop-mapping.invariant.marked before.0 (sym c.walk_after-walk.ensures.room ∙ c.mark.ensures.room has));
     }
@@ -103,6 +103,6 @@ returns-clause-past_limit c =
 
 pub returns-clause-marked : goal.returns-clause-marked
 returns-clause-marked c none has =
-    subst (λ list. IsMarked c.args.part.now c.args.number c.args.k list c.args.checkpoints.now c.loop-mapping.checkpoints)
+    subst (λ list. IsMarked c.args.part.now c.args.number c.args.interval list c.args.checkpoints.now c.loop-mapping.checkpoints)
     (all_placed c.args.part.now _ (c.in_default.ensures.none _ c.loop-mapping.invariant.after))
     (c.loop-mapping.invariant.marked none has)

@@ -15,12 +15,12 @@ abbrev pub invariant-loop-mapping : goal.invariant-loop-mapping
 invariant-loop-mapping l = record {
   after : IsAfter l.part.text l.meter.segments l.walk.state;
   last : IfSome (last_or None (take l.meter.segments (mappings_of l.part.text))) (IsMappingAt l.walk.state);
-  counting : IsCounting l.k l.walk.state.line l.walk.number (take l.meter.segments (mappings_of l.part.text));
+  counting : IsCounting l.interval l.walk.state.line l.walk.number (take l.meter.segments (mappings_of l.part.text));
   past_limit : l.walk.is_past_limit ≡ (is_number_past_limit l.part.line || is_number_past_limit l.part.column || list_any
       is_mapping_past_limit (take l.meter.segments (placed l.part)));
   room : l.walk.has_room ≡ true → l.fn.has_room ≡ true;
   marked : l.walk.is_past_limit ≡ false → l.walk.has_room ≡ true
-      → IsMarked l.part l.number l.k (take l.meter.segments (placed l.part)) l.fn.checkpoints l.checkpoints;
+      → IsMarked l.part l.number l.interval (take l.meter.segments (placed l.part)) l.fn.checkpoints l.checkpoints;
 }
 
 abbrev pub decreases-loop-mapping : goal.decreases-loop-mapping

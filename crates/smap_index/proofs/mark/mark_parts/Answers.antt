@@ -37,7 +37,7 @@ loop-i-preserved c =
           ∙ c.loop-i.invariant.past_limit;
       marked = λ none has.
           let none_here = none_so_far before passes i (sym past ∙ none) in
-          marks_next parts i part (omega arith) c.index-parts-i.is c.args.k c.args.checkpoints.now c.loop-i.checkpoints c.mark_part-walk.new.checkpoints
+          marks_next parts i part (omega arith) c.index-parts-i.is c.args.interval c.args.checkpoints.now c.loop-i.checkpoints c.mark_part-walk.new.checkpoints
           (c.loop-i.invariant.marked none_here.0 (c.mark_part-walk.ensures.room has)) (c.mark_part-walk.ensures.marked none_here.1 has);
       ordered = All_next parts i part (omega arith) c.index-parts-i.is IsTextInOrder c.loop-i.invariant.ordered c.mark_part-walk.ensures.ordered;
     }

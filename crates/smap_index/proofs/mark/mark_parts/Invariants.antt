@@ -13,6 +13,6 @@ abbrev pub invariant-loop-i : goal.invariant-loop-i
 invariant-loop-i l = record {
   overlap : overlap_fault l.parts ≡ position_from is_overlapping (l.i + 1) (neighbours (drop l.i l.parts));
   past_limit : option_or l.past_limit (position_from is_part_past_limit l.i (drop l.i l.parts)) ≡ range_fault l.parts;
-  marked : l.past_limit ≡ None → l.has_room ≡ true → IsFilled l.parts (marks (take l.i l.parts) l.k) l.fn.checkpoints l.checkpoints;
+  marked : l.past_limit ≡ None → l.has_room ≡ true → IsFilled l.parts (marks (take l.i l.parts) l.interval) l.fn.checkpoints l.checkpoints;
   ordered : AllByRecursion IsTextInOrder (take l.i l.parts);
 }
