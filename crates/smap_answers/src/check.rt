@@ -7,12 +7,12 @@ ghost use Rattle.smap_record.specs.declared.refusal.MapRefusal.TheVariants.{Memo
 
 use crate::files::FileReader;
 use crate::lines;
-use crate::map::file_bytes;
+use crate::map::{MapReader, file_bytes};
 use crate::outcome::{DONE, Failure, Reply};
 use crate::refusal::refusal_of;
 use crate::telling::tell;
 use smap_io::ByteSink;
-use smap_record::{MapFile, MapRefusal, Url};
+use smap_record::{MapFile, MapRefusal};
 use smap_verdicts::{MapCounts, counts_json, map_counts, refusal_json};
 use std::alloc::{AllocError, Global};
 
@@ -27,21 +27,19 @@ pub enum Form {
     Object,
 }
 
-/// What is told of the file of this number and path, with the checkpoints of its map at this interval.
+/// What is told of the file of this number and path.
 pub fn answer_check<F: FileReader>(
     alloc: Global,
-    reader: &F,
+    maps: &MapReader<'_, F>,
     number: usize,
     path: &str,
-    base: Option<&Url>,
-    interval: u32,
     form: Form,
 ) -> Result<Reply, Failure>
-    ensures { OrMemory (ChecksFile (F.gives reader.now) (option_copied base.entry) interval form
-        number path.now) (telling_of result) }
+    ensures { OrMemory (ChecksFile (F.gives maps.now.files.now) (option_copied maps.now.base)
+        maps.now.interval form number path.now) (telling_of result) }
 {
-    let bytes = file_bytes(alloc, reader, number, path)?;
-    match MapFile::read_owned(alloc, bytes, base, interval) {
+    let bytes = file_bytes(alloc, maps.files, number, path)?;
+    match MapFile::read_owned(alloc, bytes, maps.base, maps.interval) {
         Ok(map) => Ok(Reply::Text(accepted_line(alloc, path, map_counts(&map), form)?)),
         Err(refused) => refused_reply(alloc, path, refused, form),
     }
@@ -53,24 +51,22 @@ pub fn answer_check<F: FileReader>(
 /// read. The caller gives a standard output that has not failed.
 pub fn check_all<F: FileReader, W: ByteSink, E: ByteSink>(
     alloc: Global,
-    reader: &F,
+    maps: &MapReader<'_, F>,
     paths: &[String],
-    base: Option<&Url>,
-    interval: u32,
     json: bool,
     output: &mut W,
     errors: &mut E,
 ) -> u8
     requires output_works { (W.seen output.old).failed ≡ false }
-    ensures { ChecksAll (F.gives reader.now) (option_copied base.entry) interval (form_of json) 0
-        (map string_bytes paths.now) result
+    ensures { ChecksAll (F.gives maps.now.files.now) (option_copied maps.now.base) maps.now.interval
+        (form_of json) 0 (map string_bytes paths.now) result
         (sinks_seen (W.seen output.old) (E.seen errors.old))
         (sinks_seen (W.seen output.new) (E.seen errors.new)) }
 {
     let form = form_of(json);
     let mut status = DONE;
     for (number, path) in paths.iter().enumerate() {
-        let outcome = answer_check(alloc, reader, number, path, base, interval, form);
+        let outcome = answer_check(alloc, maps, number, path, form);
         status = status.max(tell(&outcome, output, errors));
         if output.failed() {
             break;

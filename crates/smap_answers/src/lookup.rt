@@ -5,31 +5,27 @@ ghost use Rattle.smap_answers.specs.Map.{IsLine, TellsMap};
 ghost use Rattle.smap_answers.specs.Outcome.{OrMemory, telling_of};
 
 use crate::files::FileReader;
-use crate::map::read_map;
+use crate::map::{MapReader, read_map};
 use crate::outcome::{Failure, Reply};
-use smap_positions::{lookup_as_json, lookup_text};
-use smap_record::{MapFile, Url};
+use smap_positions::{AnswerOptions, lookup_as_json, lookup_text};
+use smap_record::MapFile;
 use std::alloc::{AllocError, Global};
 
-/// Looks up a generated line and column, both from 0, in the map that the file at this path is, over checkpoints at this
-/// interval: at the position or before it or, with `after`, at it or after it; as text or, with `json`, as a JSON object.
+/// Looks up a generated line and column, both from 0, in the map that the file at this path is.
 pub fn answer_lookup<F: FileReader>(
     alloc: Global,
-    reader: &F,
+    maps: &MapReader<'_, F>,
     path: &str,
-    base: Option<&Url>,
-    interval: u32,
     line: u32,
     column: u32,
-    after: bool,
-    json: bool,
+    options: AnswerOptions,
 ) -> Result<Reply, Failure>
-    ensures { OrMemory
-        (TellsMap (F.gives reader.now) 0 path.now (option_copied base.entry) interval
-        (IsLine (lookup_print after json line column))) (telling_of result) }
+    ensures { OrMemory (TellsMap (F.gives maps.now.files.now) 0 path.now
+        (option_copied maps.now.base) maps.now.interval
+        (IsLine (lookup_print options.after options.json line column))) (telling_of result) }
 {
-    let map = read_map(alloc, reader, 0, path, base, interval)?;
-    let answer = lookup_print(alloc, &map, line, column, after, json)?;
+    let map = read_map(alloc, maps, 0, path)?;
+    let answer = lookup_print(alloc, &map, line, column, options)?;
     Ok(Reply::Bytes(answer))
 }
 
@@ -39,15 +35,14 @@ fn lookup_print(
     map: &MapFile,
     line: u32,
     column: u32,
-    after: bool,
-    json: bool,
+    options: AnswerOptions,
 ) -> Result<Vec<u8>, AllocError>
     ensures { IfOk result (λ text. text.items
-        ≡ lookup_print after json line column map.now.stated) }
+        ≡ lookup_print options.after options.json line column map.now.stated) }
 {
-    if json {
-        lookup_as_json(alloc, map, line, column, after)
+    if options.json {
+        lookup_as_json(alloc, map, line, column, options.after)
     } else {
-        lookup_text(alloc, map, line, column, after)
+        lookup_text(alloc, map, line, column, options.after)
     }
 }

@@ -14,24 +14,32 @@ use smap_io::ReadFailure;
 use smap_record::{MapFile, Url};
 use std::alloc::Global;
 
-/// The map that the file of this number and path is, with its sources resolved against the base and checkpoints at this
-/// interval.
+/// How the map files of a command are read.
+#[derive(Drop)]
+pub struct MapReader<'a, F: FileReader> {
+    /// What reads the files.
+    pub files: &'a F,
+    /// The URL against which sources are resolved, where one is given.
+    pub base: Option<&'a Url>,
+    /// The interval at which the checkpoints of a map stand.
+    pub interval: u32,
+}
+
+/// The map that the file of this number and path is.
 pub fn read_map<F: FileReader>(
     alloc: Global,
-    reader: &F,
+    maps: &MapReader<'_, F>,
     number: usize,
     path: &str,
-    base: Option<&Url>,
-    interval: u32,
 ) -> Result<MapFile, Failure>
-    ensures read { IfOk result (λ map. IsStated (F.gives reader.now) number path.now
-        (option_copied base.entry) interval map.stated) }
+    ensures read { IfOk result (λ map. IsStated (F.gives maps.now.files.now) number path.now
+        (option_copied maps.now.base) maps.now.interval map.stated) }
     ensures refused { IfErr result (λ failure. OrMemory
-        (TellsMap (F.gives reader.now) number path.now
-        (option_copied base.entry) interval Never) (failure_telling failure)) }
+        (TellsMap (F.gives maps.now.files.now) number path.now
+        (option_copied maps.now.base) maps.now.interval Never) (failure_telling failure)) }
 {
-    let bytes = file_bytes(alloc, reader, number, path)?;
-    map_of(alloc, path, bytes, base, interval)
+    let bytes = file_bytes(alloc, maps.files, number, path)?;
+    map_of(alloc, path, bytes, maps.base, maps.interval)
 }
 
 /// The bytes of the file of this number and path.

@@ -9,56 +9,51 @@ ghost use Rattle.smap_answers.specs.Private.Room.{IsRoom};
 
 use crate::files::FileReader;
 use crate::lines;
-use crate::map::read_map;
+use crate::map::{MapReader, read_map};
 use crate::outcome::{Failure, Reply};
 use itoa::Buffer;
 use smap_io::{ByteSink, ByteSource};
-use smap_positions::PositionsSummary;
-use smap_record::{MapFile, Url};
+use smap_positions::{AnswerOptions, PositionsSummary};
+use smap_record::MapFile;
 use smap_trace::RewriteFault;
 use std::alloc::Global;
 
 // How many bytes the line has at most that refuses positions.
 const MOST_REFUSAL_BYTES: usize = 80;
 
-/// Answers the positions on the lines of standard input from the map that the file at this path is, over checkpoints at this
-/// interval: at a position or before it or, with `after`, at it or after it; as text or, with `json`, as JSON objects. The
-/// caller gives devices that have not failed.
+/// Answers the positions on the lines of standard input from the map that the file at this path is. The caller gives devices
+/// that have not failed.
 pub fn answer_positions<F: FileReader, R: ByteSource, W: ByteSink>(
     alloc: Global,
-    reader: &F,
+    maps: &MapReader<'_, F>,
     path: &str,
-    base: Option<&Url>,
-    interval: u32,
-    after: bool,
-    json: bool,
+    options: AnswerOptions,
     input: &mut R,
     output: &mut W,
 ) -> Result<Reply, Failure>
     requires input_works { (R.seen input.old).failed ≡ false }
     requires output_works { (W.seen output.old).failed ≡ false }
-    ensures { PositionsTells (F.gives reader.now) path.now (option_copied base.entry) interval
-        after json
+    ensures { PositionsTells (F.gives maps.now.files.now) path.now (option_copied maps.now.base)
+        maps.now.interval options.after options.json
         (devices_seen (R.seen input.old) (W.seen output.old))
         (devices_seen (R.seen input.new) (W.seen output.new))
         (telling_of result) }
 {
-    let map = read_map(alloc, reader, 0, path, base, interval)?;
-    answer_over(alloc, &map, after, json, input, output)
+    let map = read_map(alloc, maps, 0, path)?;
+    answer_over(alloc, &map, options, input, output)
 }
 
 // Answers them from this map.
 fn answer_over<R: ByteSource, W: ByteSink>(
     alloc: Global,
     map: &MapFile,
-    after: bool,
-    json: bool,
+    options: AnswerOptions,
     input: &mut R,
     output: &mut W,
 ) -> Result<Reply, Failure>
     requires input_works { (R.seen input.old).failed ≡ false }
     requires output_works { (W.seen output.old).failed ≡ false }
-    ensures { AnsweredTells map.now.stated after json
+    ensures { AnsweredTells map.now.stated options.after options.json
         (devices_seen (R.seen input.old) (W.seen output.old))
         (devices_seen (R.seen input.new) (W.seen output.new))
         (telling_of result) }
@@ -66,7 +61,7 @@ fn answer_over<R: ByteSource, W: ByteSink>(
     let Ok(room) = String::with_capacity(alloc, MOST_REFUSAL_BYTES) else {
         return Err(Failure::Memory);
     };
-    let summary = match smap_positions::answer_positions(alloc, input, output, map, after, json) {
+    let summary = match smap_positions::answer_positions(alloc, input, output, map, options) {
         Ok(summary) => summary,
         Err(fault) => return Err(Failure::Fault(fault)),
     };

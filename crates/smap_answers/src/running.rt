@@ -9,6 +9,7 @@ use crate::check::{Form, answer_check, check_all};
 use crate::compose::answer_compose;
 use crate::files::{FileReader, Loaded, LoadedFiles};
 use crate::lookup::answer_lookup;
+use crate::map::MapReader;
 use crate::positions::answer_positions;
 use crate::raw::answer_raw;
 use crate::show::answer_show;
@@ -16,6 +17,7 @@ use crate::telling::tell;
 use crate::trace::{answer_anywhere, answer_rewrite};
 use smap_command::Command;
 use smap_io::{ByteSink, ByteSource};
+use smap_positions::AnswerOptions;
 use std::alloc::Global;
 
 /// Runs a command over files in memory, of which the caller gives one for each path of the command, in their order; one of
@@ -69,23 +71,26 @@ pub fn run_reading<F: FileReader, R: ByteSource, W: ByteSink, E: ByteSink>(
             path,
             base,
             interval,
-        } => answer_check(
-            alloc,
-            reader,
-            0,
-            path,
-            base.as_ref(),
-            *interval,
-            Form::Counts,
-        ),
+        } => {
+            let maps = MapReader {
+                files: reader,
+                base: base.as_ref(),
+                interval: *interval,
+            };
+            answer_check(alloc, &maps, 0, path, Form::Counts)
+        }
         Command::CheckAll {
             paths,
             base,
             interval,
             json,
         } => {
-            let base = base.as_ref();
-            return check_all(alloc, reader, paths, base, *interval, *json, output, errors);
+            let maps = MapReader {
+                files: reader,
+                base: base.as_ref(),
+                interval: *interval,
+            };
+            return check_all(alloc, &maps, paths, *json, output, errors);
         }
         Command::Show { path, base } => answer_show(alloc, reader, path, base.as_ref()),
         Command::Lookup {
@@ -96,54 +101,57 @@ pub fn run_reading<F: FileReader, R: ByteSource, W: ByteSink, E: ByteSink>(
             interval,
             after,
             json,
-        } => answer_lookup(
-            alloc,
-            reader,
-            path,
-            base.as_ref(),
-            *interval,
-            *line,
-            *column,
-            *after,
-            *json,
-        ),
+        } => {
+            let maps = MapReader {
+                files: reader,
+                base: base.as_ref(),
+                interval: *interval,
+            };
+            let (after, json) = (*after, *json);
+            let options = AnswerOptions { after, json };
+            answer_lookup(alloc, &maps, path, *line, *column, options)
+        }
         Command::Positions {
             path,
             base,
             interval,
             after,
             json,
-        } => answer_positions(
-            alloc,
-            reader,
-            path,
-            base.as_ref(),
-            *interval,
-            *after,
-            *json,
-            input,
-            output,
-        ),
+        } => {
+            let maps = MapReader {
+                files: reader,
+                base: base.as_ref(),
+                interval: *interval,
+            };
+            let (after, json) = (*after, *json);
+            let options = AnswerOptions { after, json };
+            answer_positions(alloc, &maps, path, options, input, output)
+        }
         Command::Rewrite {
-            maps,
+            maps: arguments,
             base,
             interval,
             hide_ignored,
-        } => answer_rewrite(
-            alloc,
-            reader,
-            maps,
-            base.as_ref(),
-            *interval,
-            *hide_ignored,
-            input,
-            output,
-        ),
+        } => {
+            let maps = MapReader {
+                files: reader,
+                base: base.as_ref(),
+                interval: *interval,
+            };
+            answer_rewrite(alloc, &maps, arguments, *hide_ignored, input, output)
+        }
         Command::RewriteAnywhere {
-            maps,
+            maps: arguments,
             base,
             interval,
-        } => answer_anywhere(alloc, reader, maps, base.as_ref(), *interval, input, output),
+        } => {
+            let maps = MapReader {
+                files: reader,
+                base: base.as_ref(),
+                interval: *interval,
+            };
+            answer_anywhere(alloc, &maps, arguments, input, output)
+        }
         Command::Compose {
             outer,
             source,

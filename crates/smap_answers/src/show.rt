@@ -7,7 +7,7 @@ ghost use Rattle.smap_command.specs.Limits.{usual_interval};
 
 use crate::files::FileReader;
 use crate::lines;
-use crate::map::read_map;
+use crate::map::{MapReader, read_map};
 use crate::outcome::{Failure, Reply};
 use crate::refusal::refused;
 use smap_command::USUAL_INTERVAL;
@@ -25,8 +25,12 @@ pub fn answer_show<F: FileReader>(
         usual_interval
         (IsResult show_result)) (telling_of result) }
 {
-    let map = read_map(alloc, reader, 0, path, base, USUAL_INTERVAL)?;
-    written_map(alloc, &map)
+    let maps = MapReader {
+        files: reader,
+        base,
+        interval: USUAL_INTERVAL,
+    };
+    written_map(alloc, &read_map(alloc, &maps, 0, path)?)
 }
 
 // The written map as a line, or that its mappings text would be too long.

@@ -8,7 +8,7 @@ ghost use Rattle.smap_answers.specs.Trace.{IsTextRewritten, IsTraceRewritten, Re
 
 use crate::files::FileReader;
 use crate::lines;
-use crate::map::{file_bytes, map_of};
+use crate::map::{MapReader, file_bytes, map_of};
 use crate::outcome::{Failure, Reply};
 use smap_io::{ByteSink, ByteSource};
 use smap_places::rewrite_places;
@@ -17,50 +17,45 @@ use smap_trace::{RewriteFault, Summary, Table, TableRefusal, rewrite};
 use std::alloc::{AllocError, Global};
 use url::ParseError;
 
-/// Reads the map of each argument, which is a URL and a path, from its file, with checkpoints at this interval, and rewrites
-/// the trace on standard input over them, with the frames of ignored sources hidden or not. The caller gives devices
-/// that have not failed.
+/// Reads the map of each argument, which is a URL and a path, from its file, and rewrites the trace on standard input over
+/// them, with the frames of ignored sources hidden or not. The caller gives devices that have not failed.
 pub fn answer_rewrite<F: FileReader, R: ByteSource, W: ByteSink>(
     alloc: Global,
-    reader: &F,
+    maps: &MapReader<'_, F>,
     arguments: &[(String, String)],
-    base: Option<&Url>,
-    interval: u32,
     hide_ignored: bool,
     input: &mut R,
     output: &mut W,
 ) -> Result<Reply, Failure>
     requires input_works { (R.seen input.old).failed ≡ false }
     requires output_works { (W.seen output.old).failed ≡ false }
-    ensures { RewriteTells (F.gives reader.now) (option_copied base.entry) interval
-        (IsTraceRewritten hide_ignored) (map argument_of arguments.now)
+    ensures { RewriteTells (F.gives maps.now.files.now) (option_copied maps.now.base)
+        maps.now.interval (IsTraceRewritten hide_ignored) (map argument_of arguments.now)
         (devices_seen (R.seen input.old) (W.seen output.old))
         (devices_seen (R.seen input.new) (W.seen output.new))
         (telling_of result) }
 {
-    let table = table_of(alloc, reader, arguments, base, interval)?;
+    let table = table_of(alloc, maps, arguments)?;
     rewritten(rewrite(alloc, input, output, &table, hide_ignored))
 }
 
 /// The same, of the places of the text on standard input, wherever they stand in its lines.
 pub fn answer_anywhere<F: FileReader, R: ByteSource, W: ByteSink>(
     alloc: Global,
-    reader: &F,
+    maps: &MapReader<'_, F>,
     arguments: &[(String, String)],
-    base: Option<&Url>,
-    interval: u32,
     input: &mut R,
     output: &mut W,
 ) -> Result<Reply, Failure>
     requires input_works { (R.seen input.old).failed ≡ false }
     requires output_works { (W.seen output.old).failed ≡ false }
-    ensures { RewriteTells (F.gives reader.now) (option_copied base.entry) interval
-        IsTextRewritten (map argument_of arguments.now)
+    ensures { RewriteTells (F.gives maps.now.files.now) (option_copied maps.now.base)
+        maps.now.interval IsTextRewritten (map argument_of arguments.now)
         (devices_seen (R.seen input.old) (W.seen output.old))
         (devices_seen (R.seen input.new) (W.seen output.new))
         (telling_of result) }
 {
-    let table = table_of(alloc, reader, arguments, base, interval)?;
+    let table = table_of(alloc, maps, arguments)?;
     rewritten(rewrite_places(alloc, input, output, &table))
 }
 
@@ -78,38 +73,34 @@ fn rewritten(end: Result<Summary, RewriteFault>) -> Result<Reply, Failure>
 // the first refusal.
 fn table_of<F: FileReader>(
     alloc: Global,
-    reader: &F,
+    maps: &MapReader<'_, F>,
     arguments: &[(String, String)],
-    base: Option<&Url>,
-    interval: u32,
 ) -> Result<Table, Failure>
-    ensures { Gathers (F.gives reader.now) (option_copied base.entry) interval 0 (Ok [])
-        (map argument_of arguments.now) (gathered result) }
+    ensures { Gathers (F.gives maps.now.files.now) (option_copied maps.now.base) maps.now.interval
+        0 (Ok []) (map argument_of arguments.now) (gathered result) }
 {
     let mut table = Ok(Table::new(alloc));
     for (number, (url, path)) in arguments.iter().enumerate() {
-        let bytes = file_bytes(alloc, reader, number, path)?;
-        table = with_map(alloc, table, url, path, bytes, base, interval);
+        let bytes = file_bytes(alloc, maps.files, number, path)?;
+        table = with_map(alloc, maps, table, url, path, bytes);
     }
     table
 }
 
 // The table with the map that the bytes are under a URL, where nothing was refused before.
-fn with_map(
+fn with_map<F: FileReader>(
     alloc: Global,
+    maps: &MapReader<'_, F>,
     table: Result<Table, Failure>,
     url: &str,
     path: &str,
     bytes: Vec<u8>,
-    base: Option<&Url>,
-    interval: u32,
 ) -> Result<Table, Failure>
-    ensures { PutsNext (option_copied base.entry) interval (gathered table) url.now path.now
-        bytes.items
-        (gathered result) }
+    ensures { PutsNext (option_copied maps.now.base) maps.now.interval (gathered table)
+        url.now path.now bytes.items (gathered result) }
 {
     let mut table = table?;
-    let map = read_map_at(alloc, url, path, bytes, base, interval)?;
+    let map = read_map_at(alloc, maps, url, path, bytes)?;
     let owned = String::from_str(alloc, url)?;
     match table.add(owned, map) {
         Ok(()) => Ok(table),
@@ -118,26 +109,25 @@ fn with_map(
 }
 
 // The map that the bytes of the file at a path are. Without a base, it stands at the URL that frames name.
-fn read_map_at(
+fn read_map_at<F: FileReader>(
     alloc: Global,
+    maps: &MapReader<'_, F>,
     url: &str,
     path: &str,
     bytes: Vec<u8>,
-    base: Option<&Url>,
-    interval: u32,
 ) -> Result<MapFile, Failure>
-    ensures read { IfOk result (λ map. IsReadAs (option_copied base.entry) interval url.now
-        bytes.items
-        (Ok map.stated)) }
+    ensures read { IfOk result (λ map. IsReadAs (option_copied maps.now.base) maps.now.interval
+        url.now bytes.items (Ok map.stated)) }
     ensures refused { IfErr result (λ failure. OrMemory
-        (IsReadRefusal (option_copied base.entry) interval url.now path.now bytes.items)
+        (IsReadRefusal (option_copied maps.now.base) maps.now.interval
+        url.now path.now bytes.items)
         (failure_telling failure)) }
 {
-    match base {
-        Some(base) => map_of(alloc, path, bytes, Some(base), interval),
+    match maps.base {
+        Some(base) => map_of(alloc, path, bytes, Some(base), maps.interval),
         None => {
             let own = own_base(alloc, url)?;
-            map_of(alloc, path, bytes, own.as_ref(), interval)
+            map_of(alloc, path, bytes, own.as_ref(), maps.interval)
         }
     }
 }

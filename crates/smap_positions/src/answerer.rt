@@ -4,8 +4,9 @@ ghost use Rattle.smap_lines.specs.LineOutput.{IsPut};
 ghost use Rattle.smap_positions.specs.Positions.{position_line};
 
 use crate::answer::lookup_answer;
+use crate::answer_options::AnswerOptions;
 use crate::gathered_line::GatheredLine;
-use crate::json_form::{put_answer_object, put_bad_position};
+use crate::json_form::{AskedPosition, put_answer_object, put_bad_position};
 use crate::output::Output;
 use crate::printed_position::PrintedPosition;
 use crate::reading::read_position;
@@ -21,8 +22,7 @@ use std::alloc::Global;
 pub struct PositionAnswerer<'m> {
     pub alloc: Global,
     pub map: &'m MapFile,
-    pub after: bool,
-    pub json: bool,
+    pub options: AnswerOptions,
     pub lines: u64,
     pub first_bad: Option<u64>,
 }
@@ -33,7 +33,7 @@ impl LineEditor for PositionAnswerer<'_> {
     ghost use Rattle.smap_positions.specs.Positions.{answered_line};
     ghost use Rattle.std.specs.Prelude.{refl};
 
-    ghost becomes = { λ answerer. answered_line answerer.map.now.stated answerer.after answerer.json };
+    ghost becomes = { λ answerer. answered_line answerer.map.now.stated answerer.options.after answerer.options.json };
 
     ghost step = { after_position };
 
@@ -66,7 +66,7 @@ impl PositionAnswerer<'_> {
         output: &mut LineOutput<'_, W>,
     ) -> Result<(), DeviceFault>
         ensures { IsPut W.seen output.old output.new
-            (position_line self.now.after self.now.json self.now.map.now.stated position) result }
+            (position_line self.now.options.after self.now.options.json self.now.map.now.stated position) result }
     {
         let mut line = GatheredLine {
             output,
@@ -81,7 +81,7 @@ impl PositionAnswerer<'_> {
     // Puts the line for a position, and for what is none.
     fn put_line<O: Output>(&self, position: Option<PrintedPosition>, output: &mut O)
         ensures { O.Puts output.old output.new
-            (position_line self.now.after self.now.json self.now.map.now.stated position) }
+            (position_line self.now.options.after self.now.options.json self.now.map.now.stated position) }
     {
         match position {
             Some(position) => self.put_answer(position, output),
@@ -92,9 +92,9 @@ impl PositionAnswerer<'_> {
     // Puts the line for what is no position.
     fn put_bad<O: Output>(&self, output: &mut O)
         ensures { O.Puts output.old output.new
-            (position_line self.now.after self.now.json self.now.map.now.stated None) }
+            (position_line self.now.options.after self.now.options.json self.now.map.now.stated None) }
     {
-        if self.json {
+        if self.options.json {
             put_bad_position(output)
         } else {
             output.put(BAD_POSITION.as_bytes())
@@ -104,14 +104,17 @@ impl PositionAnswerer<'_> {
     // Puts the line for a position.
     fn put_answer<O: Output>(&self, position: PrintedPosition, output: &mut O)
         ensures { O.Puts output.old output.new
-            (position_line self.now.after self.now.json self.now.map.now.stated (Some position)) }
+            (position_line self.now.options.after self.now.options.json self.now.map.now.stated (Some position)) }
     {
         let line = position.line.saturating_sub(1);
         let column = position.column.saturating_sub(1);
-        let answer = lookup_answer(self.alloc, self.map, line, column, self.after);
-        if self.json {
-            let (line, column) = (u64::from(position.line), u64::from(position.column));
-            put_answer_object(self.map, line, column, &answer, None, output)
+        let answer = lookup_answer(self.alloc, self.map, line, column, self.options.after);
+        if self.options.json {
+            let asked = AskedPosition {
+                line: u64::from(position.line),
+                column: u64::from(position.column),
+            };
+            put_answer_object(self.map, asked, &answer, None, output)
         } else {
             put_answer_line(self.map, &answer, output)
         }

@@ -5,6 +5,7 @@ ghost use Rattle.smap_lines.specs.declared.fault.LineFault.TheVariants.{Memory};
 ghost use Rattle.smap_positions.specs.Answering.{Answers};
 ghost use Rattle.smap_positions.specs.Positions.{answered_line};
 
+use crate::answer_options::AnswerOptions;
 use crate::answerer::PositionAnswerer;
 use smap_io::{ByteSink, ByteSource};
 use smap_lines::{LineFault, edit_lines};
@@ -22,9 +23,9 @@ pub struct PositionsSummary {
     pub first_bad: Option<u64>,
 }
 
-/// Answers the positions on the lines of a text while it is read, each by one line in their order, from a map: at the
-/// position or before it or, with `after`, at it or after it; as text or, with `json`, as objects. A line that is no
-/// position is answered `bad position`. The caller gives devices that have not failed. The output is not flushed.
+/// Answers the positions on the lines of a text while it is read, each by one line in their order, from a map, with these
+/// options. A line that is no position is answered `bad position`. The caller gives devices that have not failed. The
+/// output is not flushed.
 ///
 /// What became of each line that was read was written before more is read. All room is made before the first read, and no
 /// answer takes memory. The first failure ends it. What was written is then a front of what the bytes that were read
@@ -35,15 +36,14 @@ pub fn answer_positions<R: ByteSource, W: ByteSink>(
     input: &mut R,
     output: &mut W,
     map: &MapFile,
-    after: bool,
-    json: bool,
+    options: AnswerOptions,
 ) -> Result<PositionsSummary, LineFault>
     requires input_works { (R.seen input.old).failed ≡ false }
     requires output_works { (W.seen output.old).failed ≡ false }
     ensures answers { IfOk result (λ summary. Answers
         (devices_seen (R.seen input.old) (W.seen output.old))
-        (devices_seen (R.seen input.new) (W.seen output.new)) map.now.stated after json summary) }
-    ensures front { IfErr result (λ fault. EditsFront (answered_line map.now.stated after json)
+        (devices_seen (R.seen input.new) (W.seen output.new)) map.now.stated options.after options.json summary) }
+    ensures front { IfErr result (λ fault. EditsFront (answered_line map.now.stated options.after options.json)
         (devices_seen (R.seen input.old) (W.seen output.old))
         (devices_seen (R.seen input.new) (W.seen output.new)) fault) }
     ensures input_failure { (R.seen input.new).failed ≡ is_read_fault result }
@@ -54,8 +54,7 @@ pub fn answer_positions<R: ByteSource, W: ByteSink>(
     let mut answerer = PositionAnswerer {
         alloc,
         map,
-        after,
-        json,
+        options,
         lines: 0,
         first_bad: None,
     };

@@ -12,6 +12,13 @@ use crate::map_text::put_json_text;
 use crate::output::{Output, put_number};
 use smap_record::{Answer, MapFile, Origin};
 
+/// The generated line and column that were asked for, both from 1.
+#[derive(Clone, Copy)]
+pub struct AskedPosition {
+    pub line: u64,
+    pub column: u64,
+}
+
 #[tactic(auto, unfolding(json::specs::Print::escape_byte))]
 pub fn put_bad_position<O: Output>(output: &mut O)
     ensures { O.Puts output.old output.new (json_line bad_position_value) }
@@ -19,66 +26,61 @@ pub fn put_bad_position<O: Output>(output: &mut O)
     output.put(b"{\"answer\":\"bad position\"}\n");
 }
 
-/// Puts the line for what a map answers for a line and a column, both from 1, with this excerpt of what was found.
+/// Puts the line for what a map answers for a position, with this excerpt of what was found.
 pub fn put_answer_object<O: Output>(
     map: &MapFile,
-    line: u64,
-    column: u64,
+    asked: AskedPosition,
     answer: &Answer,
     excerpt: Option<&str>,
     output: &mut O,
 )
     ensures { O.Puts output.old output.new (json_line
         (answer_value (option_map (λ excerpt. excerpt.now) excerpt.entry) map.now.stated
-        (record { line = line; column = column }) answer.now)) }
+        (record { line = asked.line; column = asked.column }) answer.now)) }
 {
     match answer {
-        Answer::Nothing => put_none(line, column, output),
+        Answer::Nothing => put_none(asked, output),
         Answer::Unmapped {
             column: generated_column,
-        } => put_unmapped(line, column, *generated_column, output),
+        } => put_unmapped(asked, *generated_column, output),
         Answer::Found {
             column: generated_column,
             origin,
-        } => put_found(
-            map,
-            line,
-            column,
-            *generated_column,
-            origin,
-            excerpt,
-            output,
-        ),
+        } => put_found(map, asked, *generated_column, origin, excerpt, output),
     }
     output.put(b"\n");
 }
 
 // Puts that no mapping answers.
-fn put_none<O: Output>(line: u64, column: u64, output: &mut O)
+fn put_none<O: Output>(asked: AskedPosition, output: &mut O)
     ensures { O.Puts output.old output.new
-        (compact_text (none_value (record { line = line; column = column }))) }
+        (compact_text (none_value (record { line = asked.line; column = asked.column }))) }
 {
-    put_number(b"{\"answer\":\"none\",\"column\":", column, output);
-    put_number(b",\"line\":", line, output);
+    put_number(b"{\"answer\":\"none\",\"column\":", asked.column, output);
+    put_number(b",\"line\":", asked.line, output);
     output.put(b"}");
 }
 
 // Puts that the mapping that answers, which stands at this column, has no original.
-fn put_unmapped<O: Output>(line: u64, column: u64, generated_column: u32, output: &mut O)
+fn put_unmapped<O: Output>(asked: AskedPosition, generated_column: u32, output: &mut O)
     ensures { O.Puts output.old output.new
-        (compact_text (unmapped_value (record { line = line; column = column }) generated_column)) }
+        (compact_text (unmapped_value (record { line = asked.line; column = asked.column })
+        generated_column)) }
 {
-    put_number(b"{\"answer\":\"unmapped\",\"column\":", column, output);
+    put_number(
+        b"{\"answer\":\"unmapped\",\"column\":",
+        asked.column,
+        output,
+    );
     put_number(b",\"generatedColumn\":", from_one(generated_column), output);
-    put_number(b",\"line\":", line, output);
+    put_number(b",\"line\":", asked.line, output);
     output.put(b"}");
 }
 
 // Puts where the mapping that answers, which stands at this column, comes from.
 fn put_found<O: Output>(
     map: &MapFile,
-    line: u64,
-    column: u64,
+    asked: AskedPosition,
     generated_column: u32,
     origin: &Origin,
     excerpt: Option<&str>,
@@ -86,17 +88,17 @@ fn put_found<O: Output>(
 )
     ensures { O.Puts output.old output.new (compact_text
         (found_value (option_map (λ excerpt. excerpt.now) excerpt.entry)
-        (record { line = line; column = column }) generated_column origin.now
+        (record { line = asked.line; column = asked.column }) generated_column origin.now
         (slice_get map.now.stated.sources origin.now.source)
         (option_and_then (slice_get map.now.stated.names) origin.now.name))) }
 {
     let entry = map.source(origin.source);
-    put_number(b"{\"answer\":\"found\",\"column\":", column, output);
+    put_number(b"{\"answer\":\"found\",\"column\":", asked.column, output);
     put_excerpt(excerpt, output);
     put_number(b",\"generatedColumn\":", from_one(generated_column), output);
     output.put(b",\"ignored\":");
     output.put(bool_text(is_ignored(entry)));
-    put_number(b",\"line\":", line, output);
+    put_number(b",\"line\":", asked.line, output);
     output.put(b",\"name\":");
     put_json_text(name_at(map, origin.name), output);
     put_number(b",\"originalColumn\":", from_one(origin.column), output);

@@ -5,12 +5,13 @@
 //! ```text
 //! let text = lookup_text(alloc, &map, 0, 5, after)?;
 //! let position = read_position(b"12:7")?;
-//! let (after, json) = (false, true);
-//! let summary = answer_positions(alloc, &mut input, &mut output, &map, after, json)?;
+//! let options = AnswerOptions { after: false, json: true };
+//! let summary = answer_positions(alloc, &mut input, &mut output, &map, options)?;
 //! ```
 #![tactic(auto)]
 
 mod answer;
+mod answer_options;
 mod answerer;
 mod answering;
 mod gathered_line;
@@ -25,6 +26,7 @@ mod short_text;
 mod text_form;
 
 pub use answer::from_one;
+pub use answer_options::AnswerOptions;
 pub use answering::{PositionsSummary, answer_positions};
 pub use lookup::{lookup_as_json, lookup_text};
 pub use printed_position::PrintedPosition;

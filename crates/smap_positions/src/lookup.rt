@@ -5,7 +5,7 @@ ghost use Rattle.smap_positions.specs.Lookup.{lookup_text};
 
 use crate::answer::{answer_excerpt, from_one, lookup_answer};
 use crate::growing_text::GrowingText;
-use crate::json_form::put_answer_object;
+use crate::json_form::{AskedPosition, put_answer_object};
 use crate::output::Output;
 use crate::text_form::put_answer_line;
 use smap_record::MapFile;
@@ -47,7 +47,10 @@ pub fn lookup_as_json(
     let answer = lookup_answer(alloc, map, line, column, after);
     let excerpt = answer_excerpt(alloc, map, &answer)?;
     let mut text = GrowingText::new(alloc);
-    let (line, column) = (from_one(line), from_one(column));
-    put_answer_object(map, line, column, &answer, excerpt.as_deref(), &mut text);
+    let asked = AskedPosition {
+        line: from_one(line),
+        column: from_one(column),
+    };
+    put_answer_object(map, asked, &answer, excerpt.as_deref(), &mut text);
     text.text()
 }

@@ -12,7 +12,7 @@ loop-number-preserved g c =
     let is = next_of argument_of c.args.arguments.now c.loop-number.number c.index-arguments-number.result
     (omega (arith, c.loop-number-test.true)) c.index-arguments-number.is in
     λ result gathers. c.loop-number.invariant result
-    (gathers_next (g.F.FileReader.gives c.args.reader.now) (option_copied c.args.base) c.args.interval c.loop-number.number
+    (gathers_next (g.F.FileReader.gives c.args.maps.now.files.now) (option_copied c.args.maps.now.base) c.args.maps.now.interval c.loop-number.number
     (gathered c.loop-number.table) _ _ _ _ is _ _ result (rw c.deref.ensures at c.in_ok-bytes.ensures.read)
     (rw (c.deref-in-loop-number.ensures, c.deref-in-loop-number-2.ensures) at c.with_map-table.ensures) gathers)
 
@@ -21,5 +21,5 @@ returns-in_err-bytes g c =
     let is = next_of argument_of c.args.arguments.now c.loop-number.number c.index-arguments-number.result
     (omega (arith, c.loop-number-test.true)) c.index-arguments-number.is in
     let p = err_from_is_err_and c.from_residual.result c.from_residual.ensures.1 in
-    rw (p.1, p.2) (c.loop-number.invariant _ (gathers_unread (g.F.FileReader.gives c.args.reader.now) (option_copied c.args.base)
-    c.args.interval c.loop-number.number (gathered c.loop-number.table) _ _ _ _ is _ (rw c.deref.ensures at c.in_err-bytes.ensures.unread)))
+    rw (p.1, p.2) (c.loop-number.invariant _ (gathers_unread (g.F.FileReader.gives c.args.maps.now.files.now) (option_copied c.args.maps.now.base)
+    c.args.maps.now.interval c.loop-number.number (gathered c.loop-number.table) _ _ _ _ is _ (rw c.deref.ensures at c.in_err-bytes.ensures.unread)))

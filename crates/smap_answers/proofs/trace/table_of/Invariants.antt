@@ -8,7 +8,7 @@ use Rattle.smap_answers.proofs.trace.table_of.Given as goal
 -- what the arguments that are left come to after those so far, all of them come to
 abbrev pub invariant-loop-number : goal.invariant-loop-number
 invariant-loop-number g l =
-    let Reads = g.F.FileReader.gives l.fn.reader in
-    let base = option_copied l.fn.base in
-    (result : Result Maps Telling) → Gathers Reads base l.fn.interval l.number (gathered l.table) (map argument_of (drop l.number l.arguments)) result
-    → Gathers Reads base l.fn.interval 0 (Ok []) (map argument_of l.arguments) result
+    let Reads = g.F.FileReader.gives l.fn.maps.files.now in
+    let base = option_copied l.fn.maps.base in
+    (result : Result Maps Telling) → Gathers Reads base l.fn.maps.interval l.number (gathered l.table) (map argument_of (drop l.number l.arguments)) result
+    → Gathers Reads base l.fn.maps.interval 0 (Ok []) (map argument_of l.arguments) result

@@ -28,5 +28,5 @@ returns g c =
     let origin = both _ _ _ _ _ column (both _ _ _ _ _ line (both _ _ _ _ _ c.put-4.ensures (both _ _ _ _ _ source (both _ _ _ _ _ index c.put-5.ensures)))) in
     let rest = both _ _ _ _ _ generated (both _ _ _ _ _ c.put.ensures (both _ _ _ _ _ ignored
     (both _ _ _ _ _ c.put_number-3.ensures (both _ _ _ _ _ c.put-3.ensures (both _ _ _ _ _ name origin))))) in
-    subst (λ l. g.O.Output.Puts c.args.output.now c.put-5.new.self ((codes "{\"answer\":\"found\",\"column\":" ++ decimal c.args.column) ++ l))
+    subst (λ l. g.O.Output.Puts c.args.output.now c.put-5.new.self ((codes "{\"answer\":\"found\",\"column\":" ++ decimal c.args.asked.column) ++ l))
     (excerpt_first (option_map (λ excerpt. excerpt.now) c.args.excerpt) _) (both _ _ _ _ _ c.put_number.ensures (both _ _ _ _ _ c.put_excerpt.ensures rest))
