@@ -5,7 +5,7 @@ use Rattle.smap_lines.specs.Edited.{edited}
 use Rattle.smap_lines.specs.Editing.{DevicesSeen, EditsFront, devices_seen, is_write_fault}
 use Rattle.smap_lines.specs.declared.fault.LineFault.{LineFault}
 use Rattle.smap_lines.specs.declared.fault.LineFault.TheVariants.{Read, Write, TooMuch, Memory}
-use Rattle.smap_positions.specs.Answering.{Answers}
+use Rattle.smap_positions.specs.Answering.{AnswersPositions}
 use Rattle.smap_positions.specs.Positions.{answered_line}
 use Rattle.smap_positions.specs.declared.answering.PositionsSummary.{PositionsSummary}
 use Rattle.smap_record.specs.Record.{MapRecord, record_of}
@@ -18,7 +18,7 @@ use Rattle.url.specs.Parts.{Parts}
 
 -- all of it was written, but not flushed
 pub written_front : (before : DevicesSeen) (input : SourceSeen) (mid after : SinkSeen) (stated : MapRecord) (from json : Bool) (summary : PositionsSummary) →
-    Answers before (devices_seen input mid) stated from json summary → after.taken ≡ mid.taken
+    AnswersPositions before (devices_seen input mid) stated from json summary → after.taken ≡ mid.taken
     → EditsFront (answered_line stated from json) before (devices_seen input after) Write
 written_front before input mid after stated from json summary answers kept = record {
   bytes = answers.bytes;

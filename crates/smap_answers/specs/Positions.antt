@@ -4,7 +4,7 @@ use Rattle.smap_lines.specs.Editing.{DevicesSeen, EditsFront, is_read_fault, is_
 use Rattle.smap_lines.specs.declared.fault.LineFault.{LineFault}
 use Rattle.smap_lines.specs.declared.fault.LineFault.TheVariants.{TooMuch, Memory}
 use Rattle.smap_record.specs.Record.{MapRecord}
-use Rattle.smap_positions.specs.Answering.{Answers}
+use Rattle.smap_positions.specs.Answering.{AnswersPositions}
 use Rattle.smap_positions.specs.Positions.{answered_line}
 use Rattle.smap_positions.specs.declared.answering.PositionsSummary.{PositionsSummary}
 use Rattle.smap_answers.specs.Files.{MayRead}
@@ -33,7 +33,7 @@ positions_telling (Err fault) = fault_telling fault
 
 -- the positions are answered to their end, or up to a fault
 abbrev pub IsAnswered : MapRecord → (from json : Bool) → (before after : DevicesSeen) → Result PositionsSummary LineFault → Type 0
-IsAnswered stated from json before after (Ok summary) = Answers before after stated from json summary
+IsAnswered stated from json before after (Ok summary) = AnswersPositions before after stated from json summary
 IsAnswered stated from json before after (Err fault) = EditsFront (answered_line stated from json) before after fault
 
 -- answering the positions on standard input from this map tells this; a refusal for a bad line or a long one comes after

@@ -12,7 +12,7 @@ use Rattle.smap_record.specs.Record.{MapRecord}
 use Rattle.smap_places.specs.Places.{Part, PlaceParts, begun_at, found, other, parts_by, parts_from, parts_of, place_at}
 use Rattle.smap_places.specs.PlaceSeen.{IsNext, NoNext, place_seen}
 use Rattle.smap_places.specs.PlacesRewritten.{is_place, is_replaced, part_text, parts_text, placed_line, replacement}
-use Rattle.smap_places.specs.declared.place.Place.{Place}
+use Rattle.smap_places.specs.declared.place.FoundPlace.{FoundPlace}
 use Rattle.smap_places.proofs.CountLaws.{one_more}
 
 module _ (table : List (List ℕ × MapRecord)) (line : List ℕ) where
@@ -93,7 +93,7 @@ others_replaced (byte ∷ bytes) parts = others_replaced bytes parts
 -- ---- the next place, and what is after it
 
 module _ (table : List (List ℕ × MapRecord)) (line : List ℕ) where
-  module _ (from : ℕ) (place : Place) (is : IsNext table line from place) where
+  module _ (from : ℕ) (place : FoundPlace) (is : IsNext table line from place) where
     next_parts : parts_at table line from ≡ map other (slice_range line from place.start)
         ++ found (place_seen place) (slice_range line place.start place.end) ∷ parts_at table line place.end
     next_parts =

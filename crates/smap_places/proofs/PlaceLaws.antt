@@ -9,7 +9,7 @@ use Rattle.smap_record.specs.Record.{MapRecord}
 use Rattle.smap_trace.specs.Table.{record_for}
 use Rattle.smap_places.specs.Private.Finder.{Covers, is_among}
 use Rattle.smap_places.specs.PlaceSeen.{IsNext, NoNext, place_seen}
-use Rattle.smap_places.specs.declared.place.Place.{Place}
+use Rattle.smap_places.specs.declared.place.FoundPlace.{FoundPlace}
 use Rattle.smap_places.specs.Places.{PlaceParts, begun_at, longest_within, may_begin, numbers_after, or_else, place_at, place_with, placed, with_line}
 
 -- ---- numbers
@@ -183,7 +183,7 @@ module _ (table : List (List ℕ × MapRecord)) (line : List ℕ) where
   pub none_past : (i : ℕ) → length line ≤ i → begun_at table line i ≡ None
   none_past i past = not_begun i (ap (λ rest. place_at table rest) (drop_all i line past) ∙ at_end)
 
-  pub next_from : (from low : ℕ) (place : Place) → from ≤ low → ((i : ℕ) → from ≤ i → i < low → begun_at table line i ≡ None)
+  pub next_from : (from low : ℕ) (place : FoundPlace) → from ≤ low → ((i : ℕ) → from ≤ i → i < low → begun_at table line i ≡ None)
       → IsNext table line low place → IsNext table line from place
   next_from from low place least before is = record {
     after = omega (arith, least, is.after);
@@ -200,7 +200,7 @@ module _ (table : List (List ℕ × MapRecord)) (line : List ℕ) where
     | inr late ↦ let same : i ≡ start = omega (arith, late, below) in ap (λ k. begun_at table line k) same ∙ here
   ]
 
-  pub place_is_next : (low start : ℕ) (place : Place) → low ≤ start → place.start ≡ start → start < place.end → place.end ≤ length line →
+  pub place_is_next : (low start : ℕ) (place : FoundPlace) → low ≤ start → place.start ≡ start → start < place.end → place.end ≤ length line →
       ((i : ℕ) → low ≤ i → i < start → begun_at table line i ≡ None) → begun_at table line start ≡ Some (place_seen place) → IsNext table line low place
   place_is_next low start place least at_start some within before here = record {
     after = omega (arith, least, at_start);

@@ -10,7 +10,7 @@ use Rattle.smap_record.specs.Record.{MapRecord}
 use Rattle.smap_places.specs.PlaceSeen.{IsNext, NoNext}
 use Rattle.smap_places.specs.Places.{parts_of}
 use Rattle.smap_places.specs.PlacesRewritten.{parts_text, placed_line}
-use Rattle.smap_places.specs.declared.place.Place.{Place}
+use Rattle.smap_places.specs.declared.place.FoundPlace.{FoundPlace}
 use Rattle.smap_places.proofs.PartLaws.{from_start, last_text, next_text, parts_at, put_text}
 
 module _ {W : Type 0} (seen : W → SinkSeen) (table : List (List ℕ × MapRecord)) (line : List ℕ) (first : LineOutput W) where
@@ -24,7 +24,7 @@ module _ {W : Type 0} (seen : W → SinkSeen) (table : List (List ℕ × MapReco
   none_done = record { done = []; puts = puts_none first; rest = ap parts_text (from_start table line) }
 
   module _ (from : ℕ) (now : LineOutput W) (is : IsDone from now) (new : LineOutput W) where
-    module _ (place : Place) (next : IsNext table line from place) where
+    module _ (place : FoundPlace) (next : IsNext table line from place) where
       rest_after : parts_text (parts_of table line) ≡ (is.done ++ put_text table line from place next) ++ parts_text (parts_at table line place.end)
       rest_after =
           is.rest ∙ ap (λ text. is.done ++ text) (next_text table line from place next)

@@ -1,11 +1,11 @@
--- What contracts see of a `Place`, and which place of a line is the next.
+-- What contracts see of a `FoundPlace`, and which place of a line is the next.
 use Rattle.std.specs.Prelude.{◌≡◌, ◌<◌, ◌≤◌, ◌-◌, ℕ, List, Some, None, length}
 use Rattle.smap_record.specs.Record.{MapRecord}
 use Rattle.smap_places.specs.Places.{PlaceParts, begun_at}
-use Rattle.smap_places.specs.declared.place.Place.{Place}
+use Rattle.smap_places.specs.declared.place.FoundPlace.{FoundPlace}
 
 -- what a place is made of
-abbrev pub place_seen : Place → PlaceParts
+abbrev pub place_seen : FoundPlace → PlaceParts
 place_seen place = record {
   url = place.url.now;
   stated = place.map.now.stated;
@@ -15,7 +15,7 @@ place_seen place = record {
 }
 
 -- it is the first of a line's places that begin at byte `from` or after it
-pub record IsNext (table : List (List ℕ × MapRecord)) (line : List ℕ) (from : ℕ) (place : Place) : Type 0 where
+pub record IsNext (table : List (List ℕ × MapRecord)) (line : List ℕ) (from : ℕ) (place : FoundPlace) : Type 0 where
   pub after : from ≤ place.start
   pub some : place.start < place.end
   pub within : place.end ≤ length line

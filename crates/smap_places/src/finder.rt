@@ -4,7 +4,7 @@ ghost use Rattle.smap_places.specs.Places.{begun_at, is_word, may_begin, place_a
 ghost use Rattle.smap_places.specs.PlaceSeen.{IsNext, NoNext, place_seen};
 
 use crate::numbers::{find_numbers, numbers_after};
-use crate::place::Place;
+use crate::place::FoundPlace;
 use smap_trace::Table;
 use std::alloc::{AllocError, Global};
 use std::marker::Model;
@@ -56,7 +56,7 @@ impl<'t> PlaceFinder<'t> {
     /// The first place of a line that begins at byte `from` or after it. What stands before `from` is asked only for
     /// whether a place may begin there: so the places of a line are found one after the end of another, from 0. The
     /// line comes without its LF. The call takes no memory.
-    pub fn next<'l>(&self, line: &'l [u8], from: usize) -> Option<Place<'l, 't>>
+    pub fn next<'l>(&self, line: &'l [u8], from: usize) -> Option<FoundPlace<'l, 't>>
         requires { from ≤ length line.now }
         ensures { MatchOption result
             (NoNext self.now line.now from) (IsNext self.now line.now from) }
@@ -75,7 +75,12 @@ impl<'t> PlaceFinder<'t> {
     }
 
     // The first place that begins from `low` on and before `high`.
-    fn first_between<'l>(&self, line: &'l [u8], low: usize, high: usize) -> Option<Place<'l, 't>>
+    fn first_between<'l>(
+        &self,
+        line: &'l [u8],
+        low: usize,
+        high: usize,
+    ) -> Option<FoundPlace<'l, 't>>
         requires { high ≤ length line.now }
         ensures { MatchOption result
             ((i : ℕ) → low ≤ i → i < high → begun_at self.now line.now i ≡ None)
@@ -93,7 +98,7 @@ impl<'t> PlaceFinder<'t> {
 
     // The place with the longest URL that begins at `start`.
     #[tactic(auto, unfolding(crate::specs::Places::place_at))]
-    fn place_at<'l>(&self, line: &'l [u8], start: usize) -> Option<Place<'l, 't>>
+    fn place_at<'l>(&self, line: &'l [u8], start: usize) -> Option<FoundPlace<'l, 't>>
         requires { start ≤ length line.now }
         ensures place { option_map place_seen result ≡ place_at self.now (drop start line.now) }
         ensures here { IfSome result (λ place.
@@ -113,7 +118,12 @@ impl<'t> PlaceFinder<'t> {
     }
 
     // The place that begins at `start` with a URL of this many bytes.
-    fn place_with<'l>(&self, line: &'l [u8], start: usize, bytes: usize) -> Option<Place<'l, 't>>
+    fn place_with<'l>(
+        &self,
+        line: &'l [u8],
+        start: usize,
+        bytes: usize,
+    ) -> Option<FoundPlace<'l, 't>>
         requires start { start ≤ length line.now }
         requires some { 0 < bytes }
         ensures place { option_map place_seen result
@@ -127,7 +137,7 @@ impl<'t> PlaceFinder<'t> {
         }
         let (url, rest) = text.split_at(bytes);
         let (line, column, size) = numbers_after(rest)?;
-        Some(Place {
+        Some(FoundPlace {
             start,
             end: start + bytes + size,
             url,

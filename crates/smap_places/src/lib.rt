@@ -18,5 +18,5 @@ mod replacement;
 mod rewriting;
 
 pub use finder::PlaceFinder;
-pub use place::Place;
+pub use place::FoundPlace;
 pub use rewriting::rewrite_places;

@@ -6,7 +6,7 @@ use smap_record::MapFile;
 /// the line, which count from 0, to before byte `end`. Its line and its column are as printed, from 1; its map is the one
 /// under the URL.
 #[derive(Clone, Copy)]
-pub struct Place<'l, 't> {
+pub struct FoundPlace<'l, 't> {
     pub start: usize,
     pub end: usize,
     pub url: &'l [u8],

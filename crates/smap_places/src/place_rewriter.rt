@@ -7,7 +7,7 @@ ghost use Rattle.smap_places.specs.PlaceSeen.{place_seen};
 ghost use Rattle.smap_places.specs.PlacesRewritten.{part_text, replacement};
 
 use crate::finder::PlaceFinder;
-use crate::place::Place;
+use crate::place::FoundPlace;
 use crate::replacement::find_replacement;
 use itoa::Buffer;
 use smap_io::{ByteSink, DeviceFault};
@@ -62,7 +62,7 @@ fn put_place<W: ByteSink>(
     alloc: Global,
     line: &[u8],
     from: usize,
-    place: &Place<'_, '_>,
+    place: &FoundPlace<'_, '_>,
     output: &mut LineOutput<'_, W>,
 ) -> Result<bool, DeviceFault>
     requires after { from ≤ place.now.start }

@@ -5,13 +5,13 @@ ghost use Rattle.smap_places.specs.PlaceSeen.{place_seen};
 ghost use Rattle.smap_places.specs.PlacesRewritten.{is_quoting, replacement};
 ghost use Rattle.smap_trace.specs.SightSeen.{replacement_seen};
 
-use crate::place::Place;
+use crate::place::FoundPlace;
 use smap_trace::{Replacement, original_at};
 use std::alloc::Global;
 
 /// `None` where its map has no original for the place in a source whose name can stand anywhere.
 #[tactic(auto, unfolding(crate::specs::PlacesRewritten::replacement))]
-pub fn find_replacement<'t>(alloc: Global, place: &Place<'_, 't>) -> Option<Replacement<'t>>
+pub fn find_replacement<'t>(alloc: Global, place: &FoundPlace<'_, 't>) -> Option<Replacement<'t>>
     ensures { option_map replacement_seen result ≡ replacement (place_seen place.now) }
 {
     let original = original_at(alloc, place.map, place.line, place.column)?;

@@ -6,7 +6,7 @@ use Rattle.smap_positions.specs.Positions.{answered_line, first_bad, short_lines
 use Rattle.smap_positions.specs.declared.answering.PositionsSummary.{PositionsSummary}
 
 -- all that the input had, which is not too much, was read, and what it becomes was written, and nothing else
-pub record Answers (before after : DevicesSeen) (stated : MapRecord) (from json : Bool) (summary : PositionsSummary) : Type 0 where
+pub record AnswersPositions (before after : DevicesSeen) (stated : MapRecord) (from json : Bool) (summary : PositionsSummary) : Type 0 where
   pub bytes : List ℕ
   pub edits : Edits (answered_line stated from json) before after bytes summary.lines
   pub answered : summary.answered ≡ length (short_lines bytes)

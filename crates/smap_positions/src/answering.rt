@@ -2,7 +2,7 @@
 ghost use Rattle.std.specs.Prelude.{◌≡◌, false, IfErr, IfOk};
 ghost use Rattle.smap_lines.specs.Editing.{EditsFront, devices_seen, is_read_fault, is_write_fault};
 ghost use Rattle.smap_lines.specs.declared.fault.LineFault.TheVariants.{Memory};
-ghost use Rattle.smap_positions.specs.Answering.{Answers};
+ghost use Rattle.smap_positions.specs.Answering.{AnswersPositions};
 ghost use Rattle.smap_positions.specs.Positions.{answered_line};
 
 use crate::answer_options::AnswerOptions;
@@ -40,7 +40,7 @@ pub fn answer_positions<R: ByteSource, W: ByteSink>(
 ) -> Result<PositionsSummary, LineFault>
     requires input_works { (R.seen input.old).failed ≡ false }
     requires output_works { (W.seen output.old).failed ≡ false }
-    ensures answers { IfOk result (λ summary. Answers
+    ensures answers { IfOk result (λ summary. AnswersPositions
         (devices_seen (R.seen input.old) (W.seen output.old))
         (devices_seen (R.seen input.new) (W.seen output.new)) map.now.stated options.after options.json summary) }
     ensures front { IfErr result (λ fault. EditsFront (answered_line map.now.stated options.after options.json)
