@@ -50,7 +50,7 @@ counting_none k line number j list some is none m order =
     ap (λ b. cond (eqb line m.line && b) (number + 1) 0) within ∙ not_both (eqb line m.line) (number + 1)
     ∙ sym (ap (λ j. number_on_line (take j list) m % k) none ∙ zero-mod k)
 
-counting_more : (k line number after : ℕ) (before : List Mapping) (m : Mapping) → 0 < k → IsInOrder (before ++ m ∷ [])
+pub counting_more : (k line number after : ℕ) (before : List Mapping) (m : Mapping) → 0 < k → IsInOrder (before ++ m ∷ [])
     → IsCounting k line number before → after ≡ number_after k line number m.line → IsCounting k m.line after (before ++ m ∷ [])
 counting_more k line number after before m some order so_far is follows ordered =
     let here : after ≡ number_on_line before m % k = is ∙ so_far m order in
@@ -113,20 +113,29 @@ pub marked_none : (part : Part) (number k : ℕ) (list : List Mapping) (checkpoi
 marked_none part number k list checkpoints j none =
     subst (λ j. IsMarked part number k (take j list) checkpoints checkpoints) (sym none) ([], sym (append-nil checkpoints), tt)
 
-module _ (part : Part) (j n : ℕ) (m : Mapping) (after : Cursor) (next : IsNext part.text j m after) (counted : n ≡ j + 1) where
-  ordered_to : IsInOrder (mappings_of part.text) → IsInOrder (take j (mappings_of part.text) ++ m ∷ [])
-  ordered_to ordered =
-      let list = mappings_of part.text in
-      subst IsInOrder (take_next list j m next.mapping_is)
-      (front_in_order (take (j + 1) list) (drop (j + 1) list) (subst IsInOrder (sym (take-append-drop (j + 1) list)) ordered))
+pub ordered_at : (list : List Mapping) (j : ℕ) (m : Mapping) → slice_get list j ≡ Some m → IsInOrder list → IsInOrder (take j list ++ m ∷ [])
+ordered_at list j m there ordered =
+    subst IsInOrder (take_next list j m there)
+    (front_in_order (take (j + 1) list) (drop (j + 1) list) (subst IsInOrder (sym (take-append-drop (j + 1) list)) ordered))
 
+-- the number of a mapping at its place, where the mappings before it are counted
+pub number_at : (part : Part) (j : ℕ) (m : Mapping) (k line number : ℕ) → slice_get (mappings_of part.text) j ≡ Some m
+    → IsInOrder (mappings_of part.text) → IsCounting k line number (take j (mappings_of part.text))
+    → number_on_line (take j (placed part)) (placed_mapping part m) % k ≡ number_after k line number m.line
+unfolding placed
+number_at part j m k line number there ordered so_far =
+    let list = mappings_of part.text in
+    ap (λ n. n % k) (ap (λ front. number_on_line front (placed_mapping part m)) (take-map (placed_mapping part) j list) ∙ number_placed part (take j list) m)
+    ∙ sym (so_far m (ordered_at list j m there ordered))
+
+module _ (part : Part) (j n : ℕ) (m : Mapping) (after : Cursor) (next : IsNext part.text j m after) (counted : n ≡ j + 1) where
   pub counting_next : (k line new_line number new_number : ℕ) → 0 < k → IsInOrder (mappings_of part.text)
       → IsCounting k line number (take j (mappings_of part.text)) → new_line ≡ m.line → new_number ≡ number_after k line number m.line
       → IsCounting k new_line new_number (take n (mappings_of part.text))
   counting_next k line new_line number new_number some ordered so_far line_is number_is =
       let list = mappings_of part.text in
       let longer : take n list ≡ take j list ++ m ∷ [] = ap (λ n. take n list) counted ∙ take_next list j m next.mapping_is in
-      let there = counting_more k line number new_number (take j list) m some (ordered_to ordered) so_far number_is in
+      let there = counting_more k line number new_number (take j list) m some (ordered_at list j m next.mapping_is ordered) so_far number_is in
       subst (λ front. IsCounting k new_line new_number front) (sym longer)
       (subst (λ line. IsCounting k line new_number (take j list ++ m ∷ [])) (sym line_is) there)
 
@@ -134,11 +143,7 @@ module _ (part : Part) (j n : ℕ) (m : Mapping) (after : Cursor) (next : IsNext
   pub number_there : (k line number new_number : ℕ) → IsInOrder (mappings_of part.text)
       → IsCounting k line number (take j (mappings_of part.text)) → new_number ≡ number_after k line number m.line
       → number_on_line (take j (placed part)) (placed_mapping part m) % k ≡ new_number
-  unfolding placed
-  number_there k line number new_number ordered so_far number_is =
-      let list = mappings_of part.text in
-      ap (λ n. n % k) (ap (λ front. number_on_line front (placed_mapping part m)) (take-map (placed_mapping part) j list) ∙ number_placed part (take j list) m)
-      ∙ sym (number_is ∙ so_far m (ordered_to ordered))
+  number_there k line number new_number ordered so_far number_is = number_at part j m k line number next.mapping_is ordered so_far ∙ sym number_is
 
   there : slice_get (placed part) j ≡ Some (placed_mapping part m)
   unfolding placed
