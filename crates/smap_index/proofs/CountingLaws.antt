@@ -116,20 +116,29 @@ pub marked_none : (part : Part) (number interval : ℕ) (list : List Mapping) (c
 marked_none part number interval list checkpoints j none =
     subst (λ j. IsMarked part number interval (take j list) checkpoints checkpoints) (sym none) ([], sym (append-nil checkpoints), tt)
 
-module _ (part : Part) (j n : ℕ) (m : Mapping) (after : Cursor) (next : IsNext part.text j m after) (counted : n ≡ j + 1) where
-  ordered_to : IsInOrder (mappings_of part.text) → IsInOrder (take j (mappings_of part.text) ++ m ∷ [])
-  ordered_to ordered =
-      let list = mappings_of part.text in
-      subst IsInOrder (take_next list j m next.mapping_is)
-      (front_in_order (take (j + 1) list) (drop (j + 1) list) (subst IsInOrder (sym (take-append-drop (j + 1) list)) ordered))
+pub ordered_at : (list : List Mapping) (j : ℕ) (m : Mapping) → slice_get list j ≡ Some m → IsInOrder list → IsInOrder (take j list ++ m ∷ [])
+ordered_at list j m there ordered =
+    subst IsInOrder (take_next list j m there)
+    (front_in_order (take (j + 1) list) (drop (j + 1) list) (subst IsInOrder (sym (take-append-drop (j + 1) list)) ordered))
 
+-- the number of a mapping at its place, where the mappings before it are counted
+pub number_at : (part : Part) (j : ℕ) (m : Mapping) (interval line number : ℕ) → slice_get (mappings_of part.text) j ≡ Some m
+    → IsInOrder (mappings_of part.text) → IsCounting interval line number (take j (mappings_of part.text))
+    → number_on_line (take j (placed part)) (placed_mapping part m) % interval ≡ number_after interval line number m.line
+unfolding placed
+number_at part j m interval line number there ordered so_far =
+    let list = mappings_of part.text in
+    ap (λ n. n % interval) (ap (λ front. number_on_line front (placed_mapping part m)) (take-map (placed_mapping part) j list) ∙ number_placed part (take j list) m)
+    ∙ sym (so_far m (ordered_at list j m there ordered))
+
+module _ (part : Part) (j n : ℕ) (m : Mapping) (after : Cursor) (next : IsNext part.text j m after) (counted : n ≡ j + 1) where
   pub counting_next : (interval line new_line number new_number : ℕ) → 0 < interval → IsInOrder (mappings_of part.text)
       → IsCounting interval line number (take j (mappings_of part.text)) → new_line ≡ m.line → new_number ≡ number_after interval line number m.line
       → IsCounting interval new_line new_number (take n (mappings_of part.text))
   counting_next interval line new_line number new_number some ordered so_far line_is number_is =
       let list = mappings_of part.text in
       let longer : take n list ≡ take j list ++ m ∷ [] = ap (λ n. take n list) counted ∙ take_next list j m next.mapping_is in
-      let there = counting_more interval line number new_number (take j list) m some (ordered_to ordered) so_far number_is in
+      let there = counting_more interval line number new_number (take j list) m some (ordered_at list j m next.mapping_is ordered) so_far number_is in
       subst (λ front. IsCounting interval new_line new_number front) (sym longer)
       (subst (λ line. IsCounting interval line new_number (take j list ++ m ∷ [])) (sym line_is) there)
 
@@ -137,12 +146,7 @@ module _ (part : Part) (j n : ℕ) (m : Mapping) (after : Cursor) (next : IsNext
   pub number_there : (interval line number new_number : ℕ) → IsInOrder (mappings_of part.text)
       → IsCounting interval line number (take j (mappings_of part.text)) → new_number ≡ number_after interval line number m.line
       → number_on_line (take j (placed part)) (placed_mapping part m) % interval ≡ new_number
-  unfolding placed
-  number_there interval line number new_number ordered so_far number_is =
-      let list = mappings_of part.text in
-      ap (λ n. n % interval) (ap (λ front. number_on_line front (placed_mapping part m)) (take-map (placed_mapping part) j list)
-      ∙ number_placed part (take j list) m)
-      ∙ sym (number_is ∙ so_far m (ordered_to ordered))
+  number_there interval line number new_number ordered so_far number_is = number_at part j m interval line number next.mapping_is ordered so_far ∙ sym number_is
 
   there : slice_get (placed part) j ≡ Some (placed_mapping part m)
   unfolding placed

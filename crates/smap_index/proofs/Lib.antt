@@ -10,6 +10,7 @@ pub mod FitLaws
 pub mod SearchLaws
 pub mod MarkLaws
 pub mod CountingLaws
+pub mod PassedLaws
 pub mod Tiles
 pub mod TileLaws
 pub mod FewLaws

@@ -69,7 +69,7 @@ module _ (bound : Bound) where
       let counted = cond-true (is_up_to bound x) (1 + front_up_to bound xs) 0 (ap (is_up_to bound) same ∙ first.2) in
       omega (arith, rest, counted)
 
-there_is : {A : Type 0} (xs : List A) (i : ℕ) → i < length xs → (x : A) × (slice_get xs i ≡ Some x)
+pub there_is : {A : Type 0} (xs : List A) (i : ℕ) → i < length xs → (x : A) × (slice_get xs i ≡ Some x)
 there_is [] i less = absurd (omega arith)
 there_is (x ∷ xs) zero less = (x, refl)
 there_is (x ∷ xs) (suc i) less = there_is xs i (omega arith)

@@ -1,6 +1,6 @@
 //! The walk through the texts of all parts, which finds their faults and fills the table.
 
-ghost use Rattle.std.specs.Prelude.{◌≡◌, ◌≤◌, List, [], ◌∷◌, ◌++◌, ◌||◌, ◌==◌, true, false, if◌then◌else◌, Some, None, IfSome, IsTrue, length};
+ghost use Rattle.std.specs.Prelude.{◌≡◌, ◌+◌, ◌<◌, ◌≤◌, List, [], ◌∷◌, ◌++◌, ◌||◌, ◌==◌, true, false, if◌then◌else◌, Some, None, IfSome, IsTrue, length};
 ghost use Rattle.std.specs.List.{AllByRecursion, AllZip, last_or};
 ghost use Rattle.std.specs.Option.{option_copied};
 ghost use Rattle.smap_mappings.specs.Mappings.{mappings_of};
@@ -134,6 +134,10 @@ fn mark_part(
     while let Some((mapping, after)) = part.text.next(&walk.state, &mut meter) {
         walk = walk_after(part, interval, moves, &mapping, after, &walk);
         walk.has_room = mark(number, part, &mapping, &walk, checkpoints);
+        let most = most_passed(interval, moves, walk.number);
+        let line = part.text.walk_line(&walk.state, u64::MAX, most, &mut meter);
+        walk.state = line.state;
+        walk.number += line.passed;
     }
     walk
 }
@@ -188,6 +192,16 @@ fn number_after(interval: u32, line: u32, number: u32, next: u32) -> u32
     } else {
         0
     }
+}
+
+// How many of the next segments on the line a walk may pass after one with this number: none of them has a checkpoint, and
+// nothing is asked of them where the part does not move.
+fn most_passed(interval: u32, moves: bool, number: u32) -> u32
+    requires { number < interval }
+    ensures few { number + result < interval }
+    ensures moved { IsTrue moves → result ≡ 0 }
+{
+    if moves { 0 } else { interval - 1 - number }
 }
 
 // Adds a checkpoint for the mapping after which the walk stands, if it has the number 0, while nothing is past the
