@@ -53,7 +53,7 @@ counting_none interval line number j list some is none m order =
     ap (λ b. cond (eqb line m.line && b) (number + 1) 0) within ∙ not_both (eqb line m.line) (number + 1)
     ∙ sym (ap (λ j. number_on_line (take j list) m % interval) none ∙ zero-mod interval)
 
-counting_more : (interval line number after : ℕ) (before : List Mapping) (m : Mapping) → 0 < interval → IsInOrder (before ++ m ∷ [])
+pub counting_more : (interval line number after : ℕ) (before : List Mapping) (m : Mapping) → 0 < interval → IsInOrder (before ++ m ∷ [])
     → IsCounting interval line number before → after ≡ number_after interval line number m.line → IsCounting interval m.line after (before ++ m ∷ [])
 counting_more interval line number after before m some order so_far is follows ordered =
     let here : after ≡ number_on_line before m % interval = is ∙ so_far m order in

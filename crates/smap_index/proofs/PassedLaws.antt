@@ -91,34 +91,34 @@ module _ (part : Part) (n : ℕ) (start after : Cursor) (end p : ℕ) (kind : Ki
           ap (λ n. last_or None (take n list)) place ∙ last_taken None list (n + p - 1) (mapping_at kind after) (passed.last (omega arith)) in
           subst (λ last. IfSome last (IsMappingAt after)) (sym last) (is_at kind after)
 
-  module _ (k number : ℕ) (few : number + p < k) (ordered : IsInOrder (mappings_of part.text))
-      (so_far : IsCounting k start.line number (take n (mappings_of part.text))) where
-    next_counted : (i : ℕ) (m : Mapping) → i < p → m.line ≡ start.line → number_after k start.line (number + i) m.line ≡ number + i + 1
-    next_counted i m less line = cond-true _ _ _ (and_from _ _ (eq-eqb start.line m.line (sym line)) (lt-ltb (number + i + 1) k (omega arith)))
+  module _ (interval number : ℕ) (few : number + p < interval) (ordered : IsInOrder (mappings_of part.text))
+      (so_far : IsCounting interval start.line number (take n (mappings_of part.text))) where
+    next_counted : (i : ℕ) (m : Mapping) → i < p → m.line ≡ start.line → number_after interval start.line (number + i) m.line ≡ number + i + 1
+    next_counted i m less line = cond-true _ _ _ (and_from _ _ (eq-eqb start.line m.line (sym line)) (lt-ltb (number + i + 1) interval (omega arith)))
 
-    counting_to : (i : ℕ) → i ≤ p → IsCounting k start.line (number + i) (take (n + i) (mappings_of part.text))
+    counting_to : (i : ℕ) → i ≤ p → IsCounting interval start.line (number + i) (take (n + i) (mappings_of part.text))
     counting_to zero within =
         let count : number ≡ number + 0 = omega arith in
         let place : n ≡ n + 0 = omega arith in
-        subst (λ number. IsCounting k start.line number (take (n + 0) (mappings_of part.text))) count
-        (subst (λ n. IsCounting k start.line number (take n (mappings_of part.text))) place so_far)
+        subst (λ number. IsCounting interval start.line number (take (n + 0) (mappings_of part.text))) count
+        (subst (λ n. IsCounting interval start.line number (take n (mappings_of part.text))) place so_far)
     counting_to (suc i) within =
         let list = mappings_of part.text in
         let at = passed_at i (omega arith) in
         let m = at.0 in
         let count : number + suc i ≡ number + i + 1 = omega arith in
         let place : n + i + 1 ≡ n + suc i = omega arith in
-        let more = counting_more k start.line (number + i) (number + suc i) (take (n + i) list) m (omega arith)
+        let more = counting_more interval start.line (number + i) (number + suc i) (take (n + i) list) m (omega arith)
         (ordered_at list (n + i) m at.1 ordered) (counting_to i (omega arith)) (count ∙ sym (next_counted i m (omega arith) at.2)) in
-        subst (λ line. IsCounting k line (number + suc i) (take (n + suc i) list)) at.2
-        (subst (λ front. IsCounting k m.line (number + suc i) front) (sym (take_next list (n + i) m at.1) ∙ ap (λ n. take n list) place) more)
+        subst (λ line. IsCounting interval line (number + suc i) (take (n + suc i) list)) at.2
+        (subst (λ front. IsCounting interval m.line (number + suc i) front) (sym (take_next list (n + i) m at.1) ∙ ap (λ n. take n list) place) more)
 
-    pub counting_passed : IsCounting k after.line (number + p) (take (n + p) (mappings_of part.text))
-    counting_passed = subst (λ line. IsCounting k line (number + p) (take (n + p) (mappings_of part.text))) (sym passed.line) (counting_to p (omega arith))
+    pub counting_passed : IsCounting interval after.line (number + p) (take (n + p) (mappings_of part.text))
+    counting_passed = subst (λ line. IsCounting interval line (number + p) (take (n + p) (mappings_of part.text))) (sym passed.line) (counting_to p (omega arith))
 
-    marks_stay : (i : ℕ) → i ≤ p → marked_segments k [] (take (n + i) (placed part)) ≡ marked_segments k [] (take n (placed part))
+    marks_stay : (i : ℕ) → i ≤ p → marked_segments interval [] (take (n + i) (placed part)) ≡ marked_segments interval [] (take n (placed part))
     unfolding placed
-    marks_stay zero within = let place : n + 0 ≡ n = omega arith in ap (λ n. marked_segments k [] (take n (placed part))) place
+    marks_stay zero within = let place : n + 0 ≡ n = omega arith in ap (λ n. marked_segments interval [] (take n (placed part))) place
     marks_stay (suc i) within =
         let at = passed_at i (omega arith) in
         let m = at.0 in
@@ -126,17 +126,17 @@ module _ (part : Part) (n : ℕ) (start after : Cursor) (end p : ℕ) (kind : Ki
         let front = take (n + i) (placed part) in
         let place : n + suc i ≡ n + i + 1 = omega arith in
         let there = slice_get-map (placed_mapping part) (mappings_of part.text) (n + i) ∙ ap (option_map (placed_mapping part)) at.1 in
-        let number_is = number_at part (n + i) m k start.line (number + i) at.1 ordered (counting_to i (omega arith)) ∙ next_counted i m (omega arith) at.2 in
+        let number_is = number_at part (n + i) m interval start.line (number + i) at.1 ordered (counting_to i (omega arith)) ∙ next_counted i m (omega arith) at.2 in
         let other = ap (λ n. eqb n 0) number_is ∙ ne_eqb (number + i + 1) 0 (λ e. absurd (omega (arith, e))) in
-        ap (λ n. marked_segments k [] (take n (placed part))) place
-        ∙ ap (marked_segments k []) (take_next (placed part) (n + i) here there)
-        ∙ marked_segments-push k [] front here
-        ∙ ap (λ last. marked_segments k [] front ++ last) (cond-false _ (length front ∷ []) [] other)
-        ∙ append-nil (marked_segments k [] front)
+        ap (λ n. marked_segments interval [] (take n (placed part))) place
+        ∙ ap (marked_segments interval []) (take_next (placed part) (n + i) here there)
+        ∙ marked_segments-push interval [] front here
+        ∙ ap (λ last. marked_segments interval [] front ++ last) (cond-false _ (length front ∷ []) [] other)
+        ∙ append-nil (marked_segments interval [] front)
         ∙ marks_stay i (omega arith)
 
-    pub marked_passed : (part_number : ℕ) (first table : List Checkpoint) → IsMarked part part_number k (take n (placed part)) first table
-        → IsMarked part part_number k (take (n + p) (placed part)) first table
+    pub marked_passed : (part_number : ℕ) (first table : List Checkpoint) → IsMarked part part_number interval (take n (placed part)) first table
+        → IsMarked part part_number interval (take (n + p) (placed part)) first table
     marked_passed part_number first table (added, is, zip) =
         (added, is, subst (λ segments. AllZip (IsCheckpointIn part part_number) segments added) (sym (marks_stay p (omega arith))) zip)
 
