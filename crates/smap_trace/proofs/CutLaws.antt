@@ -1,11 +1,11 @@
 -- Where the cuts are, and that there is no other.
-use Rattle.std.proofs.Common.{◌≡◌, ◌≢◌, ◌==◌, ◌&&◌, ◌+◌, ◌<◌, ℕ, true, false, suc, List, [], ◌∷◌, ◌++◌, length, get_or, take, drop, Option, Some}
-use Rattle.std.proofs.Common.{None, option_map, refl, sym, ap, ◌∙◌, arith, append_assoc, append-nil, length-drop, length-take, ◌≤◌}
+use Rattle.std.proofs.Common.{◌≡◌, ◌≢◌, ◌==◌, ◌&&◌, ◌+◌, ◌-◌, ◌<◌, ℕ, true, false, zero, suc, inl, inr, List, [], ◌∷◌, ◌++◌, length, get_or, take, drop, Option, Some}
+use Rattle.std.proofs.Common.{None, option_map, refl, sym, ap, ◌∙◌, arith, length-take}
 use Rattle.std.specs.List.{list_any}
 use Rattle.std.specs.Option.{MatchOption}
 use Rattle.std.proofs.lemmas.Bool.{or_parts, or_from, cond-true, cond-false, cond_both, eqb-true, eq-eqb, ne_eqb, and_parts, and_from}
-use Rattle.std.proofs.lemmas.Bool.{false_from_ne_true, both_ways}
-use Rattle.std.proofs.lemmas.List.{drop_more, get_or-take, take-append-drop, take_more}
+use Rattle.std.proofs.lemmas.Bool.{false_from_ne_true, both_ways, and_left, and_right, cases_lt}
+use Rattle.std.proofs.lemmas.List.{drop_more, get_or-drop, get_or-take, take-append-drop}
 use Rattle.smap_trace.specs.Cuts.{put_before, later_cut, cut_at_first, cut_at_last, cut_at_call, without_last}
 
 -- ---- the last of these bytes
@@ -140,50 +140,61 @@ call_is_first (x ∷ y ∷ rest) =
     (λ call. let parts = and_parts (x == 32) (y == 40) call in (λ i. eqb-true x 32 parts.0 i ∷ eqb-true y 40 parts.1 i ∷ rest, none_in_empty))
     (λ off. call_step x y rest (cut_at_call (y ∷ rest)) off (call_is_first (y ∷ rest)))
 
--- the cut of a text whose front was passed
-abbrev pub after_front : List ℕ → List ℕ × List ℕ → List ℕ × List ℕ
-after_front front cut = (front ++ cut.0, cut.1)
+-- no ` (` begins at a place
+abbrev pub NoCallAt : List ℕ → ℕ → Type 0
+NoCallAt text i = (get_or text i 0 == 32 && get_or text (suc i) 0 == 40) ≡ false
 
-pushed : (front : List ℕ) (x : ℕ) (cut : Option (List ℕ × List ℕ))
-    → option_map (after_front front) (option_map (put_before x) cut) ≡ option_map (after_front (front ++ x ∷ [])) cut
-pushed front x None = refl
-pushed front x (Some (f, r)) = ap (λ l. Some (l, r)) (sym (append_assoc front (x ∷ []) f))
+-- no ` (` ends before a place
+abbrev pub NoCallBefore : List ℕ → ℕ → Type 0
+NoCallBefore text place = (i : ℕ) → i + 1 < place → NoCallAt text i
 
-pub call_later : (text : List ℕ) (place : ℕ) → place + 1 < length text → (get_or text place 0 == 32 && get_or text (place + 1) 0 == 40) ≡ false →
-    option_map (after_front (take place text)) (cut_at_call (drop place text))
-    ≡ option_map (after_front (take (place + 1) text)) (cut_at_call (drop (place + 1) text))
-call_later text place within off =
-    let x = get_or text place 0 in
-    let y = get_or text (place + 1) 0 in
-    let rest = drop (place + 1 + 1) text in
-    let one : drop place text ≡ x ∷ drop (place + 1) text = drop_more text place 0 (omega arith) in
-    let two : drop (place + 1) text ≡ y ∷ rest = drop_more text (place + 1) 0 within in
-    let on : take (place + 1) text ≡ take place text ++ x ∷ [] = take_more text place 0 (omega arith) in
-    ap (λ l. option_map (after_front (take place text)) (cut_at_call l)) (one ∙ ap (λ l. x ∷ l) two)
-    ∙ ap (option_map (after_front (take place text)))
-    (cond-false (x == 32 && y == 40) (Some ([], rest)) (option_map (put_before x) (cut_at_call (y ∷ rest))) off)
-    ∙ pushed (take place text) x (cut_at_call (y ∷ rest))
-    ∙ ap (λ l. option_map (after_front (take place text ++ x ∷ [])) (cut_at_call l)) (sym two)
-    ∙ ap (λ l. option_map (after_front l) (cut_at_call (drop (place + 1) text))) (sym on)
+pub call_nowhere : (text : List ℕ) → NoCallBefore text (length text) → cut_at_call text ≡ None
+call_nowhere [] none = refl
+call_nowhere (x ∷ []) none = refl
+call_nowhere (x ∷ y ∷ rest) none =
+    cond-false (x == 32 && y == 40) _ _ (none 0 (omega arith))
+    ∙ ap (option_map (put_before x)) (call_nowhere (y ∷ rest) (λ i within. none (suc i) (omega (arith, within))))
 
-pub call_here : (text : List ℕ) (place : ℕ) → place + 1 < length text → get_or text place 0 ≡ 32 → get_or text (place + 1) 0 ≡ 40 →
-    option_map (after_front (take place text)) (cut_at_call (drop place text)) ≡ Some (take place text, drop (place + 2) text)
-call_here text place within one two =
-    let rest = drop (place + 1 + 1) text in
-    let is : drop place text ≡ 32 ∷ 40 ∷ rest =
-    drop_more text place 0 (omega arith) ∙ ap (λ x. x ∷ drop (place + 1) text) one
-    ∙ ap (λ l. 32 ∷ l) (drop_more text (place + 1) 0 within ∙ ap (λ y. y ∷ rest) two) in
-    let on : place + 1 + 1 ≡ place + 2 = omega arith in
-    ap (λ l. option_map (after_front (take place text)) (cut_at_call l)) is ∙ ap (λ l. Some (l, rest)) (append-nil (take place text))
-    ∙ ap (λ n. Some (take place text, drop n text)) on
+call_at : (text : List ℕ) (k : ℕ) → suc k < length text → ((i : ℕ) → i < k → NoCallAt text i) → get_or text k 0 ≡ 32 → get_or text (suc k) 0 ≡ 40
+    → cut_at_call text ≡ Some (take k text, drop (suc (suc k)) text)
+call_at [] k within none space opening = absurd (omega arith)
+call_at (x ∷ []) k within none space opening = absurd (omega arith)
+call_at (x ∷ y ∷ rest) zero within none space opening =
+    cond-true (x == 32 && y == 40) _ _ (and_from _ _ (eq-eqb x 32 space) (eq-eqb y 40 opening))
+call_at (x ∷ y ∷ rest) (suc k) within none space opening =
+    cond-false (x == 32 && y == 40) _ _ (none 0 (omega arith))
+    ∙ ap (option_map (put_before x)) (call_at (y ∷ rest) k (omega (arith, within)) (λ i below. none (suc i) (omega (arith, below))) space opening)
 
-pub call_nowhere : (text : List ℕ) (place : ℕ) → length text ≤ place + 1 → option_map (after_front (take place text)) (cut_at_call (drop place text)) ≡ None
-call_nowhere text place past = short (drop place text) (omega (arith, length-drop place text))
-  where
-    short : (rest : List ℕ) → length rest ≤ 1 → option_map (after_front (take place text)) (cut_at_call rest) ≡ None
-    short [] few = refl
-    short (x ∷ []) few = refl
-    short (x ∷ y ∷ rest) few = absurd (omega arith)
+-- the first ` (`, whose `(` stands at a place
+pub call_here : (text : List ℕ) (place : ℕ) → 0 < place → place < length text → NoCallBefore text place
+    → get_or text (place - 1) 0 ≡ 32 → get_or text place 0 ≡ 40 → cut_at_call text ≡ Some (take (place - 1) text, drop (place + 1) text)
+call_here text place some within none space opening =
+    let next : suc (place - 1) ≡ place = omega (arith, some) in
+    let after : suc (suc (place - 1)) ≡ place + 1 = omega (arith, some) in
+    call_at text (place - 1) (omega (arith, within, some)) (λ i below. none i (omega (arith, below))) space
+    (ap (λ k. get_or text k 0) next ∙ opening)
+    ∙ ap (λ k. Some (take (place - 1) text, drop k text)) after
+
+-- where no `(` stands further on, no ` (` ends there
+pub call_further : (text : List ℕ) (place further : ℕ) → NoCallBefore text place →
+    ((i : ℕ) → i < further → (get_or (drop place text) i 0 == 40) ≡ true → ⊥) → NoCallBefore text (place + further)
+call_further text place further before none i below = elim (cases_lt (i + 1) place) [
+  | inl early ↦ before i early
+  | inr late ↦
+      let same : place + (i + 1 - place) ≡ suc i = omega (arith, late) in
+      and_right (get_or text i 0 == 32) _ (false_from_ne_true _ (λ is. none (i + 1 - place) (omega (arith, late, below))
+      (ap (λ b. b == 40) (get_or-drop place text (i + 1 - place) 0 ∙ ap (λ k. get_or text k 0) same) ∙ is)))
+]
+
+-- a `(` that no space stands before ends none
+pub call_passed : (text : List ℕ) (place : ℕ) → NoCallBefore text place → (0 < place → (get_or text (place - 1) 0 == 32) ≡ false)
+    → NoCallBefore text (place + 1)
+call_passed text place before other i below = elim (cases_lt (i + 1) place) [
+  | inl early ↦ before i early
+  | inr late ↦
+      let same : place - 1 ≡ i = omega (arith, late, below) in
+      and_left _ (get_or text (suc i) 0 == 40) (ap (λ k. get_or text k 0 == 32) (sym same) ∙ other (omega (arith, late, below)))
+]
 
 -- ---- the last byte
 

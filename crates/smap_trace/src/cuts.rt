@@ -31,9 +31,10 @@ pub fn cut_at_call(text: &[u8]) -> Option<(&[u8], &[u8])>
     ensures { option_map (λ cut. (cut.0.now, cut.1.now)) result ≡ cut_at_call text.now }
 {
     let mut place = 0;
-    while place + 1 < text.len() {
-        if text[place] == b' ' && text[place + 1] == b'(' {
-            return Some((&text[..place], &text[place + 2..]));
+    while let Some(further) = memchr(b'(', &text[place..]) {
+        place += further;
+        if place > 0 && text[place - 1] == b' ' {
+            return Some((&text[..place - 1], &text[place + 1..]));
         }
         place += 1;
     }

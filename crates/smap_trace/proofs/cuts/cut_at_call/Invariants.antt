@@ -1,14 +1,13 @@
-use Rattle.std.proofs.Common.{◌≡◌, ◌-◌, ◌≤◌, length, take, drop, option_map}
-use Rattle.smap_trace.specs.Cuts.{cut_at_call}
-use Rattle.smap_trace.proofs.CutLaws.{after_front}
+use Rattle.std.proofs.Common.{◌-◌, ◌≤◌, length}
+use Rattle.smap_trace.proofs.CutLaws.{NoCallBefore}
 use Rattle.smap_trace.proofs.cuts.cut_at_call.Given as goal
 
--- no cut stands before the place
-abbrev pub invariant-loop-place : goal.invariant-loop-place
-invariant-loop-place l = record {
+-- no ` (` ends before the place
+abbrev pub invariant-loop-further : goal.invariant-loop-further
+invariant-loop-further l = record {
   within : l.place ≤ length l.text;
-  later : cut_at_call l.text ≡ option_map (after_front (take l.place l.text)) (cut_at_call (drop l.place l.text));
+  none : NoCallBefore l.text l.place;
 }
 
-abbrev pub decreases-loop-place : goal.decreases-loop-place
-decreases-loop-place l = length l.text - l.place
+abbrev pub decreases-loop-further : goal.decreases-loop-further
+decreases-loop-further l = length l.text - l.place
