@@ -1,9 +1,9 @@
 //! The bound of a search: a position, and whether the mappings at it are before the bound or after it.
 
-ghost use Rattle.std.specs.Prelude.{◌≡◌};
+ghost use Rattle.std.specs.Prelude.{◌≡◌, ◌+◌, ◌*◌, ◌^◌};
 ghost use Rattle.smap_index.specs.Private.Search.{end_of, is_up_to};
 
-use smap_mappings::{Mapping, Position};
+use smap_mappings::Mapping;
 
 // Which mappings stand up to a bound: those before its position, or those at it too.
 #[derive(Clone, Copy)]
@@ -26,17 +26,11 @@ impl Bound {
     pub fn reaches(&self, mapping: &Mapping) -> bool
         ensures { result ≡ is_up_to self.now mapping.now }
     {
-        let end = Position {
-            line: self.line as u64,
-            column: self.column as u64,
-        };
-        let there = Position {
-            line: mapping.line as u64,
-            column: mapping.column as u64,
-        };
+        let end = place_of(self.line, self.column);
+        let there = place_of(mapping.line, mapping.column);
         match self.side {
-            Side::Before => there.is_before(&end),
-            Side::Through => !end.is_before(&there),
+            Side::Before => there < end,
+            Side::Through => there <= end,
         }
     }
 
@@ -50,4 +44,13 @@ impl Bound {
             Side::Through => self.column as u64 + 1,
         }
     }
+}
+
+// A line and a column as one number: of two positions the one that stands before the other has the lower, so that one
+// comparison does for both.
+#[inline(always)]
+fn place_of(line: u32, column: u32) -> u64
+    ensures { result ≡ line * 2 ^ 32 + column }
+{
+    line as u64 * 4_294_967_296 + column as u64
 }

@@ -12,14 +12,14 @@ use smap_mappings::{Cursor, Kind, Mapping, Origin, State};
 
 // A segment from which a look-up can begin: the number of its part, from 0, and what it has, which share a word; the byte
 // place after it in the part's text; and the running values there, at their place in the joined list. Of these the
-// mapping has some, and the state has all.
+// mapping has some, and the state has all. The column stands before the line, so that a search loads both as one number.
 #[derive(Clone, Copy)]
 pub struct Checkpoint {
     pub part: u16,
     pub kind: Kind,
     pub place: u32,
-    pub line: u32,
     pub column: u32,
+    pub line: u32,
     pub source: u32,
     pub original_line: u32,
     pub original_column: u32,

@@ -1,6 +1,6 @@
 //! The mappings of a part at their places in the whole map.
 
-ghost use Rattle.std.specs.Prelude.{◌≡◌, ◌+◌, ◌||◌, ◌==◌, Some, None, option_map, if◌then◌else◌};
+ghost use Rattle.std.specs.Prelude.{◌≡◌, ◌+◌, ◌||◌, ◌==◌, Some, None, false, option_map, if◌then◌else◌};
 ghost use Rattle.smap_index.specs.Parts.{placed_origin, placed_mapping};
 ghost use Rattle.smap_index.specs.Faults.{is_after_offset};
 ghost use Rattle.smap_index.specs.Private.Walk.{IsPlacedInRange, position_of};
@@ -73,9 +73,29 @@ pub fn placed_within(part: &Part, mapping: &Mapping) -> Mapping
     requires { IsPlacedInRange part.now mapping.now }
     ensures { result ≡ placed_mapping part.now mapping.now }
 {
-    match placed_mapping(part, mapping) {
-        Some(placed) => placed,
-        None => unreachable!("no number of it is past the limit"),
+    Mapping {
+        line: part.line + mapping.line,
+        column: added_column(part, mapping.line) + mapping.column,
+        origin: match &mapping.origin {
+            Some(origin) => Some(origin_within(part, origin)),
+            None => None,
+        },
+    }
+}
+
+#[inline(always)]
+fn origin_within(part: &Part, origin: &Origin) -> Origin
+    requires { is_origin_past_limit (Some (placed_origin part.now origin.now)) ≡ false }
+    ensures { result ≡ placed_origin part.now origin.now }
+{
+    Origin {
+        source: part.source_base + origin.source,
+        line: origin.line,
+        column: origin.column,
+        name: match origin.name {
+            Some(name) => Some(part.name_base + name),
+            None => None,
+        },
     }
 }
 
