@@ -128,7 +128,8 @@ pub number_at : (part : Part) (j : ℕ) (m : Mapping) (interval line number : �
 unfolding placed
 number_at part j m interval line number there ordered so_far =
     let list = mappings_of part.text in
-    ap (λ n. n % interval) (ap (λ front. number_on_line front (placed_mapping part m)) (take-map (placed_mapping part) j list) ∙ number_placed part (take j list) m)
+    ap (λ n. n % interval) (ap (λ front. number_on_line front (placed_mapping part m)) (take-map (placed_mapping part) j list)
+    ∙ number_placed part (take j list) m)
     ∙ sym (so_far m (ordered_at list j m there ordered))
 
 module _ (part : Part) (j n : ℕ) (m : Mapping) (after : Cursor) (next : IsNext part.text j m after) (counted : n ≡ j + 1) where

@@ -114,7 +114,8 @@ module _ (part : Part) (n : ℕ) (start after : Cursor) (end p : ℕ) (kind : Ki
         (subst (λ front. IsCounting interval m.line (number + suc i) front) (sym (take_next list (n + i) m at.1) ∙ ap (λ n. take n list) place) more)
 
     pub counting_passed : IsCounting interval after.line (number + p) (take (n + p) (mappings_of part.text))
-    counting_passed = subst (λ line. IsCounting interval line (number + p) (take (n + p) (mappings_of part.text))) (sym passed.line) (counting_to p (omega arith))
+    counting_passed =
+        subst (λ line. IsCounting interval line (number + p) (take (n + p) (mappings_of part.text))) (sym passed.line) (counting_to p (omega arith))
 
     marks_stay : (i : ℕ) → i ≤ p → marked_segments interval [] (take (n + i) (placed part)) ≡ marked_segments interval [] (take n (placed part))
     unfolding placed
@@ -126,7 +127,8 @@ module _ (part : Part) (n : ℕ) (start after : Cursor) (end p : ℕ) (kind : Ki
         let front = take (n + i) (placed part) in
         let place : n + suc i ≡ n + i + 1 = omega arith in
         let there = slice_get-map (placed_mapping part) (mappings_of part.text) (n + i) ∙ ap (option_map (placed_mapping part)) at.1 in
-        let number_is = number_at part (n + i) m interval start.line (number + i) at.1 ordered (counting_to i (omega arith)) ∙ next_counted i m (omega arith) at.2 in
+        let number_is = number_at part (n + i) m interval start.line (number + i) at.1 ordered (counting_to i (omega arith))
+        ∙ next_counted i m (omega arith) at.2 in
         let other = ap (λ n. eqb n 0) number_is ∙ ne_eqb (number + i + 1) 0 (λ e. absurd (omega (arith, e))) in
         ap (λ n. marked_segments interval [] (take n (placed part))) place
         ∙ ap (marked_segments interval []) (take_next (placed part) (n + i) here there)
