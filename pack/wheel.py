@@ -1,0 +1,55 @@
+#!/usr/bin/env python3
+"""Makes a wheel of a package that is ready in a folder, with its shared library: pack/wheel.py FOLDER PYPROJECT README TO.
+
+All times are SOURCE_DATE_EPOCH, and files stand in the order of their names, so the same files give the same bytes.
+"""
+
+import base64
+import hashlib
+import os
+import re
+import sys
+import time
+import zipfile
+from pathlib import Path
+from typing import Dict
+
+TAG = "py3-none-linux_x86_64"
+
+
+def project(pyproject: Path) -> Dict[str, str]:
+    """The texts of the table `project`."""
+    table = pyproject.read_text().partition("[project]\n")[2].partition("\n[")[0]
+    return dict(re.findall(r'^([a-z-]+) = "(.*)"$', table, re.MULTILINE))
+
+
+def record(path: str, data: bytes) -> str:
+    digest = base64.urlsafe_b64encode(hashlib.sha256(data).digest()).rstrip(b"=").decode()
+    return f"{path},sha256={digest},{len(data)}\n"
+
+
+def main(folder: Path, pyproject: Path, readme: Path, to: Path) -> None:
+    told = project(pyproject)
+    name = f"{told['name']}-{told['version']}"
+    metadata = (
+        f"Metadata-Version: 2.1\nName: {told['name']}\nVersion: {told['version']}\nSummary: {told['description']}\n"
+        f"Requires-Python: {told['requires-python']}\nDescription-Content-Type: text/markdown\n\n{readme.read_text()}"
+    )
+    wheel = f"Wheel-Version: 1.0\nGenerator: smap\nRoot-Is-Purelib: false\nTag: {TAG}\n"
+    files = {str(path.relative_to(folder)): path.read_bytes() for path in sorted(folder.rglob("*")) if path.is_file()}
+    files[f"{name}.dist-info/METADATA"] = metadata.encode()
+    files[f"{name}.dist-info/WHEEL"] = wheel.encode()
+    own = f"{name}.dist-info/RECORD"
+    files[own] = ("".join(record(path, data) for path, data in files.items()) + f"{own},,\n").encode()
+    date = time.gmtime(int(os.environ["SOURCE_DATE_EPOCH"]))[:6]
+    with zipfile.ZipFile(to / f"{name}-{TAG}.whl", "w") as archive:
+        for path, data in files.items():
+            entry = zipfile.ZipInfo(path, date)
+            entry.compress_type = zipfile.ZIP_DEFLATED
+            entry.create_system = 3
+            entry.external_attr = 0o100644 << 16
+            archive.writestr(entry, data)
+
+
+if __name__ == "__main__":
+    main(*map(Path, sys.argv[1:]))
