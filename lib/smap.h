@@ -3,13 +3,13 @@
  * Lines, columns, sources, names, sections and bytes count from 0, columns in UTF-16 code units. Texts are UTF-8, as a
  * pointer and a length, without a byte 0 at the end.
  *
- * A handle holds a map, a table or bytes, or is empty. One set to {0} is empty. A call that fills a handle wants it
- * empty: what it held before is not freed. A call that takes one from a handle wants it full, unless it says so. The pointer
- * in a handle does not show whether it is empty: after it was freed, or a call took from it, the old one stays there. Each
- * handle is used by one call at a time; two threads may use two handles, each its own.
+ * A handle holds a map, a table or bytes, or is empty. One set to {0}, or in C++ to {}, is empty. A call that fills a
+ * handle wants it empty: what it held before is not freed. A call that takes one from a handle wants it full, unless it says
+ * so. The pointer in a handle does not show whether it is empty: after it was freed, or a call took from it, the old one
+ * stays there. Each handle is used by one call at a time; two threads may use two handles, each its own.
  *
  * No pointer is null: of no bytes, give a pointer to anything and the length 0. Two pointers of a call lead to different
- * places. What a call writes to has values before: begin with {0}, or with SMAP_TEXT and SMAP_SOURCE.
+ * places. What a call writes to has values before: begin with {0} or {}, or with SMAP_TEXT and SMAP_SOURCE.
  *
  * A call returns 0 where it did what it was asked, 1 where what it was given is refused or there is nothing of that
  * number, and 3 where it is out of memory.
@@ -87,6 +87,10 @@ typedef struct smap_source_text {
 /* What was in a trace: its lines, how many were frames, and how many of these were replaced and hidden. */
 typedef struct smap_trace_count { uint64_t lines, frames, mapped, hidden; } smap_trace_count;
 
+/* Where the URL of a frame stands in a trace, how many bytes it has, and where the line after the frame begins, or the
+ * trace ends. */
+typedef struct smap_frame_url { size_t start, length, next; } smap_frame_url;
+
 /* Reads the bytes of a map file into the handle `map`. `base` is the URL at which the file stands, against which its
  * sources are resolved, or of length 0 for none. The index has a checkpoint at every `interval`-th segment of a line; 64
  * is usual, and 1 to 4096 are taken. Where it returns 1, `refusal` says why. The bytes are not kept. */
@@ -157,6 +161,17 @@ void smap_table_free(smap_table *table);
  * more than 1,073,741,824 bytes. `counts` is told where it returns 0. The bytes are freed by smap_bytes_free. */
 uint32_t smap_rewrite(smap_table *table, const uint8_t *trace, size_t length, bool hide_ignored,
                       smap_bytes *bytes, smap_trace_count *counts);
+
+/* Rewrites a text: each place URL:line:column, wherever it stands in a line, whose URL is in the table and which has an
+ * original gets it in its stead, and every other byte stays. Returns 1 where the text has more than 1,073,741,824 bytes.
+ * `counts` is told where it returns 0: `frames` are the places, and none is hidden. The bytes are freed by
+ * smap_bytes_free. */
+uint32_t smap_rewrite_anywhere(smap_table *table, const uint8_t *text, size_t length, smap_bytes *bytes,
+                               smap_trace_count *counts);
+
+/* Finds the URL of the next frame of a trace, from byte `from` on, at which a line begins: 0, or `next` of the frame
+ * before. Returns 1 where no frame follows. With it the maps of a trace can be read once frames name them. */
+uint32_t smap_next_frame_url(const uint8_t *trace, size_t length, size_t from, smap_frame_url *found);
 
 #ifdef __cplusplus
 }

@@ -30,6 +30,13 @@ same() {
     fi
 }
 
+# The sample of docs/LIBRARY.md in a language, as c, python or js. Each prints `told_by_samples`.
+sample_in() {
+    awk -v fence="\`\`\`$1" '$0 == "```" { inside = 0 } inside { print } $0 == fence { inside = 1 }' "$root/docs/LIBRARY.md"
+}
+# shellcheck disable=SC2034
+told_by_samples='../src/index.ts:36:54 transformReactJSX'
+
 # Says how many checks were made, and ends with status 1 where one of them failed.
 sum_up() {
     printf '%s checks, %s failed\n' "$checks" "$failed"

@@ -79,4 +79,10 @@ function boolean(value, what) {
   return value;
 }
 
-module.exports = { boolean, column, interval, line, mapBytes, mapUrl, positions, source, text, traceBytes };
+// What gives the map of a URL, if there is such a function.
+function loader(value) {
+  if (value !== undefined && typeof value !== 'function') throw new TypeError(`\`load\` must be a function, and not ${kind(value)}`);
+  return value;
+}
+
+module.exports = { boolean, column, interval, line, loader, mapBytes, mapUrl, positions, source, text, traceBytes };

@@ -71,9 +71,25 @@ export function compose(outer: TraceMap, source: number, inner: TraceMap): Buffe
 
 type Given = string | Uint8Array | object | TraceMap;
 
+/** What was in a trace: of frames, or of places anywhere. */
+export type TraceCounts =
+  | { lines: number; frames: number; mapped: number; hidden: number }
+  | { lines: number; places: number; mapped: number };
+
 /** The maps of a trace, each under the URL that frames name. A TraceMap that is given is closed. */
 export class Table {
-  constructor(maps: Record<string, Given> | Iterable<[string, Given]>);
+  /** `load` gives the map of a URL that has none here. It is asked once for each, when a frame first names it. */
+  constructor(
+    maps: Record<string, Given> | Iterable<[string, Given]>,
+    options?: { load?: (url: string) => Given | null | undefined },
+  );
+  /** Those of the last trace that was rewritten. */
+  readonly counts: TraceCounts | null;
 }
 
-export function rewrite(table: Table, trace: string | Uint8Array, options?: { hideIgnored?: boolean }): Buffer;
+/** With `anywhere` each place URL:line:column is replaced, wherever it stands; it excludes `hideIgnored`. */
+export function rewrite(
+  table: Table,
+  trace: string | Uint8Array,
+  options?: { hideIgnored?: boolean; anywhere?: boolean },
+): Buffer;

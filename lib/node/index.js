@@ -153,19 +153,45 @@ function composedWithItself(map, source) {
 }
 
 // Maps, each under the URL that frames name: an object or pairs of a URL and a map's text, Uint8Array or TraceMap. A
-// TraceMap that is given is closed: the table has it then.
+// TraceMap that is given is closed: the table has it then. `load` is asked for the map of each URL that is not among them,
+// once, when a frame first names it, and gives null or undefined where there is none.
 class Table {
-  constructor(maps) {
+  constructor(maps, { load } = {}) {
     if (typeof maps !== 'object' || maps === null) throw new TypeError('`maps` must be an object or pairs of a URL and a map');
+    this.load = given.loader(load);
+    // The URLs that have a map here or were asked for, a character for each of their bytes.
+    this.known = new Set();
+    this.counts = null;
     this.handle = addon.newTable();
     for (const [key, map] of maps[Symbol.iterator] ? maps : Object.entries(maps)) {
       const url = given.text(key, 'URL');
-      const isRead = map instanceof TraceMap;
-      const handle = isRead ? open(map) : standingAt(given.mapBytes(map), url);
-      const told = addon.add(this.handle, Buffer.from(url), handle);
+      const told = put(this, url, map);
       if (typeof told === 'number') throw refusedUrl(told, url);
-      if (isRead) map.handle = undefined;
+      this.known.add(Buffer.from(url).toString('latin1'));
     }
+  }
+}
+
+// Puts a map into a table, which may refuse it by a number.
+function put(table, url, map) {
+  const isRead = map instanceof TraceMap;
+  const handle = isRead ? open(map) : standingAt(given.mapBytes(map), url);
+  const told = addon.add(table.handle, Buffer.from(url), handle);
+  if (isRead && typeof told !== 'number') map.handle = undefined;
+  return told;
+}
+
+// Asks for the maps of the URLs that frames of the trace name and that were not asked for. A URL that is not UTF-8, or that no
+// table takes, has none. One whose map is refused is asked for again.
+function ask(table, trace) {
+  const numbers = new Float64Array(3);
+  while (addon.nextFrameUrl(trace, numbers)) {
+    const bytes = Buffer.from(trace.buffer, trace.byteOffset + numbers[0], numbers[1]);
+    const [key, url] = [bytes.toString('latin1'), bytes.toString()];
+    if (table.known.has(key)) continue;
+    const map = Buffer.from(url).equals(bytes) ? table.load(url) : null;
+    if (map !== null && map !== undefined) put(table, url, map);
+    table.known.add(key);
   }
 }
 
@@ -179,11 +205,19 @@ function standingAt(bytes, url) {
   }
 }
 
-// The trace with each frame that has an original in its place, as a Buffer.
-function rewrite(table, trace, { hideIgnored = false } = {}) {
+// The trace with each frame that has an original in its place, as a Buffer; with `anywhere` each place URL:line:column,
+// wherever it stands. `table.counts` then says how many lines, frames or places it had, and how many were mapped and hidden.
+function rewrite(table, trace, { hideIgnored = false, anywhere = false } = {}) {
   if (!(table instanceof Table)) throw new TypeError('a Table is wanted');
-  const text = addon.rewrite(table.handle, given.traceBytes(trace), given.boolean(hideIgnored, 'hideIgnored'));
+  const bytes = given.traceBytes(trace);
+  const [hide, places] = [given.boolean(hideIgnored, 'hideIgnored'), given.boolean(anywhere, 'anywhere')];
+  if (hide && places) throw new Error('`hideIgnored` with `anywhere`');
+  if (table.load) ask(table, bytes);
+  const numbers = new Float64Array(4);
+  const text = addon.rewrite(table.handle, bytes, places, hide, numbers);
   if (text === null) throw new Refused('refused: X3 TooMuch', [3]);
+  const [lines, frames, mapped, hidden] = numbers;
+  table.counts = places ? { lines, places: frames, mapped } : { lines, frames, mapped, hidden };
   return text;
 }
 

@@ -59,14 +59,14 @@ static bool number_of(napi_env env, napi_value value, uint32_t *number) {
     return false;
 }
 
-/* The six numbers of a refusal, in a Float64Array. */
-static double *refusal_numbers_of(napi_env env, napi_value value) {
+/* The places of a Float64Array that has so many, for numbers past 32 bits. */
+static double *doubles_of(napi_env env, napi_value value, size_t wanted) {
     napi_typedarray_type type;
     size_t places;
     void *data = NULL;
-    if (napi_get_typedarray_info(env, value, &type, &places, &data, NULL, NULL) == napi_ok && type == napi_float64_array && places >= 6)
+    if (napi_get_typedarray_info(env, value, &type, &places, &data, NULL, NULL) == napi_ok && type == napi_float64_array && places >= wanted)
         return data;
-    refuse_type(env, "no Float64Array of 6");
+    refuse_type(env, "no Float64Array, or one that is too short");
     return NULL;
 }
 
@@ -167,7 +167,7 @@ static napi_value read_map(napi_env env, napi_callback_info info) {
     uint32_t interval;
     double *numbers;
     if (!words_of(env, info, 4, words) || !bytes_of(env, words[0], &bytes, &length) || !bytes_of(env, words[1], &base, &base_length) ||
-        !number_of(env, words[2], &interval) || !(numbers = refusal_numbers_of(env, words[3])))
+        !number_of(env, words[2], &interval) || !(numbers = doubles_of(env, words[3], 6)))
         return NULL;
     struct held_map *held = calloc(1, sizeof *held);
     if (!held) return refuse(env, "out of memory");
@@ -195,7 +195,7 @@ static napi_value read_map(napi_env env, napi_callback_info info) {
 static napi_value refusal_text(napi_env env, napi_callback_info info) {
     napi_value words[WORDS];
     const double *n;
-    if (!words_of(env, info, 1, words) || !(n = refusal_numbers_of(env, words[0]))) return NULL;
+    if (!words_of(env, info, 1, words) || !(n = doubles_of(env, words[0], 6))) return NULL;
     smap_refusal refusal = {(uint32_t)n[0], (uint32_t)n[1], (uint32_t)n[2], (uint32_t)n[3], (uint64_t)n[4], (uint64_t)n[5]};
     smap_bytes bytes = {0};
     uint32_t status = smap_refusal_text(&refusal, &bytes);
@@ -372,21 +372,51 @@ static napi_value add(napi_env env, napi_callback_info info) {
     return status == SMAP_REFUSED ? number(env, why) : refuse(env, "out of memory");
 }
 
-/* rewrite(table, trace, hideIgnored): the trace, or null where it is refused. */
+/* rewrite(table, text, anywhere, hideIgnored, numbers): the text, with its four counts in the numbers, or null where it is
+ * refused. */
 static napi_value rewrite(napi_env env, napi_callback_info info) {
     napi_value words[WORDS];
-    const uint8_t *trace;
+    const uint8_t *text;
     size_t length;
-    bool hide;
-    if (!words_of(env, info, 3, words)) return NULL;
+    bool anywhere, hide;
+    if (!words_of(env, info, 5, words)) return NULL;
     struct held_table *table = table_of(env, words[0]);
-    if (!table || !bytes_of(env, words[1], &trace, &length)) return NULL;
-    if (napi_get_value_bool(env, words[2], &hide) != napi_ok) return refuse_type(env, "no boolean");
+    if (!table || !bytes_of(env, words[1], &text, &length)) return NULL;
+    if (napi_get_value_bool(env, words[2], &anywhere) != napi_ok || napi_get_value_bool(env, words[3], &hide) != napi_ok)
+        return refuse_type(env, "no boolean");
+    double *numbers = doubles_of(env, words[4], 4);
+    if (!numbers) return NULL;
     smap_bytes bytes = {0};
     smap_trace_count count = {0};
-    uint32_t status = smap_rewrite(&table->table, trace, length, hide, &bytes, &count);
-    if (status == SMAP_DONE) return buffer(env, &bytes);
-    return status == SMAP_REFUSED ? null(env) : refuse(env, "out of memory");
+    uint32_t status = anywhere ? smap_rewrite_anywhere(&table->table, text, length, &bytes, &count)
+                               : smap_rewrite(&table->table, text, length, hide, &bytes, &count);
+    if (status == SMAP_REFUSED) return null(env);
+    if (status != SMAP_DONE) return refuse(env, "out of memory");
+    numbers[0] = (double)count.lines;
+    numbers[1] = (double)count.frames;
+    numbers[2] = (double)count.mapped;
+    numbers[3] = (double)count.hidden;
+    return buffer(env, &bytes);
+}
+
+/* nextFrameUrl(trace, numbers): whether a frame follows byte numbers[2]; then where its URL stands, its length, and where the
+ * next line begins, in the numbers. */
+static napi_value next_frame_url(napi_env env, napi_callback_info info) {
+    napi_value words[WORDS], follows;
+    const uint8_t *trace;
+    size_t length;
+    if (!words_of(env, info, 2, words) || !bytes_of(env, words[0], &trace, &length)) return NULL;
+    double *numbers = doubles_of(env, words[1], 3);
+    if (!numbers) return NULL;
+    if (!(numbers[2] >= 0 && numbers[2] <= (double)length)) return refuse_type(env, "no byte of the trace");
+    smap_frame_url found = {0};
+    bool done = smap_next_frame_url(trace, length, (size_t)numbers[2], &found) == SMAP_DONE;
+    if (done) {
+        numbers[0] = (double)found.start;
+        numbers[1] = (double)found.length;
+        numbers[2] = (double)found.next;
+    }
+    return napi_get_boolean(env, done, &follows) == napi_ok ? follows : NULL;
 }
 
 NAPI_MODULE_INIT() {
@@ -394,7 +424,7 @@ NAPI_MODULE_INIT() {
         {"read", read_map}, {"refusalText", refusal_text}, {"close", close_map}, {"lookUpMany", look_up_many},
         {"counts", counts}, {"sourceName", source_name}, {"sourceContent", source_content}, {"isIgnored", is_ignored},
         {"name", name}, {"file", file}, {"write", write_map}, {"compose", compose}, {"newTable", new_table}, {"add", add},
-        {"rewrite", rewrite}, {"composeRefusalText", compose_refusal_text}, {"tableRefusalText", table_refusal_text},
+        {"rewrite", rewrite}, {"nextFrameUrl", next_frame_url}, {"composeRefusalText", compose_refusal_text}, {"tableRefusalText", table_refusal_text},
     };
     napi_value buffer, room;
     napi_ref kept;

@@ -5,6 +5,8 @@
  *   show MAP                       what `smap show` writes, without its LF
  *   compose OUTER SOURCE INNER     what `smap compose` writes, without its LF
  *   rewrite URL MAP                the trace on standard input, rewritten
+ *   load URL MAP                   the same, where the map is read once a frame names it
+ *   anywhere URL MAP               the text on standard input, with its places rewritten
  *   again MAP COUNT                reads and frees the map so often, and prints how much memory is held more at the end
  *   threads MAP MAP                two threads with a map each
  *   mistakes MAP                   each refusal that no file has
@@ -150,19 +152,38 @@ static void composed(const char *outer, const char *source, const char *inner) {
     smap_map_free(&b);
 }
 
-static void rewritten(const char *url, const char *path) {
-    size_t length;
-    uint8_t *trace = whole(stdin, &length);
+static void add(smap_table *table, const char *url, const char *path) {
     smap_map map = {0};
     smap_refusal refusal = {0};
     if (read_file(path, strstr(url, "://") ? url : "", 64, &map, &refusal) != SMAP_DONE) fail("a map is refused");
-    smap_table table = {0};
     uint32_t why = 0;
+    if (smap_table_add(table, (const uint8_t *)url, strlen(url), &map, &why) != SMAP_DONE) fail("not added");
+}
+
+/* Adds the map once a frame names its URL. */
+static void add_named(smap_table *table, const uint8_t *trace, size_t length, const char *url, const char *path) {
+    smap_frame_url found = {0};
+    while (smap_next_frame_url(trace, length, found.next, &found) == SMAP_DONE) {
+        if (found.length != strlen(url) || memcmp(trace + found.start, url, found.length)) continue;
+        add(table, url, path);
+        return;
+    }
+}
+
+static void rewritten(const char *command, const char *url, const char *path) {
+    size_t length;
+    uint8_t *trace = whole(stdin, &length);
+    smap_table table = {0};
     if (smap_table_new(&table) != SMAP_DONE) fail("no table");
-    if (smap_table_add(&table, (const uint8_t *)url, strlen(url), &map, &why) != SMAP_DONE) fail("not added");
+    if (!strcmp(command, "load"))
+        add_named(&table, trace, length, url, path);
+    else
+        add(&table, url, path);
     smap_bytes bytes = {0};
     smap_trace_count count = {0};
-    if (smap_rewrite(&table, trace, length, false, &bytes, &count) != SMAP_DONE) fail("not rewritten");
+    uint32_t status = strcmp(command, "anywhere") ? smap_rewrite(&table, trace, length, false, &bytes, &count)
+                                                  : smap_rewrite_anywhere(&table, trace, length, &bytes, &count);
+    if (status != SMAP_DONE) fail("not rewritten");
     put_bytes(&bytes);
     fprintf(stderr, "lines %lu frames %lu mapped %lu hidden %lu\n", (unsigned long)count.lines, (unsigned long)count.frames,
             (unsigned long)count.mapped, (unsigned long)count.hidden);
@@ -285,8 +306,8 @@ int main(int count, char **words) {
         show(words[2]);
     } else if (!strcmp(command, "compose")) {
         composed(words[2], words[3], words[4]);
-    } else if (!strcmp(command, "rewrite")) {
-        rewritten(words[2], words[3]);
+    } else if (!strcmp(command, "rewrite") || !strcmp(command, "load") || !strcmp(command, "anywhere")) {
+        rewritten(command, words[2], words[3]);
     } else if (!strcmp(command, "again")) {
         again(words[2], atol(words[3]));
     } else if (!strcmp(command, "threads")) {

@@ -1,7 +1,7 @@
 'use strict';
 // What tests/try-library asks of the library in node. driver.c says of each command what it prints.
 const fs = require('node:fs');
-const smap = require('../../lib/node');
+const smap = require('smap');
 
 const open = (path, ...words) => new smap.TraceMap(fs.readFileSync(path), ...words);
 const positions = () =>
@@ -71,6 +71,14 @@ const commands = {
   },
   rewrite: (url, path) =>
     process.stdout.write(smap.rewrite(new smap.Table({ [url]: fs.readFileSync(path) }), fs.readFileSync(0))),
+  load: (url, path) => {
+    const load = (named) => (named === url ? fs.readFileSync(path) : null);
+    process.stdout.write(smap.rewrite(new smap.Table({}, { load }), fs.readFileSync(0)));
+  },
+  anywhere: (url, path) => {
+    const table = new smap.Table({ [url]: fs.readFileSync(path) });
+    process.stdout.write(smap.rewrite(table, fs.readFileSync(0), { anywhere: true }));
+  },
   again,
 };
 commands[process.argv[2]](...process.argv.slice(3));

@@ -3,6 +3,7 @@
 import re
 import sys
 from array import array
+from pathlib import Path
 
 from smap import Refused, Rewriter, SourceMap, compose
 
@@ -83,6 +84,16 @@ def rewrite(url, path):
         sys.stdout.buffer.write(rewriter.rewrite(sys.stdin.buffer.read()))
 
 
+def load(url, path):
+    with Rewriter({}, load=lambda named: Path(path) if named == url else None) as rewriter:
+        sys.stdout.buffer.write(rewriter.rewrite(sys.stdin.buffer.read()))
+
+
+def anywhere(url, path):
+    with Rewriter({url: Path(path)}) as rewriter:
+        sys.stdout.buffer.write(rewriter.rewrite(sys.stdin.buffer.read(), anywhere=True))
+
+
 def again(path, count):
     with open("/proc/self/statm") as statm, open(path, "rb") as file:
         data, before = file.read(), 0
@@ -100,5 +111,5 @@ def resident():
 
 if __name__ == "__main__":
     commands = {"look": look, "from": from_, "many": many, "refuse": refuse, "counts": counts, "show": show,
-                "compose": composed, "rewrite": rewrite, "again": again}
+                "compose": composed, "rewrite": rewrite, "load": load, "anywhere": anywhere, "again": again}
     commands[sys.argv[1]](*sys.argv[2:])

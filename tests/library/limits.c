@@ -100,6 +100,24 @@ static void reading(void) {
     }
 }
 
+/* A place stands behind so many bytes of its line. */
+static void long_line(smap_table *table, size_t before) {
+    static const char place[] = " a.js:1:11", original[] = " a.js:2:5";
+    const size_t length = before + strlen(place);
+    uint8_t *line = malloc(length);
+    memset(line, 'x', before);
+    memcpy(line + before, place, strlen(place));
+    smap_bytes bytes = {0};
+    smap_trace_count count = {9, 9, 9, 9};
+    smap_text text = SMAP_TEXT;
+    insist(smap_rewrite_anywhere(table, line, length, &bytes, &count) == SMAP_DONE, "a place in a long line");
+    insist(count.lines == 1 && count.frames == 1 && count.mapped == 1 && count.hidden == 0, "its count");
+    insist(smap_bytes_text(&bytes, &text) == SMAP_DONE && text.length == before + strlen(original), "the original's length");
+    insist(!memcmp(text.bytes, line, before) && !memcmp(text.bytes + before, original, strlen(original)), "the original");
+    smap_bytes_free(&bytes);
+    free(line);
+}
+
 static void traces(void) {
     smap_table table = {0};
     smap_map map = opened();
@@ -121,6 +139,21 @@ static void traces(void) {
     smap_bytes_free(&bytes);
     insist(smap_rewrite(&table, zeros, 0, false, &bytes, &count) == SMAP_DONE && count.lines == 0, "no trace");
     smap_bytes_free(&bytes);
+    insist(smap_rewrite_anywhere(&table, zeros, most_trace_bytes + 1, &bytes, &count) == SMAP_REFUSED, "X3 of a text");
+    insist(smap_rewrite_anywhere(&table, zeros, most_trace_bytes, &bytes, &count) == SMAP_DONE, "the longest text");
+    insist(count.lines == 1 && count.frames == 0 && count.mapped == 0 && count.hidden == 0, "the counts of the longest text");
+    insist(smap_bytes_text(&bytes, &text) == SMAP_DONE && text.length == most_trace_bytes, "the length of the longest text");
+    insist(!memcmp(text.bytes, zeros, most_trace_bytes), "the bytes of the longest text");
+    smap_bytes_free(&bytes);
+    insist(smap_rewrite_anywhere(&table, zeros, 0, &bytes, &count) == SMAP_DONE && count.lines == 0, "no text");
+    smap_bytes_free(&bytes);
+    for (size_t before = 65500; before < 65600; before++) long_line(&table, before);
+    long_line(&table, 1 << 24);
+    smap_frame_url found = {9, 9, 9};
+    insist(smap_next_frame_url(zeros, most_trace_bytes, 0, &found) == SMAP_REFUSED, "no frame");
+    insist(smap_next_frame_url(zeros, 0, 0, &found) == SMAP_REFUSED, "no frame in no trace");
+    insist(smap_next_frame_url(zeros, 5, SIZE_MAX, &found) == SMAP_REFUSED, "no frame past the end");
+    insist(found.start == 9 && found.length == 9 && found.next == 9, "nothing found");
     smap_table_free(&table);
 }
 

@@ -100,6 +100,7 @@ static uint32_t new_call(void) { return smap_table_new(&made_table); }
 static uint32_t add_call(void) { return smap_table_add(&table, url, sizeof url - 1, &made, &why); }
 static uint32_t twice_call(void) { return smap_table_add(&table, base, sizeof base - 1, &made, &why); }
 static uint32_t rewrite_call(void) { return smap_rewrite(&table, trace, sizeof trace - 1, false, &bytes, &count); }
+static uint32_t anywhere_call(void) { return smap_rewrite_anywhere(&table, trace, sizeof trace - 1, &bytes, &count); }
 
 /* Which handle a call fills; or it takes the map from `made`, and gives it back where it refuses. */
 enum handle { FILLS_MAP, FILLS_TABLE, FILLS_BYTES, TAKES_MAP };
@@ -119,6 +120,7 @@ static const struct call {
     {"smap_table_add", add_call, SMAP_DONE, TAKES_MAP},
     {"smap_table_add of what is refused", twice_call, SMAP_REFUSED, TAKES_MAP},
     {"smap_rewrite", rewrite_call, SMAP_DONE, FILLS_BYTES},
+    {"smap_rewrite_anywhere", anywhere_call, SMAP_DONE, FILLS_BYTES},
 };
 
 /* What handed-out bytes say, which are freed. */
@@ -169,7 +171,8 @@ static bool made_without(const struct call *call, long number) {
     if (read_map(&outer, &outer_file) || read_map(&inner, &inner_file) || smap_table_new(&table)) fail(call->name, "is not prepared");
     smap_map mapped = {0};
     if (read_map(&mapped, &inner_file) || smap_table_add(&table, base, sizeof base - 1, &mapped, &why)) fail(call->name, "has no table");
-    if (call->make == rewrite_call && (read_map(&mapped, &outer_file) || smap_table_add(&table, url, sizeof url - 1, &mapped, &why)))
+    bool rewrites = call->make == rewrite_call || call->make == anywhere_call;
+    if (rewrites && (read_map(&mapped, &outer_file) || smap_table_add(&table, url, sizeof url - 1, &mapped, &why)))
         fail(call->name, "has no map");
     made = (smap_map){0};
     made_table = (smap_table){0};
@@ -199,7 +202,8 @@ static bool made_without(const struct call *call, long number) {
         if (number >= 0 && !alike(&ample, &now)) fail(call->name, "has another answer");
         if (alike(&before, &after) != (call->make != add_call)) fail(call->name, "has another table");
         if (call->make == refuse_call && refusal.number != 4) fail(call->name, "has another refusal");
-        if (call->make == rewrite_call && (count.lines != 4 || count.frames != 2 || count.mapped != 1)) fail(call->name, "has other counts");
+        uint64_t frames = call->make == rewrite_call ? 2 : 1; /* of a URL in the table, where places are counted */
+        if (rewrites && (count.lines != 4 || count.frames != frames || count.mapped != 1)) fail(call->name, "has other counts");
         if (call->make == twice_call && why != 2) fail(call->name, "has another refusal");
     }
     smap_map_free(&outer);

@@ -2,9 +2,9 @@
 // What the library answers in node where it is called wrongly, and at the ends of what numbers hold: node mistakes.js MAP.
 const assert = require('node:assert');
 const fs = require('node:fs');
-const smap = require('../../lib/node');
-const { refusedMap } = require('../../lib/node/refused.js');
-const addon = require('../../lib/node/smap.node');
+const smap = require('smap');
+const { refusedMap } = require('smap/refused.js');
+const addon = require('smap/smap.node');
 
 // Line 1 has a mapping at column 0 and one at 10 with a name, line 2 none, and line 3 one at 5 without an original.
 const small = '{"version":3,"sources":["a.js"],"names":["n"],"mappings":"AAAA,UACIA;;K"}';
@@ -194,6 +194,52 @@ function tables() {
   refuses('Error', () => new smap.Table({ 'a.js': map }), 'the map is closed');
 }
 
+function loading() {
+  const url = 'https://e.test/a.min.js';
+  const asked = [];
+  const load = (name) => {
+    asked.push(name);
+    if (name === 'odd.js') return '{}';
+    if (name === 'stop.js') throw new RangeError(name);
+    return [url, 'async x', 'eval at x'].includes(name) ? small : null;
+  };
+  const table = new smap.Table({ 'b.js': small }, { load });
+  same(table.counts, null);
+  const [frame, mapped] = [`    at f (${url}:1:11)\n`, '    at f (https://e.test/a.js:2:5)\n'];
+  for (let round = 0; round < 2; round++) {
+    const trace = `${frame}f@b.js:1:11\nf@c.js:1:1\nat d.js\n${frame}`;
+    same(smap.rewrite(table, trace), Buffer.from(`${mapped}f@a.js:2:5\nf@c.js:1:1\nat d.js\n${mapped}`));
+    same(asked, [url, 'c.js']);
+  }
+  same(table.counts, { lines: 5, frames: 4, mapped: 3, hidden: 0 });
+  // A URL that no table takes, and one that is no text.
+  const odd = Buffer.from('f@async x:1:11\nf@eval at x:1:11\nf@\xff.js:1:11\n', 'latin1');
+  same(smap.rewrite(table, odd), odd);
+  same(asked, [url, 'c.js', 'async x', 'eval at x']);
+  for (let round = 0; round < 2; round++) {
+    refuses('Refused', () => smap.rewrite(table, 'f@odd.js:1:1\n'), 'refused: odd.js: M4 Version', { number: 4, url: 'odd.js' });
+    refuses('RangeError', () => smap.rewrite(table, 'f@stop.js:1:1\n'), /stop\.js/);
+  }
+  same(asked.slice(4), ['odd.js', 'stop.js', 'odd.js', 'stop.js']);
+  const map = new smap.TraceMap(small);
+  const lending = new smap.Table({}, { load: () => map });
+  same(smap.rewrite(lending, 'f@g.js:1:11'), Buffer.from('f@a.js:2:5'));
+  refuses('Error', () => smap.rewrite(lending, 'f@h.js:1:11'), 'the map is closed');
+  for (const bad of [7, null, 'a.js', {}]) refuses('TypeError', () => new smap.Table({}, { load: bad }), /`load` must be a function/);
+  refuses('TypeError', () => smap.rewrite(new smap.Table({}, { load: () => 7 }), 'f@g.js:1:11'), /a map must be a text/);
+}
+
+function anywhere() {
+  const text = '{g.js:1:11} [h.js:1:11] {g.js:9:9}\n    at g.js:1:11\n';
+  const wanted = Buffer.from('{a.js:2:5} [h.js:1:11] {g.js:9:9}\n    at a.js:2:5\n');
+  const table = new smap.Table({ 'g.js': small });
+  same(smap.rewrite(table, text, { anywhere: true }), wanted);
+  same(table.counts, { lines: 2, places: 3, mapped: 2 });
+  refuses('Error', () => smap.rewrite(table, text, { anywhere: true, hideIgnored: true }), /`hideIgnored` with `anywhere`/);
+  for (const bad of [7, null, 'yes']) refuses('TypeError', () => smap.rewrite(table, text, { anywhere: bad }), /`anywhere`/);
+  same(smap.rewrite(new smap.Table({}, { load: () => small }), text, { anywhere: true }), wanted);
+}
+
 function closed() {
   const map = new smap.TraceMap(small);
   same(smap.sourceContentFor(map, 'no such source'), null);
@@ -213,5 +259,7 @@ bases();
 intervals();
 compositions(process.argv[2]);
 tables();
+loading();
+anywhere();
 closed();
 console.log('mistakes', told);

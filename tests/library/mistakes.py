@@ -196,6 +196,51 @@ def tables():
         refuses(ValueError, lambda: Rewriter({"a.js": given}), "closed")
 
 
+def loading():
+    url, asked = "https://e.test/a.min.js", []
+    frame, mapped = b"    at f (https://e.test/a.min.js:1:11)\n", b"    at f (https://e.test/a.js:2:5)\n"
+
+    def load(name):
+        asked.append(name)
+        if name == "odd.js":
+            return b"{}"
+        if name == "stop.js":
+            raise KeyError(name)
+        return SMALL if name in (url, "async x", "eval at x") else None
+
+    with Rewriter({"b.js": SMALL}, load=load) as rewriter:
+        for _ in range(2):
+            same(rewriter.rewrite(frame + b"f@b.js:1:11\nf@c.js:1:1\nat d.js\n" + frame), mapped + b"f@a.js:2:5\nf@c.js:1:1\nat d.js\n" + mapped)
+            same(asked, [url, "c.js"])
+        same(rewriter.counts, {"lines": 5, "frames": 4, "mapped": 3, "hidden": 0})
+        # A URL that no table takes, and one that is no text.
+        odd = b"f@async x:1:11\nf@eval at x:1:11\nf@\xff.js:1:11\n"
+        same(rewriter.rewrite(odd), odd)
+        same(asked, [url, "c.js", "async x", "eval at x"])
+        for _ in range(2):
+            refuses(Refused, lambda: rewriter.rewrite("f@odd.js:1:1\n"), "refused: odd.js: M4 Version", number=4, url="odd.js")
+            refuses(KeyError, lambda: rewriter.rewrite("f@stop.js:1:1\n"), "stop.js")
+        same(asked[4:], ["odd.js", "stop.js"] * 2)
+    refuses(ValueError, lambda: rewriter.rewrite("f@e.js:1:1"), "closed")
+    with SourceMap(SMALL) as given, Rewriter({}, load=lambda name: given) as rewriter:
+        same(rewriter.rewrite("f@g.js:1:11"), b"f@a.js:2:5")
+        refuses(ValueError, lambda: rewriter.rewrite("f@h.js:1:11"), "closed")
+    for bad in (7, "a.js", {}):
+        refuses(TypeError, lambda: Rewriter({}, load=bad), "function", type(bad).__name__)
+    with Rewriter({}, load=lambda name: 7) as rewriter:
+        refuses(TypeError, lambda: rewriter.rewrite("f@g.js:1:11"), "bytes, a str or a Path", "int")
+
+
+def anywhere():
+    text = "{g.js:1:11} [h.js:1:11] {g.js:9:9}\n    at g.js:1:11\n"
+    with Rewriter({"g.js": SMALL}) as rewriter:
+        same(rewriter.rewrite(text, anywhere=True), b"{a.js:2:5} [h.js:1:11] {g.js:9:9}\n    at a.js:2:5\n")
+        same(rewriter.counts, {"lines": 2, "places": 3, "mapped": 2})
+        refuses(ValueError, lambda: rewriter.rewrite(text, hide_ignored=True, anywhere=True), "hide_ignored with anywhere")
+    with Rewriter({}, load=lambda name: SMALL) as rewriter:
+        same(rewriter.rewrite(text, anywhere=True), b"{a.js:2:5} [h.js:1:11] {g.js:9:9}\n    at a.js:2:5\n")
+
+
 def closed():
     small = SourceMap(SMALL)
     small.close()
@@ -215,5 +260,7 @@ if __name__ == "__main__":
     intervals()
     compositions(Path(sys.argv[1]))
     tables()
+    loading()
+    anywhere()
     closed()
     print("mistakes", told)

@@ -92,7 +92,7 @@ const TAKING = [
   },
   {
     call: 'parse smap rewrite --anywhere https://ex.test/app.js=app.map',
-    answer: 'anywhere https://ex.test/app.js of app.map',
+    answer: 'rewrite from https://ex.test/app.js of app.map',
     memory: 'Memory',
   },
   {

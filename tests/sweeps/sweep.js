@@ -18,7 +18,7 @@ const COPY = path.join(ROOT, '.smap', 'sweeps');
 const CRATE = path.join(COPY, 'crates', NAME);
 const KEPT = path.join(ROOT, '.smap', 'sweeps-out');
 const BELOW =
-  'smap_io smap_mappings smap_index smap_resolve smap_record smap_text smap_compose smap_trace smap_places smap_positions smap_command smap_answers smap_arguments smap_runs url';
+  'smap_io smap_lines smap_mappings smap_index smap_resolve smap_record smap_text smap_compose smap_trace smap_places smap_positions smap_command smap_answers smap_arguments smap_runs url';
 const MOST_GROWTHS = 10000;
 
 // ---------------------------------------------------------------------------------------------

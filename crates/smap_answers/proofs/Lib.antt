@@ -1,8 +1,11 @@
 mod CheckLaws
 mod ComposeLaws
+mod Examples
 mod NextLaws
 mod PositionsLaws
 mod RawLaws
 mod RunLaws
 mod ShownLaws
+mod SourcesLaws
+mod StoreLaws
 mod TraceLaws

@@ -3,6 +3,7 @@ use Rattle.std.proofs.Common.{◌≡◌, ℕ, Bool, true, false, List, [], Optio
 use Rattle.smap_io.specs.Device.{Gives, SinkSeen, SourceSeen, Takes}
 use Rattle.smap_lines.specs.Edited.{edited}
 use Rattle.smap_lines.specs.Editing.{DevicesSeen, EditsFront, devices_seen, is_write_fault}
+use Rattle.smap_lines.specs.Limits.{most_text_bytes}
 use Rattle.smap_lines.specs.declared.fault.LineFault.{LineFault}
 use Rattle.smap_lines.specs.declared.fault.LineFault.TheVariants.{Read, Write, TooMuch, Memory}
 use Rattle.smap_positions.specs.Answering.{AnswersPositions}
@@ -19,7 +20,7 @@ use Rattle.url.specs.Parts.{Parts}
 -- all of it was written, but not flushed
 pub written_front : (before : DevicesSeen) (input : SourceSeen) (mid after : SinkSeen) (stated : MapRecord) (from json : Bool) (summary : PositionsSummary) →
     AnswersPositions before (devices_seen input mid) stated from json summary → after.taken ≡ mid.taken
-    → EditsFront (answered_line stated from json) before (devices_seen input after) Write
+    → EditsFront (answered_line stated from json) most_text_bytes before (devices_seen input after) Write
 written_front before input mid after stated from json summary answers kept = record {
   bytes = answers.bytes;
   written = edited (answered_line stated from json) answers.bytes;

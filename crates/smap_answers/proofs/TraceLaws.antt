@@ -1,6 +1,7 @@
 -- What the arguments of `rewrite` come to, argument by argument.
 use Rattle.std.proofs.Common.{◌≡◌, ℕ, ◌+◌, ◌⊎◌, List, [], ◌∷◌, refl, sym, ap, subst, ◌∙◌, inl, inr, add-one}
-use Rattle.std.specs.Prelude.{Option, Some, None, Result, Ok, Err, MatchOption, ⊤}
+use Rattle.std.specs.Prelude.{Bool, true, false, ◌&&◌, MatchBool, Option, Some, None, Result, Ok, Err, MatchOption, ⊤}
+use Rattle.smap_store.specs.MapList.{is_folder}
 use Rattle.smap_record.specs.Record.{MapRecord, record_of}
 use Rattle.smap_record.specs.declared.refusal.MapRefusal.{MapRefusal}
 use Rattle.smap_trace.specs.Table.{IsWith, url_refusal}
@@ -62,19 +63,38 @@ puts_after base k before maps url path bytes result is puts = subst (λ b. PutsN
 
 -- ---- all files
 
-module _ (Reads : MayRead) (base : Option Parts) (k number : ℕ) (before : Result Maps Telling) (arguments rest : List (List ℕ × List ℕ)) (url path : List ℕ)
-    (is : arguments ≡ (url, path) ∷ rest) where
+if_true : (A B : Type 0) (is : Bool) → is ≡ true → A → MatchBool is A B
+if_true A B is holds one = subst (λ b. MatchBool b A B) (sym holds) one
+
+if_false : (A B : Type 0) (is : Bool) → is ≡ false → B → MatchBool is A B
+if_false A B is fails one = subst (λ b. MatchBool b A B) (sym fails) one
+
+module _ (passes : Bool) (Reads : MayRead) (base : Option Parts) (k number : ℕ) (before : Result Maps Telling) (arguments rest : List (List ℕ × List ℕ))
+    (url path : List ℕ) (is : arguments ≡ (url, path) ∷ rest) where
+  -- what the first argument and those behind it come to is what all do
+  of_first : (result : Result Maps Telling) → Gathers passes Reads base k number before ((url, path) ∷ rest) result
+      → Gathers passes Reads base k number before arguments result
+  of_first result gathers = subst (λ left. Gathers passes Reads base k number before left result) (sym is) gathers
+
+  -- a folder was passed over
+  pub gathers_passed : (passed : Bool) → passed ≡ (passes && is_folder path) → passed ≡ true → (result : Result Maps Telling)
+      → Gathers passes Reads base k (number + 1) before rest result → Gathers passes Reads base k number before arguments result
+  gathers_passed passed so holds result gathers = of_first result (if_true _ _ _ (sym so ∙ holds) (rw (add-one) at gathers))
+
   -- the file of an argument was read
-  pub gathers_next : (bytes : List ℕ) (next result : Result Maps Telling) → Reads number path (Ok bytes) → PutsNext base k before url path bytes next
-      → Gathers Reads base k (number + 1) next rest result → Gathers Reads base k number before arguments result
-  gathers_next bytes next result reads puts gathers =
-      subst (λ left. Gathers Reads base k number before left result) (sym is) (inr (bytes, reads, (next, puts, (rw (add-one) at gathers))))
+  pub gathers_next : (passed : Bool) → passed ≡ (passes && is_folder path) → passed ≡ false → (bytes : List ℕ) (next result : Result Maps Telling)
+      → Reads number path (Ok bytes) → PutsNext base k before url path bytes next → Gathers passes Reads base k (number + 1) next rest result
+      → Gathers passes Reads base k number before arguments result
+  gathers_next passed so fails bytes next result reads puts gathers =
+      of_first result (if_false _ _ _ (sym so ∙ fails) (inr (bytes, reads, (next, puts, (rw (add-one) at gathers)))))
 
   -- or was not
-  pub gathers_unread : (telling : Telling) → OrMemory (IsUnread Reads number path) telling → Gathers Reads base k number before arguments (Err telling)
-  gathers_unread telling unread = subst (λ left. Gathers Reads base k number before left (Err telling)) (sym is) (inl (telling, unread, refl))
+  pub gathers_unread : (passed : Bool) → passed ≡ (passes && is_folder path) → passed ≡ false → (telling : Telling)
+      → OrMemory (IsUnread Reads number path) telling → Gathers passes Reads base k number before arguments (Err telling)
+  gathers_unread passed so fails telling unread = of_first (Err telling) (if_false _ _ _ (sym so ∙ fails) (inl (telling, unread, refl)))
 
 -- no argument is left
-pub gathers_end : (Reads : MayRead) (base : Option Parts) (k number : ℕ) (before : Result Maps Telling) (arguments : List (List ℕ × List ℕ)) → arguments ≡ []
-    → Gathers Reads base k number before arguments before
-gathers_end Reads base k number before arguments is = subst (λ left. Gathers Reads base k number before left before) (sym is) refl
+pub gathers_end : (passes : Bool) (Reads : MayRead) (base : Option Parts) (k number : ℕ) (before : Result Maps Telling) (arguments : List (List ℕ × List ℕ))
+    → arguments ≡ [] → Gathers passes Reads base k number before arguments before
+gathers_end passes Reads base k number before arguments is =
+    subst (λ left. Gathers passes Reads base k number before left before) (sym is) refl

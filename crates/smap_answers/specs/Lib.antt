@@ -10,5 +10,11 @@ pub mod Lookup
 pub mod Positions
 pub mod Compose
 pub mod Trace
+pub mod Sources
+pub mod Loader
+pub mod LoaderLaws
+pub mod RewriteFrom
+pub mod SameBytes
+pub mod SameBytesLaws
 pub mod Run
 pub mod Private

@@ -53,6 +53,10 @@ map_refused_line path refusal = line_from (codes "refused: " ∷ shown path ∷ 
 abbrev pub file_failed_line : (path : List ℕ) → List ℕ
 file_failed_line path = line_from (codes "device: read " ∷ shown path ∷ [])
 
+-- memory ran out while the map of a file was read
+abbrev pub map_memory_line : (path : List ℕ) → List ℕ
+map_memory_line path = line_from (codes "memory: " ∷ shown path ∷ [])
+
 abbrev pub input_failed_line : List ℕ
 input_failed_line = line_from (codes "device: read standard input" ∷ [])
 
@@ -71,6 +75,15 @@ bad_url_line word = line_from (codes "usage: A1 BadUrl: " ∷ shown word ∷ [])
 
 abbrev pub twice_line : (word : List ℕ) → List ℕ
 twice_line word = line_from (codes "usage: A2 Twice: " ∷ shown word ∷ [])
+
+-- an argument of `rewrite` whose folder is refused, with the reason
+abbrev pub folder_refused_line : (word reason : List ℕ) → List ℕ
+folder_refused_line word reason = line_from (codes "usage: " ∷ reason ∷ codes ": " ∷ shown word ∷ [])
+
+-- the list at a path, of which the line with this number, from 1, is refused, with the reason
+abbrev pub list_refused_line : (path : List ℕ) (number : ℕ) (reason : List ℕ) → List ℕ
+list_refused_line path number reason =
+    line_from (codes "usage: " ∷ shown path ∷ codes " line " ∷ decimal number ∷ codes ": " ∷ reason ∷ [])
 
 -- why a trace was not rewritten to its end
 abbrev pub trace_unread_line : List ℕ

@@ -1,6 +1,7 @@
 -- What `positions` tells.
 use Rattle.std.specs.Prelude.{◌≡◌, ℕ, ◌==◌, ◌⊎◌, Bool, true, List, Option, Some, None, Result, Ok, Err, [], if◌then◌else◌}
 use Rattle.smap_lines.specs.Editing.{DevicesSeen, EditsFront, is_read_fault, is_write_fault}
+use Rattle.smap_lines.specs.Limits.{most_text_bytes}
 use Rattle.smap_lines.specs.declared.fault.LineFault.{LineFault}
 use Rattle.smap_lines.specs.declared.fault.LineFault.TheVariants.{TooMuch, Memory}
 use Rattle.smap_record.specs.Record.{MapRecord}
@@ -34,7 +35,7 @@ positions_telling (Err fault) = fault_telling fault
 -- the positions are answered to their end, or up to a fault
 abbrev pub IsAnswered : MapRecord → (from json : Bool) → (before after : DevicesSeen) → Result PositionsSummary LineFault → Type 0
 IsAnswered stated from json before after (Ok summary) = AnswersPositions before after stated from json summary
-IsAnswered stated from json before after (Err fault) = EditsFront (answered_line stated from json) before after fault
+IsAnswered stated from json before after (Err fault) = EditsFront (answered_line stated from json) most_text_bytes before after fault
 
 -- answering the positions on standard input from this map tells this; a refusal for a bad line or a long one comes after
 -- their answers, which are flushed

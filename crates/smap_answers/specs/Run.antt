@@ -1,6 +1,7 @@
 -- What a run of the program does to its streams, and the status with which it ends.
-use Rattle.std.specs.Prelude.{◌≡◌, ℕ, Bool, true, false, List, map, string_bytes, IfSome}
-pub use Rattle.smap_command.specs.Interval.{HasInterval}
+use Rattle.std.specs.Prelude.{◌≡◌, ℕ, Bool, true, false, List, map, option_map, string_bytes, IfSome}
+use Rattle.smap_command.specs.Bytes.{HasBytes}
+use Rattle.smap_command.specs.Interval.{HasInterval}
 use Rattle.smap_command.specs.Limits.{usual_interval}
 use Rattle.smap_answers.specs.Check.{ChecksAll, ChecksFile, form_of}
 use Rattle.smap_answers.specs.Compose.{TellsComposed}
@@ -11,13 +12,14 @@ use Rattle.smap_answers.specs.Map.{IsLine, IsResult, TellsMap}
 use Rattle.smap_answers.specs.Outcome.{OrMemory, Telling, failure}
 use Rattle.smap_answers.specs.Positions.{PositionsTells}
 use Rattle.smap_answers.specs.Raw.{raw_result}
+use Rattle.smap_answers.specs.RewriteFrom.{RewritesFrom}
 use Rattle.smap_answers.specs.Show.{show_result}
 use Rattle.smap_io.specs.Device.{SinkSeen}
 use Rattle.smap_answers.specs.Streams.{Streams, Ends, sinks_seen}
 use Rattle.smap_lines.specs.Editing.{DevicesSeen, devices_seen}
-use Rattle.smap_answers.specs.Trace.{IsTextRewritten, IsTraceRewritten, RewriteTells, argument_of}
+use Rattle.smap_answers.specs.Trace.{IsTraceRewritten, RewriteTells, argument_of}
 use Rattle.smap_command.specs.declared.command.Command.{Command}
-use Rattle.smap_command.specs.declared.command.Command.TheVariants.{Raw, Check, CheckAll, Show, Lookup, Positions, Rewrite, RewriteAnywhere, Compose}
+use Rattle.smap_command.specs.declared.command.Command.TheVariants.{Raw, Check, CheckAll, Show, Lookup, Positions, Rewrite, RewriteFrom, Compose}
 use Rattle.smap_answers.specs.declared.check.Form.TheVariants.{Counts}
 
 -- ---- `raw`
@@ -49,6 +51,10 @@ pub record RunsOne (Tells : (before after : DevicesSeen) → Telling → Type 0)
   pub tells : Tells (devices_seen before.input before.sinks.output) (devices_seen after.input written) telling
   pub ends : Ends telling status (sinks_seen written before.sinks.errors) after.sinks
 
+-- a command that can be run: checkpoints may stand at its interval, and its numbers of bytes are in their ranges
+abbrev pub IsRunnable : Command → Type 0
+IsRunnable command = HasInterval command × HasBytes command
+
 -- a run of a command over files of which reading gives this, and the status with which it ends
 abbrev pub Runs : MayRead → Command → (status : ℕ) → (before after : Streams) → Type 0
 Runs Reads (Raw line column interval) = RunsOne (RawTells line column)
@@ -61,6 +67,15 @@ Runs Reads (Lookup path line column base interval after json) =
 Runs Reads (Positions path base interval after json) = RunsOne (PositionsTells Reads (string_bytes path) base interval after json)
 Runs Reads (Rewrite maps base interval hide_ignored) =
     RunsOne (RewriteTells Reads base interval (IsTraceRewritten hide_ignored) (map argument_of maps.items))
-Runs Reads (RewriteAnywhere maps base interval) = RunsOne (RewriteTells Reads base interval IsTextRewritten (map argument_of maps.items))
+Runs Reads (RewriteFrom maps list base interval hide_ignored anywhere cache_bytes limit_bytes summary) =
+    RewritesFrom Reads base interval (record {
+      arguments = map argument_of maps.items;
+      list = option_map string_bytes list;
+      hide_ignored = hide_ignored;
+      anywhere = anywhere;
+      cache_bytes = cache_bytes;
+      limit_bytes = limit_bytes;
+      summary = summary;
+    })
 Runs Reads (Compose outer source inner base) =
     RunsOne (TellsAside (TellsComposed Reads (string_bytes outer) source (string_bytes inner) base))

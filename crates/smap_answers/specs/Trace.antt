@@ -1,6 +1,6 @@
 -- What `rewrite` does: it reads the map of each of its arguments and puts it into a table, argument by argument, and
--- rewrites the text on standard input over that table: the frames of a trace, or the places anywhere in it.
-use Rattle.std.specs.Prelude.{◌≡◌, ℕ, ◌⊎◌, Bool, List, [], ◌∷◌, Option, Some, None, Result, Ok, Err, String, codes, string_bytes, suc}
+-- rewrites the trace on standard input over that table.
+use Rattle.std.specs.Prelude.{◌≡◌, ◌&&◌, false, MatchBool, ℕ, ◌⊎◌, Bool, List, [], ◌∷◌, Option, Some, None, Result, Ok, Err, String, codes, string_bytes, suc}
 use Rattle.url.specs.Parser.{Parsed, parse_url}
 use Rattle.url.specs.Parts.{Parts}
 use Rattle.smap_record.specs.Record.{MapRecord, record_of}
@@ -9,7 +9,7 @@ use Rattle.smap_record.specs.declared.refusal.MapRefusal.TheVariants.{Url}
 use Rattle.smap_lines.specs.Editing.{DevicesSeen, is_read_fault, is_write_fault}
 use Rattle.smap_lines.specs.declared.fault.LineFault.{LineFault}
 use Rattle.smap_lines.specs.declared.fault.LineFault.TheVariants as fault
-use Rattle.smap_places.specs.PlacesRewriting.{RewritesPlaces, RewritesPlacesFront}
+use Rattle.smap_store.specs.MapList.{is_folder}
 use Rattle.smap_trace.specs.Rewriting.{Rewrites, RewritesFront}
 use Rattle.smap_trace.specs.Table.{IsWith, url_refusal}
 use Rattle.smap_trace.specs.declared.outcome.Summary.{Summary}
@@ -79,13 +79,17 @@ PutsNext base k (Err refused) url path bytes result = result ≡ Err refused
 PutsNext base k (Ok maps) url path bytes result = PutsMap base k maps url path bytes result
 
 -- the files of these arguments, of which the first has this number, are read one after another, and each map goes into the
--- table of those before; a file that can't be read is told before any refusal
-abbrev pub Gathers : MayRead → Option Parts → (k : ℕ) → (number : ℕ) → Result Maps Telling → List (List ℕ × List ℕ) → Result Maps Telling → Type 0
-Gathers Reads base k number before [] result = result ≡ before
-Gathers Reads base k number before ((url, path) ∷ arguments) result =
-    ((telling : Telling) × OrMemory (IsUnread Reads number path) telling × (result ≡ Err telling))
+-- table of those before; a file that can't be read is told before any refusal. Folders are passed over or not: their paths
+-- end in `/`
+abbrev pub Gathers : (passes : Bool) → MayRead → Option Parts → (k : ℕ) → (number : ℕ) → Result Maps Telling → List (List ℕ × List ℕ)
+    → Result Maps Telling → Type 0
+Gathers passes Reads base k number before [] result = result ≡ before
+Gathers passes Reads base k number before ((url, path) ∷ arguments) result =
+    MatchBool (passes && is_folder path)
+    (Gathers passes Reads base k (suc number) before arguments result)
+    (((telling : Telling) × OrMemory (IsUnread Reads number path) telling × (result ≡ Err telling))
     ⊎ ((bytes : List ℕ) × Reads number path (Ok bytes) × ((next : Result Maps Telling)
-    × PutsNext base k before url path bytes next × Gathers Reads base k (suc number) next arguments result))
+    × PutsNext base k before url path bytes next × Gathers passes Reads base k (suc number) next arguments result)))
 
 -- ---- the trace
 
@@ -94,11 +98,6 @@ Gathers Reads base k number before ((url, path) ∷ arguments) result =
 abbrev pub IsTraceRewritten : (hide : Bool) → Maps → (before after : DevicesSeen) → Result Summary LineFault → Type 0
 IsTraceRewritten hide maps before after (Ok summary) = Rewrites before after maps hide summary
 IsTraceRewritten hide maps before after (Err fault) = RewritesFront before after maps hide fault
-
--- the places anywhere in a text are
-abbrev pub IsTextRewritten : Maps → (before after : DevicesSeen) → Result Summary LineFault → Type 0
-IsTextRewritten maps before after (Ok summary) = RewritesPlaces before after maps summary
-IsTextRewritten maps before after (Err fault) = RewritesPlacesFront before after maps fault
 
 -- what is told then: nothing is added to a trace
 abbrev pub rewrite_telling : Result Summary LineFault → Telling
@@ -125,4 +124,4 @@ GatheredTells (Ok maps) IsRewritten before after telling = TextTells IsRewritten
 abbrev pub RewriteTells : MayRead → Option Parts → (k : ℕ) → (IsRewritten : Maps → (before after : DevicesSeen) → Result Summary LineFault → Type 0)
     → List (List ℕ × List ℕ) → (before after : DevicesSeen) → Telling → Type 0
 RewriteTells Reads base k IsRewritten arguments before after telling =
-    (gathered : Result Maps Telling) × Gathers Reads base k 0 (Ok []) arguments gathered × GatheredTells gathered IsRewritten before after telling
+    (gathered : Result Maps Telling) × Gathers false Reads base k 0 (Ok []) arguments gathered × GatheredTells gathered IsRewritten before after telling

@@ -1,9 +1,10 @@
 //! The lines that the program prints, each with its LF.
 ghost use Rattle.std.specs.Prelude.{◌≡◌, ◌+◌, ◌∷◌, ◌++◌, [], option_map, string_bytes, IfOk};
 ghost use Rattle.smap_answers.specs.Lines.{counts_line, file_failed_line, found_line};
-ghost use Rattle.smap_answers.specs.Lines.{map_counts_line, map_refused_line};
+ghost use Rattle.smap_answers.specs.Lines.{map_counts_line, map_memory_line, map_refused_line};
 ghost use Rattle.smap_answers.specs.Lines.{refused_line};
 ghost use Rattle.smap_answers.specs.Lines.{bad_url_line, twice_line};
+ghost use Rattle.smap_answers.specs.Lines.{folder_refused_line, list_refused_line};
 ghost use Rattle.smap_answers.specs.Trace.{argument_text};
 ghost use Rattle.smap_command.specs.Shown.{shown};
 
@@ -116,6 +117,14 @@ pub fn file_failed_line(alloc: Global, path: &str) -> Result<String, AllocError>
     format!(in alloc; "device: read {path}\n")
 }
 
+/// Standard error: memory ran out while the map of a file was read.
+pub fn map_memory_line(alloc: Global, path: &str) -> Result<String, AllocError>
+    ensures { IfOk result (λ text. string_bytes text ≡ map_memory_line path.now) }
+{
+    let path = shown(alloc, path)?;
+    format!(in alloc; "memory: {path}\n")
+}
+
 /// Standard error: an argument of `rewrite` whose URL no frame has.
 pub fn bad_url_line(alloc: Global, url: &str, path: &str) -> Result<String, AllocError>
     ensures { IfOk result (λ text. string_bytes text
@@ -132,6 +141,34 @@ pub fn twice_line(alloc: Global, url: &str, path: &str) -> Result<String, AllocE
 {
     let word = shown_argument(alloc, url, path)?;
     format!(in alloc; "usage: A2 Twice: {word}\n")
+}
+
+/// Standard error: an argument of `rewrite` whose folder is refused, with the reason.
+pub fn folder_refused_line(
+    alloc: Global,
+    reason: &str,
+    prefix: &str,
+    folder: &str,
+) -> Result<String, AllocError>
+    ensures { IfOk result (λ text. string_bytes text
+        ≡ folder_refused_line (argument_text prefix.now folder.now) reason.now) }
+{
+    let word = shown_argument(alloc, prefix, folder)?;
+    format!(in alloc; "usage: {reason}: {word}\n")
+}
+
+/// Standard error: the list at a path, of which the line with this number, from 1, is refused, with the reason.
+pub fn list_refused_line(
+    alloc: Global,
+    path: &str,
+    number: u64,
+    reason: &str,
+) -> Result<String, AllocError>
+    ensures { IfOk result (λ text. string_bytes text
+        ≡ list_refused_line path.now number reason.now) }
+{
+    let path = shown(alloc, path)?;
+    format!(in alloc; "usage: {path} line {number}: {reason}\n")
 }
 
 // An argument of `rewrite`, for one line.

@@ -1,9 +1,8 @@
 //! Running a command over its files and streams.
 ghost use Rattle.std.specs.Prelude.{◌≡◌, false};
 ghost use Rattle.smap_answers.specs.Files.{gives_loaded};
-ghost use Rattle.smap_answers.specs.Run.{Runs};
+ghost use Rattle.smap_answers.specs.Run.{IsRunnable, Runs};
 ghost use Rattle.smap_answers.specs.Streams.{streams_seen};
-ghost use Rattle.smap_command.specs.Interval.{HasInterval};
 
 use crate::check::{Form, answer_check, check_all};
 use crate::compose::answer_compose;
@@ -12,9 +11,10 @@ use crate::lookup::answer_lookup;
 use crate::map::MapReader;
 use crate::positions::answer_positions;
 use crate::raw::answer_raw;
+use crate::rewrite_from::{RewriteRequest, rewrite_from};
 use crate::show::answer_show;
 use crate::telling::tell;
-use crate::trace::{answer_anywhere, answer_rewrite};
+use crate::trace::answer_rewrite;
 use smap_command::Command;
 use smap_io::{ByteSink, ByteSource};
 use smap_positions::AnswerOptions;
@@ -30,7 +30,7 @@ pub fn run<R: ByteSource, W: ByteSink, E: ByteSink>(
     output: &mut W,
     errors: &mut E,
 ) -> u8
-    requires interval { HasInterval command.now }
+    requires command { IsRunnable command.now }
     requires input_works { (R.seen input.old).failed ≡ false }
     requires output_works { (W.seen output.old).failed ≡ false }
     requires errors_work { (E.seen errors.old).failed ≡ false }
@@ -44,7 +44,7 @@ pub fn run<R: ByteSource, W: ByteSink, E: ByteSink>(
 /// Runs a command over the files that it names, and gives the exit status. Of several files each is let go once its map
 /// is read; one that can't be read is told before any refusal, and the first of them ends the run; but `CheckAll` tells of
 /// each file by itself, and goes on to the next, up to a failure of standard output. The caller gives a command at whose
-/// interval checkpoints may stand, and devices that have not failed.
+/// interval checkpoints may stand and whose numbers of bytes are in their ranges, and devices that have not failed.
 pub fn run_reading<F: FileReader, R: ByteSource, W: ByteSink, E: ByteSink>(
     alloc: Global,
     reader: &F,
@@ -53,7 +53,7 @@ pub fn run_reading<F: FileReader, R: ByteSource, W: ByteSink, E: ByteSink>(
     output: &mut W,
     errors: &mut E,
 ) -> u8
-    requires interval { HasInterval command.now }
+    requires command { IsRunnable command.now }
     requires input_works { (R.seen input.old).failed ≡ false }
     requires output_works { (W.seen output.old).failed ≡ false }
     requires errors_work { (E.seen errors.old).failed ≡ false }
@@ -140,17 +140,33 @@ pub fn run_reading<F: FileReader, R: ByteSource, W: ByteSink, E: ByteSink>(
             };
             answer_rewrite(alloc, &maps, arguments, *hide_ignored, input, output)
         }
-        Command::RewriteAnywhere {
+        Command::RewriteFrom {
             maps: arguments,
+            list,
             base,
             interval,
+            hide_ignored,
+            anywhere,
+            cache_bytes,
+            limit_bytes,
+            summary,
         } => {
             let maps = MapReader {
                 files: reader,
                 base: base.as_ref(),
                 interval: *interval,
             };
-            answer_anywhere(alloc, &maps, arguments, input, output)
+            let request = RewriteRequest {
+                maps: &maps,
+                arguments,
+                list: list.as_deref(),
+                hide_ignored: *hide_ignored,
+                anywhere: *anywhere,
+                cache_bytes: *cache_bytes,
+                limit_bytes: *limit_bytes,
+                summary: *summary,
+            };
+            return rewrite_from(alloc, &request, input, output, errors);
         }
         Command::Compose {
             outer,

@@ -51,8 +51,8 @@ fn print<W: ByteSink>(output: &mut W, text: &[u8]) -> Result<(), DeviceFault>
     output.flush()
 }
 
-// Tells the text to the user, and passes over a failure of the device.
-fn report<E: ByteSink>(errors: &mut E, text: &[u8])
+/// Tells the text to the user, and passes over a failure of the device.
+pub fn report<E: ByteSink>(errors: &mut E, text: &[u8])
     ensures { IsToldTo (E.seen errors.old) (E.seen errors.new) text.now }
 {
     let _ = print(errors, text);

@@ -1,18 +1,19 @@
 //! Rewriting the stack trace on standard input.
-ghost use Rattle.std.specs.Prelude.{◌≡◌, [], false, map, option_copied, IfErr, IfOk, None, Ok};
+ghost use Rattle.std.specs.Prelude.{◌≡◌, ◌&&◌, [], false, map, option_copied, IfErr, IfOk, None, Ok};
 ghost use Rattle.smap_answers.specs.Outcome.{OrMemory, failure_telling, telling_of};
 ghost use Rattle.smap_lines.specs.Editing.{devices_seen};
 ghost use Rattle.smap_answers.specs.Private.Gathering.{IsReadAs, IsReadRefusal, gathered};
+ghost use Rattle.smap_store.specs.MapList.{is_folder};
 ghost use Rattle.smap_answers.specs.Trace.{Gathers, IsBaseUsed, PutsNext};
-ghost use Rattle.smap_answers.specs.Trace.{IsTextRewritten, IsTraceRewritten, RewriteTells, argument_of, rewrite_telling, url_refusal_result};
+ghost use Rattle.smap_answers.specs.Trace.{IsTraceRewritten, RewriteTells, argument_of, rewrite_telling, url_refusal_result};
 
 use crate::files::FileReader;
 use crate::lines;
 use crate::map::{MapReader, file_bytes, map_of};
 use crate::outcome::{Failure, Reply};
 use smap_io::{ByteSink, ByteSource};
-use smap_places::rewrite_places;
 use smap_record::{MapFile, Url};
+use smap_store::is_folder;
 use smap_trace::{RewriteFault, Summary, Table, TableRefusal, rewrite};
 use std::alloc::{AllocError, Global};
 use url::ParseError;
@@ -35,28 +36,8 @@ pub fn answer_rewrite<F: FileReader, R: ByteSource, W: ByteSink>(
         (devices_seen (R.seen input.new) (W.seen output.new))
         (telling_of result) }
 {
-    let table = table_of(alloc, maps, arguments)?;
+    let table = table_of(alloc, maps, arguments, false)?;
     rewritten(rewrite(alloc, input, output, &table, hide_ignored))
-}
-
-/// The same, of the places of the text on standard input, wherever they stand in its lines.
-pub fn answer_anywhere<F: FileReader, R: ByteSource, W: ByteSink>(
-    alloc: Global,
-    maps: &MapReader<'_, F>,
-    arguments: &[(String, String)],
-    input: &mut R,
-    output: &mut W,
-) -> Result<Reply, Failure>
-    requires input_works { (R.seen input.old).failed ≡ false }
-    requires output_works { (W.seen output.old).failed ≡ false }
-    ensures { RewriteTells (F.gives maps.now.files.now) (option_copied maps.now.base)
-        maps.now.interval IsTextRewritten (map argument_of arguments.now)
-        (devices_seen (R.seen input.old) (W.seen output.old))
-        (devices_seen (R.seen input.new) (W.seen output.new))
-        (telling_of result) }
-{
-    let table = table_of(alloc, maps, arguments)?;
-    rewritten(rewrite_places(alloc, input, output, &table))
 }
 
 // What rewriting a text comes to.
@@ -69,22 +50,33 @@ fn rewritten(end: Result<Summary, RewriteFault>) -> Result<Reply, Failure>
     }
 }
 
-// The maps of the files at the paths of the arguments, each under its URL; or the first file that can't be read, and then
-// the first refusal.
-fn table_of<F: FileReader>(
+/// The maps of the files at the paths of the arguments, each under its URL; or the first file that can't be read, and then
+/// the first refusal. Folders, whose paths end in `/`, are passed over where that is asked, and count as arguments.
+pub fn table_of<F: FileReader>(
     alloc: Global,
     maps: &MapReader<'_, F>,
     arguments: &[(String, String)],
+    passes_folders: bool,
 ) -> Result<Table, Failure>
-    ensures { Gathers (F.gives maps.now.files.now) (option_copied maps.now.base) maps.now.interval
-        0 (Ok []) (map argument_of arguments.now) (gathered result) }
+    ensures { Gathers passes_folders (F.gives maps.now.files.now) (option_copied maps.now.base)
+        maps.now.interval 0 (Ok []) (map argument_of arguments.now) (gathered result) }
 {
     let mut table = Ok(Table::new(alloc));
     for (number, (url, path)) in arguments.iter().enumerate() {
+        if is_passed_over(passes_folders, path) {
+            continue;
+        }
         let bytes = file_bytes(alloc, maps.files, number, path)?;
         table = with_map(alloc, maps, table, url, path, bytes);
     }
     table
+}
+
+// Whether an argument with this path is passed over: that of a folder, where those are.
+fn is_passed_over(passes_folders: bool, path: &str) -> bool
+    ensures { result ≡ (passes_folders && is_folder path.now) }
+{
+    passes_folders && is_folder(path.as_bytes())
 }
 
 // The table with the map that the bytes are under a URL, where nothing was refused before.
@@ -108,8 +100,8 @@ fn with_map<F: FileReader>(
     }
 }
 
-// The map that the bytes of the file at a path are. Without a base, it stands at the URL that frames name.
-fn read_map_at<F: FileReader>(
+/// The map that the bytes of the file at a path are. Without a base, it stands at the URL that frames name.
+pub fn read_map_at<F: FileReader>(
     alloc: Global,
     maps: &MapReader<'_, F>,
     url: &str,

@@ -21,14 +21,15 @@ use Rattle.clap.specs.declared.builder.value_parser.ValueParser.{ValueParser}
 use Rattle.clap.specs.declared.builder.value_parser.ValueParser.TheVariants as parser
 use Rattle.clap.specs.declared.error.Error.{Error}
 use Rattle.clap.specs.declared.error.kind.ErrorKind.TheVariants.{DisplayHelp, DisplayVersion, OutOfMemory}
-use Rattle.smap_arguments.specs.CommandLine.{after_rule, anywhere_rule, base_rule, check, compose, hide_rule, interval_number, interval_rule}
-use Rattle.smap_arguments.specs.CommandLine.{json_rule, lookup, named, number, positions, raw, rewrite, show, smap, source_number}
+use Rattle.smap_arguments.specs.CommandLine.{after_rule, anywhere_rule, base_rule, bytes_number, bytes_rule, check, compose, hide_rule}
+use Rattle.smap_arguments.specs.CommandLine.{interval_number, interval_rule, json_rule, list_rule, lookup, named, number, positions, raw}
+use Rattle.smap_arguments.specs.CommandLine.{rewrite, show, smap, source_number, summary_rule}
 use Rattle.smap_arguments.specs.declared.usage.Usage.{Usage}
 use Rattle.smap_arguments.specs.declared.usage.Usage.TheVariants.{Help, Mistake, Memory}
 use Rattle.smap_arguments.specs.Arguments.{HasArguments, HasCommand, HasValue, HasValues, IsNamedRefusal, IsUsageOf, IsRefusalOf, SubcommandTells}
 use Rattle.smap_arguments.proofs.Rows.{AreReadRows, Keeps, first_none, flag_at, flag_default_keeps, flag_keeps, given_value, help_keeps}
-use Rattle.smap_arguments.proofs.Rows.{long_option_keeps, more_values_keeps, no_default_keeps, second_none, settle_keeps, text_value, value_keeps}
-use Rattle.smap_arguments.proofs.Rows.{walk_keeps}
+use Rattle.smap_arguments.proofs.Rows.{long_option_keeps, more_values_keeps, named_option_keeps, no_default_keeps, second_none}
+use Rattle.smap_arguments.proofs.Rows.{settle_keeps, text_value, value_keeps, walk_keeps}
 use Rattle.smap_arguments.proofs.Stops.{IsNoHelp, walk_names}
 
 -- ---- the rules of a level
@@ -112,12 +113,16 @@ module _ (parser_at : Text → ValueParser) where
   value : (i : ℕ) (id : Text) → IsPlain (with_index i (filled (record (new_rule id) { required = true; parser = Some (parser_at id) })))
   value i id = (value_keeps parser_at i id true, inl refl, refl)
 
-  more_values : (i : ℕ) (id : Text) → IsPlain
-      (with_index i (filled (record (new_rule id) { required = true; action = Some Append; parser = Some (parser_at id) })))
-  more_values i id = (more_values_keeps parser_at i id true, inl refl, refl)
+  more_values : (i : ℕ) (id : Text) (required : Bool) → IsPlain
+      (with_index i (filled (record (new_rule id) { required = required; action = Some Append; parser = Some (parser_at id) })))
+  more_values i id required = (more_values_keeps parser_at i id required, inl refl, refl)
 
   option : (i : ℕ) (id long : Text) → IsPlain (with_index i (filled (record (new_rule id) { long = Some long; parser = Some (parser_at id) })))
   option i id long = (long_option_keeps parser_at i id long, inl refl, refl)
+
+  named_option : (i : ℕ) (id long : Text) → IsPlain
+      (with_index i (filled (record (new_rule id) { long = Some long; value_names = 1; parser = Some (parser_at id) })))
+  named_option i id long = (named_option_keeps parser_at i id long, inl refl, refl)
 
   flag : (i : ℕ) (id long : Text) → accepts false (parser_at id) (codes "false") ≡ true → IsPlain (flag_at parser_at i id long)
   flag i id long accepted = (flag_keeps parser_at i id long, inr (flag_default_keeps parser_at i id long accepted), refl)
@@ -127,15 +132,18 @@ module _ (parser_at : Text → ValueParser) where
 
 -- ---- the commands of `smap`
 
--- lines, columns, sources and intervals are numbers, flags are true or false, and the other arguments are any text
+-- lines, columns, sources, intervals and bytes are numbers, flags are true or false, and the other arguments are any text
 abbrev at_argument : Text → ValueParser
 at_argument id = cond (bytes_eq id (codes "SOURCE")) source_number
     (cond (bytes_eq id (codes "K")) interval_number
+    (cond (bytes_eq id (codes "cache")) (bytes_number 0)
+    (cond (bytes_eq id (codes "limit")) (bytes_number 1)
     (cond (bytes_eq id (codes "after")) parser.Bool
     (cond (bytes_eq id (codes "anywhere")) parser.Bool
     (cond (bytes_eq id (codes "json")) parser.Bool
+    (cond (bytes_eq id (codes "summary")) parser.Bool
     (cond (bytes_eq id (codes "hide-ignored")) parser.Bool
-    (cond (bytes_eq id (codes "LINE") || bytes_eq id (codes "COLUMN")) number parser.String))))))
+    (cond (bytes_eq id (codes "LINE") || bytes_eq id (codes "COLUMN")) number parser.String)))))))))
 
 base_plain : (i : ℕ) → IsPlain at_argument (with_index i (filled base_rule))
 base_plain i = option at_argument i (codes "URL") (codes "base")
@@ -155,6 +163,18 @@ hide_plain i = flag at_argument i (codes "hide-ignored") (codes "hide-ignored") 
 anywhere_plain : (i : ℕ) → IsPlain at_argument (with_index i (filled anywhere_rule))
 anywhere_plain i = flag at_argument i (codes "anywhere") (codes "anywhere") refl
 
+list_plain : (i : ℕ) → IsPlain at_argument (with_index i (filled list_rule))
+list_plain i = option at_argument i (codes "LIST") (codes "maps")
+
+cache_plain : (i : ℕ) → IsPlain at_argument (with_index i (filled (bytes_rule 0 (codes "cache"))))
+cache_plain i = named_option at_argument i (codes "cache") (codes "cache")
+
+limit_plain : (i : ℕ) → IsPlain at_argument (with_index i (filled (bytes_rule 1 (codes "limit"))))
+limit_plain i = named_option at_argument i (codes "limit") (codes "limit")
+
+summary_plain : (i : ℕ) → IsPlain at_argument (with_index i (filled summary_rule))
+summary_plain i = flag at_argument i (codes "summary") (codes "summary") refl
+
 help_plain : IsPlain at_argument (filled help_rule)
 help_plain = help at_argument refl
 
@@ -171,10 +191,22 @@ positions_plain : Each (IsPlain at_argument) (built_leaf positions.top).rules
 positions_plain = (value at_argument 1 (codes "MAP"), (base_plain 2, (interval_plain 2, (after_plain 2, (json_plain 2, (help_plain, tt))))))
 
 rewrite_plain : Each (IsPlain at_argument) (built_leaf rewrite.top).rules
-rewrite_plain = (more_values at_argument 1 (codes "URL=FILE"), (base_plain 2, (interval_plain 2, (hide_plain 2, (anywhere_plain 2, (help_plain, tt))))))
+rewrite_plain = (
+  more_values at_argument 1 (codes "URL=FILE") false,
+  (
+    list_plain 2,
+    (
+      base_plain 2,
+      (
+        interval_plain 2,
+        (hide_plain 2, (anywhere_plain 2, (cache_plain 2, (limit_plain 2, (summary_plain 2, (help_plain, tt)))))),
+      ),
+    ),
+  ),
+)
 
 check_plain : Each (IsPlain at_argument) (built_leaf check.top).rules
-check_plain = (more_values at_argument 1 (codes "PATH"), (base_plain 2, (interval_plain 2, (json_plain 2, (help_plain, tt)))))
+check_plain = (more_values at_argument 1 (codes "PATH") true, (base_plain 2, (interval_plain 2, (json_plain 2, (help_plain, tt)))))
 
 show_plain : Each (IsPlain at_argument) (built_leaf show.top).rules
 show_plain = (value at_argument 1 (codes "PATH"), (base_plain 2, (help_plain, tt)))

@@ -1,20 +1,21 @@
 -- A number that clap reads for an argument.
-use Rattle.std.proofs.Common.{◌≡◌, ◌∙◌, ◌≤◌, ◌<◌, ◌^◌, ℕ, Option, Some, None, sym, subst, pos, codes, List, refl, leb, arith, true}
+use Rattle.std.proofs.Common.{◌≡◌, ◌∙◌, ◌≤◌, ◌<◌, ◌^◌, ℕ, Option, Some, None, sym, subst, pos, codes, List, refl, leb, arith, true, false, ap}
 use Rattle.std.proofs.Common.{Result}
 use Rattle.std.specs.Option.{IsSome}
+use Rattle.std.specs.Prelude.{IfSome, option_map}
 use Rattle.std.proofs.lemmas.Bool.{and_from, le-leb}
-use Rattle.std.specs.Str.Parse.{ExplainsUnsignedError, HasUnsignedDigitsIfOk, ParsesUnsigned}
+use Rattle.std.specs.Str.Parse.{ExplainsUnsignedError, HasUnsignedDigitsIfOk, ParsesUnsigned, digits_value, without_leading_plus}
 use Rattle.std.specs.declared.num.ParseIntError.{ParseIntError}
 use Rattle.clap.specs.Matches.{ReadsOne}
-use Rattle.clap.specs.Words.{Text, one_text, rows_of, without_minus}
+use Rattle.clap.specs.Words.{Accepts, Text, one_text, rows_of, without_minus}
 use Rattle.clap.specs.declared.builder.value_parser.ValueParser.TheVariants.{Signed}
 use Rattle.clap.specs.declared.parser.matches.Found.{Found}
 use Rattle.clap.proofs.WalkLemmas.{one_text-rows}
 use Rattle.clap.proofs.CallerReads.{signed_reads}
 use Rattle.clap.specs.Words.{Row, one_of}
-use Rattle.smap_command.specs.Limits.{is_interval, most_interval, usual_interval}
-use Rattle.smap_arguments.specs.CommandLine.{interval_number}
-use Rattle.smap_arguments.specs.Arguments.{GivesInterval, GivesNumber, HasValue, HasValueIfGiven, IsIntervalOf}
+use Rattle.smap_command.specs.Limits.{is_interval, most_bytes, most_interval, usual_interval}
+use Rattle.smap_arguments.specs.CommandLine.{bytes_number, interval_number}
+use Rattle.smap_arguments.specs.Arguments.{GivesInterval, GivesNumber, HasValue, HasValueIfGiven, IsIntervalOf, bytes_given}
 
 -- how a `u32` is read from a text
 abbrev pub ReadsU32 : Text → Result ℕ ParseIntError → Type 0
@@ -30,6 +31,40 @@ number_read low high fits found name result has reads =
     let got = signed_reads _ ReadsU32 32 low high has.0 result one (λ u x g. g.0) fits has.2 in
     let read = subst (ReadsOne ReadsU32 (without_minus has.0)) got.1 one in
     (got.0, got.1, got.2, got.3, (without_minus has.0, has.1, sym read.0.1))
+
+-- ---- a number of bytes
+
+-- how a `u64` is read from a text
+abbrev pub ReadsU64 : Text → Result ℕ ParseIntError → Type 0
+ReadsU64 text r = ParsesUnsigned 64 10 text r × ExplainsUnsignedError 10 text r × HasUnsignedDigitsIfOk text r
+
+-- it is the one that is given, and as many bytes may be
+abbrev pub IsReadBytes : List Row → (name : Text) → (least : ℕ) → Option ℕ → Type 0
+IsReadBytes rows name least result = (result ≡ bytes_given rows name) × IfSome result (λ n. (least ≤ n) × (n ≤ most_bytes))
+
+pub bytes_read : (least : ℕ) (found : Found) (name : Text) (result : Option ℕ) → HasValueIfGiven (bytes_number least) (rows_of found) name
+    → (one_text found name ≡ None → result ≡ None) → ((t : Text) → one_text found name ≡ Some t → ReadsOne ReadsU64 t result)
+    → IsReadBytes (rows_of found) name least result
+bytes_read least found name result has none reads = go (one_of name (rows_of found)) refl
+  where
+    Read : Option ℕ → Type 0
+    Read = IsReadBytes (rows_of found) name least
+
+    value : (text : Text) → one_of name (rows_of found) ≡ Some text → Accepts false (bytes_number least) text → (o : Option ℕ)
+        → ReadsOne ReadsU64 text o → Read o
+    value text is passed (Some n) read =
+        let same : n ≡ digits_value 10 (without_leading_plus text) = read.0.1 in (
+          ap (λ m. Some m) same ∙ sym (ap (option_map (λ t. digits_value 10 (without_leading_plus t))) is),
+          (subst (λ m. least ≤ m) (sym same) passed.2, subst (λ m. m ≤ most_bytes) (sym same) passed.3),
+        )
+    value text is passed None read = absurd (read.1.0 (passed.0, passed.1))
+
+    go : (o : Option Text) → one_of name (rows_of found) ≡ o → Read result
+    go None is =
+        subst Read (sym (none (one_text-rows found name ∙ is))) (sym (ap (option_map (λ t. digits_value 10 (without_leading_plus t))) is), tt)
+    go (Some text) is =
+        let given = has (subst IsSome (sym is) refl) in
+        value given.0 given.1 given.2 result (reads given.0 (one_text-rows found name ∙ given.1))
 
 -- ---- the interval
 

@@ -3,14 +3,14 @@ use Rattle.std.proofs.Common.{◌≡◌, ◌∙◌, ◌≢◌, ◌++◌, ◌<◌
 use Rattle.std.proofs.Common.{drop, Some, None, refl, sym, ap, subst, arith, codes, get_or}
 use Rattle.std.specs.Borrow.{Bor}
 use Rattle.std.specs.List.{AllZip}
-use Rattle.std.specs.Prelude.{String, string_bytes}
+use Rattle.std.specs.Prelude.{String, string_bytes, unwrap_or}
 use Rattle.std.specs.Str.Pattern.{RFindsChar, SplitsAroundMatch}
 use Rattle.std.proofs.lemmas.Bool.{or_from}
 use Rattle.std.proofs.lemmas.Bool.Decides.{Decides-eqb}
 use Rattle.std.proofs.lemmas.Str.Pattern.{NoCharPasses-char, drop_at_char}
 use Rattle.std.proofs.lemmas.List.{take-append-drop}
 use Rattle.clap.specs.Words.{Row, Text, all_of}
-use Rattle.smap_arguments.specs.Arguments.{ArePairs, IsNamedRefusal, IsPair, TellsBadPair, TellsNoPair, first_without, has_equals_sign}
+use Rattle.smap_arguments.specs.Arguments.{ArePairs, IsNamedRefusal, IsPair, TellsNoPair, first_without, has_equals_sign, words_of}
 use Rattle.smap_arguments.specs.declared.usage.Usage.{Usage}
 use Rattle.smap_arguments.specs.declared.usage.Usage.TheVariants.{Help, Mistake, Memory}
 
@@ -89,8 +89,16 @@ module _ {A : Type 0} where
   refused_at arguments pairs i d (Mistake text) low zips refused = (refused.0, first_at arguments pairs i d refused.0 low zips refused.1, refused.2)
   refused_at arguments pairs i d Memory low zips refused = tt
 
-pub tells_bad_pair : (rows : List Row) (arguments : List Text) → all_of (codes "URL=FILE") rows ≡ Some arguments → (usage : Usage)
-    → IsNamedRefusal (TellsNoPair arguments) usage → IsNamedRefusal (TellsBadPair rows) usage
-tells_bad_pair rows arguments all (Help text) told = told
-tells_bad_pair rows arguments all (Mistake text) told = (arguments, all, told)
-tells_bad_pair rows arguments all Memory told = tt
+-- the words that the getter of all texts gives
+pub words_given : (rows : List Row) (arguments : List Text) → all_of (codes "URL=FILE") rows ≡ Some arguments → words_of rows ≡ arguments
+words_given rows arguments all = ap (λ o. unwrap_or o []) all
+
+-- and none where it gives none
+pub no_words : (rows : List Row) → all_of (codes "URL=FILE") rows ≡ None → words_of rows ≡ []
+no_words rows none = ap (λ o. unwrap_or o []) none
+
+-- words that are no pairs are none
+pub no_pairs : {A : Type 0} (words : List Text) (pairs : List (String A × String A)) → ArePairs words pairs → pairs ≡ [] → words ≡ []
+no_pairs [] pairs are none = refl
+no_pairs (w ∷ ws) [] are none = absurd are
+no_pairs (w ∷ ws) (p ∷ ps) are none = cc

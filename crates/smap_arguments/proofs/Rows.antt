@@ -132,6 +132,19 @@ module _ (parser_at : Text → ValueParser) where
       go none = with_values_keeps id CommandLine (v ∷ vs) (without id rows)
           (accepted_values id v vs (second_none (repeat_fault again id rows) _ none)) (without_keeps id rows good)
 
+  -- the same, where the help has another name for its value
+  pub named_option_keeps : (i : ℕ) (id long : Text)
+      → Keeps (with_index i (filled (record (new_rule id) { long = Some long; value_names = 1; parser = Some (parser_at id) })))
+  named_option_keeps i id long again [] rows none good = cc
+  named_option_keeps i id long again (v ∷ vs) rows none good = go (second_none _ (set_fault again a (v ∷ vs) rows) none)
+    where
+      a : Rule
+      a = with_index i (filled (record (new_rule id) { long = Some long; value_names = 1; parser = Some (parser_at id) }))
+
+      go : set_fault again a (v ∷ vs) rows ≡ [] → AreReadRows (used a (v ∷ vs) rows)
+      go none = with_values_keeps id CommandLine (v ∷ vs) (without id rows)
+          (accepted_values id v vs (second_none (repeat_fault again id rows) _ none)) (without_keeps id rows good)
+
   -- a flag
   abbrev pub flag_at : (i : ℕ) (id long : Text) → Rule
   flag_at i id long = with_index i (filled (record (new_rule id) { long = Some long; action = Some SetTrue; parser = Some (parser_at id) }))

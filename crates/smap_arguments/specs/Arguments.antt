@@ -1,13 +1,15 @@
 -- What the arguments of the command line ask for.
-use Rattle.std.specs.Prelude.{◌≡◌, ◌≢◌, ◌≤◌, ◌+◌, ◌++◌, ◌==◌, ◌⊎◌, ◌∷◌, ℕ, Bool, false, true, codes, length, List, []}
-use Rattle.std.specs.Prelude.{Err, None, Ok, Option, Some, String, find, if◌then◌else◌, map, not, unwrap_or, ⊤}
+use Rattle.std.specs.Prelude.{◌≡◌, ◌≢◌, ◌≤◌, ◌+◌, ◌++◌, ◌==◌, ◌||◌, ◌&&◌, ◌⊎◌, ◌∷◌, ℕ, Bool, false, true, codes, length, List, []}
+use Rattle.std.specs.Prelude.{Err, None, Ok, Option, Some, String, find, if◌then◌else◌, is_some, map, not, option_map, unwrap_or, ⊤}
 use Rattle.std.specs.declared.alloc.Global.{Global}
-use Rattle.std.specs.List.{AllZip, list_any}
+use Rattle.std.specs.Bool.{nat_eq}
+use Rattle.std.specs.List.{AllZip, ends_with, list_any}
 use Rattle.std.specs.Option.{IsSome}
 use Rattle.std.specs.Str.Parse.{digits_value, without_leading_plus}
 use Rattle.std.specs.String.{string_bytes}
+use Rattle.smap_command.specs.Bytes.{HasBytes}
 use Rattle.smap_command.specs.Interval.{HasInterval}
-use Rattle.smap_command.specs.Limits.{limit, usual_interval}
+use Rattle.smap_command.specs.Limits.{limit, usual_cache_bytes, usual_interval, usual_limit_bytes}
 use Rattle.smap_command.specs.Shown.{shown}
 use Rattle.url.specs.Parser.{IsOutOfRoom, parse_url}
 use Rattle.url.specs.Parts.{Parts}
@@ -21,7 +23,7 @@ use Rattle.clap.specs.declared.builder.value_parser.ValueParser.TheVariants as p
 use Rattle.clap.specs.declared.error.kind.ErrorKind.{ErrorKind}
 use Rattle.clap.specs.declared.error.kind.ErrorKind.TheVariants.{DisplayHelp, DisplayVersion, OutOfMemory}
 use Rattle.smap_command.specs.declared.command.Command.{Command}
-use Rattle.smap_command.specs.declared.command.Command.TheVariants.{Raw, Check, CheckAll, Show, Lookup, Positions, Rewrite, RewriteAnywhere, Compose}
+use Rattle.smap_command.specs.declared.command.Command.TheVariants.{Raw, Check, CheckAll, Show, Lookup, Positions, Rewrite, RewriteFrom, Compose}
 use Rattle.smap_arguments.specs.CommandLine.{named, smap}
 use Rattle.smap_arguments.specs.declared.usage.Usage.{Usage}
 use Rattle.smap_arguments.specs.declared.usage.Usage.TheVariants.{Help, Mistake, Memory}
@@ -35,12 +37,12 @@ HasPosition (Show path base) = ⊤
 HasPosition (Lookup path line column base interval after json) = (line ≤ limit) × (column ≤ limit)
 HasPosition (Positions path base interval after json) = ⊤
 HasPosition (Rewrite maps base interval hide_ignored) = ⊤
-HasPosition (RewriteAnywhere maps base interval) = ⊤
+HasPosition (RewriteFrom maps list base interval hide_ignored anywhere cache_bytes limit_bytes summary) = ⊤
 HasPosition (Compose outer source inner base) = ⊤
 
--- the same, and checkpoints may stand at its interval
+-- the same, checkpoints may stand at its interval, and there may be as many bytes as it says
 abbrev pub IsInRange : Command → Type 0
-IsInRange command = HasPosition command × HasInterval command
+IsInRange command = HasPosition command × HasInterval command × HasBytes command
 
 -- the arguments as text
 abbrev pub texts : {A : Type 0} → List (String A) → List Text
@@ -111,13 +113,52 @@ IsPair argument url path = (argument ≡ url ++ (codes "=" ++ path)) × (has_equ
 abbrev pub ArePairs : {A : Type 0} → List Text → List (String A × String A) → Type 0
 ArePairs = AllZip (λ argument pair. IsPair argument (string_bytes pair.0) (string_bytes pair.1))
 
--- the arguments that clap reads are these pairs
+-- the words, of which there may be none
+abbrev pub words_of : List Row → List Text
+words_of rows = unwrap_or (all_of (codes "URL=FILE") rows) []
+
+-- the words that clap reads are these pairs
 abbrev pub GivesPairs : {A : Type 0} → List Row → List (String A × String A) → Type 0
-GivesPairs rows pairs = (arguments : List Text) × GivesTexts rows (codes "URL=FILE") arguments × ArePairs arguments pairs
+GivesPairs rows = ArePairs (words_of rows)
 
 -- the first argument that is no pair
 abbrev pub first_without : List Text → Option Text
 first_without = find (λ argument. not (has_equals_sign argument))
+
+-- the path is that of a folder
+abbrev pub is_folder : Text → Bool
+is_folder path = ends_with nat_eq path (codes "/")
+
+-- one of the pairs is of a prefix and a folder
+abbrev pub has_folder : {A : Type 0} → List (String A × String A) → Bool
+has_folder = list_any (λ pair. is_folder (string_bytes pair.1))
+
+-- the path of a list of maps, where one is given
+abbrev pub GivesList : {A : Type 0} → List Row → Option (String A) → Type 0
+GivesList rows list = first_of (codes "LIST") rows ≡ option_map string_bytes list
+
+-- there are words, or a list
+abbrev pub HasMaps : {A B : Type 0} → (maps : List A) → (list : Option B) → Type 0
+HasMaps maps list = (maps ≢ []) ⊎ IsSome list
+
+-- the number of bytes that an option names, where it is given
+abbrev pub bytes_given : List Row → (name : Text) → Option ℕ
+bytes_given rows name = option_map (λ text. digits_value 10 (without_leading_plus text)) (one_of name rows)
+
+-- an option is given that asks for more than maps that are read first: with these flags, or one that has a value
+abbrev pub has_further : List Row → (anywhere summary : Bool) → Bool
+has_further rows anywhere summary =
+    is_some (first_of (codes "LIST") rows) || anywhere || is_some (bytes_given rows (codes "cache"))
+    || is_some (bytes_given rows (codes "limit")) || summary
+
+-- words are given, each of a file, and no option that asks for more
+abbrev pub AsksPlainly : {A : Type 0} → List Row → List (String A × String A) → Type 0
+AsksPlainly rows maps = (maps ≢ []) × (has_folder maps ≡ false) × GivesFlag rows (codes "anywhere") false
+    × GivesFlag rows (codes "summary") false × (has_further rows false false ≡ false)
+
+-- a folder is given, or an option that asks for more
+abbrev pub AsksForMore : {A : Type 0} → List Row → List (String A × String A) → (anywhere summary : Bool) → Type 0
+AsksForMore rows maps anywhere summary = (has_folder maps || has_further rows anywhere summary) ≡ true
 
 -- ---- the arguments of `check`
 
@@ -136,7 +177,7 @@ name_of (Show path base) = codes "show"
 name_of (Lookup path line column base interval after json) = codes "lookup"
 name_of (Positions path base interval after json) = codes "positions"
 name_of (Rewrite maps base interval hide_ignored) = codes "rewrite"
-name_of (RewriteAnywhere maps base interval) = codes "rewrite"
+name_of (RewriteFrom maps list base interval hide_ignored anywhere cache_bytes limit_bytes summary) = codes "rewrite"
 name_of (Compose outer source inner base) = codes "compose"
 
 -- what clap reads for the arguments of a command asks for it, with lines and columns counted from 1
@@ -154,9 +195,12 @@ RowsAskFor rows (Lookup path line column base interval after json) = GivesText r
 RowsAskFor rows (Positions path base interval after json) = GivesText rows (codes "MAP") (string_bytes path) × GivesBase rows base
     × GivesInterval rows interval × GivesFlag rows (codes "after") after × GivesFlag rows (codes "json") json
 RowsAskFor rows (Rewrite maps base interval hide_ignored) = GivesPairs rows maps.items × GivesBase rows base × GivesInterval rows interval
-    × GivesFlag rows (codes "hide-ignored") hide_ignored × GivesFlag rows (codes "anywhere") false
-RowsAskFor rows (RewriteAnywhere maps base interval) = GivesPairs rows maps.items × GivesBase rows base × GivesInterval rows interval
-    × GivesFlag rows (codes "hide-ignored") false × GivesFlag rows (codes "anywhere") true
+    × GivesFlag rows (codes "hide-ignored") hide_ignored × AsksPlainly rows maps.items
+RowsAskFor rows (RewriteFrom maps list base interval hide_ignored anywhere cache_bytes limit_bytes summary) = GivesPairs rows maps.items
+    × GivesList rows list × GivesBase rows base × GivesInterval rows interval × GivesFlag rows (codes "hide-ignored") hide_ignored
+    × GivesFlag rows (codes "anywhere") anywhere × (unwrap_or (bytes_given rows (codes "cache")) usual_cache_bytes ≡ cache_bytes)
+    × (unwrap_or (bytes_given rows (codes "limit")) usual_limit_bytes ≡ limit_bytes) × GivesFlag rows (codes "summary") summary
+    × ((hide_ignored && anywhere) ≡ false) × HasMaps maps.items list × AsksForMore rows maps.items anywhere summary
 RowsAskFor rows (Compose outer source inner base) = GivesText rows (codes "OUTER") (string_bytes outer)
     × GivesNumber rows (codes "SOURCE") source × GivesText rows (codes "INNER") (string_bytes inner) × GivesBase rows base
 
@@ -216,9 +260,14 @@ long_base_line = codes "usage: base URL too long" ++ 10 ∷ []
 abbrev pub no_pair_line : (argument : Text) → Text
 no_pair_line argument = codes "usage: no URL=FILE: " ++ shown argument ++ 10 ∷ []
 
--- `rewrite` has both of its flags
+-- `rewrite` has both of these flags
 abbrev pub both_flags_line : Text
 both_flags_line = codes "usage: --hide-ignored with --anywhere" ++ 10 ∷ []
+
+-- `rewrite` has neither a word nor a list, which is told as clap tells of an argument that is missing
+abbrev pub no_maps_text : Text
+no_maps_text = codes "error: the following required arguments were not provided:" ++ 10 ∷ codes "  <URL=FILE>..." ++ 10 ∷ 10
+    ∷ codes "Usage: smap rewrite <URL=FILE>..." ++ 10 ∷ 10 ∷ codes "For more information, try '--help'." ++ 10 ∷ []
 
 -- it is told that the base is no URL: url's definition finds an error in its text, which is not that it is too long
 abbrev pub TellsBadBase : List Row → Text → Type 0
@@ -238,18 +287,22 @@ TellsOfBase rows text = TellsBadBase rows text ⊎ TellsLongBase rows text
 abbrev pub TellsNoPair : List Text → Text → Type 0
 TellsNoPair arguments text = (argument : Text) × (first_without arguments ≡ Some argument) × (text ≡ no_pair_line argument)
 
--- the same, of the arguments that clap reads
+-- the same, of the words that clap reads
 abbrev pub TellsBadPair : List Row → Text → Type 0
-TellsBadPair rows text = (arguments : List Text) × GivesTexts rows (codes "URL=FILE") arguments × TellsNoPair arguments text
+TellsBadPair rows = TellsNoPair (words_of rows)
 
--- it is told that both flags are given, of arguments that are pairs
+-- it is told that there is neither a word nor a list
+abbrev pub TellsNoMaps : List Row → Text → Type 0
+TellsNoMaps rows text = (text ≡ no_maps_text) × (words_of rows ≡ []) × (first_of (codes "LIST") rows ≡ None)
+
+-- it is told that both flags are given, of words that are pairs
 abbrev pub TellsBothFlags : List Row → Text → Type 0
 TellsBothFlags rows text = (text ≡ both_flags_line) × ((pairs : List (String Global × String Global)) × GivesPairs rows pairs)
     × GivesFlag rows (codes "hide-ignored") true × GivesFlag rows (codes "anywhere") true
 
--- what `rewrite` refuses after its base: an argument, and then its flags
+-- what `rewrite` refuses after its base: a word, that there are no maps, and then its flags
 abbrev pub TellsRewrite : List Row → Text → Type 0
-TellsRewrite rows text = TellsBadPair rows text ⊎ TellsBothFlags rows text
+TellsRewrite rows text = TellsBadPair rows text ⊎ TellsNoMaps rows text ⊎ TellsBothFlags rows text
 
 -- the arguments are told that clap takes, but the command of this name does not: its base or, where that is not refused,
 -- what else `rewrite` refuses
@@ -269,7 +322,8 @@ SubcommandTells subcommand text =
     (name : Text) × (rows : List Row) × (subcommand ≡ Some (name, rows)) × TellsRefusal name rows text
 
 -- clap finds a request for help or for the version, or another fault in the arguments; or it finds none, and what is told is
--- that the base is no URL or too long, an argument no pair, or that two flags exclude each other; or memory ran out
+-- that the base is no URL or too long, an argument no pair, that there are no maps, or that two flags exclude each other; or
+-- memory ran out
 abbrev pub IsRefusalOf : List Text → Usage → Type 0
 IsRefusalOf arguments (Help text) = (kind : ErrorKind) × IsAmong kind (fault_of smap arguments) × IsRequest kind
 IsRefusalOf arguments (Mistake text) =

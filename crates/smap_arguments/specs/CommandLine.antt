@@ -1,8 +1,8 @@
 -- The command line, as clap reads it.
-use Rattle.std.specs.Prelude.{◌≡◌, ◌+◌, false, true, pos, codes, Option, Some, List, []}
+use Rattle.std.specs.Prelude.{◌≡◌, ◌+◌, ℕ, Bool, false, true, pos, codes, Option, Some, List, []}
 use Rattle.std.specs.Prelude.{◌∷◌, find, fold}
 use Rattle.std.specs.Str.{bytes_eq}
-use Rattle.smap_command.specs.Limits.{limit, most_interval}
+use Rattle.smap_command.specs.Limits.{limit, most_bytes, most_interval}
 use Rattle.clap.specs.Simple.{on_top}
 use Rattle.clap.specs.Words.{App, Rule, Shape, Text, app_of, new_app, new_rule, rule_of, with_rule, with_subcommand}
 use Rattle.clap.specs.declared.builder.action.ArgAction.TheVariants.{Append, SetTrue}
@@ -26,6 +26,10 @@ source_number = parser.Signed (pos 0) (pos 4294967295)
 abbrev pub interval_number : ValueParser
 interval_number = parser.Signed (pos 1) (pos most_interval)
 
+-- a number of bytes, from this one on
+abbrev pub bytes_number : (least : ℕ) → ValueParser
+bytes_number least = parser.Unsigned least most_bytes
+
 -- a required argument that is of any text
 abbrev pub text_rule : Text → Rule
 text_rule name = record (new_rule name) { required = true }
@@ -34,9 +38,9 @@ text_rule name = record (new_rule name) { required = true }
 abbrev pub number_rule : ValueParser → Text → Rule
 number_rule parser name = record (new_rule name) { required = true; parser = Some parser }
 
--- a required argument that is one or more arguments, of any text
-abbrev pub texts_rule : Text → Rule
-texts_rule name = record (new_rule name) { required = true; action = Some Append }
+-- an argument that is one or more arguments, of any text
+abbrev pub texts_rule : (required : Bool) → Text → Rule
+texts_rule required name = record (new_rule name) { required = required; action = Some Append }
 
 -- the option that is a URL, of any text
 abbrev pub base_rule : Rule
@@ -62,6 +66,19 @@ hide_rule = record (new_rule (codes "hide-ignored")) { long = Some (codes "hide-
 abbrev pub anywhere_rule : Rule
 anywhere_rule = record (new_rule (codes "anywhere")) { long = Some (codes "anywhere"); action = Some SetTrue }
 
+-- the option that is the path of a list of maps, of any text
+abbrev pub list_rule : Rule
+list_rule = record (new_rule (codes "LIST")) { long = Some (codes "maps") }
+
+-- an option that is a number of bytes, which its name in the help tells
+abbrev pub bytes_rule : (least : ℕ) → Text → Rule
+bytes_rule least name =
+    record (new_rule name) { long = Some name; value_names = 1; parser = Some (bytes_number least) }
+
+-- the flag that tells counts at the end
+abbrev pub summary_rule : Rule
+summary_rule = record (new_rule (codes "summary")) { long = Some (codes "summary"); action = Some SetTrue }
+
 -- clap's argument is the one described, and does not hold in subcommands too
 abbrev pub IsLocalArgument : Rule → ClapArgument → Type 0
 IsLocalArgument rule argument = (rule_of argument ≡ rule) × (argument.global ≡ false)
@@ -80,10 +97,11 @@ abbrev pub positions : App
 positions = with_rules (codes "positions") (text_rule (codes "MAP") ∷ base_rule ∷ interval_rule ∷ after_rule ∷ json_rule ∷ [])
 
 abbrev pub rewrite : App
-rewrite = with_rules (codes "rewrite") (texts_rule (codes "URL=FILE") ∷ base_rule ∷ interval_rule ∷ hide_rule ∷ anywhere_rule ∷ [])
+rewrite = with_rules (codes "rewrite") (texts_rule false (codes "URL=FILE") ∷ list_rule ∷ base_rule ∷ interval_rule ∷ hide_rule
+    ∷ anywhere_rule ∷ bytes_rule 0 (codes "cache") ∷ bytes_rule 1 (codes "limit") ∷ summary_rule ∷ [])
 
 abbrev pub check : App
-check = with_rules (codes "check") (texts_rule (codes "PATH") ∷ base_rule ∷ interval_rule ∷ json_rule ∷ [])
+check = with_rules (codes "check") (texts_rule true (codes "PATH") ∷ base_rule ∷ interval_rule ∷ json_rule ∷ [])
 
 abbrev pub show : App
 show = with_rules (codes "show") (text_rule (codes "PATH") ∷ base_rule ∷ [])

@@ -1,21 +1,20 @@
 //! The command that the arguments ask for, read from what clap found in them.
-ghost use Rattle.std.specs.Prelude.{◌≡◌, ◌≤◌, ◌+◌, ◌∷◌, [], IfErr, IfOk, codes, map, string_bytes, true};
+ghost use Rattle.std.specs.Prelude.{◌≡◌, IfErr, IfOk, codes, map};
 ghost use Rattle.clap.specs.Words.{found_of, rows_of, subcommand_rows_of};
-ghost use Rattle.smap_command.specs.Limits.{is_interval, limit};
-ghost use Rattle.smap_arguments.specs.CommandLine.{interval_number, named, number, source_number};
-ghost use Rattle.smap_arguments.specs.Arguments.{ArePairs, GivesBase, GivesFlag, GivesInterval, GivesNumber, GivesPairs};
-ghost use Rattle.smap_arguments.specs.Arguments.{GivesText, GivesTexts, HasArguments, HasCommand, HasValue, HasValueIfGiven};
-ghost use Rattle.smap_arguments.specs.Arguments.{IsInRange, IsNamedRefusal, IsPair};
-ghost use Rattle.smap_arguments.specs.Arguments.{NamedAsksFor, SubcommandAsksFor, SubcommandTells, TellsOfBase};
-ghost use Rattle.smap_arguments.specs.Arguments.{TellsBadPair, TellsNoPair, TellsRefusal, TellsRewrite, texts};
+ghost use Rattle.smap_arguments.specs.CommandLine.{interval_number, named};
+ghost use Rattle.smap_arguments.specs.Arguments.{GivesBase, HasArguments, HasCommand, HasValue, HasValueIfGiven, IsInRange, IsNamedRefusal};
+ghost use Rattle.smap_arguments.specs.Arguments.{NamedAsksFor, SubcommandAsksFor, SubcommandTells, TellsRefusal, texts};
 ghost use Rattle.clap.specs.declared.builder.value_parser.ValueParser.TheVariants as parser;
 
-use crate::mistakes::{BAD_BASE, BOTH_FLAGS, LONG_BASE, no_pair_line};
+use crate::rewrite::rewrite_in;
 use crate::usage::Usage;
+use crate::values::{
+    after_in, base_in, interval_in, json_in, position_number_in, source_in, text_in, texts_in,
+};
 use clap::ArgMatches;
-use smap_command::{Command, USUAL_INTERVAL};
+use smap_command::Command;
 use std::alloc::{AllocError, Global};
-use url::{ParseError, Url};
+use url::Url;
 
 /// The command that the subcommand and its arguments ask for. A base that is no URL is refused first.
 pub fn command_in(alloc: Global, matches: &ArgMatches<'_>) -> Result<Command, Usage>
@@ -87,90 +86,6 @@ fn named_command(
     }
 }
 
-fn text_in(alloc: Global, matches: &ArgMatches<'_>, name: &str) -> Result<String, AllocError>
-    requires { HasValue parser.String (rows_of (found_of matches.now)) name.now }
-    ensures { IfOk result (λ text. GivesText (rows_of (found_of matches.now)) name.now
-        (string_bytes text)) }
-{
-    String::from_str(alloc, matches.get_str(name).unwrap())
-}
-
-fn texts_in<'m, 'a>(matches: &'m ArgMatches<'a>, name: &str) -> &'m [&'a str]
-    requires { HasValue parser.String (rows_of (found_of matches.now)) name.now }
-    ensures { GivesTexts (rows_of (found_of matches.now)) name.now
-        (map (λ text. text.now) result.now) }
-{
-    matches.get_strs(name).unwrap()
-}
-
-// Counted from 0, where the argument counts from 1.
-fn position_number_in(matches: &ArgMatches<'_>, name: &str) -> u32
-    requires { HasValue number (rows_of (found_of matches.now)) name.now }
-    ensures given { GivesNumber (rows_of (found_of matches.now)) name.now (result + 1) }
-    ensures in_range { result ≤ limit }
-{
-    matches.get_one::<u32>(name).unwrap() - 1
-}
-
-fn source_in(matches: &ArgMatches<'_>) -> u32
-    requires { HasValue source_number (rows_of (found_of matches.now)) (codes "SOURCE") }
-    ensures { GivesNumber (rows_of (found_of matches.now)) (codes "SOURCE") result }
-{
-    matches.get_one::<u32>("SOURCE").unwrap()
-}
-
-// The interval of the option `--interval`, or the usual one where it is not given.
-fn interval_in(matches: &ArgMatches<'_>) -> u32
-    requires { HasValueIfGiven interval_number (rows_of (found_of matches.now)) (codes "K") }
-    ensures given { GivesInterval (rows_of (found_of matches.now)) result }
-    ensures in_range { is_interval result ≡ true }
-{
-    match matches.get_one::<u32>("K") {
-        Some(interval) => interval,
-        None => USUAL_INTERVAL,
-    }
-}
-
-// Whether the flag is given that looks up in the other direction.
-fn after_in(matches: &ArgMatches<'_>) -> bool
-    requires { HasValueIfGiven parser.Bool (rows_of (found_of matches.now)) (codes "after") }
-    ensures { GivesFlag (rows_of (found_of matches.now)) (codes "after") result }
-{
-    flag_in(matches, "after")
-}
-
-fn json_in(matches: &ArgMatches<'_>) -> bool
-    requires { HasValueIfGiven parser.Bool (rows_of (found_of matches.now)) (codes "json") }
-    ensures { GivesFlag (rows_of (found_of matches.now)) (codes "json") result }
-{
-    flag_in(matches, "json")
-}
-
-fn flag_in(matches: &ArgMatches<'_>, name: &str) -> bool
-    requires { HasValueIfGiven parser.Bool (rows_of (found_of matches.now)) name.now }
-    ensures { GivesFlag (rows_of (found_of matches.now)) name.now result }
-{
-    matches.get_flag(name)
-}
-
-// None where `--base` is not given.
-fn base_in(alloc: Global, matches: &ArgMatches<'_>) -> Result<Option<Url>, Usage>
-    ensures given { IfOk result (GivesBase (rows_of (found_of matches.now))) }
-    ensures refused { IfErr result (IsNamedRefusal (TellsOfBase (rows_of (found_of matches.now)))) }
-{
-    let Some(text) = matches.get_str("URL") else {
-        return Ok(None);
-    };
-    match Url::parse(alloc, text) {
-        Ok(url) => Ok(Some(url)),
-        Err(error) => match error {
-            ParseError::OutOfMemory => Err(Usage::Memory),
-            ParseError::Overflow => Err(Usage::Mistake(String::from_str(alloc, LONG_BASE)?)),
-            _ => Err(Usage::Mistake(String::from_str(alloc, BAD_BASE)?)),
-        },
-    }
-}
-
 // What `check` is asked: to tell one map or, of several paths or with `--json`, each by a line of its own.
 fn check_in(
     alloc: Global,
@@ -209,78 +124,4 @@ fn copied_texts(alloc: Global, given: &[&str]) -> Result<Vec<String>, AllocError
         copies.push(String::from_str(alloc, text)?)?;
     }
     Ok(copies)
-}
-
-// What `rewrite` is asked. Its flags exclude each other.
-fn rewrite_in(alloc: Global, matches: &ArgMatches<'_>, base: Option<Url>) -> Result<Command, Usage>
-    requires pairs { HasValue parser.String (rows_of (found_of matches.now)) (codes "URL=FILE") }
-    requires interval { HasValueIfGiven interval_number (rows_of (found_of matches.now))
-        (codes "K") }
-    requires hide { HasValueIfGiven parser.Bool (rows_of (found_of matches.now))
-        (codes "hide-ignored") }
-    requires anywhere { HasValueIfGiven parser.Bool (rows_of (found_of matches.now))
-        (codes "anywhere") }
-    requires given { GivesBase (rows_of (found_of matches.now)) base }
-    ensures asked { IfOk result (NamedAsksFor (codes "rewrite") (rows_of (found_of matches.now))) }
-    ensures in_range { IfOk result IsInRange }
-    ensures refused { IfErr result (IsNamedRefusal
-        (TellsRewrite (rows_of (found_of matches.now)))) }
-{
-    let (maps, interval) = (maps_in(alloc, matches)?, interval_in(matches));
-    let hide_ignored = flag_in(matches, "hide-ignored");
-    match (flag_in(matches, "anywhere"), hide_ignored) {
-        (false, hide_ignored) => Ok(Command::Rewrite {
-            maps,
-            base,
-            interval,
-            hide_ignored,
-        }),
-        (true, false) => Ok(Command::RewriteAnywhere {
-            maps,
-            base,
-            interval,
-        }),
-        (true, true) => Err(Usage::Mistake(String::from_str(alloc, BOTH_FLAGS)?)),
-    }
-}
-
-fn maps_in(alloc: Global, matches: &ArgMatches<'_>) -> Result<Vec<(String, String)>, Usage>
-    requires { HasValue parser.String (rows_of (found_of matches.now)) (codes "URL=FILE") }
-    ensures given { IfOk result (λ maps. GivesPairs (rows_of (found_of matches.now)) maps.items) }
-    ensures refused { IfErr result (IsNamedRefusal
-        (TellsBadPair (rows_of (found_of matches.now)))) }
-{
-    pairs_of(alloc, texts_in(matches, "URL=FILE"))
-}
-
-fn pairs_of(alloc: Global, arguments: &[&str]) -> Result<Vec<(String, String)>, Usage>
-    ensures cut { IfOk result (λ pairs. ArePairs (map (λ argument. argument.now) arguments.now)
-        pairs.items) }
-    ensures refused { IfErr result (IsNamedRefusal
-        (TellsNoPair (map (λ argument. argument.now) arguments.now))) }
-{
-    let mut pairs = Vec::new(alloc);
-    for argument in arguments {
-        let pair = pair_of(alloc, argument)?;
-        match pairs.push(pair) {
-            Ok(_) => {}
-            Err(_) => return Err(Usage::Memory),
-        }
-    }
-    Ok(pairs)
-}
-
-// The URL and the path of an argument, which is cut at its last `=`, since a URL may have others.
-fn pair_of(alloc: Global, argument: &str) -> Result<(String, String), Usage>
-    ensures cut { IfOk result (λ pair. IsPair argument.now (string_bytes pair.0)
-        (string_bytes pair.1)) }
-    ensures refused { IfErr result (IsNamedRefusal (TellsNoPair (argument.now ∷ []))) }
-{
-    match argument.rsplit_once('=') {
-        Some((url, path)) => Ok((
-            String::from_str(alloc, url)?,
-            String::from_str(alloc, path)?,
-        )),
-        None => Err(Usage::Mistake(no_pair_line(alloc, argument)?)),
-    }
 }

@@ -49,13 +49,20 @@ Each URL=FILE is the URL of a generated file, as frames of the trace name it, an
 map; the last `=` of the argument stands between them. Sources are resolved against the URL of --base or, where
 there is none, against the map's own.
 
+What ends in `/` behind the `=` is a folder: PREFIX=FOLDER/, where PREFIX ends in `/`, too. The map of a URL that
+begins with PREFIX is the file FOLDER/REST.map, REST being what the URL has behind PREFIX, without its query and
+fragment. Each line of the file of --maps is a URL and a file, or a prefix and a folder, with one TAB between
+them; empty lines and those that begin with `#` are passed over. Maps of folders and lists are read when the text
+first names them. One that cannot be read is told on standard error, and the rest goes on.
+
 Answer: the trace, line by line. In a frame of V8, Firefox or Safari whose URL has a map, the place becomes
 the original one; the rest of the line stays, and so does each other line, byte for byte. With --hide-ignored
 the lines of frames from sources that a map says to pass over are left out. With --anywhere each place
 URL:LINE:COLUMN whose URL has a map becomes the original one, wherever it stands in a line.
 
-Example:
-  smap rewrite https://example.test/receipt.min.js=examples/receipt.min.js.map < examples/receipt.trace";
+Examples:
+  smap rewrite https://example.test/receipt.min.js=examples/receipt.min.js.map < examples/receipt.trace
+  smap rewrite https://example.test/=examples/ < examples/receipt.trace";
 
 pub const CHECK_ABOUT: &str = "Checks source map files and prints their counts";
 
@@ -117,7 +124,10 @@ pub const LINE_HELP: &str = "Line of the generated file, from 1";
 
 pub const COLUMN_HELP: &str = "Column of the generated file, from 1, in UTF-16 code units";
 
-pub const PAIRS_HELP: &str = "URL of a generated file, `=` and the path of its source map file";
+pub const PAIRS_HELP: &str =
+    "URL of a generated file, `=` and the path of its source map file; or PREFIX=FOLDER/";
+
+pub const LIST_HELP: &str = "Path of a list of more maps: on each line URL, TAB and FILE";
 
 pub const OUTER_HELP: &str = "Path of the source map file of the last step";
 
@@ -139,3 +149,12 @@ pub const HIDE_HELP: &str =
 
 pub const ANYWHERE_HELP: &str =
     "Rewrite every URL:LINE:COLUMN anywhere in a line, not frames alone";
+
+pub const CACHE_HELP: &str = "\
+Keep maps of folders and lists up to this many bytes of their files, else 1073741824; the
+output is the same";
+
+pub const LIMIT_HELP: &str =
+    "Refuse a text of more bytes than this, 1 to 9223372036854775807, else 1073741824";
+
+pub const SUMMARY_HELP: &str = "Tell counts on standard error at the end";

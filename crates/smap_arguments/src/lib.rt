@@ -11,7 +11,9 @@ mod help;
 mod line;
 mod mistakes;
 mod parsing;
+mod rewrite;
 mod usage;
+mod values;
 
 pub use parsing::parse;
 pub use smap_command::Command;

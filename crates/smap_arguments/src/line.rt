@@ -1,18 +1,21 @@
 //! The command line as clap gets it.
 ghost use Rattle.std.specs.Prelude.{◌≡◌, All, IfOk, codes, false, map};
 ghost use Rattle.clap.specs.Words.{app_of, rule_of};
-ghost use Rattle.smap_arguments.specs.CommandLine.{IsLocalArgument, IsLocalCommand, after_rule, anywhere_rule, base_rule, check, compose};
-ghost use Rattle.smap_arguments.specs.CommandLine.{hide_rule, interval_rule, json_rule, lookup, number, number_rule, positions, raw, rewrite};
-ghost use Rattle.smap_arguments.specs.CommandLine.{show, smap, source_number, text_rule, texts_rule, with_rules};
+ghost use Rattle.smap_arguments.specs.CommandLine.{IsLocalArgument, IsLocalCommand, after_rule, anywhere_rule, base_rule, bytes_rule, check};
+ghost use Rattle.smap_arguments.specs.CommandLine.{compose, hide_rule, interval_rule, json_rule, list_rule, lookup, number, number_rule};
+ghost use Rattle.smap_arguments.specs.CommandLine.{positions, raw, rewrite, show, smap, source_number, summary_rule, text_rule, texts_rule};
+ghost use Rattle.smap_arguments.specs.CommandLine.{with_rules};
 
 use crate::help::{
-    AFTER_HELP, ANYWHERE_HELP, CHECK_ABOUT, CHECK_NOTES, COLUMN_HELP, COMPOSE_ABOUT, COMPOSE_NOTES,
-    HIDE_HELP, INNER_HELP, INTERVAL_HELP, JSON_HELP, LINE_HELP, LOOKUP_ABOUT, LOOKUP_NOTES,
-    OUTER_HELP, PAIRS_HELP, PATH_HELP, PATHS_HELP, POSITIONS_ABOUT, POSITIONS_NOTES, RAW_ABOUT,
-    RAW_NOTES, REWRITE_ABOUT, REWRITE_NOTES, SHOW_ABOUT, SHOW_NOTES, SOURCE_HELP, STATUSES,
+    AFTER_HELP, ANYWHERE_HELP, CACHE_HELP, CHECK_ABOUT, CHECK_NOTES, COLUMN_HELP, COMPOSE_ABOUT,
+    COMPOSE_NOTES, HIDE_HELP, INNER_HELP, INTERVAL_HELP, JSON_HELP, LIMIT_HELP, LINE_HELP,
+    LIST_HELP, LOOKUP_ABOUT, LOOKUP_NOTES, OUTER_HELP, PAIRS_HELP, PATH_HELP, PATHS_HELP,
+    POSITIONS_ABOUT, POSITIONS_NOTES, RAW_ABOUT, RAW_NOTES, REWRITE_ABOUT, REWRITE_NOTES,
+    SHOW_ABOUT, SHOW_NOTES, SOURCE_HELP, STATUSES, SUMMARY_HELP,
 };
+use clap::builder::ValueParser;
 use clap::{Arg, ArgAction, Command, value_parser};
-use smap_command::{LIMIT, MOST_INTERVAL};
+use smap_command::{LIMIT, MOST_BYTES, MOST_INTERVAL};
 use std::alloc::{AllocError, Global};
 
 const VERSION: &str = "0.1.0";
@@ -77,11 +80,15 @@ fn rewrite_command<'a>(alloc: Global) -> Result<Command<'a>, AllocError>
     ensures { IfOk result (IsLocalCommand rewrite) }
 {
     let arguments = vec![in alloc;
-        texts(alloc, "URL=FILE", PAIRS_HELP),
+        texts(alloc, "URL=FILE", PAIRS_HELP, false),
+        list(alloc),
         base_url(alloc),
         interval(alloc),
         hide_ignored(alloc),
         anywhere(alloc),
+        bytes(alloc, "cache", CACHE_HELP, 0),
+        bytes(alloc, "limit", LIMIT_HELP, 1),
+        summary(alloc),
     ]?;
     described(alloc, "rewrite", REWRITE_ABOUT, REWRITE_NOTES, arguments)
 }
@@ -90,7 +97,7 @@ fn check_command<'a>(alloc: Global) -> Result<Command<'a>, AllocError>
     ensures { IfOk result (IsLocalCommand check) }
 {
     let arguments = vec![in alloc;
-        texts(alloc, "PATH", PATHS_HELP),
+        texts(alloc, "PATH", PATHS_HELP, true),
         base_url(alloc),
         interval(alloc),
         json(alloc),
@@ -153,12 +160,12 @@ fn text<'a>(alloc: Global, name: &'a str, help: &'a str) -> Arg<'a>
     Arg::new(alloc, name).required(true).help(help)
 }
 
-// A required argument that is one or more arguments, of any text.
-fn texts<'a>(alloc: Global, name: &'a str, help: &'a str) -> Arg<'a>
-    ensures { IsLocalArgument (texts_rule name.entry.now) result }
+// An argument that is one or more arguments, of any text.
+fn texts<'a>(alloc: Global, name: &'a str, help: &'a str, required: bool) -> Arg<'a>
+    ensures { IsLocalArgument (texts_rule required name.entry.now) result }
 {
     Arg::new(alloc, name)
-        .required(true)
+        .required(required)
         .action(ArgAction::Append)
         .help(help)
 }
@@ -240,4 +247,32 @@ fn anywhere<'a>(alloc: Global) -> Arg<'a>
         .long("anywhere")
         .action(ArgAction::SetTrue)
         .help(ANYWHERE_HELP)
+}
+
+// The option that is the path of a list of maps.
+fn list<'a>(alloc: Global) -> Arg<'a>
+    ensures { IsLocalArgument list_rule result }
+{
+    Arg::new(alloc, "LIST").long("maps").help(LIST_HELP)
+}
+
+// An option that is a number of bytes, from the least one on.
+fn bytes<'a>(alloc: Global, name: &'a str, help: &'a str, least: u64) -> Arg<'a>
+    ensures { IsLocalArgument (bytes_rule least name.entry.now) result }
+{
+    Arg::new(alloc, name)
+        .long(name)
+        .value_name("BYTES")
+        .value_parser(ValueParser::unsigned(least, MOST_BYTES))
+        .help(help)
+}
+
+// The flag that tells counts at the end.
+fn summary<'a>(alloc: Global) -> Arg<'a>
+    ensures { IsLocalArgument summary_rule result }
+{
+    Arg::new(alloc, "summary")
+        .long("summary")
+        .action(ArgAction::SetTrue)
+        .help(SUMMARY_HELP)
 }

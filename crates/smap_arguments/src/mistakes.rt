@@ -13,6 +13,16 @@ pub const LONG_BASE: &str = "usage: base URL too long\n";
 
 pub const BOTH_FLAGS: &str = "usage: --hide-ignored with --anywhere\n";
 
+/// Standard error: `rewrite` has neither a word nor a list. It is told as clap tells of any argument that is missing.
+pub const NO_MAPS: &str = "\
+error: the following required arguments were not provided:
+  <URL=FILE>...
+
+Usage: smap rewrite <URL=FILE>...
+
+For more information, try '--help'.
+";
+
 /// Standard error: an argument of `rewrite` without `=`.
 pub fn no_pair_line(alloc: Global, argument: &str) -> Result<String, AllocError>
     ensures { IfOk result (λ text. string_bytes text ≡ no_pair_line argument.now) }

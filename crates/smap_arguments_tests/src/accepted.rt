@@ -3,7 +3,7 @@ use crate::reading::read;
 use std::test::Fail;
 
 // Arguments, and the command that they give, with lines and columns from 0.
-const COMMANDS: [(&[&str], &str); 51] = [
+const COMMANDS: [(&[&str], &str); 49] = [
     (&["smap", "raw", "1", "6"], "raw 0 5 every 64"),
     (&["smap", "raw", "1", "1"], "raw 0 0 every 64"),
     (&["./smap", "raw", "007", "+2"], "raw 6 1 every 64"),
@@ -208,22 +208,6 @@ const COMMANDS: [(&[&str], &str); 51] = [
             "v=2.map",
         ],
         "rewritehttps://ex.test/ every 7 hiding [u][1.map] [v][2.map]",
-    ),
-    (
-        &["smap", "rewrite", "u=1.map", "--anywhere", "v=2.map"],
-        "anywhere every 64 [u][1.map] [v][2.map]",
-    ),
-    (
-        &[
-            "smap",
-            "rewrite",
-            "--anywhere",
-            "--base=https://ex.test/",
-            "--interval",
-            "7",
-            "u=1.map",
-        ],
-        "anywherehttps://ex.test/ every 7 [u][1.map]",
     ),
     (
         &["smap", "rewrite", "--", "--hide-ignored=x"],

@@ -95,30 +95,42 @@ Example: printf '65:80\\n66 1\\n' | smap positions examples/preset-react.js.map
 const REWRITE: &str = "\
 Rewrites the stack trace on standard input over source map files
 
-Usage: smap rewrite [OPTIONS] <URL=FILE>...
+Usage: smap rewrite [OPTIONS] [URL=FILE]...
 
 Arguments:
-  <URL=FILE>...  URL of a generated file, `=` and the path of its source map file
+  [URL=FILE]...  URL of a generated file, `=` and the path of its source map file; or PREFIX=FOLDER/
 
 Options:
-      --base <URL>    URL against which the names of sources are resolved
-      --interval <K>  Checkpoints in the index stand at every K-th segment of a line, 1 to 4096, else 64. A
-                      smaller K answers look-ups faster and takes more memory; their answers are the same
-      --hide-ignored  Leave out the frames from sources that a map says to pass over (its `ignoreList`)
-      --anywhere      Rewrite every URL:LINE:COLUMN anywhere in a line, not frames alone
-  -h, --help          Print help
+      --maps <LIST>    Path of a list of more maps: on each line URL, TAB and FILE
+      --base <URL>     URL against which the names of sources are resolved
+      --interval <K>   Checkpoints in the index stand at every K-th segment of a line, 1 to 4096, else 64. A
+                       smaller K answers look-ups faster and takes more memory; their answers are the same
+      --hide-ignored   Leave out the frames from sources that a map says to pass over (its `ignoreList`)
+      --anywhere       Rewrite every URL:LINE:COLUMN anywhere in a line, not frames alone
+      --cache <BYTES>  Keep maps of folders and lists up to this many bytes of their files, else 1073741824; the
+                       output is the same
+      --limit <BYTES>  Refuse a text of more bytes than this, 1 to 9223372036854775807, else 1073741824
+      --summary        Tell counts on standard error at the end
+  -h, --help           Print help
 
 Each URL=FILE is the URL of a generated file, as frames of the trace name it, and the path of that file's
 map; the last `=` of the argument stands between them. Sources are resolved against the URL of --base or, where
 there is none, against the map's own.
+
+What ends in `/` behind the `=` is a folder: PREFIX=FOLDER/, where PREFIX ends in `/`, too. The map of a URL that
+begins with PREFIX is the file FOLDER/REST.map, REST being what the URL has behind PREFIX, without its query and
+fragment. Each line of the file of --maps is a URL and a file, or a prefix and a folder, with one TAB between
+them; empty lines and those that begin with `#` are passed over. Maps of folders and lists are read when the text
+first names them. One that cannot be read is told on standard error, and the rest goes on.
 
 Answer: the trace, line by line. In a frame of V8, Firefox or Safari whose URL has a map, the place becomes
 the original one; the rest of the line stays, and so does each other line, byte for byte. With --hide-ignored
 the lines of frames from sources that a map says to pass over are left out. With --anywhere each place
 URL:LINE:COLUMN whose URL has a map becomes the original one, wherever it stands in a line.
 
-Example:
+Examples:
   smap rewrite https://example.test/receipt.min.js=examples/receipt.min.js.map < examples/receipt.trace
+  smap rewrite https://example.test/=examples/ < examples/receipt.trace
 ";
 
 const CHECK: &str = "\

@@ -94,14 +94,25 @@ pub fn read(alloc: Global, arguments: &[&str]) -> Result<String, AllocError> {
             Ok(told)
         }
         Ok(
-            Command::RewriteAnywhere {
+            Command::RewriteFrom {
                 maps,
+                list,
                 base,
                 interval,
+                hide_ignored,
+                anywhere,
+                cache_bytes,
+                limit_bytes,
+                summary,
             },
         ) => {
             let base = base_text(&base);
-            let mut told = format!(in alloc; "anywhere{base} every {interval}")?;
+            let flags = rewrite_flags_text(hide_ignored, anywhere, summary);
+            let bytes = format!(in alloc; "cache {cache_bytes} limit {limit_bytes}")?;
+            let mut told = format!(in alloc; "from{base} every {interval} {bytes}{flags}")?;
+            if let Some(list) = list {
+                told = format!(in alloc; "{told} list {list}")?;
+            }
             for (url, path) in maps {
                 told = format!(in alloc; "{told} [{url}][{path}]")?;
             }
@@ -129,6 +140,20 @@ fn flags_text(after: bool, json: bool) -> &'static str {
         (true, false) => " after",
         (false, true) => " in JSON",
         (true, true) => " after in JSON",
+    }
+}
+
+// The flags of `rewrite`.
+fn rewrite_flags_text(hide_ignored: bool, anywhere: bool, summary: bool) -> &'static str {
+    match (hide_ignored, anywhere, summary) {
+        (false, false, false) => "",
+        (true, false, false) => " hiding",
+        (false, true, false) => " anywhere",
+        (true, true, false) => " hiding anywhere",
+        (false, false, true) => " in sum",
+        (true, false, true) => " hiding in sum",
+        (false, true, true) => " anywhere in sum",
+        (true, true, true) => " hiding anywhere in sum",
     }
 }
 

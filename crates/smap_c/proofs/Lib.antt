@@ -1,3 +1,5 @@
+pub mod FirstLines
+pub mod FrameUrls
 pub mod Held
 pub mod Holders
 pub mod Refusals

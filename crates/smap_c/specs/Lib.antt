@@ -1,4 +1,5 @@
 pub mod Counts
+pub mod Frames
 pub mod Look
 pub mod Many
 pub mod Owned

@@ -1,4 +1,5 @@
 -- What contracts of private functions alone cite.
 pub mod Base
+pub mod FirstLine
 pub mod Lending
 pub mod Rewriting

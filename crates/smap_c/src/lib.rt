@@ -1,6 +1,6 @@
 //! Source maps for C, and for what calls C: maps are read, looked up, written and composed, and stack traces rewritten, by
-//! the calls of smap_record, smap_compose and smap_trace. Nothing is decided here. A map, a table of maps and bytes that
-//! are handed out stand after handles, each a pointer that owns what it leads to.
+//! the calls of smap_record, smap_compose, smap_trace and smap_places. Nothing is decided here. A map, a table of maps and
+//! bytes that are handed out stand after handles, each a pointer that owns what it leads to.
 //!
 //! ```text
 //! if smap_map_read(alloc, bytes, base, 64, &mut map, &mut refusal) == 0 {
@@ -15,6 +15,7 @@
 
 mod bytes;
 mod counts;
+mod frames;
 mod handles;
 mod look_up;
 mod loose;

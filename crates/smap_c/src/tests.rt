@@ -3,6 +3,7 @@ ghost use Rattle.std.specs.Prelude.{IfOk, IsSome};
 
 use crate::bytes::Bytes;
 use crate::counts::{Counts, smap_counts};
+use crate::frames::{FrameUrl, smap_next_frame_url};
 use crate::handles::{BytesHandle, MapHandle, TableHandle};
 use crate::look_up::{Found, smap_look_up, smap_look_up_from};
 use crate::many::{Position, smap_look_up_many};
@@ -12,7 +13,7 @@ use crate::status::{DONE, REFUSED};
 use crate::tables::{smap_table_add, smap_table_free, smap_table_new};
 use crate::telling::{smap_compose_refusal_text, smap_refusal_text, smap_table_refusal_text};
 use crate::texts::{Source, Text, smap_file, smap_name, smap_source};
-use crate::trace::{TraceCounts, smap_rewrite};
+use crate::trace::{TraceCounts, smap_rewrite, smap_rewrite_anywhere};
 use crate::written::{smap_bytes_free, smap_bytes_text, smap_compose, smap_map_write};
 use smap_record::MapFile;
 use smap_trace::Table;
@@ -253,7 +254,38 @@ fn a_trace_is_rewritten(rt: HostRuntime) -> Result<(), Fail> {
     let mut text = Text { text: b"" };
     assert_eq!(&rt; smap_bytes_text(&mut bytes, &mut text), DONE);
     assert_eq!(&rt; text.text, "Error: x\n    at g (a.js:2:2)\n".as_bytes());
+    let places = b"[https://h.test/out.js:1:2] {https://h.test/out.js:9:9}";
+    let mut bytes = no_bytes(alloc)?;
+    let status = smap_rewrite_anywhere(alloc, &mut table, places, &mut bytes, &mut counts);
+    assert!(&rt; status == DONE && counts.lines == 1 && counts.frames == 2);
+    assert!(&rt; counts.mapped == 1 && counts.hidden == 0);
+    let mut text = Text { text: b"" };
+    assert_eq!(&rt; smap_bytes_text(&mut bytes, &mut text), DONE);
+    assert_eq!(&rt;
+        text.text,
+        "[a.js:2:2] {https://h.test/out.js:9:9}".as_bytes()
+    );
     smap_table_free(alloc, &mut table);
+    Ok(())
+}
+
+#[test]
+fn urls_of_frames_are_found(rt: HostRuntime) -> Result<(), Fail> {
+    let trace = b"Error\n    at g (u.js:1:2)\r\n\nf@v/w.js:3:4\nf@x\n@y:1:1";
+    let mut found = FrameUrl {
+        start: 9,
+        length: 9,
+        next: 9,
+    };
+    assert_eq!(&rt; smap_next_frame_url(trace, 0, &mut found), DONE);
+    assert!(&rt; found.start == 16 && found.length == 4 && found.next == 27);
+    assert_eq!(&rt; smap_next_frame_url(trace, 27, &mut found), DONE);
+    assert!(&rt; found.start == 30 && found.length == 6 && found.next == 41);
+    assert_eq!(&rt; smap_next_frame_url(trace, 41, &mut found), DONE);
+    assert!(&rt; found.start == 46 && found.length == 1 && found.next == 51);
+    assert_eq!(&rt; smap_next_frame_url(trace, 51, &mut found), REFUSED);
+    assert_eq!(&rt; smap_next_frame_url(trace, 99, &mut found), REFUSED);
+    assert!(&rt; found.start == 46 && found.length == 1 && found.next == 51);
     Ok(())
 }
 

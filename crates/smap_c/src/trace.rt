@@ -1,6 +1,8 @@
 //! A trace in memory, and its rewriting.
-ghost use Rattle.std.specs.Prelude.{◌≡◌, ◌≢◌, ◌<◌, ◌≤◌, ◌⊎◌, Some, true, false, IfSome, IsSome, length};
+ghost use Rattle.std.specs.Prelude.{◌≡◌, ◌≢◌, ◌<◌, ◌≤◌, ◌⊎◌, [], Some, true, false, IfErr, IfOk, IfSome, IsSome, length};
 ghost use Rattle.smap_lines.specs.Limits.{most_text_bytes};
+ghost use Rattle.smap_places.specs.PlacesRewritten.{place_counts, placed_text};
+ghost use Rattle.smap_trace.specs.Rewriting.{counts_seen as summary_seen};
 ghost use Rattle.smap_trace.specs.Rewritten.{counts_of, rewritten};
 ghost use Rattle.smap_c.specs.Trace.{counts_seen};
 ghost use Rattle.smap_c.specs.Private.Rewriting.{fault_status};
@@ -9,17 +11,19 @@ use crate::handles::{BytesHandle, TableHandle};
 use crate::status::{DONE, NO_MEMORY, REFUSED};
 use crate::written::hand_out;
 use smap_io::{ByteSink, ByteSource, DeviceFault};
-use smap_trace::{RewriteFault, rewrite};
+use smap_lines::MOST_TEXT_BYTES;
+use smap_places::rewrite_places;
+use smap_trace::{RewriteFault, Summary, rewrite};
 use std::alloc::Global;
 
-/// What was in a trace that was rewritten.
+/// What was in a trace that was rewritten, or in a text whose places were.
 #[repr(C)]
 #[derive(Clone, Copy)]
 pub struct TraceCounts {
     pub lines: u64,
-    /// How many of them were frames.
+    /// How many of them were frames or, of a text, how many places it had.
     pub frames: u64,
-    /// How many frames were replaced.
+    /// How many frames or places were replaced.
     pub mapped: u64,
     /// How many frames were hidden.
     pub hidden: u64,
@@ -52,6 +56,18 @@ struct Output {
     bytes: Vec<u8>,
     failed: bool,
     flushed: bool,
+}
+
+impl Output {
+    fn new(alloc: Global) -> Output
+        ensures { (result.bytes.items ≡ []) × (result.failed ≡ false) }
+    {
+        Output {
+            bytes: Vec::new(alloc),
+            failed: false,
+            flushed: false,
+        }
+    }
 }
 
 impl ByteSink for Output {
@@ -106,14 +122,62 @@ pub extern "C" fn smap_rewrite(
     ensures status { (result ≡ 0) ⊎ (result ≡ 1) ⊎ (result ≡ 3) }
 {
     let mut input = Input { left: trace };
-    let mut output = Output {
-        bytes: Vec::new(alloc),
-        failed: false,
-        flushed: false,
-    };
-    match rewrite(alloc, &mut input, &mut output, table.lend(), hide_ignored) {
+    let mut output = Output::new(alloc);
+    let outcome = rewrite(alloc, &mut input, &mut output, table.lend(), hide_ignored);
+    told(alloc, outcome, output.bytes, bytes, counts)
+}
+
+/// Rewrites a text: a place `URL:line:column`, wherever it stands in a line, whose URL is in the table and which has an
+/// original gets it in its stead, and every other byte stays. A text of more than 1,073,741,824 bytes is refused. `bytes`
+/// and `counts`, which has places in place of frames, are written where the text was rewritten.
+#[unsafe(no_mangle)]
+pub extern "C" fn smap_rewrite_anywhere(
+    alloc: Global,
+    table: &mut TableHandle,
+    text: &[u8],
+    bytes: &mut BytesHandle,
+    counts: &mut TraceCounts,
+) -> u32
+    requires { IsSome table.old.held }
+    ensures text { IfSome table.old.held (λ maps.
+        result ≡ 0 → bytes.new.held ≡ Some (placed_text text.now maps)) }
+    ensures counts { IfSome table.old.held (λ maps.
+        result ≡ 0 → counts_seen counts.new ≡ place_counts text.now maps) }
+    ensures refused { result ≡ 1 → most_text_bytes < length text.now }
+    ensures fits { result ≡ 0 → length text.now ≤ most_text_bytes }
+    ensures stays { (table.new.held ≡ table.old.held)
+        × (result ≢ 0 → (bytes.new.held ≡ bytes.old.held) × (counts.new ≡ counts.old)) }
+    ensures status { (result ≡ 0) ⊎ (result ≡ 1) ⊎ (result ≡ 3) }
+{
+    let mut input = Input { left: text };
+    let mut output = Output::new(alloc);
+    let outcome = rewrite_places(
+        alloc,
+        &mut input,
+        &mut output,
+        table.lend(),
+        MOST_TEXT_BYTES,
+    );
+    told(alloc, outcome, output.bytes, bytes, counts)
+}
+
+// Hands out what was written and tells what was counted, where a text was rewritten; and its status.
+fn told(
+    alloc: Global,
+    outcome: Result<Summary, RewriteFault>,
+    written: Vec<u8>,
+    bytes: &mut BytesHandle,
+    counts: &mut TraceCounts,
+) -> u32
+    ensures done { IfOk outcome (λ summary. result ≡ 0 → (bytes.new.held ≡ Some written.items)
+        × (counts_seen counts.new ≡ summary_seen summary)) }
+    ensures refused { IfOk outcome (λ summary. (result ≡ 0) ⊎ (result ≡ 3)) }
+    ensures failed { IfErr outcome (λ fault. result ≡ fault_status fault) }
+    ensures stays { result ≢ 0 → (bytes.new.held ≡ bytes.old.held) × (counts.new ≡ counts.old) }
+{
+    match outcome {
         Ok(summary) => {
-            let status = hand_out(alloc, output.bytes, bytes);
+            let status = hand_out(alloc, written, bytes);
             if status == DONE {
                 *counts = TraceCounts {
                     lines: summary.lines,

@@ -8,7 +8,7 @@
 mod usage;
 
 ghost use Rattle.std.specs.Prelude.{IfOk};
-ghost use Rattle.smap_command.specs.Interval.{HasInterval};
+ghost use Rattle.smap_answers.specs.Run.{IsRunnable};
 
 use smap_answers::{Failure, Reply, run_reading, tell};
 pub use smap_arguments::{Usage, parse};
@@ -38,7 +38,7 @@ fn main(rt: HostRuntime) -> ExitCode {
 
 // The command that the command line asks for.
 fn command_of(rt: &HostRuntime) -> Result<Command, Result<Reply, Failure>>
-    ensures { IfOk result HasInterval }
+    ensures { IfOk result IsRunnable }
 {
     let arguments = match arguments_of(rt) {
         Ok(arguments) => arguments,

@@ -2,7 +2,7 @@
 use Rattle.std.specs.Prelude.{◌≡◌, true, ⊤}
 use Rattle.smap_command.specs.Limits.{is_interval}
 use Rattle.smap_command.specs.declared.command.Command.{Command}
-use Rattle.smap_command.specs.declared.command.Command.TheVariants.{Raw, Check, CheckAll, Show, Lookup, Positions, Rewrite, RewriteAnywhere, Compose}
+use Rattle.smap_command.specs.declared.command.Command.TheVariants.{Raw, Check, CheckAll, Show, Lookup, Positions, Rewrite, RewriteFrom, Compose}
 
 -- where a command has an interval, checkpoints may stand at it
 abbrev pub HasInterval : Command → Type 0
@@ -13,5 +13,5 @@ HasInterval (Show path base) = ⊤
 HasInterval (Lookup path line column base interval after json) = is_interval interval ≡ true
 HasInterval (Positions path base interval after json) = is_interval interval ≡ true
 HasInterval (Rewrite maps base interval hide_ignored) = is_interval interval ≡ true
-HasInterval (RewriteAnywhere maps base interval) = is_interval interval ≡ true
+HasInterval (RewriteFrom maps list base interval hide_ignored anywhere cache_bytes limit_bytes summary) = is_interval interval ≡ true
 HasInterval (Compose outer source inner base) = ⊤

@@ -1,3 +1,4 @@
+pub mod Bytes
 pub mod Interval
 pub mod Limits
 pub mod Shown

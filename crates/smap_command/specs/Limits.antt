@@ -16,3 +16,15 @@ usual_interval = 64
 -- checkpoints may stand at this interval
 abbrev pub is_interval : ℕ → Bool
 is_interval k = nat_le 1 k && nat_le k most_interval
+
+-- the greatest number of bytes that may be kept, and that may be taken
+abbrev pub most_bytes : ℕ
+most_bytes = 9223372036854775807
+
+-- how many bytes of files are kept as maps where nothing else is asked for
+abbrev pub usual_cache_bytes : ℕ
+usual_cache_bytes = 1073741824
+
+-- how many bytes of a text are taken where nothing else is asked for
+abbrev pub usual_limit_bytes : ℕ
+usual_limit_bytes = 1073741824

@@ -61,12 +61,24 @@ pub enum Command {
         interval: u32,
         hide_ignored: bool,
     },
-    /// Rewrites the places of the text on standard input, wherever they stand in its lines, over maps as `Rewrite` has
-    /// them.
-    RewriteAnywhere {
+    /// Rewrites the text on standard input over maps that may be read only when the text names them: pairs of the URL that
+    /// it names and of the path of the map's file or, where the path ends in `/`, of a prefix of URLs and of the path of
+    /// the folder that their maps are in; and the pairs on the lines of the file `list`, where there is one. A map's
+    /// sources are resolved as for `Rewrite`. With `hide_ignored` the lines of frames from sources that a map says to pass
+    /// over are dropped; with `anywhere`, which excludes that, places are rewritten wherever they stand in the text. With
+    /// `summary` counts are told at the end.
+    RewriteFrom {
         maps: Vec<(String, String)>,
+        list: Option<String>,
         base: Option<Url>,
         interval: u32,
+        hide_ignored: bool,
+        anywhere: bool,
+        /// How many bytes the files may have whose maps are kept for when the text names them again: 0 to `MOST_BYTES`.
+        cache_bytes: u64,
+        /// How many bytes of the text are taken: 1 to `MOST_BYTES`.
+        limit_bytes: u64,
+        summary: bool,
     },
     /// Composes the source map in the file at the path `outer` with that of its source of this number, from 0, in the
     /// file at the path `inner`. The sources of both are resolved against the base.

@@ -14,6 +14,8 @@ mod limits;
 mod text;
 
 pub use command::Command;
-pub use limits::{LIMIT, MOST_INTERVAL, USUAL_INTERVAL};
+pub use limits::{
+    LIMIT, MOST_BYTES, MOST_INTERVAL, USUAL_CACHE_BYTES, USUAL_INTERVAL, USUAL_LIMIT_BYTES,
+};
 pub use text::shown;
 pub use url::Url;

@@ -8,3 +8,12 @@ pub const MOST_INTERVAL: u32 = 4096;
 
 /// The interval of the checkpoints where none is asked for.
 pub const USUAL_INTERVAL: u32 = 64;
+
+/// The greatest number of bytes that may be kept, and that may be taken.
+pub const MOST_BYTES: u64 = 9223372036854775807;
+
+/// How many bytes of files are kept as maps where nothing else is asked for.
+pub const USUAL_CACHE_BYTES: u64 = 1073741824;
+
+/// How many bytes of a text are taken where nothing else is asked for.
+pub const USUAL_LIMIT_BYTES: u64 = 1073741824;

@@ -1,14 +1,13 @@
 -- What was read and written, from how far the editing has come.
 use Rattle.std.proofs.Common.{◌≡◌, ◌+◌, ◌<◌, ◌≤◌, ℕ, Bool, true, false, cond, List, [], ◌++◌, Option, Some, None, length, length-append, refl, sym}
-use Rattle.std.proofs.Common.{ap, ◌∙◌, arith, append_assoc, append-nil}
+use Rattle.std.proofs.Common.{ap, ◌∙◌, arith, append_assoc, append-nil, subst}
 use mir.Val.{bool_byte}
 use Rattle.std.specs.Io.KnownBytes.{prepend_known}
-use Rattle.smap_io.specs.Device.{Gives, TakesFront}
-use Rattle.smap_lines.specs.Edited.{edited}
-use Rattle.smap_lines.specs.Editing.{EditsFront, DevicesSeen}
-use Rattle.smap_lines.specs.Limits.{most_text_bytes}
+use Rattle.smap_io.specs.Device.{Gives}
+use Rattle.smap_lines.specs.Editing.{DevicesSeen, EditsFrontInto}
+use Rattle.smap_lines.specs.Edited.{IsEdited}
 use Rattle.smap_lines.specs.Lines.{Line}
-use Rattle.smap_lines.specs.Private.Passage.{IsThrough, Now}
+use Rattle.smap_lines.specs.Private.Passage.{IsThrough, Now, TakesEditedFront}
 use Rattle.smap_lines.specs.declared.fault.LineFault.TheVariants.{Read, Write, TooMuch}
 use Rattle.smap_lines.proofs.ThroughLaws.{through_ahead, through_read, through_whole}
 
@@ -30,54 +29,56 @@ byte_few true = omega arith
 byte_few false = omega arith
 
 -- a write failed
-pub write_fails : (becomes : Line → List ℕ) (before after : DevicesSeen) (bytes : List ℕ) → Gives before.input.left after.input.left bytes
-    → TakesFront before.output.taken after.output.taken (edited becomes bytes) →
-    EditsFront becomes before after Write
-write_fails becomes before after bytes gives took = record {
+pub write_fails : (Becomes : Line → List ℕ → Type 0) (most : ℕ) (before after : DevicesSeen) (bytes : List ℕ) → Gives before.input.left after.input.left bytes
+    → TakesEditedFront Becomes before.output.taken after.output.taken bytes → EditsFrontInto Becomes most before after Write
+write_fails Becomes most before after bytes gives took = record {
   bytes = bytes;
-  written = took.0;
-  later = took.1;
+  written = took.front.0;
+  later = took.front.1;
   read = gives;
-  taken = took.3;
-  front = took.2;
+  taken = took.front.3;
+  front = subst (λ l. IsEdited Becomes bytes l) took.front.2 took.edited;
   many = λ e. absurd (cc);
   whole = λ e. absurd (cc);
 }
 
-module _ (E : Type 0) (becomes : E → Line → List ℕ) (step : E → Line → E) (room : E → ℕ)
-    (same : (editor : E) (line other : Line) → becomes (step editor line) other ≡ becomes editor other)
-    (room_for_one : (editor : E) (line : Line) → room editor ≤ room (step editor line) + 1)
-    (first : E) (before after : DevicesSeen) (bytes : List ℕ) (now : Now E) where
+module _ (E : Type 0) (Becomes : E → Line → List ℕ → Type 0) (Steps : E → Line → List ℕ → E → Type 0) (room : E → ℕ)
+    (became : (editor after : E) (line : Line) (text : List ℕ) → Steps editor line text after → Becomes editor line text)
+    (same : (editor after : E) (line other : Line) (text later : List ℕ) → Steps editor line text after → Becomes after other later
+    → Becomes editor other later)
+    (room_for_one : (editor after : E) (line : Line) (text : List ℕ) → Steps editor line text after → room editor ≤ room after + 1)
+    (some : (editor : E) (line : Line) → (text : List ℕ) × Becomes editor line text)
+    (first : E) (most : ℕ) (before after : DevicesSeen) (bytes : List ℕ) (now : Now E) where
   -- a read failed, where nothing waits
-  pub read_fails : IsThrough becomes step room first before.output.taken bytes now [] → now.waiting ≡ [] → now.taken ≡ after.output.taken
+  pub read_fails : IsThrough Becomes Steps room first before.output.taken bytes now [] → now.waiting ≡ [] → now.taken ≡ after.output.taken
       → Gives before.input.left after.input.left bytes →
-      EditsFront (becomes first) before after Read
+      EditsFrontInto (Becomes first) most before after Read
   read_fails is none taken gives =
-      let ahead = through_ahead E becomes step room same room_for_one first before.output.taken bytes [] now is in record {
+      let ahead = through_ahead E Becomes Steps room became same room_for_one some first before.output.taken bytes [] now is in record {
         bytes = bytes;
         written = is.written;
         later = ahead.0;
         read = gives;
         taken = sym taken ∙ is.taken;
-        front = ahead.1 ∙ ap (λ w. (is.written ++ w) ++ ahead.0) none ∙ ap (λ l. l ++ ahead.0) (append-nil is.written);
+        front = subst (λ l. IsEdited (Becomes first) bytes (l ++ ahead.0)) (ap (λ w. is.written ++ w) none ∙ append-nil is.written) ahead.1;
         many = λ e. absurd (cc);
-        whole = λ _ front rest bytes_is whole. through_whole E becomes step room same room_for_one first before.output.taken bytes now is
+        whole = λ _ front rest bytes_is whole. through_whole E Becomes Steps room became same room_for_one some first before.output.taken bytes now is
             none front rest bytes_is whole;
       }
 
   -- too much came
-  pub too_much : (more : List ℕ) → IsThrough becomes step room first before.output.taken bytes now [] → now.taken ≡ after.output.taken
+  pub too_much : (more : List ℕ) → IsThrough Becomes Steps room first before.output.taken bytes now [] → now.taken ≡ after.output.taken
       → Gives before.input.left after.input.left (bytes ++ more) →
-      most_text_bytes < length bytes + length more → EditsFront (becomes first) before after TooMuch
+      most < length bytes + length more → EditsFrontInto (Becomes first) most before after TooMuch
   too_much more is taken gives many =
-      let on = through_read E becomes step room same room_for_one first before.output.taken bytes more now is in
-      let ahead = through_ahead E becomes step room same room_for_one first before.output.taken (bytes ++ more) more now on in record {
+      let on = through_read E Becomes Steps room became same room_for_one some first before.output.taken bytes more now is in
+      let ahead = through_ahead E Becomes Steps room became same room_for_one some first before.output.taken (bytes ++ more) more now on in record {
         bytes = bytes ++ more;
         written = on.written;
         later = now.waiting ++ ahead.0;
         read = gives;
         taken = sym taken ∙ on.taken;
-        front = ahead.1 ∙ append_assoc on.written now.waiting ahead.0;
+        front = subst (λ l. IsEdited (Becomes first) (bytes ++ more) l) (append_assoc on.written now.waiting ahead.0) ahead.1;
         many = λ _. omega (arith, many, length-append bytes more);
         whole = λ e. absurd (cc);
       }

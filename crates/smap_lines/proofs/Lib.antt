@@ -1,6 +1,7 @@
 pub mod Examples
 pub mod EditingLaws
 pub mod LineLaws
+pub mod IsEditedLaws
 pub mod OpenLaws
 pub mod TakingLaws
 pub mod PieceLaws

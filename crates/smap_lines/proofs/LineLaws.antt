@@ -1,14 +1,16 @@
 -- The lines of a text, one after another; and a text cut after a line, whose lines are those of its parts.
 use Rattle.std.proofs.Common.{◌≡◌, ◌==◌, ◌+◌, ◌<◌, ◌≤◌, ◌||◌, ℕ, suc, Bool, true, false, cond, List, [], ◌∷◌, ◌++◌, length, length-append}
-use Rattle.std.proofs.Common.{length-take, get_or, get_or-take, take, drop, refl, sym, ap, ◌∙◌, arith, ⊎_elim, inl, inr, append-nil, fold}
-use Rattle.std.proofs.Math.Bool.{or-true}
-use Rattle.std.specs.List.{flat_map}
+use Rattle.std.proofs.Common.{length-take, get_or, get_or-take, take, drop, refl, sym, ap, ◌∙◌, arith, ⊎_elim, inl, inr}
+use Rattle.std.proofs.Math.Bool.{not-not, or-true}
+use Rattle.std.specs.List.{filter, flat_map}
+use Rattle.std.specs.Prelude.{not}
 use Rattle.std.proofs.lemmas.Bool.{cond-false, cond_both, eqb-true, false_from_ne_true, or_from, or_parts}
 use Rattle.std.proofs.lemmas.Grind.{flat_map-append}
 use Rattle.std.proofs.lemmas.List.{drop_more, take-append-drop}
+use Rattle.std.proofs.lemmas.List.Elements.{filter-append}
+use Rattle.std.proofs.lemmas.List.Filters.{length-filter_both}
 use Rattle.std.proofs.lemmas.List.Folds.{list_any-append}
-use Rattle.std.proofs.lemmas.List.Sums.{fold-append}
-use Rattle.smap_lines.specs.Edited.{after_line, after_text, edited, edited_line}
+use Rattle.smap_lines.specs.Edited.{edited, edited_line, is_long, is_short, long_lines}
 use Rattle.smap_lines.specs.Lines.{IsWholeLines, Line, has_line_end, lines_with_ends, onto_first}
 
 -- the line that an LF ends, and one that the text ends
@@ -32,18 +34,6 @@ only_line (x ∷ []) none some = cond-false (x == 10) _ (onto_first x []) (or_pa
 only_line (x ∷ y ∷ line) none some =
     let parts = or_parts (x == 10) (has_line_end (y ∷ line)) none in
     cond-false (x == 10) _ (onto_first x (lines_with_ends (y ∷ line))) parts.0 ∙ ap (onto_first x) (only_line (y ∷ line) parts.1 (omega arith))
-
--- there are no more lines than bytes
-onto_few : (x : ℕ) (lines : List Line) (n : ℕ) → length lines ≤ n → length (onto_first x lines) ≤ n + 1
-onto_few x [] n few = omega arith
-onto_few x (line ∷ lines) n few = omega arith
-
-pub few_lines : (text : List ℕ) → length (lines_with_ends text) ≤ length text
-few_lines [] = omega arith
-few_lines (x ∷ text) =
-    let few = few_lines text in
-    cond_both (x == 10) _ _ (λ l. length l ≤ length (x ∷ text)) (λ _. omega (arith, few))
-    (λ _. let more = onto_few x (lines_with_ends text) (length text) few in omega (arith, more))
 
 -- ---- a join of whole lines
 
@@ -77,6 +67,24 @@ lines_of_both first rest whole = ⊎_elim
     ap (λ l. lines_with_ends (l ++ rest)) is.1 ∙ lines_join is.0 rest ∙ ap (λ l. lines_with_ends l ++ lines_with_ends rest) (sym is.1))
     whole
 
+-- how many of them are long
+pub long_of_both : (first rest : List ℕ) → IsWholeLines first → long_lines (first ++ rest) ≡ long_lines first + long_lines rest
+long_of_both first rest whole =
+    ap (λ l. length (filter is_long l)) (lines_of_both first rest whole)
+    ∙ ap length (filter-append is_long (lines_with_ends first) (lines_with_ends rest))
+    ∙ length-append (filter is_long (lines_with_ends first)) (filter is_long (lines_with_ends rest))
+
+one_long : (b : Bool) (line : Line) → length (cond (not b) (line ∷ []) []) ≡ cond (not b) 1 0
+one_long true line = refl
+one_long false line = refl
+
+pub long_ended : (line : List ℕ) → has_line_end line ≡ false → long_lines (line ++ 10 ∷ []) ≡ cond (not (is_short (ended line))) 1 0
+long_ended line none = ap (λ l. length (filter is_long l)) (first_line line [] none) ∙ one_long (is_short (ended line)) (ended line)
+
+-- there are no more of these than lines
+pub few_long : (text : List ℕ) → long_lines text ≤ length (lines_with_ends text)
+few_long text = omega (arith, length-filter_both is_long is_short (λ line. sym (not-not (is_short line))) (lines_with_ends text))
+
 -- ---- what becomes of them
 
 pub edited_both : (becomes : Line → List ℕ) (first rest : List ℕ) → IsWholeLines first
@@ -84,39 +92,6 @@ pub edited_both : (becomes : Line → List ℕ) (first rest : List ℕ) → IsWh
 unfolding edited
 edited_both becomes first rest whole =
     ap (flat_map (edited_line becomes)) (lines_of_both first rest whole) ∙ flat_map-append (edited_line becomes) (lines_with_ends first) (lines_with_ends rest)
-
-pub edited_none : (becomes : Line → List ℕ) → edited becomes [] ≡ []
-unfolding edited
-edited_none becomes = refl
-
-pub edited_ended : (becomes : Line → List ℕ) (line : List ℕ) → has_line_end line ≡ false → edited becomes (line ++ 10 ∷ []) ≡ edited_line becomes (ended line)
-unfolding edited
-edited_ended becomes line none = ap (flat_map (edited_line becomes)) (first_line line [] none) ∙ append-nil (edited_line becomes (ended line))
-
-pub edited_last : (becomes : Line → List ℕ) (line : List ℕ) → has_line_end line ≡ false → 0 < length line
-    → edited becomes line ≡ edited_line becomes (last line)
-unfolding edited
-edited_last becomes line none some = ap (flat_map (edited_line becomes)) (only_line line none some) ∙ append-nil (edited_line becomes (last line))
-
--- ---- an editor after them
-
-module _ {E : Type 0} (step : E → Line → E) (editor : E) where
-  pub after_both : (first rest : List ℕ) → IsWholeLines first → after_text step editor (first ++ rest) ≡ after_text step (after_text step editor first) rest
-  unfolding after_text
-  after_both first rest whole =
-      ap (fold (after_line step) editor) (lines_of_both first rest whole) ∙ fold-append (after_line step) editor (lines_with_ends first) (lines_with_ends rest)
-
-  pub after_none : after_text step editor [] ≡ editor
-  unfolding after_text
-  after_none = refl
-
-  pub after_ended_line : (line : List ℕ) → has_line_end line ≡ false → after_text step editor (line ++ 10 ∷ []) ≡ after_line step editor (ended line)
-  unfolding after_text
-  after_ended_line line none = ap (fold (after_line step) editor) (first_line line [] none)
-
-  pub after_last_line : (line : List ℕ) → has_line_end line ≡ false → 0 < length line → after_text step editor line ≡ after_line step editor (last line)
-  unfolding after_text
-  after_last_line line none some = ap (fold (after_line step) editor) (only_line line none some)
 
 -- ---- where an LF is
 

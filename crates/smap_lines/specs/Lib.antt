@@ -9,3 +9,5 @@ pub mod Gathered
 pub mod Private
 pub mod LineOutput
 pub mod PutLaws
+pub mod OneTextLaws
+pub mod StepLaws

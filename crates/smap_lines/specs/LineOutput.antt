@@ -24,3 +24,8 @@ pub record FailsToPut {W : Type 0} (seen : W → SinkSeen) (old new : LineOutput
 abbrev pub IsPut : {W T : Type 0} → (seen : W → SinkSeen) → (old new : LineOutput W) (bytes : List ℕ) → Result T DeviceFault → Type 0
 IsPut seen old new bytes (Ok done) = Puts seen old new bytes
 IsPut seen old new bytes (Err fault) = FailsToPut seen old new bytes
+
+-- one text was put, of which this is so; or a write failed of one that is allowed
+abbrev pub IsOnePut : {W T : Type 0} → (seen : W → SinkSeen) → (old new : LineOutput W) → (Allowed IsDone : List ℕ → Type 0) → Result T DeviceFault → Type 0
+IsOnePut seen old new Allowed IsDone (Ok done) = (text : List ℕ) × IsDone text × Puts seen old new text
+IsOnePut seen old new Allowed IsDone (Err fault) = (text : List ℕ) × Allowed text × FailsToPut seen old new text

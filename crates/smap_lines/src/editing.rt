@@ -1,9 +1,9 @@
 //! Editing a text while it is read.
-ghost use Rattle.std.specs.Prelude.{◌≡◌, ◌<◌, ◌≤◌, false, IfErr, IfOk};
-ghost use Rattle.smap_lines.specs.Editing.{EditsFront, EditsText, devices_seen, is_read_fault, is_write_fault};
-ghost use Rattle.smap_lines.specs.Limits.{most_text_bytes};
+ghost use Rattle.std.specs.Prelude.{◌≡◌, ◌<◌, ◌≤◌, ◌^◌, false, IfErr, IfOk};
+ghost use Rattle.smap_lines.specs.Editing.{EditsFrontInto, EditsInto, devices_seen, is_read_fault, is_write_fault};
 ghost use Rattle.smap_lines.specs.declared.fault.LineFault.TheVariants.{Memory};
 
+use crate::counts::LineCounts;
 use crate::editor::LineEditor;
 use crate::fault::LineFault;
 use crate::gathered::Gathered;
@@ -13,14 +13,15 @@ use crate::passage::edit_bytes;
 use smap_io::{ByteSink, ByteSource, DeviceFault};
 use std::alloc::Global;
 
-// How many bytes a text has at most.
-const MOST_TEXT_BYTES: usize = 1073741824;
+/// How many bytes of a text are taken where nothing else is asked for: 1 GiB.
+pub const MOST_TEXT_BYTES: u64 = 1073741824;
 
 // How many bytes are read at once.
 const READ_BYTES: usize = 8192;
 
-/// Reads a text to its end, and writes what becomes of its lines, which are counted. The caller gives devices that have
-/// not failed, and an editor with room for more lines than a text has bytes. The output is not flushed.
+/// Reads a text of at most `most` bytes to its end, and writes what becomes of its lines, which are counted. The caller
+/// gives devices that have not failed, and an editor with room for more lines than a text has bytes. The output is not
+/// flushed.
 ///
 /// All room is made before the first read: where memory runs out, neither device was asked. Nothing waits while more is
 /// read, and nothing at the end. The first failure ends it, and then a front of what the bytes that were read become was
@@ -30,17 +31,19 @@ pub fn edit_lines<R: ByteSource, W: ByteSink, E: LineEditor>(
     input: &mut R,
     output: &mut W,
     editor: &mut E,
-) -> Result<u64, LineFault>
+    most: u64,
+) -> Result<LineCounts, LineFault>
     requires input_works { (R.seen input.old).failed ≡ false }
     requires output_works { (W.seen output.old).failed ≡ false }
-    requires room { most_text_bytes < E.room editor.old }
-    ensures edits { IfOk result (λ lines. EditsText (E.becomes editor.old) E.step
+    requires room { most < E.room editor.old }
+    requires countable { most < 2 ^ 63 }
+    ensures edits { IfOk result (EditsInto E.Steps most
         (devices_seen (R.seen input.old) (W.seen output.old))
-        (devices_seen (R.seen input.new) (W.seen output.new)) editor.old editor.new lines) }
-    ensures few { IfOk result (λ lines. lines ≤ most_text_bytes) }
-    ensures front { IfErr result (λ fault. EditsFront (E.becomes editor.old)
+        (devices_seen (R.seen input.new) (W.seen output.new)) editor.old editor.new) }
+    ensures front { IfErr result (λ fault. EditsFrontInto (E.Becomes editor.old) most
         (devices_seen (R.seen input.old) (W.seen output.old))
         (devices_seen (R.seen input.new) (W.seen output.new)) fault) }
+    ensures reaches { E.Reaches editor.old editor.new }
     ensures input_failure { (R.seen input.new).failed ≡ is_read_fault result }
     ensures output_failure { (W.seen output.new).failed ≡ is_write_fault result }
     ensures memory_input { IfErr result (λ fault. fault ≡ Memory → input.new ≡ input.old) }
@@ -49,7 +52,7 @@ pub fn edit_lines<R: ByteSource, W: ByteSink, E: LineEditor>(
     let (Ok(mut line), Ok(mut gathered)) = (OpenLine::new(alloc), Gathered::new(alloc)) else {
         return Err(LineFault::Memory);
     };
-    let mut lines = 0;
+    let mut counts = LineCounts { lines: 0, long: 0 };
     let mut room = [0; READ_BYTES];
     let mut total = 0;
     loop {
@@ -59,8 +62,8 @@ pub fn edit_lines<R: ByteSource, W: ByteSink, E: LineEditor>(
         if count == 0 {
             break;
         }
-        total += count;
-        if total > MOST_TEXT_BYTES {
+        total += count as u64;
+        if total > most {
             return Err(LineFault::TooMuch);
         }
         let bytes = &room[..count];
@@ -68,7 +71,7 @@ pub fn edit_lines<R: ByteSource, W: ByteSink, E: LineEditor>(
             gathered: &mut gathered,
             sink: output,
         };
-        let Ok(()) = edit_bytes(bytes, &mut line, &mut lines, editor, &mut lent) else {
+        let Ok(()) = edit_bytes(bytes, &mut line, &mut counts, editor, &mut lent) else {
             return Err(LineFault::Write);
         };
     }
@@ -76,11 +79,14 @@ pub fn edit_lines<R: ByteSource, W: ByteSink, E: LineEditor>(
         gathered: &mut gathered,
         sink: output,
     };
-    let Ok(is_line) = line.finish(editor, &mut lent) else {
+    let Ok(last) = line.finish(editor, &mut lent) else {
         return Err(LineFault::Write);
     };
     match lent.write() {
-        Ok(()) => Ok(lines + u64::from(is_line)),
+        Ok(()) => Ok(LineCounts {
+            lines: counts.lines + last.lines,
+            long: counts.long + last.long,
+        }),
         Err(DeviceFault) => Err(LineFault::Write),
     }
 }

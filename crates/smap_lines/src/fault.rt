@@ -7,7 +7,7 @@ pub enum LineFault {
     Read,
     /// A write failed.
     Write,
-    /// The text has more than 1,073,741,824 bytes.
+    /// The text has more bytes than were to be taken.
     TooMuch,
     /// There was not enough memory.
     Memory,

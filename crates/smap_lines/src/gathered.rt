@@ -32,7 +32,7 @@ impl Model for Gathered {
 
 impl Gathered {
     /// Room for bytes, of which none waits yet.
-    pub(crate) fn new(alloc: Global) -> Result<Gathered, AllocError>
+    pub fn new(alloc: Global) -> Result<Gathered, AllocError>
         ensures { IfOk result (λ gathered. gathered ≡ []) }
     {
         Ok(Gathered {

@@ -5,11 +5,12 @@
 //!
 //! ```text
 //! let mut editor = Editor::new();
-//! let lines = edit_lines(alloc, &mut input, &mut output, &mut editor)?;
+//! let counts = edit_lines(alloc, &mut input, &mut output, &mut editor, MOST_TEXT_BYTES)?;
 //! ```
 #![tactic(auto)]
 
 mod bytes;
+mod counts;
 mod editing;
 mod editor;
 mod fault;
@@ -22,7 +23,8 @@ mod open_line;
 mod passage;
 
 pub use bytes::{blanks, has_control};
-pub use editing::edit_lines;
+pub use counts::LineCounts;
+pub use editing::{MOST_TEXT_BYTES, edit_lines};
 pub use editor::LineEditor;
 pub use fault::LineFault;
 pub use gathered::Gathered;

@@ -47,7 +47,7 @@ impl<W: ByteSink> LineOutput<'_, W> {
     }
 
     /// Writes the bytes that wait.
-    pub(crate) fn write(&mut self) -> Result<(), DeviceFault>
+    pub fn write(&mut self) -> Result<(), DeviceFault>
         ensures same { IsSameOutput self.old self.new }
         ensures none { OnOk result (self.new.gathered.now ≡ []) }
         ensures written { OnOk result (Takes (W.seen self.old.sink.now).taken

@@ -1,11 +1,12 @@
 //! The line that is not yet ended.
-ghost use Rattle.std.specs.Prelude.{◌≡◌, ◌<◌, ◌≤◌, ◌+◌, ◌++◌, [], false, true, length, IfOk, OnOk};
-ghost use Rattle.smap_lines.specs.LineOutput.{IsPut};
+ghost use Rattle.std.specs.Prelude.{◌≡◌, ◌<◌, ◌≤◌, ◌+◌, ◌++◌, [], false, true, length, not, IfOk, OnOk};
+ghost use Rattle.smap_lines.specs.LineOutput.{IsOnePut, IsPut};
 ghost use Rattle.smap_lines.specs.Lines.{has_line_end};
 ghost use Rattle.smap_lines.specs.Limits.{most_line_bytes};
-ghost use Rattle.smap_lines.specs.Private.OpenLine.{after_ended, after_last, continued, continued_text, ended_text};
-ghost use Rattle.smap_lines.specs.Private.OpenLine.{has_last, is_kept, last_text, nothing_open};
+ghost use Rattle.smap_lines.specs.Private.OpenLine.{AfterEnded, AfterLast, EndedText, LastText, continued};
+ghost use Rattle.smap_lines.specs.Private.OpenLine.{continued_text, is_kept, last_counts, nothing_open};
 
+use crate::counts::LineCounts;
 use crate::editor::LineEditor;
 use crate::line_output::LineOutput;
 use smap_io::{ByteSink, DeviceFault};
@@ -48,33 +49,37 @@ impl OpenLine {
         })
     }
 
-    /// Hands the line on, to which these bytes and an LF belong too: edited, or as it is where it is too long.
+    /// Hands the line on, to which these bytes and an LF belong too: edited, or as it is where it is too long; and tells
+    /// whether it is.
     pub fn end<E: LineEditor, W: ByteSink>(
         &mut self,
         bytes: &[u8],
         editor: &mut E,
         output: &mut LineOutput<'_, W>,
-    ) -> Result<(), DeviceFault>
+    ) -> Result<bool, DeviceFault>
         requires one { has_line_end bytes.now ≡ false }
         requires room { 0 < E.room editor.old }
-        ensures put { IsPut W.seen output.old output.new
-            (ended_text (E.becomes editor.old) self.old bytes.now) result }
-        ensures after { OnOk result (editor.new
-            ≡ after_ended E.step editor.old self.old bytes.now) }
+        ensures long { IfOk result (λ is_long. is_long ≡ not (is_kept self.old bytes.now)) }
+        ensures put { IsOnePut W.seen output.old output.new
+            (EndedText (E.Becomes editor.old) self.old bytes.now)
+            (λ text. AfterEnded E.Steps editor.old self.old bytes.now text editor.new) result }
+        ensures reaches { E.Reaches editor.old editor.new }
         ensures none { OnOk result (self.new ≡ nothing_open) }
     {
         if !self.fits(bytes) {
             self.pass(bytes, output)?;
+            output.put(b"\n")?;
             self.is_passing = false;
-            return output.put(b"\n");
+            return Ok(true);
         }
         if self.kept.is_empty() {
-            return editor.edit(bytes, true, output);
+            editor.edit(bytes, true, output)?;
+            return Ok(false);
         }
         self.keep(bytes);
         editor.edit(&self.kept, true, output)?;
         self.kept.clear();
-        Ok(())
+        Ok(false)
     }
 
     /// Takes bytes of the line that don't end it: they are kept, or handed on where the line is too long.
@@ -95,23 +100,28 @@ impl OpenLine {
         Ok(())
     }
 
-    /// Hands on the line that the text ends in, where there is one; and tells whether there is.
+    /// Hands on the line that the text ends in, where there is one; and counts it.
     pub fn finish<E: LineEditor, W: ByteSink>(
         &mut self,
         editor: &mut E,
         output: &mut LineOutput<'_, W>,
-    ) -> Result<bool, DeviceFault>
+    ) -> Result<LineCounts, DeviceFault>
         requires { 0 < E.room editor.old }
-        ensures is_line { IfOk result (λ is_line. is_line ≡ has_last self.old) }
-        ensures put { IsPut W.seen output.old output.new
-            (last_text (E.becomes editor.old) self.old) result }
-        ensures after { OnOk result (editor.new ≡ after_last E.step editor.old self.old) }
+        ensures counts { IfOk result (λ counts. counts ≡ last_counts self.old) }
+        ensures put { IsOnePut W.seen output.old output.new
+            (LastText (E.Becomes editor.old) self.old)
+            (λ text. AfterLast E.Steps editor.old self.old text editor.new) result }
+        ensures reaches { E.Reaches editor.old editor.new }
     {
         if self.kept.is_empty() {
-            return Ok(self.is_passing);
+            let passing = u64::from(self.is_passing);
+            return Ok(LineCounts {
+                lines: passing,
+                long: passing,
+            });
         }
         editor.edit(&self.kept, false, output)?;
-        Ok(true)
+        Ok(LineCounts { lines: 1, long: 0 })
     }
 
     // Whether the line with these bytes too is short enough to be edited.

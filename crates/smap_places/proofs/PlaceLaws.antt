@@ -2,15 +2,18 @@
 use Rattle.std.proofs.Common.{◌≡◌, ◌==◌, ◌||◌, ◌+◌, ◌-◌, ◌<◌, ◌≤◌, ◌⊎◌, inl, inr, ℕ, zero, suc, Bool, true, false, cond, List, [], ◌∷◌, length, take}
 use Rattle.std.proofs.Common.{drop, get_or, map, max, Option, Some, None, is_some, refl, sym, ap, ◌∙◌, arith, length-drop}
 use Rattle.std.specs.Str.{bytes_eq}
-use Rattle.std.proofs.lemmas.Bool.{cases_lt, cond-true, cond-false, eq-eqb, eqb-true, false_from_ne_true}
+use Rattle.std.proofs.lemmas.Bool.{cases_lt, cond-true, cond-false, cond_both, eq-eqb, eqb-true, false_from_ne_true}
 use Rattle.std.proofs.lemmas.Slice.Eq.{bytes_eq-Decides}
 use Rattle.std.proofs.lemmas.List.{drop_all, drop-drop, drop_more, get_or-drop, length-take-le, take_all}
+use Rattle.smap_lines.specs.Lines.{has_line_end}
 use Rattle.smap_record.specs.Record.{MapRecord}
 use Rattle.smap_trace.specs.Table.{record_for}
 use Rattle.smap_places.specs.Private.Finder.{Covers, is_among}
-use Rattle.smap_places.specs.PlaceSeen.{IsNext, NoNext, place_seen}
+use Rattle.smap_places.specs.PlaceSeen.{IsNext, place_seen}
 use Rattle.smap_places.specs.declared.place.FoundPlace.{FoundPlace}
-use Rattle.smap_places.specs.Places.{PlaceParts, begun_at, longest_within, may_begin, numbers_after, or_else, place_at, place_with, placed, with_line}
+use Rattle.smap_places.specs.Places.{PlaceUrl, begun_at, longest_within, may_begin, numbers_after, or_else, place_at, place_with, placed}
+use Rattle.smap_places.specs.Places.{record_of_place, with_line}
+use Rattle.smap_places.proofs.BegunLaws as any
 
 -- ---- numbers
 
@@ -31,10 +34,6 @@ none_at line i other = elim (cases_lt i (length line)) [
 
 -- ---- a place with a URL of some length
 
-both_none : (t : Bool) → ◌≡◌ {A = Option PlaceParts} (cond t None None) None
-both_none true = refl
-both_none false = refl
-
 placed_none : (url : List ℕ) (bytes : ℕ) (stated : Option MapRecord) → placed url bytes stated None ≡ None
 placed_none url bytes None = refl
 placed_none url bytes (Some stated) = refl
@@ -44,12 +43,20 @@ placed_unknown : (url : List ℕ) (bytes : ℕ) (stated : Option MapRecord) (num
 placed_unknown url bytes None numbers none = refl
 placed_unknown url bytes (Some stated) numbers none = cc
 
+unknown_url : (url : List ℕ) (table : List (List ℕ × MapRecord)) → is_some (record_for url table) ≡ false → is_some (record_of_place url table) ≡ false
+unknown_url url table none = cond_both (has_line_end url) None (record_for url table) (λ o. is_some o ≡ false) (λ _. refl) (λ _. none)
+
 module _ (table : List (List ℕ × MapRecord)) (text : List ℕ) where
   pub without_numbers : (bytes : ℕ) → numbers_after (drop bytes text) ≡ None → place_with table text bytes ≡ None
-  without_numbers bytes none = ap (placed (take bytes text) bytes (record_for (take bytes text) table)) none ∙ placed_none (take bytes text) bytes _
+  without_numbers bytes none = ap (placed (take bytes text) bytes (record_of_place (take bytes text) table)) none ∙ placed_none (take bytes text) bytes _
 
   pub without_url : (bytes : ℕ) → is_some (record_for (take bytes text) table) ≡ false → place_with table text bytes ≡ None
-  without_url bytes none = placed_unknown (take bytes text) bytes _ _ none
+  without_url bytes none = placed_unknown (take bytes text) bytes _ _ (unknown_url (take bytes text) table none)
+
+  -- no URL holds an LF
+  pub with_line_end : (bytes : ℕ) → has_line_end (take bytes text) ≡ true → place_with table text bytes ≡ None
+  with_line_end bytes has =
+      placed_unknown (take bytes text) bytes _ _ (ap is_some (cond-true (has_line_end (take bytes text)) None (record_for (take bytes text) table) has))
 
   pub past_end : (bytes : ℕ) → length text ≤ bytes → place_with table text bytes ≡ None
   past_end bytes past = without_numbers bytes (ap numbers_after (drop_all bytes text past) ∙ no_numbers)
@@ -57,7 +64,7 @@ module _ (table : List (List ℕ × MapRecord)) (text : List ℕ) where
   -- ---- the longest
 
   -- the place with a URL of this many bytes, of which there is one
-  abbrev pub exactly : ℕ → Option PlaceParts
+  abbrev pub exactly : ℕ → Option PlaceUrl
   exactly zero = None
   exactly (suc bytes) = place_with table text (suc bytes)
 
@@ -65,7 +72,7 @@ module _ (table : List (List ℕ × MapRecord)) (text : List ℕ) where
   abbrev pub NoLonger : ℕ → Type 0
   NoLonger most = (bytes : ℕ) → most < bytes → place_with table text bytes ≡ None
 
-  some_or_else : (one other : Option PlaceParts) → is_some one ≡ true → or_else one other ≡ one
+  some_or_else : (one other : Option PlaceUrl) → is_some one ≡ true → or_else one other ≡ one
   some_or_else (Some place) other some = refl
   some_or_else None other some = cc
 
@@ -130,22 +137,19 @@ module _ (table : List (List ℕ × MapRecord)) (text : List ℕ) where
 -- ---- a place that begins in a line
 
 module _ (table : List (List ℕ × MapRecord)) (line : List ℕ) where
-  pub not_begun : (start : ℕ) → place_at table (drop start line) ≡ None → begun_at table line start ≡ None
-  unfolding begun_at
-  not_begun start none = ap (λ o. cond (may_begin line start) o None) none ∙ both_none (may_begin line start)
+  pub not_begun : (start : ℕ) → place_at table (drop start line) ≡ None → begun_at (place_at table) line start ≡ None
+  not_begun start none = any.not_begun (place_at table) line start none
 
-  pub not_begun_within : (start : ℕ) → may_begin line start ≡ false → begun_at table line start ≡ None
-  unfolding begun_at
-  not_begun_within start off = cond-false (may_begin line start) _ None off
+  pub not_begun_within : (start : ℕ) → may_begin line start ≡ false → begun_at (place_at table) line start ≡ None
+  not_begun_within start off = any.not_begun_within (place_at table) line start off
 
-  pub begun : (start : ℕ) → may_begin line start ≡ true → begun_at table line start ≡ place_at table (drop start line)
-  unfolding begun_at
-  begun start on = cond-true (may_begin line start) _ None on
+  pub begun : (start : ℕ) → may_begin line start ≡ true → begun_at (place_at table) line start ≡ place_at table (drop start line)
+  begun start on = any.begun (place_at table) line start on
 
   module _ (lengths : List ℕ) (greatest : ℕ) (covers : Covers lengths greatest table) where
     -- no place begins before these numbers by more than the greatest length, where none stand before them
     pub none_before : (start : ℕ) → ((bytes : ℕ) → 1 ≤ bytes → bytes ≤ greatest → numbers_after (drop (start + bytes) line) ≡ None)
-        → begun_at table line start ≡ None
+        → begun_at (place_at table) line start ≡ None
     none_before start none =
         not_begun start (none_begins table (drop start line) lengths greatest covers
         (λ bytes some few. ap numbers_after (drop-drop bytes start line) ∙ none bytes some few))
@@ -153,62 +157,41 @@ module _ (table : List (List ℕ × MapRecord)) (line : List ℕ) where
     -- none begins before the numbers by more than the greatest length, where none stand before them
     pub none_between : (start numbers low : ℕ) → ((i : ℕ) → start + 1 ≤ i → i < numbers → numbers_after (drop i line) ≡ None)
         → low ≡ max (numbers - greatest) start →
-        (i : ℕ) → start ≤ i → i < low → begun_at table line i ≡ None
+        (i : ℕ) → start ≤ i → i < low → begun_at (place_at table) line i ≡ None
     none_between start numbers low none is i least below =
         none_before i (λ bytes some few. none (i + bytes) (omega (arith, least, some)) (omega (arith, is, least, below, few)))
 
     -- none begins where no numbers stand after
-    pub none_after : (start : ℕ) → ((i : ℕ) → start + 1 ≤ i → numbers_after (drop i line) ≡ None) → (i : ℕ) → start ≤ i → begun_at table line i ≡ None
+    pub none_after : (start : ℕ) → ((i : ℕ) → start + 1 ≤ i → numbers_after (drop i line) ≡ None) → (i : ℕ) → start ≤ i → begun_at (place_at table) line i
+        ≡ None
     none_after start none i least = none_before i (λ bytes some few. none (i + bytes) (omega (arith, least, some)))
 
-  pub none_joined : (from start high : ℕ) → ((i : ℕ) → from ≤ i → i < start → begun_at table line i ≡ None)
-      → ((i : ℕ) → start ≤ i → i < high → begun_at table line i ≡ None) →
-      (i : ℕ) → from ≤ i → i < high → begun_at table line i ≡ None
-  none_joined from start high before after i least below = elim (cases_lt i start) [
-    | inl early ↦ before i least early
-    | inr late ↦ after i late below
-  ]
-
-  pub none_on : (from start : ℕ) → ((i : ℕ) → from ≤ i → i < start → begun_at table line i ≡ None)
-      → ((i : ℕ) → start ≤ i → begun_at table line i ≡ None) → NoNext table line from
-  none_on from start before after i least = elim (cases_lt i start) [
-    | inl early ↦ before i least early
-    | inr late ↦ after i late
-  ]
+  -- none begins before one byte, and none from there on: below a third one
+  pub none_joined : (from start low high : ℕ) → ((i : ℕ) → from ≤ i → i < start → i < high → begun_at (place_at table) line i ≡ None)
+      → ((i : ℕ) → start ≤ i → i < low → i < high → begun_at (place_at table) line i ≡ None) →
+      (i : ℕ) → from ≤ i → i < low → i < high → begun_at (place_at table) line i ≡ None
+  none_joined from start low high before after = any.none_joined (place_at table) line from start low high before after
 
   at_end : place_at table [] ≡ None
   unfolding place_at
   at_end = refl
 
-  pub none_past : (i : ℕ) → length line ≤ i → begun_at table line i ≡ None
+  pub none_past : (i : ℕ) → length line ≤ i → begun_at (place_at table) line i ≡ None
   none_past i past = not_begun i (ap (λ rest. place_at table rest) (drop_all i line past) ∙ at_end)
 
-  pub next_from : (from low : ℕ) (place : FoundPlace) → from ≤ low → ((i : ℕ) → from ≤ i → i < low → begun_at table line i ≡ None)
-      → IsNext table line low place → IsNext table line from place
-  next_from from low place least before is = record {
-    after = omega (arith, least, is.after);
-    some = is.some;
-    within = is.within;
-    here = is.here;
-    first = λ i early below. none_joined from low place.start before is.first i early below;
-  }
+  pub next_from : (from low : ℕ) (place : FoundPlace) → from ≤ low → ((i : ℕ) → from ≤ i → i < low → begun_at (place_at table) line i ≡ None)
+      → IsNext (place_at table) line low place → IsNext (place_at table) line from place
+  next_from from low place least before is = any.next_from (place_at table) line from low place least before is
 
-  pub none_up_to : (low start : ℕ) → ((i : ℕ) → low ≤ i → i < start → begun_at table line i ≡ None) → begun_at table line start ≡ None
-      → (i : ℕ) → low ≤ i → i < start + 1 → begun_at table line i ≡ None
-  none_up_to low start before here i least below = elim (cases_lt i start) [
-    | inl early ↦ before i least early
-    | inr late ↦ let same : i ≡ start = omega (arith, late, below) in ap (λ k. begun_at table line k) same ∙ here
-  ]
+  pub none_up_to : (low start : ℕ) → ((i : ℕ) → low ≤ i → i < start → begun_at (place_at table) line i ≡ None) → begun_at (place_at table) line start ≡ None
+      → (i : ℕ) → low ≤ i → i < start + 1 → begun_at (place_at table) line i ≡ None
+  none_up_to low start before here = any.none_up_to (place_at table) line low start before here
 
   pub place_is_next : (low start : ℕ) (place : FoundPlace) → low ≤ start → place.start ≡ start → start < place.end → place.end ≤ length line →
-      ((i : ℕ) → low ≤ i → i < start → begun_at table line i ≡ None) → begun_at table line start ≡ Some (place_seen place) → IsNext table line low place
-  place_is_next low start place least at_start some within before here = record {
-    after = omega (arith, least, at_start);
-    some = omega (arith, some, at_start);
-    within = within;
-    here = ap (λ k. begun_at table line k) at_start ∙ here;
-    first = λ i early below. before i early (omega (arith, below, at_start));
-  }
+      ((i : ℕ) → low ≤ i → i < start → begun_at (place_at table) line i ≡ None) → begun_at (place_at table) line start ≡ Some (place_seen place)
+      → IsNext (place_at table) line low place
+  place_is_next low start place least at_start some within before here =
+      any.place_is_next (place_at table) line low start place least at_start some within before here
 
 -- ---- numbers in a line
 
@@ -247,7 +230,7 @@ none_of (Some x) off = cc
 
 -- ---- the lengths of a table's URLs
 
-head_or : (x n : ℕ) (xs : List ℕ) → (x ≡ n) ⊎ (is_among xs n ≡ true) → is_among (x ∷ xs) n ≡ true
+pub head_or : (x n : ℕ) (xs : List ℕ) → (x ≡ n) ⊎ (is_among xs n ≡ true) → is_among (x ∷ xs) n ≡ true
 head_or x n xs (inl same) = ap (λ b. b || is_among xs n) (eq-eqb x n same)
 head_or x n xs (inr among) = ap (λ b. (x == n) || b) among ∙ or_true (x == n)
   where

@@ -1,6 +1,13 @@
 pub mod Places
 pub mod Printed
 pub mod PlaceSeen
+pub mod PlacesNear
+pub mod PlacesOver
+pub mod Candidates
+pub mod StoredPlaces
 pub mod PlacesRewritten
 pub mod PlacesRewriting
+pub mod PlacesBy
 pub mod Private
+pub mod PlacesSeenLaws
+pub mod PlacesByLaws

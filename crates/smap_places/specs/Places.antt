@@ -1,11 +1,13 @@
--- The places in a line, anywhere in it (this project's own): a URL of a table, `:`, a line, `:` and a column, in decimal
--- without leading zeros, from 1 to 2147483648, and no digit after them. No place begins after a byte of a word. Places
--- are taken from the left; of those that begin at one byte, the one with the longest URL; the next is sought after it.
-use Rattle.std.specs.Prelude.{ℕ, zero, suc, ◌+◌, ◌-◌, ◌==◌, ◌||◌, Bool, true, not, nat_le, List, [], ◌∷◌, Option, Some, None, codes, length, take}
-use Rattle.std.specs.Prelude.{drop, slice_index, if◌then◌else◌, option_map}
+-- The places in a text, anywhere in it (this project's own): a URL of a table, `:`, a line, `:` and a column, in decimal
+-- without leading zeros, from 1 to 2147483648, and no digit after them. No place begins after a byte of a word, but after
+-- one that ends a colour of a terminal. Places are taken from the left; of those that begin at one byte, the one with the
+-- longest URL; the next is sought after it.
+use Rattle.std.specs.Prelude.{ℕ, zero, suc, ◌+◌, ◌-◌, ◌==◌, ◌||◌, ◌&&◌, Bool, true, false, not, nat_le, List, [], ◌∷◌, Option, Some, None, codes, length, take}
+use Rattle.std.specs.Prelude.{drop, reverse, if◌then◌else◌, option_map}
 use Rattle.std.specs.Char.{is_ascii_digit, is_ascii_alphanumeric}
 use Rattle.std.specs.List.{list_any, prefix_len}
 use Rattle.smap_record.specs.Record.{MapRecord}
+use Rattle.smap_lines.specs.Lines.{has_line_end}
 use Rattle.smap_lines.specs.Numbers.{decimal_number}
 use Rattle.smap_trace.specs.Table.{record_for}
 
@@ -34,70 +36,94 @@ numbers_after text = with_line text (number_after text)
 
 -- ---- a place at the beginning of a text
 
--- a place: its URL, the record of the map under it, its line and its column, which count from 1, and how many bytes it is
-pub record PlaceParts : Type 0 where
+-- a place: its URL, its line and its column, which count from 1, and how many bytes it is
+pub record PlaceUrl : Type 0 where
   pub url : List ℕ
-  pub stated : MapRecord
   pub line : ℕ
   pub column : ℕ
   pub size : ℕ
 
 -- the place with this URL of so many bytes, where the table has it and numbers stand after it
-abbrev pub placed : (url : List ℕ) → (bytes : ℕ) → Option MapRecord → (numbers : Option (ℕ × ℕ × ℕ)) → Option PlaceParts
+abbrev pub placed : (url : List ℕ) → (bytes : ℕ) → Option MapRecord → (numbers : Option (ℕ × ℕ × ℕ)) → Option PlaceUrl
 placed url bytes None numbers = None
 placed url bytes (Some stated) None = None
 placed url bytes (Some stated) (Some (line, column, size)) =
-    Some (record { url = url; stated = stated; line = line; column = column; size = bytes + size })
+    Some (record { url = url; line = line; column = column; size = bytes + size })
+
+-- the record of a place's URL, which holds no LF
+abbrev pub record_of_place : (url : List ℕ) → List (List ℕ × MapRecord) → Option MapRecord
+record_of_place url table = if has_line_end url then None else record_for url table
 
 -- the one whose URL is this many bytes
-abbrev pub place_with : List (List ℕ × MapRecord) → (text : List ℕ) → (bytes : ℕ) → Option PlaceParts
-place_with table text bytes = placed (take bytes text) bytes (record_for (take bytes text) table) (numbers_after (drop bytes text))
+abbrev pub place_with : List (List ℕ × MapRecord) → (text : List ℕ) → (bytes : ℕ) → Option PlaceUrl
+place_with table text bytes = placed (take bytes text) bytes (record_of_place (take bytes text) table) (numbers_after (drop bytes text))
 
-abbrev pub or_else : Option PlaceParts → Option PlaceParts → Option PlaceParts
+abbrev pub or_else : Option PlaceUrl → Option PlaceUrl → Option PlaceUrl
 or_else (Some place) other = Some place
 or_else None other = other
 
 -- the one with the longest URL of at most so many bytes
-abbrev pub longest_within : List (List ℕ × MapRecord) → (text : List ℕ) → (bytes : ℕ) → Option PlaceParts
+abbrev pub longest_within : List (List ℕ × MapRecord) → (text : List ℕ) → (bytes : ℕ) → Option PlaceUrl
 longest_within table text zero = None
 longest_within table text (suc bytes) = or_else (place_with table text (suc bytes)) (longest_within table text bytes)
 
 -- the one with the longest URL
-unfoldable pub place_at : List (List ℕ × MapRecord) → (text : List ℕ) → Option PlaceParts
+unfoldable pub place_at : List (List ℕ × MapRecord) → (text : List ℕ) → Option PlaceUrl
 place_at table text = longest_within table text (length text)
 
--- ---- the places in a line
+-- ---- where a place may begin
 
 -- a letter or a digit of ASCII, another byte that words and URLs are made of, or one that is not ASCII
 abbrev pub is_word : ℕ → Bool
 is_word byte = is_ascii_alphanumeric byte || nat_le 128 byte || list_any (λ sign. byte == sign) (codes "_-./\\%~+$:")
 
--- a place may begin at this byte of a line: it is the first, or stands after one that is of no word
-abbrev pub may_begin : (line : List ℕ) → (start : ℕ) → Bool
-may_begin line zero = true
-may_begin line (suc before) = not (is_word (slice_index line before))
+-- a digit or a `;`, of which the parameters of a colour are made
+abbrev pub is_parameter : ℕ → Bool
+is_parameter byte = is_ascii_digit byte || byte == 59
 
--- the place that begins at this byte of a line, but for those before it
-unfoldable pub begun_at : List (List ℕ × MapRecord) → (line : List ℕ) → (start : ℕ) → Option PlaceParts
-begun_at table line start = if may_begin line start then place_at table (drop start line) else None
+abbrev pub is_escape : List ℕ → Bool
+is_escape [] = false
+is_escape (byte ∷ bytes) = byte == 27
 
--- a byte of a line that belongs to no place, or a place with its bytes
+-- these bytes, the last of a text first, are the parameters of a colour, fewer than so many, and before them ESC and `[`
+unfoldable pub begins_colour : (many : ℕ) → List ℕ → Bool
+begins_colour zero bytes = false
+begins_colour (suc many) [] = false
+begins_colour (suc many) (byte ∷ bytes) = if byte == 91 then is_escape bytes else is_parameter byte && begins_colour many bytes
+
+-- a place may begin after these bytes, the last first: there is none, or the last is of no word; or it is the `m` that
+-- ends a colour, ESC, `[`, at most 32 digits and `;`, and `m`, as texts for terminals have it
+unfoldable pub may_follow : List ℕ → Bool
+may_follow [] = true
+may_follow (byte ∷ bytes) = not (is_word byte) || byte == 109 && begins_colour 33 bytes
+
+-- ---- the places in a text
+
+-- a place may begin at this byte of a text
+abbrev pub may_begin : (text : List ℕ) → (start : ℕ) → Bool
+may_begin text start = may_follow (reverse (take start text))
+
+-- the place that begins at this byte of a text, but for those before it, where `begins` says which one begins a text
+unfoldable pub begun_at : (begins : List ℕ → Option PlaceUrl) → (text : List ℕ) → (start : ℕ) → Option PlaceUrl
+begun_at begins text start = if may_begin text start then begins (drop start text) else None
+
+-- a byte of a text that belongs to no place, or a place with its bytes
 pub data Part : Type 0 where
   other : ℕ → Part
-  found : PlaceParts → (text : List ℕ) → Part
+  found : PlaceUrl → (text : List ℕ) → Part
 
 -- a text that begins with this byte: the place there, where there is one, and what stands after its bytes
-abbrev pub parts_by : (text : List ℕ) → (byte : ℕ) → (after : ℕ → List Part) → Option PlaceParts → List Part
+abbrev pub parts_by : (text : List ℕ) → (byte : ℕ) → (after : ℕ → List Part) → Option PlaceUrl → List Part
 parts_by text byte after None = other byte ∷ after 0
 parts_by text byte after (Some place) = found place (take place.size text) ∷ after (place.size - 1)
 
--- the parts of the bytes of a line that stand from `start` on, of which the first so many belong to a place before them
-abbrev pub parts_from : List (List ℕ × MapRecord) → (line : List ℕ) → (start within : ℕ) → (rest : List ℕ) → List Part
-parts_from table line start within [] = []
-parts_from table line start (suc within) (byte ∷ rest) = parts_from table line (suc start) within rest
-parts_from table line start zero (byte ∷ rest) =
-    parts_by (byte ∷ rest) byte (λ within. parts_from table line (suc start) within rest) (begun_at table line start)
+-- the parts of the bytes of a text that stand from `start` on, of which the first so many belong to a place before them
+abbrev pub parts_from : (begins : List ℕ → Option PlaceUrl) → (text : List ℕ) → (start within : ℕ) → (rest : List ℕ) → List Part
+parts_from begins text start within [] = []
+parts_from begins text start (suc within) (byte ∷ rest) = parts_from begins text (suc start) within rest
+parts_from begins text start zero (byte ∷ rest) =
+    parts_by (byte ∷ rest) byte (λ within. parts_from begins text (suc start) within rest) (begun_at begins text start)
 
--- a line, cut into its places and the bytes between them
-unfoldable pub parts_of : List (List ℕ × MapRecord) → (line : List ℕ) → List Part
-parts_of table line = parts_from table line 0 0 line
+-- a text, cut into its places and the bytes between them
+unfoldable pub parts_of : (begins : List ℕ → Option PlaceUrl) → (text : List ℕ) → List Part
+parts_of begins text = parts_from begins text 0 0 text

@@ -1,12 +1,12 @@
--- What a text becomes whose places are rewritten wherever they stand: each of its lines by itself, over a table of the
--- maps and their URLs (this project's own).
+-- What a text becomes whose places are rewritten wherever they stand, over a table of the maps and their URLs (this
+-- project's own).
 use Rattle.std.specs.Prelude.{ℕ, ◌==◌, ◌||◌, Bool, false, List, [], ◌∷◌, ◌++◌, Option, Some, None, is_some, if◌then◌else◌, length, filter, unwrap_or}
-use Rattle.std.specs.List.{flat_map, list_any, sum_by}
-use Rattle.smap_lines.specs.Edited.{edited, is_short}
+use Rattle.std.specs.List.{flat_map, list_any}
 use Rattle.smap_lines.specs.Lines.{Line, end_in, lines_with_ends}
 use Rattle.smap_record.specs.Record.{MapRecord}
+use Rattle.smap_trace.specs.Table.{record_for}
 use Rattle.smap_trace.specs.Rewritten.{Counts, SourceLocation, location_text, original_at}
-use Rattle.smap_places.specs.Places.{Part, PlaceParts, found, other, parts_of}
+use Rattle.smap_places.specs.Places.{Part, PlaceUrl, found, other, parts_of, place_at}
 
 -- ---- a place
 
@@ -14,7 +14,7 @@ use Rattle.smap_places.specs.Places.{Part, PlaceParts, found, other, parts_of}
 abbrev pub is_quoting : ℕ → Bool
 is_quoting byte = byte == 34 || byte == 92
 
--- a name that can stand anywhere in a line, also in a string of JSON
+-- a name that can stand anywhere in a text, also in a string of JSON
 abbrev pub quotable : Option (List ℕ) → Option (List ℕ)
 quotable None = None
 quotable (Some name) = if list_any is_quoting name then None else Some name
@@ -28,28 +28,37 @@ abbrev pub text_of_original : Option SourceLocation → Option (List ℕ)
 text_of_original None = None
 text_of_original (Some original) = text_named original (quotable original.name)
 
--- what stands in its stead, if its map has an original for it, in a source whose name can stand anywhere: the name, `:`,
--- the line, `:`, the column
-unfoldable pub replacement : PlaceParts → Option (List ℕ)
-replacement place = text_of_original (original_at place.stated place.line place.column)
+-- what stands in the stead of this line and column of a map, where there is one
+abbrev pub text_in : Option MapRecord → (line column : ℕ) → Option (List ℕ)
+text_in None line column = None
+text_in (Some stated) line column = text_of_original (original_at stated line column)
 
--- ---- a line
+-- what stands in a place's stead, if the map of its URL has an original for it, in a source whose name can stand anywhere: the
+-- name, `:`, the line, `:`, the column
+unfoldable pub replacement : (map : Option MapRecord) → PlaceUrl → Option (List ℕ)
+replacement map place = text_in map place.line place.column
 
--- what becomes of a part of a line
-abbrev pub part_text : Part → List ℕ
-part_text (other byte) = byte ∷ []
-part_text (found place text) = unwrap_or (replacement place) text
+-- ---- a text
 
-abbrev pub parts_text : List Part → List ℕ
-parts_text parts = flat_map part_text parts
+-- what becomes of a part of a text, where these are the maps of URLs
+abbrev pub part_text : (maps : List ℕ → Option MapRecord) → Part → List ℕ
+part_text maps (other byte) = byte ∷ []
+part_text maps (found place text) = unwrap_or (replacement (maps place.url) place) text
 
--- a line, with what stands in its places' stead
+abbrev pub parts_text : (maps : List ℕ → Option MapRecord) → List Part → List ℕ
+parts_text maps parts = flat_map (part_text maps) parts
+
+-- the maps of a table
+abbrev pub maps_of : List (List ℕ × MapRecord) → (url : List ℕ) → Option MapRecord
+maps_of table url = record_for url table
+
+-- a text, with what stands in its places' stead
+unfoldable pub placed_text : List ℕ → List (List ℕ × MapRecord) → List ℕ
+placed_text text table = parts_text (maps_of table) (parts_of (place_at table) text)
+
+-- a line by itself
 abbrev pub placed_line : List (List ℕ × MapRecord) → Line → List ℕ
-placed_line table line = parts_text (parts_of table line.bytes) ++ end_in line.is_ended
-
--- a text, rewritten
-abbrev pub placed_text : List ℕ → List (List ℕ × MapRecord) → List ℕ
-placed_text text table = edited (placed_line table) text
+placed_line table line = placed_text line.bytes table ++ end_in line.is_ended
 
 -- ---- what is counted
 
@@ -58,22 +67,15 @@ is_place (other byte) = false
 is_place (found place text) = is_some (Some place)
 
 -- the place is replaced
-abbrev pub is_replaced : Part → Bool
-is_replaced (other byte) = false
-is_replaced (found place text) = is_some (replacement place)
-
--- how many places a line has, and how many of them are replaced; a longer one, which stays, has none
-abbrev pub places_in : List (List ℕ × MapRecord) → Line → ℕ
-places_in table line = if is_short line then length (filter is_place (parts_of table line.bytes)) else 0
-
-abbrev pub replaced_in : List (List ℕ × MapRecord) → Line → ℕ
-replaced_in table line = if is_short line then length (filter is_replaced (parts_of table line.bytes)) else 0
+abbrev pub is_replaced : (maps : List ℕ → Option MapRecord) → Part → Bool
+is_replaced maps (other byte) = false
+is_replaced maps (found place text) = is_some (replacement (maps place.url) place)
 
 -- the lines of a text, its places in place of frames, those that are replaced, and none that is hidden
 unfoldable pub place_counts : List ℕ → List (List ℕ × MapRecord) → Counts
 place_counts text table = record {
   lines = length (lines_with_ends text);
-  frames = sum_by (places_in table) (lines_with_ends text);
-  mapped = sum_by (replaced_in table) (lines_with_ends text);
+  frames = length (filter is_place (parts_of (place_at table) text));
+  mapped = length (filter (is_replaced (maps_of table)) (parts_of (place_at table) text));
   hidden = 0;
 }

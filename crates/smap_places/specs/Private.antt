@@ -1,3 +1,6 @@
 pub mod Finder
+pub mod LineEnds
+pub mod Passage
 pub mod PlaceRewriter
-pub mod RewriterLaws
+pub mod StoredPlaces
+pub mod Window

@@ -5,6 +5,9 @@ ghost use Rattle.smap_places.specs.Places.{number_after, numbers_after};
 use memchr::memchr;
 use smap_lines::{digits, number};
 
+/// How many bytes the numbers of a place are at most, with the `:` before each.
+pub const MOST_NUMBERS: usize = 22;
+
 /// The line and the column after a URL, and how many bytes they are with the `:` before each.
 #[tactic(auto, unfolding(crate::specs::Places::numbers_after))]
 pub fn numbers_after(text: &[u8]) -> Option<(u32, u32, usize)>

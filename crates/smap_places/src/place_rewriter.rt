@@ -1,80 +1,100 @@
-//! The places of a text, rewritten line by line.
-ghost use Rattle.std.specs.Prelude.{◌≡◌, ◌<◌, ◌≤◌, ◌++◌, codes, is_some, length, map, slice_range, IfOk};
+//! The places of a text, rewritten as it passes through a window.
+ghost use Rattle.std.specs.Prelude.{◌≡◌, ◌<◌, ◌≤◌, ◌+◌, ◌^◌, ◌++◌, [], codes, false, true, is_some, length, map, option_map, slice_range, unwrap_or, IfOk};
+ghost use Rattle.std.specs.Prelude.{OnErr, OnOk};
 ghost use Rattle.std.specs.List.{concat};
-ghost use Rattle.smap_lines.specs.LineOutput.{IsPut};
-ghost use Rattle.smap_places.specs.Places.{found};
+ghost use Rattle.smap_lines.specs.LineOutput.{IsPut, IsSameOutput};
 ghost use Rattle.smap_places.specs.PlaceSeen.{place_seen};
-ghost use Rattle.smap_places.specs.PlacesRewritten.{part_text, replacement};
+ghost use Rattle.smap_places.specs.PlacesRewritten.{replacement};
+ghost use Rattle.smap_places.specs.Private.PlaceRewriter.{FailsToWrite, IsSameRewriter, Writes};
+ghost use Rattle.smap_trace.specs.Rewriting.{Looked};
 
-use crate::finder::PlaceFinder;
 use crate::place::FoundPlace;
 use crate::replacement::find_replacement;
+use crate::seeker::UrlSeeker;
 use itoa::Buffer;
 use smap_io::{ByteSink, DeviceFault};
-use smap_lines::{LineEditor, LineOutput};
+use smap_lines::LineOutput;
+use smap_record::MapFile;
+use smap_trace::Maps;
 use std::alloc::Global;
 
-/// Rewrites the places in the lines of a text, and counts them and those that are replaced.
+/// Rewrites the places of a text, and counts them and those that are replaced.
 #[derive(Drop)]
-pub struct PlaceRewriter<'t> {
+pub struct PlaceRewriter<'s, 'm, S: UrlSeeker, M: Maps> {
     pub alloc: Global,
-    pub finder: PlaceFinder<'t>,
+    pub seeker: &'s S,
+    pub maps: &'m mut M,
     pub places: u64,
     pub mapped: u64,
 }
 
-impl LineEditor for PlaceRewriter<'_> {
-    ghost use Rattle.smap_places.specs.Private.PlaceRewriter.{after_places, room_of};
-    ghost use Rattle.smap_places.specs.PlacesRewritten.{placed_line};
-    ghost use Rattle.smap_places.specs.Private.RewriterLaws.{room_after};
-    ghost use Rattle.std.specs.Prelude.{refl};
-
-    ghost becomes = { λ rewriter. placed_line rewriter.finder };
-
-    ghost step = { after_places };
-
-    ghost room = { room_of };
-
-    fn edit<W: ByteSink>(
+impl<S: UrlSeeker, M: Maps> PlaceRewriter<'_, '_, S, M> {
+    /// Writes what becomes of a window from byte `from` on: of the places that begin before byte `high`, which the caller
+    /// knows to be decided, and of the bytes before it that belong to none. The map of each place's URL is looked for when
+    /// the place is met. The result is the byte after all these: `high`, or the end of a place that begins before it.
+    /// Nothing waits then.
+    pub fn write_places<W: ByteSink>(
         &mut self,
-        line: &[u8],
-        is_ended: bool,
+        window: &[u8],
+        from: usize,
+        high: usize,
         output: &mut LineOutput<'_, W>,
-    ) -> Result<(), DeviceFault> {
-        let mut from = 0;
-        while let Some(place) = self.finder.next(line, from) {
-            let is_mapped = put_place(self.alloc, line, from, &place, output)?;
+    ) -> Result<usize, DeviceFault>
+        requires from { from ≤ high }
+        requires high { high ≤ length window.now }
+        requires countable_places { self.old.places + length window.now < 2 ^ 64 }
+        requires countable_mapped { self.old.mapped + length window.now < 2 ^ 64 }
+        ensures same { IsSameOutput output.old output.new }
+        ensures same_maps { IsSameRewriter self.old self.new }
+        ensures looked { Looked M.Finds self.old.maps.now self.new.maps.now }
+        ensures writes { IfOk result (λ to. Writes (S.begins self.old.seeker.now) M.Finds M.found
+            W.seen self.old self.new output.old output.new window.now from high to) }
+        ensures far { IfOk result (λ to. high ≤ to) }
+        ensures none { OnOk result (output.new.gathered.now ≡ []) }
+        ensures no_failure { OnOk result
+            ((W.seen output.new.sink.now).failed ≡ (W.seen output.old.sink.now).failed) }
+
+        ensures front { OnErr result (FailsToWrite (S.begins self.old.seeker.now)
+            (M.Gives self.old.maps.now) W.seen output.old output.new window.now from high) }
+        ensures failure { OnErr result ((W.seen output.new.sink.now).failed ≡ true) }
+    {
+        let mut to = from;
+        while let Some(place) = self.seeker.next_before(window, to, high) {
+            self.maps.find(place.url);
+            let map = self.maps.map_for(place.url);
+            let is_mapped = put_place(self.alloc, map, window, to, &place, output)?;
             self.places += 1;
             self.mapped += u64::from(is_mapped);
-            from = place.end;
+            to = place.end;
         }
-        output.put_line(&line[from..], is_ended)
+        let end = high.max(to);
+        output.put(&window[to..end])?;
+        output.write()?;
+        Ok(end)
     }
-
-    ghost same = { λ rewriter line other. refl };
-
-    ghost room_for_one = { room_after };
 }
 
-// Puts the bytes of a line from byte `from` on that stand before a place, and what becomes of it; and tells whether it
-// is replaced.
+// Puts the bytes of a text from byte `from` on that stand before a place, and what becomes of it where its URL has this
+// map; and tells whether it is replaced.
 fn put_place<W: ByteSink>(
     alloc: Global,
+    map: Option<&MapFile>,
     line: &[u8],
     from: usize,
-    place: &FoundPlace<'_, '_>,
+    place: &FoundPlace<'_>,
     output: &mut LineOutput<'_, W>,
 ) -> Result<bool, DeviceFault>
     requires after { from ≤ place.now.start }
     requires some { place.now.start < place.now.end }
     requires within { place.now.end ≤ length line.now }
     ensures put { IsPut W.seen output.old output.new
-        (slice_range line.now from place.now.start ++ part_text
-        (found (place_seen place.now) (slice_range line.now place.now.start place.now.end))) result }
-    ensures mapped { IfOk result (λ mapped.
-        mapped ≡ is_some (replacement (place_seen place.now))) }
+        (slice_range line.now from place.now.start ++ unwrap_or
+        (replacement (option_map (λ file. file.now.stated) map.entry) (place_seen place.now))
+        (slice_range line.now place.now.start place.now.end)) result }
+    ensures mapped { IfOk result (λ mapped. mapped ≡ is_some
+        (replacement (option_map (λ file. file.now.stated) map.entry) (place_seen place.now))) }
 {
-    let Some(replacement) = find_replacement(alloc, place) else {
+    let Some(replacement) = find_replacement(alloc, map, place) else {
         output.put(&line[from..place.end])?;
         return Ok(false);
     };

@@ -6,15 +6,22 @@ ghost use Rattle.smap_places.specs.PlacesRewritten.{is_quoting, replacement};
 ghost use Rattle.smap_trace.specs.SightSeen.{replacement_seen};
 
 use crate::place::FoundPlace;
+use smap_record::MapFile;
 use smap_trace::{Replacement, original_at};
 use std::alloc::Global;
 
-/// `None` where its map has no original for the place in a source whose name can stand anywhere.
+/// What stands in the stead of a place whose URL has this map; `None` where there is none, or it has no original for the
+/// place in a source whose name can stand anywhere.
 #[tactic(auto, unfolding(crate::specs::PlacesRewritten::replacement))]
-pub fn find_replacement<'t>(alloc: Global, place: &FoundPlace<'_, 't>) -> Option<Replacement<'t>>
-    ensures { option_map replacement_seen result ≡ replacement (place_seen place.now) }
+pub fn find_replacement<'t>(
+    alloc: Global,
+    map: Option<&'t MapFile>,
+    place: &FoundPlace<'_>,
+) -> Option<Replacement<'t>>
+    ensures { option_map replacement_seen result
+        ≡ replacement (option_map (λ file. file.now.stated) map.entry) (place_seen place.now) }
 {
-    let original = original_at(alloc, place.map, place.line, place.column)?;
+    let original = original_at(alloc, map?, place.line, place.column)?;
     let name = original.name?;
     if has_quoting(name.as_bytes()) {
         return None;

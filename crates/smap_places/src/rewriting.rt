@@ -1,37 +1,53 @@
 //! Rewriting the places of a text.
-ghost use Rattle.std.specs.Prelude.{◌≡◌, false, IfErr, IfOk};
+ghost use Rattle.std.specs.Prelude.{◌≡◌, ◌<◌, ◌+◌, ◌^◌, false, IfErr, IfOk, IfSome};
 ghost use Rattle.smap_lines.specs.Editing.{devices_seen, is_read_fault, is_write_fault};
 ghost use Rattle.smap_lines.specs.declared.fault.LineFault.TheVariants.{Memory};
+ghost use Rattle.smap_places.specs.PlacesNear.{DecidedWithin, EndsAtLines};
+ghost use Rattle.smap_places.specs.PlacesOver.{RewritesPlacesFrontOver, RewritesPlacesOver};
 ghost use Rattle.smap_places.specs.PlacesRewriting.{RewritesPlaces, RewritesPlacesFront};
+ghost use Rattle.smap_trace.specs.Rewriting.{Looked};
 
 use crate::finder::PlaceFinder;
+use crate::line_ends::{count_ends, decided_end, has_open_line};
 use crate::place_rewriter::PlaceRewriter;
+use crate::seeker::UrlSeeker;
+use crate::window::Window;
 use smap_io::{ByteSink, ByteSource};
-use smap_lines::edit_lines;
-use smap_trace::{RewriteFault, Summary, Table};
+use smap_lines::{Gathered, LineOutput};
+use smap_trace::{Maps, RewriteFault, Summary, Table, TableMaps};
 use std::alloc::Global;
 
-/// Rewrites a text while it is read: a place, wherever it stands in a line, that has an original gets it in its stead,
-/// and every other byte stays. The summary counts places as frames; none is hidden. The caller gives devices that have not
-/// failed. The output is not flushed.
+// How many bytes before a place decide whether it may begin, at most: those of a colour.
+const KNOWN_BYTES: usize = 35;
+
+// How many bytes are read at once, at least.
+const READ_BYTES: usize = 8192;
+
+/// Rewrites a text while it is read: a place, wherever it stands, that has an original gets it in its stead, and every
+/// other byte stays, in lines of any length. The summary counts places as frames; none is hidden. A text of more than
+/// `most_bytes` bytes is refused when more were read. The caller gives devices that have not failed. The output is not
+/// flushed.
 ///
-/// What became of each line that was read was written before more is read. The first failure ends it. What was written
-/// is then a front of what the bytes that were read become; where a read failed, all of what the whole lines among them
-/// become; and where memory ran out, neither device was asked.
+/// All room is made before the first read. What became of each line that was read was written before more is read, and
+/// so was what became of a line's beginning, but for as many bytes as the longest URL and 22 more. The first failure ends
+/// it. What was written is then a front of what the bytes that were read become; where a read failed, all of what the
+/// whole lines among them become; and where memory ran out, neither device was asked.
 pub fn rewrite_places<R: ByteSource, W: ByteSink>(
     alloc: Global,
     input: &mut R,
     output: &mut W,
     table: &Table,
+    most_bytes: u64,
 ) -> Result<Summary, RewriteFault>
     requires input_works { (R.seen input.old).failed ≡ false }
     requires output_works { (W.seen output.old).failed ≡ false }
+    requires most_bytes { most_bytes < 2 ^ 63 }
     ensures rewrites { IfOk result (λ summary. RewritesPlaces
         (devices_seen (R.seen input.old) (W.seen output.old))
-        (devices_seen (R.seen input.new) (W.seen output.new)) table.now summary) }
+        (devices_seen (R.seen input.new) (W.seen output.new)) table.now most_bytes summary) }
     ensures front { IfErr result (λ fault. RewritesPlacesFront
         (devices_seen (R.seen input.old) (W.seen output.old))
-        (devices_seen (R.seen input.new) (W.seen output.new)) table.now fault) }
+        (devices_seen (R.seen input.new) (W.seen output.new)) table.now most_bytes fault) }
     ensures input_failure { (R.seen input.new).failed ≡ is_read_fault result }
     ensures output_failure { (W.seen output.new).failed ≡ is_write_fault result }
     ensures memory_input { IfErr result (λ fault. fault ≡ Memory → input.new ≡ input.old) }
@@ -40,17 +56,104 @@ pub fn rewrite_places<R: ByteSource, W: ByteSink>(
     let Ok(finder) = PlaceFinder::new(alloc, table) else {
         return Err(RewriteFault::Memory);
     };
+    let mut maps = TableMaps(table);
+    rewrite_places_over(alloc, input, output, &finder, &mut maps, most_bytes)
+}
+
+/// The same over the places that a seeker finds, and over maps that are looked for when a place names their URL: each
+/// place is replaced by what its URL's map has for it then. Of a line's beginning all but fewer bytes than decide which
+/// place begins at one was written before more is read. The caller gives devices that have not failed. The output is not
+/// flushed.
+pub fn rewrite_places_over<R: ByteSource, W: ByteSink, S: UrlSeeker, M: Maps>(
+    alloc: Global,
+    input: &mut R,
+    output: &mut W,
+    seeker: &S,
+    maps: &mut M,
+    most_bytes: u64,
+) -> Result<Summary, RewriteFault>
+    requires input_works { (R.seen input.old).failed ≡ false }
+    requires output_works { (W.seen output.old).failed ≡ false }
+    requires most_bytes { most_bytes < 2 ^ 63 }
+    ensures rewrites { IfOk result (RewritesPlacesOver M.Finds M.found (S.begins seeker.now)
+        most_bytes (devices_seen (R.seen input.old) (W.seen output.old))
+        (devices_seen (R.seen input.new) (W.seen output.new)) maps.old maps.new) }
+    ensures front { IfErr result (RewritesPlacesFrontOver (M.Gives maps.old)
+        (S.begins seeker.now) most_bytes (devices_seen (R.seen input.old) (W.seen output.old))
+        (devices_seen (R.seen input.new) (W.seen output.new))) }
+    ensures looked { Looked M.Finds maps.old maps.new }
+    ensures input_failure { (R.seen input.new).failed ≡ is_read_fault result }
+    ensures output_failure { (W.seen output.new).failed ≡ is_write_fault result }
+    ensures memory_input { IfErr result (λ fault. fault ≡ Memory → input.new ≡ input.old) }
+    ensures memory_output { IfErr result (λ fault. fault ≡ Memory → output.new ≡ output.old) }
+    ensures memory_maps { IfErr result (λ fault. fault ≡ Memory → maps.new ≡ maps.old) }
+{
+    let Some((reach, size)) = room_of(seeker) else {
+        return Err(RewriteFault::Memory);
+    };
+    let (Ok(mut window), Ok(mut gathered)) = (Window::new(alloc, size), Gathered::new(alloc)) else {
+        return Err(RewriteFault::Memory);
+    };
     let mut rewriter = PlaceRewriter {
         alloc,
-        finder,
+        seeker,
+        maps,
         places: 0,
         mapped: 0,
     };
-    let lines = edit_lines(alloc, input, output, &mut rewriter)?;
+    let mut from = 0;
+    let mut total: u64 = 0;
+    let mut ends: u64 = 0;
+    loop {
+        let Ok(count) = window.read(input) else {
+            return Err(RewriteFault::Read);
+        };
+        if count == 0 {
+            break;
+        }
+        if count as u64 > most_bytes - total {
+            return Err(RewriteFault::TooMuch);
+        }
+        total += count as u64;
+        let bytes = window.bytes();
+        ends += count_ends(&bytes[bytes.len() - count..]) as u64;
+        let high = decided_end(bytes, from, reach);
+        let mut lent = LineOutput {
+            gathered: &mut gathered,
+            sink: output,
+        };
+        let Ok(to) = rewriter.write_places(bytes, from, high, &mut lent) else {
+            return Err(RewriteFault::Write);
+        };
+        let cut = to.saturating_sub(KNOWN_BYTES);
+        window.cut(cut);
+        from = to - cut;
+    }
+    let bytes = window.bytes();
+    let mut lent = LineOutput {
+        gathered: &mut gathered,
+        sink: output,
+    };
+    let Ok(_) = rewriter.write_places(bytes, from, bytes.len(), &mut lent) else {
+        return Err(RewriteFault::Write);
+    };
     Ok(Summary {
-        lines,
+        lines: ends + u64::from(has_open_line(bytes)),
         frames: rewriter.places,
         mapped: rewriter.mapped,
         hidden: 0,
     })
+}
+
+// How many bytes decide which place begins at one, and how many the window has room for: these, those before it that decide
+// whether it may begin, and those that are read.
+fn room_of<S: UrlSeeker>(seeker: &S) -> Option<(usize, usize)>
+    ensures ends { EndsAtLines (S.begins seeker.now) }
+    ensures reach { IfSome result (λ rooms. DecidedWithin (S.begins seeker.now) rooms.0) }
+    ensures some { IfSome result (λ rooms. 0 < rooms.0) }
+    ensures size { IfSome result (λ rooms. rooms.0 + 35 < rooms.1) }
+{
+    let reach = seeker.reach()?;
+    let size = reach.checked_add(KNOWN_BYTES + READ_BYTES)?;
+    Some((reach, size))
 }

@@ -28,14 +28,16 @@ pub struct PositionAnswerer<'m> {
 }
 
 impl LineEditor for PositionAnswerer<'_> {
-    ghost use Rattle.smap_positions.specs.Private.Answerer.{after_position, room_of};
-    ghost use Rattle.smap_positions.specs.Private.AnswererLaws.{room_after};
-    ghost use Rattle.smap_positions.specs.Positions.{answered_line};
-    ghost use Rattle.std.specs.Prelude.{refl};
+    ghost use Rattle.smap_positions.specs.Private.Answerer.{after_position, answer_of, room_of};
+    ghost use Rattle.smap_lines.specs.OneTextLaws.{Only, OnlyStep};
+    ghost use Rattle.smap_positions.specs.Private.AnswererLaws.{room_after, same_after};
+    ghost use Rattle.std.specs.Prelude.{refl, ⊤};
 
-    ghost becomes = { λ answerer. answered_line answerer.map.now.stated answerer.options.after answerer.options.json };
+    ghost Becomes = { λ answerer. Only (answer_of answerer) };
 
-    ghost step = { after_position };
+    ghost Steps = { OnlyStep answer_of after_position };
+
+    ghost Reaches = { λ answerer later. ⊤ };
 
     ghost room = { room_of };
 
@@ -53,7 +55,15 @@ impl LineEditor for PositionAnswerer<'_> {
         self.put_gathered(position, output)
     }
 
-    ghost same = { λ answerer line other. refl };
+    ghost some = { λ answerer line. (answer_of answerer line, refl) };
+
+    ghost became = { λ answerer after line text steps. steps.0 };
+
+    ghost same = { same_after };
+
+    ghost stays = { λ answerer. tt };
+
+    ghost goes_on = { λ answerer mid later one two. tt };
 
     ghost room_for_one = { room_after };
 }

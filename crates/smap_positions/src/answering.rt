@@ -1,6 +1,7 @@
 //! Answering a text of positions.
 ghost use Rattle.std.specs.Prelude.{◌≡◌, false, IfErr, IfOk};
 ghost use Rattle.smap_lines.specs.Editing.{EditsFront, devices_seen, is_read_fault, is_write_fault};
+ghost use Rattle.smap_lines.specs.Limits.{most_text_bytes};
 ghost use Rattle.smap_lines.specs.declared.fault.LineFault.TheVariants.{Memory};
 ghost use Rattle.smap_positions.specs.Answering.{AnswersPositions};
 ghost use Rattle.smap_positions.specs.Positions.{answered_line};
@@ -8,7 +9,7 @@ ghost use Rattle.smap_positions.specs.Positions.{answered_line};
 use crate::answer_options::AnswerOptions;
 use crate::answerer::PositionAnswerer;
 use smap_io::{ByteSink, ByteSource};
-use smap_lines::{LineFault, edit_lines};
+use smap_lines::{LineFault, MOST_TEXT_BYTES, edit_lines};
 use smap_record::MapFile;
 use std::alloc::Global;
 
@@ -44,7 +45,7 @@ pub fn answer_positions<R: ByteSource, W: ByteSink>(
         (devices_seen (R.seen input.old) (W.seen output.old))
         (devices_seen (R.seen input.new) (W.seen output.new)) map.now.stated options.after options.json summary) }
     ensures front { IfErr result (λ fault. EditsFront
-        (answered_line map.now.stated options.after options.json)
+        (answered_line map.now.stated options.after options.json) most_text_bytes
         (devices_seen (R.seen input.old) (W.seen output.old))
         (devices_seen (R.seen input.new) (W.seen output.new)) fault) }
     ensures input_failure { (R.seen input.new).failed ≡ is_read_fault result }
@@ -59,9 +60,9 @@ pub fn answer_positions<R: ByteSource, W: ByteSink>(
         lines: 0,
         first_bad: None,
     };
-    let lines = edit_lines(alloc, input, output, &mut answerer)?;
+    let counts = edit_lines(alloc, input, output, &mut answerer, MOST_TEXT_BYTES)?;
     Ok(PositionsSummary {
-        lines,
+        lines: counts.lines,
         answered: answerer.lines,
         first_bad: answerer.first_bad,
     })

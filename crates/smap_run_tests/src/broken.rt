@@ -1,5 +1,5 @@
 //! Commands over a reader and a writer of which each call breaks off in turn, and over a reader without end.
-ghost use Rattle.smap_answers.specs.Run.{HasInterval};
+ghost use Rattle.smap_answers.specs.Run.{IsRunnable};
 
 use crate::same::assert_same;
 use smap_answers::{Command, run};
@@ -80,7 +80,7 @@ fn on_map(
     path: &str,
     breaks: Breaks,
 ) -> Result<String, AllocError>
-    requires { HasInterval command.now }
+    requires { IsRunnable command.now }
 {
     let file = loaded(alloc, path, MAP.as_bytes())?;
     let (breaks_at, how) = breaks;

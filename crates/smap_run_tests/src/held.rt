@@ -1,6 +1,6 @@
 //! Commands that read files in memory, where one may be missing.
 ghost use Rattle.std.specs.Prelude.{IfOk};
-ghost use Rattle.smap_answers.specs.Run.{HasInterval};
+ghost use Rattle.smap_answers.specs.Run.{IsRunnable};
 
 use crate::same::assert_same;
 use smap_answers::Command;
@@ -38,7 +38,7 @@ const COMPOSED: &[(&str, &str, &str)] = &[
 
 // `compose` of the maps at two paths.
 fn compose(alloc: Global, outer: &str, inner: &str) -> Result<Command, AllocError>
-    ensures { IfOk result HasInterval }
+    ensures { IfOk result IsRunnable }
 {
     Ok(Command::Compose {
         outer: String::from_str(alloc, outer)?,

@@ -1,7 +1,7 @@
 //! Files that are written first and read then: their bytes, what a command makes of them, and which one is told where
 //! some can't be read.
 ghost use Rattle.std.specs.Prelude.{IfOk};
-ghost use Rattle.smap_answers.specs.Run.{HasInterval};
+ghost use Rattle.smap_answers.specs.Run.{IsRunnable};
 
 use crate::same::assert_same;
 use smap_answers::{Command, FileReader};
@@ -30,7 +30,7 @@ fn path_in(alloc: Global, folder: &str, name: &str) -> Result<String, AllocError
 
 // `compose` of two files in a folder.
 fn compose_in(alloc: Global, folder: &str, outer: &str, inner: &str) -> Result<Command, AllocError>
-    ensures { IfOk result HasInterval }
+    ensures { IfOk result IsRunnable }
 {
     Ok(Command::Compose {
         outer: path_in(alloc, folder, outer)?,
@@ -42,7 +42,7 @@ fn compose_in(alloc: Global, folder: &str, outer: &str, inner: &str) -> Result<C
 
 // `rewrite` over two files in a folder.
 fn rewrite_in(alloc: Global, folder: &str, first: &str, second: &str) -> Result<Command, AllocError>
-    ensures { IfOk result HasInterval }
+    ensures { IfOk result IsRunnable }
 {
     let mut maps = Vec::new(alloc);
     maps.push((
@@ -58,7 +58,7 @@ fn rewrite_in(alloc: Global, folder: &str, first: &str, second: &str) -> Result<
 
 // What a command leaves of this input over the files that it names.
 fn left_by(rt: &HostRuntime, command: &Command, input: &[u8]) -> Result<String, AllocError>
-    requires { HasInterval command.now }
+    requires { IsRunnable command.now }
 {
     run_over_read(rt.alloc(), rt, command, input, ALL_SOUND)
 }

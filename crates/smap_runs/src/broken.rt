@@ -1,6 +1,6 @@
 //! Runs over a reader and a writer of std of which one call breaks off.
 ghost use Rattle.std.specs.Prelude.{◌≡◌, IfOk};
-ghost use Rattle.smap_answers.specs.Run.{HasInterval};
+ghost use Rattle.smap_answers.specs.Run.{IsRunnable};
 
 use crate::devices::MOST_TAKEN;
 use crate::running::left_text;
@@ -90,7 +90,7 @@ pub fn run_broken(
     breaks_at: (u64, u64),
     how: Break,
 ) -> Result<String, AllocError>
-    requires { HasInterval command.now }
+    requires { IsRunnable command.now }
 {
     let mut reader = Broken {
         bytes: input.to_vec(alloc)?,

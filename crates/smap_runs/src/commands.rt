@@ -1,9 +1,9 @@
 //! The commands that take an interval, each made here alone.
 ghost use Rattle.std.specs.Prelude.{◌≡◌, true};
 ghost use Rattle.smap_index.specs.Faults.{is_interval};
-ghost use Rattle.smap_answers.specs.Run.{HasInterval};
+ghost use Rattle.smap_answers.specs.Run.{IsRunnable};
 
-use smap_answers::{Command, USUAL_INTERVAL};
+use smap_answers::{Command, MOST_BYTES, USUAL_CACHE_BYTES, USUAL_INTERVAL, USUAL_LIMIT_BYTES};
 use smap_index::MOST_INTERVAL;
 use smap_record::Url;
 
@@ -16,7 +16,7 @@ fn in_range(interval: u32) -> u32
 
 /// `raw` at a line and a column that count from 1.
 pub fn raw(line: u32, column: u32, interval: u32) -> Command
-    ensures { HasInterval result }
+    ensures { IsRunnable result }
 {
     Command::Raw {
         line: line.saturating_sub(1),
@@ -27,7 +27,7 @@ pub fn raw(line: u32, column: u32, interval: u32) -> Command
 
 /// `check` of the file at this path.
 pub fn check(path: String, base: Option<Url>, interval: u32) -> Command
-    ensures { HasInterval result }
+    ensures { IsRunnable result }
 {
     Command::Check {
         path,
@@ -38,7 +38,7 @@ pub fn check(path: String, base: Option<Url>, interval: u32) -> Command
 
 /// `check` of the files at these paths, or `check --json`.
 pub fn check_all(paths: Vec<String>, base: Option<Url>, interval: u32, json: bool) -> Command
-    ensures { HasInterval result }
+    ensures { IsRunnable result }
 {
     Command::CheckAll {
         paths,
@@ -57,7 +57,7 @@ pub fn lookup(
     interval: u32,
     after: bool,
 ) -> Command
-    ensures { HasInterval result }
+    ensures { IsRunnable result }
 {
     Command::Lookup {
         path,
@@ -72,7 +72,7 @@ pub fn lookup(
 
 /// `lookup --json` in the file at this path, at a line and a column that count from 1.
 pub fn lookup_as_json(path: String, line: u32, column: u32) -> Command
-    ensures { HasInterval result }
+    ensures { IsRunnable result }
 {
     Command::Lookup {
         path,
@@ -87,7 +87,7 @@ pub fn lookup_as_json(path: String, line: u32, column: u32) -> Command
 
 /// `positions` in the file at this path.
 pub fn positions(path: String, interval: u32, after: bool, json: bool) -> Command
-    ensures { HasInterval result }
+    ensures { IsRunnable result }
 {
     Command::Positions {
         path,
@@ -105,7 +105,7 @@ pub fn rewrite(
     interval: u32,
     hide_ignored: bool,
 ) -> Command
-    ensures { HasInterval result }
+    ensures { IsRunnable result }
 {
     Command::Rewrite {
         maps,
@@ -115,13 +115,53 @@ pub fn rewrite(
     }
 }
 
-/// `rewrite --anywhere` over maps: pairs of a URL and a path.
-pub fn rewrite_anywhere(maps: Vec<(String, String)>, base: Option<Url>, interval: u32) -> Command
-    ensures { HasInterval result }
+/// `rewrite` over files and folders that are read when the text names them: pairs of a URL and a path, and a list.
+pub fn rewrite_from(
+    maps: Vec<(String, String)>,
+    list: Option<String>,
+    base: Option<Url>,
+    interval: u32,
+    asked: &AskedFrom,
+) -> Command
+    ensures { IsRunnable result }
 {
-    Command::RewriteAnywhere {
+    Command::RewriteFrom {
         maps,
+        list,
         base,
         interval: in_range(interval),
+        hide_ignored: asked.hide_ignored,
+        anywhere: asked.anywhere,
+        cache_bytes: asked.cache_bytes.min(MOST_BYTES),
+        limit_bytes: asked.limit_bytes.max(1).min(MOST_BYTES),
+        summary: asked.summary,
     }
 }
+
+/// How `rewrite` is asked over files and folders, beside these.
+#[derive(Clone, Copy)]
+pub struct AskedFrom {
+    pub hide_ignored: bool,
+    pub anywhere: bool,
+    pub cache_bytes: u64,
+    pub limit_bytes: u64,
+    pub summary: bool,
+}
+
+/// Where no option is given.
+pub const PLAIN: AskedFrom = AskedFrom {
+    hide_ignored: false,
+    anywhere: false,
+    cache_bytes: USUAL_CACHE_BYTES,
+    limit_bytes: USUAL_LIMIT_BYTES,
+    summary: false,
+};
+
+/// Where places are rewritten anywhere.
+pub const ANYWHERE: AskedFrom = AskedFrom {
+    hide_ignored: false,
+    anywhere: true,
+    cache_bytes: USUAL_CACHE_BYTES,
+    limit_bytes: USUAL_LIMIT_BYTES,
+    summary: false,
+};

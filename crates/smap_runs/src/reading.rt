@@ -1,6 +1,6 @@
 //! Running a command whose files are read from memory, where one may be missing.
 ghost use Rattle.std.specs.Prelude.{⊤};
-ghost use Rattle.smap_answers.specs.Run.{HasInterval};
+ghost use Rattle.smap_answers.specs.Run.{IsRunnable};
 
 use crate::commands;
 use crate::devices::{Device, Devices, MOST_TAKEN};
@@ -40,9 +40,22 @@ pub fn run_over_held(
     held: Held,
     devices: Devices,
 ) -> Result<String, AllocError>
-    requires { HasInterval command.now }
+    requires { IsRunnable command.now }
 {
-    run_over_read(alloc, &HeldFiles(held), command, b"", devices)
+    run_held_over(alloc, command, held, b"", devices)
+}
+
+/// What a command leaves of this input that reads these files.
+pub fn run_held_over(
+    alloc: Global,
+    command: &Command,
+    held: Held,
+    input: &[u8],
+    devices: Devices,
+) -> Result<String, AllocError>
+    requires { IsRunnable command.now }
+{
+    run_over_read(alloc, &HeldFiles(held), command, input, devices)
 }
 
 /// What a command leaves of this input that reads its files so.
@@ -53,7 +66,7 @@ pub fn run_over_read<F: FileReader>(
     input: &[u8],
     devices: Devices,
 ) -> Result<String, AllocError>
-    requires { HasInterval command.now }
+    requires { IsRunnable command.now }
 {
     let Devices(Device(reads, read_fails), Device(writes, write_fails), Device(tells, tell_fails)) =
         devices;

@@ -1,5 +1,5 @@
 //! Running a command, and all that the run leaves.
-ghost use Rattle.smap_answers.specs.Run.{HasInterval};
+ghost use Rattle.smap_answers.specs.Run.{IsRunnable};
 
 use crate::commands;
 use crate::devices::{Device, Devices, MOST_TAKEN};
@@ -16,7 +16,7 @@ pub fn run_over(
     input: &[u8],
     devices: Devices,
 ) -> Result<String, AllocError>
-    requires { HasInterval command.now }
+    requires { IsRunnable command.now }
 {
     let Devices(Device(reads, read_fails), Device(writes, write_fails), Device(tells, tell_fails)) =
         devices;
@@ -63,7 +63,7 @@ fn run_on_file(
     bytes: &[u8],
     devices: Devices,
 ) -> Result<String, AllocError>
-    requires { HasInterval command.now }
+    requires { IsRunnable command.now }
 {
     let file = loaded(alloc, path, bytes)?;
     run_over(alloc, command, &[file], b"", devices)

@@ -1,8 +1,10 @@
 //! Running `rewrite` over traces.
 use crate::commands;
+use crate::commands::AskedFrom;
 use crate::devices::Devices;
+use crate::reading::{Held, run_held_over};
 use crate::running::run_over;
-use smap_answers::Loaded;
+use smap_answers::{Loaded, USUAL_INTERVAL};
 use smap_record::Url;
 use std::alloc::{AllocError, Global};
 
@@ -65,6 +67,34 @@ pub fn run_anywhere(
     devices: Devices,
 ) -> Result<String, AllocError> {
     let (maps, files) = named(alloc, table)?;
-    let command = commands::rewrite_anywhere(maps, None, interval);
+    let command = commands::rewrite_from(maps, None, None, interval, &commands::ANYWHERE);
     run_over(alloc, &command, &files, text, devices)
+}
+
+/// Words of the command line that name maps: each a URL and a path, or a prefix of URLs and a folder.
+pub type Words = &'static [(&'static str, &'static str)];
+
+/// What `rewrite` leaves of a text over files and folders that are read when it names them.
+pub fn run_stored(
+    alloc: Global,
+    words: Words,
+    list: Option<&str>,
+    held: Held,
+    asked: &AskedFrom,
+    text: &[u8],
+    devices: Devices,
+) -> Result<String, AllocError> {
+    let mut maps = Vec::new(alloc);
+    for (url, path) in words {
+        maps.push((
+            String::from_str(alloc, url)?,
+            String::from_str(alloc, path)?,
+        ))?;
+    }
+    let list = match list {
+        Some(path) => Some(String::from_str(alloc, path)?),
+        None => None,
+    };
+    let command = commands::rewrite_from(maps, list, None, USUAL_INTERVAL, asked);
+    run_held_over(alloc, &command, held, text, devices)
 }

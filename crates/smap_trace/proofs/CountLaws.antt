@@ -1,131 +1,100 @@
--- What the editor of frames has counted after a text.
-use Rattle.std.proofs.Common.{◌≡◌, ◌+◌, ◌≤◌, ℕ, Bool, true, false, cond, List, [], ◌∷◌, length, filter, fold, Option, Some, None, is_some, refl, sym}
-use Rattle.std.proofs.Common.{ap, ◌∙◌, arith, subst}
-use Rattle.std.specs.Prelude.{not, ◌&&◌}
-use Rattle.std.proofs.lemmas.Bool.{cond-false, cond_both}
-use Rattle.smap_lines.specs.Edited.{after_line, after_text, is_short}
-use Rattle.smap_lines.specs.Lines.{Line, has_line_end, lines_with_ends}
+-- What is counted of the frames of a text, and what it becomes over the maps of a table.
+use Rattle.std.proofs.Common.{◌≡◌, ◌+◌, ◌≤◌, ℕ, Bool, true, false, List, [], ◌∷◌, length, Option, Some, None}
+use Rattle.std.proofs.Common.{ap, ◌∙◌, arith, MatchBool}
+use Rattle.std.specs.Prelude.{⊤}
+use Rattle.smap_lines.specs.Edited.{StepsLines, is_short}
+use Rattle.smap_lines.specs.Editing.{DevicesSeen, EditsInto}
+use Rattle.smap_lines.specs.Limits.{most_text_bytes}
+use Rattle.smap_lines.specs.Lines.{Line, lines_with_ends}
+use Rattle.smap_lines.specs.OneTextLaws.{Only, edits_front_one}
+use Rattle.smap_lines.specs.declared.counts.LineCounts.{LineCounts}
+use Rattle.smap_lines.specs.declared.fault.LineFault.{LineFault}
+use Rattle.smap_lines.specs.StepLaws.{edits_front_wider, few_lines}
 use Rattle.smap_record.specs.Record.{MapRecord}
-use Rattle.smap_trace.specs.Frame.{FrameParts, has_cr_within, is_line}
+use Rattle.smap_trace.specs.Frame.{FrameParts}
 use Rattle.smap_trace.specs.FrameOf.{frame_of}
-use Rattle.smap_trace.specs.Private.FrameRewriter.{after_frame, hidden_in, mapped_in, staying_in}
-use Rattle.smap_trace.specs.Rewritten.{Fate, SourceLocation, counts_of, fate, fate_at, fate_of, hidden, is_frame_line, is_hidden, is_hidden_line}
-use Rattle.smap_trace.specs.Rewritten.{is_mapped, is_mapped_line, named_fate, no_frame, original_of, replaced, stays}
-use Rattle.smap_trace.specs.declared.frame_rewriter.FrameRewriter.{FrameRewriter}
+use Rattle.smap_trace.specs.MapsOfLaws.{in_table, rewrites_by, rewrites_by_table}
+use Rattle.smap_trace.specs.Rewriting.{BecomesFrame, Rewrites, RewritesFront, RewritesFrontOver, RewritesOver, TraceNow, TraceStep, hidden_in, mapped_in}
+use Rattle.smap_trace.specs.Rewriting.{staying_in}
+use Rattle.smap_trace.specs.Rewritten.{Fate, MayMeet, fate, fate_at, fate_of, hidden}
+use Rattle.smap_trace.specs.Rewritten.{line_after, no_frame, original_in, replaced, rewritten_line, stays}
+use Rattle.smap_trace.specs.Table.{record_for}
+use Rattle.smap_trace.specs.declared.maps.TableMaps.{TableMaps}
+use Rattle.smap_trace.specs.declared.outcome.RewriteCounts.{RewriteCounts}
 
--- ---- a line
-
--- one that is too long is no frame
-long_is_none : (line : Line) → is_short line ≡ false → frame_of line.bytes ≡ None
-unfolding frame_of
-long_is_none line long =
-    let other : is_line line.bytes ≡ false = ap (λ b. b && not (has_line_end line.bytes) && not (has_cr_within line.bytes)) long in
-    cond-false (is_line line.bytes) _ None other
-
--- it is a frame that stays, or one that is replaced, or one that is hidden
+-- a line is a frame that stays, or one that is replaced, or one that is hidden
 abbrev frames_in : Fate → ℕ
 frames_in met = staying_in met + mapped_in met + hidden_in met
 
-named_frame : (parts : FrameParts) (location : SourceLocation) (name : Option (List ℕ)) → frames_in (named_fate parts location name) ≡ 1
-named_frame parts location None = refl
-named_frame parts location (Some name) = refl
+-- each line adds one frame at most
+module _ {M : Type 0} (Finds : M → (url : List ℕ) → M → Type 0) (found : M → (url : List ℕ) → Option MapRecord) (hide : Bool) where
+  one_at_most : (met : Fate) → frames_in met ≤ 1
+  one_at_most no_frame = omega arith
+  one_at_most stays = omega arith
+  one_at_most (replaced text) = omega arith
+  one_at_most hidden = omega arith
 
-one_frame : (hide : Bool) (parts : FrameParts) (location : Option SourceLocation) → frames_in (fate_at hide parts location) ≡ 1
-one_frame hide parts None = refl
-one_frame hide parts (Some location) = cond_both (hide && location.ignored) hidden (named_fate parts location location.name) (λ met. frames_in met ≡ 1)
-    (λ _. refl) (λ _. named_frame parts location location.name)
+  abbrev frames_now : TraceNow M → ℕ
+  frames_now now = now.staying + now.mapped + now.hidden
 
-frames_of : (hide : Bool) (table : List (List ℕ × MapRecord)) (parts : Option FrameParts) → frames_in (fate_of hide table parts) ≡ cond (is_some parts) 1 0
-frames_of hide table None = refl
-frames_of hide table (Some parts) = one_frame hide parts (original_of parts table)
+  line_adds : (short : Bool) (P : Type 0) (old new : TraceNow M) (line : Line) (text : List ℕ)
+      → MatchBool short (TraceStep Finds found hide old line text new) (P × (new ≡ old)) → frames_now new ≤ frames_now old + 1
+  line_adds true P old new line text step =
+      let one = one_at_most step.met in let staying = step.staying in let mapped = step.mapped in let hiding = step.hiding in
+      omega (arith, one, staying, mapped, hiding)
+  line_adds false P old new line text same = omega (arith, ap frames_now same.1)
 
-mapped_as : (met : Fate) → mapped_in met ≡ cond (is_mapped met) 1 0
-mapped_as no_frame = refl
-mapped_as stays = refl
-mapped_as (replaced text) = refl
-mapped_as hidden = refl
+  pub lines_add : (lines : List Line) (old new : TraceNow M) (text : List ℕ) → StepsLines (TraceStep Finds found hide) old lines text new
+      → frames_now new ≤ frames_now old + length lines
+  lines_add [] old new text steps = omega (arith, ap frames_now steps.1)
+  lines_add (line ∷ lines) old new text steps =
+      let one = line_adds (is_short line) _ old steps.0 line steps.1 steps.3 in
+      let more = lines_add lines steps.0 new steps.2 steps.4 in
+      omega (arith, one, more)
 
-hidden_as : (met : Fate) → hidden_in met ≡ cond (is_hidden met) 1 0
-hidden_as no_frame = refl
-hidden_as stays = refl
-hidden_as (replaced text) = refl
-hidden_as hidden = refl
+  pub edits_add : (most : ℕ) (before after : DevicesSeen) (old new : TraceNow M) (counts : LineCounts) →
+      EditsInto (TraceStep Finds found hide) most before after old new counts → frames_now new ≤ frames_now old + most
+  edits_add most before after old new counts done =
+      let more = lines_add (lines_with_ends done.bytes) old new done.written done.steps.each in
+      omega (arith, more, few_lines done.bytes, done.fits)
 
--- ---- the lines of a text
-
-one_more : {A : Type 0} (t : Bool) (x : A) (xs : List A) → length (cond t (x ∷ xs) xs) ≡ cond t 1 0 + length xs
-one_more true x xs = omega arith
-one_more false x xs = omega arith
-
-bit : (t : Bool) → cond t 1 0 ≤ 1
-bit true = omega arith
-bit false = omega arith
-
-few_of : {A : Type 0} (p : A → Bool) (xs : List A) → length (filter p xs) ≤ length xs
-few_of p [] = omega arith
-few_of p (x ∷ xs) = let few = few_of p xs in let more = one_more (p x) x (filter p xs) in let one = bit (p x) in omega (arith, few, more, one)
-
+-- over the maps of a table
 module _ (table : List (List ℕ × MapRecord)) (hide : Bool) where
-  -- the editor is over these maps, and hides or does not
-  abbrev IsOver : FrameRewriter → Type 0
-  IsOver rewriter = (rewriter.table.now ≡ table) × (rewriter.hide_ignored ≡ hide)
+  abbrev TableFinds : TableMaps → (url : List ℕ) → TableMaps → Type 0
+  TableFinds maps url after = after ≡ maps
 
-  -- what a line adds
-  abbrev Adds : FrameRewriter → Line → FrameRewriter → Type 0
-  Adds rewriter line new =
-      IsOver new
-      × (new.staying + new.mapped + new.hidden ≡ rewriter.staying + rewriter.mapped + rewriter.hidden + cond (is_frame_line line) 1 0)
-      × (new.mapped ≡ rewriter.mapped + cond (is_mapped_line table hide line) 1 0)
-      × (new.hidden ≡ rewriter.hidden + cond (is_hidden_line table hide line) 1 0)
+  abbrev table_found : TableMaps → (url : List ℕ) → Option MapRecord
+  table_found maps url = record_for url maps.0.now
 
-  adds_at : (rewriter : FrameRewriter) (line : Line) (short : Bool) → IsOver rewriter → is_short line ≡ short
-      → Adds rewriter line (cond short (after_frame rewriter line) rewriter)
+  -- those stay
+  abbrev IsOver : TableMaps → Type 0
+  IsOver maps = maps.0.now ≡ table
+
+  finds_table : (old new : TableMaps) (url : List ℕ) → TableFinds old url new → IsOver old → (table_found new url ≡ record_for url table) × IsOver new
+  finds_table old new url finds is =
+      let same : new.0.now ≡ table = ap (λ m. m.0.now) finds ∙ is in
+      (ap (record_for url) same, same)
+
+  pub rewrites_one : (before after : DevicesSeen) (old new : TableMaps) (counts : RewriteCounts) → old.0.now ≡ table →
+      RewritesOver TableFinds table_found hide most_text_bytes before after old new counts → Rewrites before after table hide counts.summary
+  rewrites_one before after old new counts is all =
+      rewrites_by_table table hide before after counts
+      (rewrites_by TableFinds table_found (in_table table hide) (λ maps. ⊤) IsOver (λ old new url finds good. tt)
+      (λ old new url finds good is. finds_table old new url finds is) hide most_text_bytes before after old new counts all tt is)
+
+  -- where it fails too
+  may_is : (parts : Option FrameParts) (met : Fate) → MayMeet (λ url stated. stated ≡ record_for url table) hide parts met → met ≡ fate_of hide table parts
+  may_is None met may = may
+  may_is (Some parts) met may = may.2 ∙ ap (λ found. fate_at hide parts (original_in parts found)) may.1
+
+  becomes_one : (line : Line) (text : List ℕ) → BecomesFrame (λ url stated. stated ≡ record_for url table) hide line text
+      → text ≡ rewritten_line table hide line
   unfolding fate
-  adds_at rewriter line true is short =
-      let met : Fate = fate line.bytes rewriter.table.now rewriter.hide_ignored in
-      let frames = frames_of rewriter.hide_ignored rewriter.table.now (frame_of line.bytes) in
-      let mapped = mapped_as met ∙ (λ i. cond (is_mapped (fate line.bytes (is.0 i) (is.1 i))) 1 0) in
-      let hiding = hidden_as met ∙ (λ i. cond (is_hidden (fate line.bytes (is.0 i) (is.1 i))) 1 0) in
-      (is, omega (arith, frames), omega (arith, mapped), omega (arith, hiding))
-  adds_at rewriter line false is long =
-      let none = long_is_none line long in
-      let frames : ◌≡◌ {A = ℕ} (cond (is_frame_line line) 1 0) 0 = ap (λ o. cond (is_some o) 1 0) none in
-      let mapped : ◌≡◌ {A = ℕ} (cond (is_mapped_line table hide line) 1 0) 0 = ap (λ o. cond (is_mapped (fate_of hide table o)) 1 0) none in
-      let hiding : ◌≡◌ {A = ℕ} (cond (is_hidden_line table hide line) 1 0) 0 = ap (λ o. cond (is_hidden (fate_of hide table o)) 1 0) none in
-      (is, omega (arith, frames), omega (arith, mapped), omega (arith, hiding))
+  becomes_one line text may = may.2 ∙ ap (line_after line) (may_is (frame_of line.bytes) may.0 may.1)
 
-  abbrev Counted : FrameRewriter → List Line → FrameRewriter → Type 0
-  Counted rewriter lines new =
-      (new.staying + new.mapped + new.hidden ≡ rewriter.staying + rewriter.mapped + rewriter.hidden + length (filter is_frame_line lines))
-      × (new.mapped ≡ rewriter.mapped + length (filter (is_mapped_line table hide) lines))
-      × (new.hidden ≡ rewriter.hidden + length (filter (is_hidden_line table hide) lines))
-
-  counted_over : (rewriter : FrameRewriter) (lines : List Line) → IsOver rewriter → Counted rewriter lines (fold (after_line after_frame) rewriter lines)
-  counted_over rewriter [] is = (omega arith, omega arith, omega arith)
-  counted_over rewriter (line ∷ lines) is =
-      let adds = adds_at rewriter line (is_short line) is refl in
-      let more = counted_over (after_line after_frame rewriter line) lines adds.0 in (
-        omega (arith, adds.1, more.0, one_more (is_frame_line line) line (filter is_frame_line lines)),
-        omega (arith, adds.2, more.1, one_more (is_mapped_line table hide line) line (filter (is_mapped_line table hide) lines)),
-        omega (arith, adds.3, more.2, one_more (is_hidden_line table hide line) line (filter (is_hidden_line table hide) lines)),
-      )
-
-  module _ (rewriter new : FrameRewriter) (bytes : List ℕ) (lines : ℕ)
-      (is : IsOver rewriter) (none_staying : rewriter.staying ≡ 0) (none_mapped : rewriter.mapped ≡ 0) (none_hidden : rewriter.hidden ≡ 0)
-      (after : new ≡ after_text after_frame rewriter bytes) (lines_is : lines ≡ length (lines_with_ends bytes)) where
-    counted : Counted rewriter (lines_with_ends bytes) new
-    unfolding after_text
-    counted = subst (λ n. Counted rewriter (lines_with_ends bytes) n) (sym after) (counted_over rewriter (lines_with_ends bytes) is)
-
-    pub counts_are : record { lines = lines; frames = new.staying + new.mapped + new.hidden; mapped = new.mapped; hidden = new.hidden }
-        ≡ counts_of bytes table hide
-    unfolding counts_of
-    counts_are =
-        let frames : new.staying + new.mapped + new.hidden ≡ length (filter is_frame_line (lines_with_ends bytes)) =
-        omega (arith, counted.0, none_staying, none_mapped, none_hidden) in
-        let mapped : new.mapped ≡ length (filter (is_mapped_line table hide) (lines_with_ends bytes)) = omega (arith, counted.1, none_mapped) in
-        let hiding : new.hidden ≡ length (filter (is_hidden_line table hide) (lines_with_ends bytes)) = omega (arith, counted.2, none_hidden) in
-        λ i. record { lines = lines_is i; frames = frames i; mapped = mapped i; hidden = hiding i }
-
-    pub frames_few : new.staying + new.mapped + new.hidden ≤ lines
-    frames_few = omega (arith, counted.0, none_staying, none_mapped, none_hidden, lines_is, few_of is_frame_line (lines_with_ends bytes))
+  pub front_one : (before after : DevicesSeen) (fault : LineFault) →
+      RewritesFrontOver (λ url stated. stated ≡ record_for url table) hide most_text_bytes before after fault → RewritesFront before after table hide fault
+  front_one before after fault is =
+      edits_front_one (rewritten_line table hide) most_text_bytes before after fault
+      (edits_front_wider (BecomesFrame (λ url stated. stated ≡ record_for url table) hide) (Only (rewritten_line table hide)) becomes_one most_text_bytes
+      before after fault is)

@@ -1,6 +1,6 @@
 -- What a trace becomes: each of its lines by itself, over a table of the maps and their URLs, with the frames of sources
 -- that a map says to ignore hidden or not (this project's own).
-use Rattle.std.specs.Prelude.{ℕ, ◌+◌, ◌-◌, ◌==◌, ◌||◌, ◌&&◌, Bool, true, false, List, [], ◌++◌, Option, Some, None, is_some, codes, length}
+use Rattle.std.specs.Prelude.{◌≡◌, ℕ, ◌+◌, ◌-◌, ◌==◌, ◌||◌, ◌&&◌, Bool, true, false, List, [], ◌++◌, Option, Some, None, is_some, codes, length}
 use Rattle.std.specs.Prelude.{if◌then◌else◌, option_and_then, slice_get, filter}
 use Rattle.std.specs.Char.{is_ascii_control}
 use Rattle.std.specs.Fmt.{decimal}
@@ -55,9 +55,13 @@ location_of_answer stated (Found column origin) =
 abbrev pub original_at : MapRecord → (line column : ℕ) → Option SourceLocation
 original_at stated line column = location_of_answer stated (answer_of_map stated (line - 1) (column - 1))
 
--- where a frame comes from, if the table has its map, and that an origin for it
+-- where a frame comes from, if its URL has this map, and that an origin for it
+abbrev pub original_in : FrameParts → Option MapRecord → Option SourceLocation
+original_in parts found = option_and_then (λ stated. original_at stated parts.line parts.column) found
+
+-- the same over a table
 abbrev pub original_of : FrameParts → List (List ℕ × MapRecord) → Option SourceLocation
-original_of parts table = option_and_then (λ stated. original_at stated parts.line parts.column) (record_for parts.url table)
+original_of parts table = original_in parts (record_for parts.url table)
 
 -- a location in a source of this name, as it is printed
 abbrev pub location_text : (name : List ℕ) (line column : ℕ) → List ℕ
@@ -89,6 +93,18 @@ fate_of hide table (Some parts) = fate_at hide parts (original_of parts table)
 -- the fate of a line, without its LF
 unfoldable pub fate : List ℕ → List (List ℕ × MapRecord) → (hide : Bool) → Fate
 fate line table hide = fate_of hide table (frame_of line)
+
+-- the fate of a line, where the maps are given by what finds them: that of its frame's URL is looked for, and how the maps
+-- stand then decides
+abbrev pub FateStep : {M : Type 0} → (Finds : M → (url : List ℕ) → M → Type 0) → (found : M → (url : List ℕ) → Option MapRecord) → (hide : Bool)
+    → (old : M) → Option FrameParts → Fate → (new : M) → Type 0
+FateStep Finds found hide old None met new = (met ≡ no_frame) × (new ≡ old)
+FateStep Finds found hide old (Some parts) met new = Finds old parts.url new × (met ≡ fate_at hide parts (original_in parts (found new parts.url)))
+
+-- the fate that a line may have from now on, where each URL may have these maps
+abbrev pub MayMeet : (Gives : (url : List ℕ) → Option MapRecord → Type 0) → (hide : Bool) → Option FrameParts → Fate → Type 0
+MayMeet Gives hide None met = met ≡ no_frame
+MayMeet Gives hide (Some parts) met = (found : Option MapRecord) × Gives parts.url found × (met ≡ fate_at hide parts (original_in parts found))
 
 -- ---- a trace
 

@@ -1,11 +1,11 @@
--- What contracts see of a line that was looked at.
+-- What contracts see of a frame that was looked at.
 use Rattle.std.specs.Prelude.{ℕ, List, ◌++◌, option_map}
-use Rattle.smap_trace.specs.Rewritten.{Fate, SourceLocation, hidden, location_text, no_frame, replaced, stays}
+use Rattle.smap_trace.specs.Rewritten.{Fate, SourceLocation, hidden, location_text, replaced, stays}
 use Rattle.smap_trace.specs.declared.original.Original.{Original}
 use Rattle.smap_trace.specs.declared.original.Replacement.{Replacement}
 use Rattle.smap_trace.specs.declared.parts.Frame.{Frame}
 use Rattle.smap_trace.specs.declared.sight.Sight.{Sight}
-use Rattle.smap_trace.specs.declared.sight.Sight.TheVariants.{Other, Staying, Replaced, Hidden}
+use Rattle.smap_trace.specs.declared.sight.Sight.TheVariants.{Staying, Replaced, Hidden}
 
 -- where a place comes from
 abbrev pub original_seen : Original → SourceLocation
@@ -24,8 +24,8 @@ replacement_seen replacement = location_text replacement.name.now replacement.li
 abbrev pub replaced_frame : Frame → Replacement → List ℕ
 replaced_frame frame replacement = frame.head.now ++ replacement_seen replacement ++ frame.tail.now
 
-abbrev pub sight_seen : Sight → Fate
-sight_seen Other = no_frame
-sight_seen Staying = stays
-sight_seen (Replaced frame replacement) = replaced (replaced_frame frame replacement)
-sight_seen Hidden = hidden
+-- what a frame is
+abbrev pub fate_seen : Frame → Sight → Fate
+fate_seen frame Staying = stays
+fate_seen frame (Replaced replacement) = replaced (replaced_frame frame replacement)
+fate_seen frame Hidden = hidden

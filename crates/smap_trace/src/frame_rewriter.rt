@@ -5,10 +5,11 @@ ghost use Rattle.smap_lines.specs.LineOutput.{IsPut};
 ghost use Rattle.smap_lines.specs.Lines.{end_in};
 ghost use Rattle.smap_trace.specs.SightSeen.{replaced_frame};
 
+use crate::frames::frame_of_line;
+use crate::maps::Maps;
 use crate::original::Replacement;
 use crate::parts::Frame;
 use crate::sight::{Sight, look_at};
-use crate::table::Table;
 use itoa::Buffer;
 use smap_io::{ByteSink, DeviceFault};
 use smap_lines::{LineEditor, LineOutput, end_of_line};
@@ -17,24 +18,25 @@ use std::alloc::Global;
 /// Rewrites the frames among the lines of a trace, and counts those that stay, those that are replaced and those that
 /// are hidden.
 #[derive(Drop)]
-pub struct FrameRewriter<'t> {
+pub struct FrameRewriter<'m, M: Maps> {
     pub alloc: Global,
-    pub table: &'t Table,
+    pub maps: &'m mut M,
     pub hide_ignored: bool,
     pub staying: u64,
     pub mapped: u64,
     pub hidden: u64,
 }
 
-impl LineEditor for FrameRewriter<'_> {
-    ghost use Rattle.smap_trace.specs.Private.FrameRewriter.{after_frame, room_of};
-    ghost use Rattle.smap_trace.specs.Rewritten.{rewritten_line};
-    ghost use Rattle.smap_trace.specs.Private.RewriterLaws.{room_after};
-    ghost use Rattle.std.specs.Prelude.{refl};
+impl<M: Maps> LineEditor for FrameRewriter<'_, M> {
+    ghost use Rattle.smap_trace.specs.Private.FrameRewriter.{RewriterBecomes, RewriterReaches, RewriterSteps, room_of};
+    ghost use Rattle.smap_trace.specs.Private.RewriterLaws.{became_frame, room_after, same_frame, some_frame};
+    ghost use Rattle.smap_trace.specs.Private.RewriterLaws.{rewriter_goes_on, rewriter_stays};
 
-    ghost becomes = { λ rewriter. rewritten_line rewriter.table.now rewriter.hide_ignored };
+    ghost Becomes = { RewriterBecomes M.Gives };
 
-    ghost step = { after_frame };
+    ghost Steps = { RewriterSteps M.Finds M.found };
+
+    ghost Reaches = { RewriterReaches M.Finds };
 
     ghost room = { room_of };
 
@@ -44,13 +46,16 @@ impl LineEditor for FrameRewriter<'_> {
         is_ended: bool,
         output: &mut LineOutput<'_, W>,
     ) -> Result<(), DeviceFault> {
-        match look_at(self.alloc, self.table, self.hide_ignored, line) {
-            Sight::Other => output.put_line(line, is_ended)?,
+        let Some(frame) = frame_of_line(line) else {
+            return output.put_line(line, is_ended);
+        };
+        self.maps.find(frame.url);
+        match look_at(self.alloc, self.maps, self.hide_ignored, &frame) {
             Sight::Staying => {
                 output.put_line(line, is_ended)?;
                 self.staying += 1;
             }
-            Sight::Replaced(frame, replacement) => {
+            Sight::Replaced(replacement) => {
                 put_frame(&frame, &replacement, is_ended, output)?;
                 self.mapped += 1;
             }
@@ -59,9 +64,17 @@ impl LineEditor for FrameRewriter<'_> {
         Ok(())
     }
 
-    ghost same = { λ rewriter line other. refl };
+    ghost some = { some_frame M.Gives M.Finds M.found M.some };
 
-    ghost room_for_one = { room_after };
+    ghost became = { became_frame M.Gives M.Finds M.found M.given };
+
+    ghost same = { same_frame M.Gives M.Finds M.found M.same };
+
+    ghost stays = { rewriter_stays M.Finds };
+
+    ghost goes_on = { rewriter_goes_on M.Finds };
+
+    ghost room_for_one = { room_after M.Gives M.Finds M.found };
 }
 
 // Puts a frame with its original in place of its place, and with the end of its line.

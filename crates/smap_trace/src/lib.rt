@@ -13,6 +13,7 @@
 mod cuts;
 mod frame_rewriter;
 mod frames;
+mod maps;
 mod original;
 mod outcome;
 mod parts;
@@ -22,9 +23,10 @@ mod sight;
 mod table;
 
 pub use frames::frame;
+pub use maps::{Maps, TableMaps};
 pub use original::{Original, Replacement, original_at};
-pub use outcome::{RewriteFault, Summary};
+pub use outcome::{RewriteCounts, RewriteFault, Summary};
 pub use parts::Frame;
 pub use refusal::TableRefusal;
-pub use rewriting::rewrite;
-pub use table::Table;
+pub use rewriting::{RewriteOptions, rewrite, rewrite_over};
+pub use table::{Table, is_bad_url};

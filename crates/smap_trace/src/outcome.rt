@@ -13,6 +13,15 @@ pub struct Summary {
     pub hidden: u64,
 }
 
-/// Why the rewriting of a trace ended before its end: X1 a read failed, X2 a write failed, X3 the trace has more than
-/// 1,073,741,824 bytes, or X4 there was not enough memory.
+/// The same, where more is counted.
+#[derive(Clone, Copy)]
+pub struct RewriteCounts {
+    /// What was in the trace.
+    pub summary: Summary,
+    /// How many of its lines have more than 65,536 bytes, the LF aside, and so are no frames.
+    pub long: u64,
+}
+
+/// Why the rewriting of a trace ended before its end: X1 a read failed, X2 a write failed, X3 the trace has more bytes than
+/// are taken, or X4 there was not enough memory.
 pub use smap_lines::LineFault as RewriteFault;

@@ -1,14 +1,15 @@
 //! Rewriting a trace.
-ghost use Rattle.std.specs.Prelude.{◌≡◌, false, IfErr, IfOk};
+ghost use Rattle.std.specs.Prelude.{◌≡◌, ◌<◌, ◌^◌, false, IfErr, IfOk};
 ghost use Rattle.smap_lines.specs.Editing.{devices_seen, is_read_fault, is_write_fault};
 ghost use Rattle.smap_lines.specs.declared.fault.LineFault.TheVariants.{Memory};
-ghost use Rattle.smap_trace.specs.Rewriting.{Rewrites, RewritesFront};
+ghost use Rattle.smap_trace.specs.Rewriting.{Looked, Rewrites, RewritesFront, RewritesFrontOver, RewritesOver};
 
 use crate::frame_rewriter::FrameRewriter;
-use crate::outcome::{RewriteFault, Summary};
+use crate::maps::{Maps, TableMaps};
+use crate::outcome::{RewriteCounts, RewriteFault, Summary};
 use crate::table::Table;
 use smap_io::{ByteSink, ByteSource};
-use smap_lines::edit_lines;
+use smap_lines::{LineCounts, MOST_TEXT_BYTES, edit_lines};
 use std::alloc::Global;
 
 /// Rewrites a trace while it is read: a frame whose URL is in the table and whose place has an original gets it in its
@@ -39,19 +40,64 @@ pub fn rewrite<R: ByteSource, W: ByteSink>(
     ensures memory_input { IfErr result (λ fault. fault ≡ Memory → input.new ≡ input.old) }
     ensures memory_output { IfErr result (λ fault. fault ≡ Memory → output.new ≡ output.old) }
 {
+    let mut maps = TableMaps(table);
+    let options = RewriteOptions {
+        hide_ignored,
+        most: MOST_TEXT_BYTES,
+    };
+    let counts = rewrite_over(alloc, input, output, &mut maps, options)?;
+    Ok(counts.summary)
+}
+
+/// How a trace is rewritten.
+#[derive(Clone, Copy)]
+pub struct RewriteOptions {
+    /// Whether the lines of frames are dropped whose original is in a source that its map says to ignore.
+    pub hide_ignored: bool,
+    /// How many bytes of the trace are taken at most: less than 2^63.
+    pub most: u64,
+}
+
+/// The same over maps that are looked for when a frame names them. The caller gives devices that have not failed. The
+/// output is not flushed.
+pub fn rewrite_over<R: ByteSource, W: ByteSink, M: Maps>(
+    alloc: Global,
+    input: &mut R,
+    output: &mut W,
+    maps: &mut M,
+    options: RewriteOptions,
+) -> Result<RewriteCounts, RewriteFault>
+    requires input_works { (R.seen input.old).failed ≡ false }
+    requires output_works { (W.seen output.old).failed ≡ false }
+    requires most { options.most < 2 ^ 63 }
+    ensures rewrites { IfOk result (RewritesOver M.Finds M.found options.hide_ignored options.most
+        (devices_seen (R.seen input.old) (W.seen output.old))
+        (devices_seen (R.seen input.new) (W.seen output.new)) maps.old maps.new) }
+    ensures front { IfErr result (RewritesFrontOver (M.Gives maps.old)
+        options.hide_ignored options.most
+        (devices_seen (R.seen input.old) (W.seen output.old))
+        (devices_seen (R.seen input.new) (W.seen output.new))) }
+    ensures looked { Looked M.Finds maps.old maps.new }
+    ensures input_failure { (R.seen input.new).failed ≡ is_read_fault result }
+    ensures output_failure { (W.seen output.new).failed ≡ is_write_fault result }
+    ensures memory_input { IfErr result (λ fault. fault ≡ Memory → input.new ≡ input.old) }
+    ensures memory_output { IfErr result (λ fault. fault ≡ Memory → output.new ≡ output.old) }
+{
+    let RewriteOptions { hide_ignored, most } = options;
     let mut rewriter = FrameRewriter {
         alloc,
-        table,
+        maps,
         hide_ignored,
         staying: 0,
         mapped: 0,
         hidden: 0,
     };
-    let lines = edit_lines(alloc, input, output, &mut rewriter)?;
-    Ok(Summary {
+    let LineCounts { lines, long } = edit_lines(alloc, input, output, &mut rewriter, most)?;
+    let summary = Summary {
         lines,
         frames: rewriter.staying + rewriter.mapped + rewriter.hidden,
         mapped: rewriter.mapped,
         hidden: rewriter.hidden,
-    })
+    };
+    Ok(RewriteCounts { summary, long })
 }

@@ -1,44 +1,37 @@
-//! What a line of a trace is, over the maps.
-ghost use Rattle.std.specs.Prelude.{◌≡◌, ◌≤◌, false, length};
-ghost use Rattle.smap_lines.specs.Limits.{most_line_bytes};
-ghost use Rattle.smap_lines.specs.Lines.{has_line_end};
-ghost use Rattle.smap_trace.specs.Rewritten.{fate};
-ghost use Rattle.smap_trace.specs.SightSeen.{sight_seen};
+//! What a frame is, over the maps.
+ghost use Rattle.std.specs.Prelude.{◌≡◌};
+ghost use Rattle.smap_trace.specs.FrameSeen.{parts_seen};
+ghost use Rattle.smap_trace.specs.Rewritten.{fate_at, original_in};
+ghost use Rattle.smap_trace.specs.SightSeen.{fate_seen};
 
-use crate::frames::frame_of_line;
+use crate::maps::Maps;
 use crate::original::{Original, Replacement, original_at};
 use crate::parts::Frame;
-use crate::table::Table;
 use std::alloc::Global;
 
-// What a line of a trace is.
+// What a frame of a trace is.
 #[derive(Clone, Copy)]
-pub enum Sight<'l, 't> {
-    Other,
-    // A frame that stays.
+pub enum Sight<'m> {
+    // It stays.
     Staying,
-    // A frame that is replaced.
-    Replaced(Frame<'l>, Replacement<'t>),
-    // A frame that is hidden.
+    // It is replaced.
+    Replaced(Replacement<'m>),
+    // It is hidden.
     Hidden,
 }
 
-/// What a line, without its LF, is, where the frames of sources that a map says to ignore are hidden or not.
-#[tactic(auto, unfolding(crate::specs::Rewritten::fate))]
-pub fn look_at<'l, 't>(
+/// What a frame is over the maps, of which that of its URL was looked for, where the frames of sources that a map says to
+/// ignore are hidden or not.
+pub fn look_at<'m, M: Maps>(
     alloc: Global,
-    table: &'t Table,
+    maps: &'m M,
     hide_ignored: bool,
-    line: &'l [u8],
-) -> Sight<'l, 't>
-    requires one { has_line_end line.now ≡ false }
-    requires short { length line.now ≤ most_line_bytes }
-    ensures { sight_seen result ≡ fate line.now table.now hide_ignored }
+    frame: &Frame<'_>,
+) -> Sight<'m>
+    ensures { fate_seen frame.now result ≡ fate_at hide_ignored (parts_seen frame.now)
+        (original_in (parts_seen frame.now) (M.found maps.now frame.now.url.now)) }
 {
-    let Some(frame) = frame_of_line(line) else {
-        return Sight::Other;
-    };
-    let Some(map) = table.map_for(frame.url) else {
+    let Some(map) = maps.map_for(frame.url) else {
         return Sight::Staying;
     };
     let Some(original) = original_at(alloc, map, frame.line, frame.column) else {
@@ -54,7 +47,7 @@ pub fn look_at<'l, 't>(
         return Sight::Hidden;
     }
     match name {
-        Some(name) => Sight::Replaced(frame, Replacement { name, line, column }),
+        Some(name) => Sight::Replaced(Replacement { name, line, column }),
         None => Sight::Staying,
     }
 }

@@ -56,6 +56,13 @@ impl Table {
         }
     }
 
+    /// How many maps there are.
+    pub fn count(&self) -> usize
+        ensures { result ≡ length self.now }
+    {
+        self.maps.len()
+    }
+
     /// How many bytes the URLs have, one after another in the table's order.
     pub fn url_lengths(&self, alloc: Global) -> Result<Vec<usize>, AllocError>
         ensures { IfOk result (λ lengths. lengths.items ≡ map (λ pair. length pair.0) self.now) }
@@ -82,9 +89,9 @@ fn text(bytes: Vec<u8>) -> String
     }
 }
 
-// Whether no table takes such a URL.
+/// Whether no table takes such a URL: it is empty, holds a CR or an LF, or begins with `async ` or `eval at `.
 #[tactic(auto, unfolding(crate::specs::Table::is_bad_url))]
-fn is_bad_url(url: &[u8]) -> bool
+pub fn is_bad_url(url: &[u8]) -> bool
     ensures { result ≡ is_bad_url url.now }
 {
     url.is_empty()

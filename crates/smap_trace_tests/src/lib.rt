@@ -9,6 +9,8 @@ mod broken_traces;
 #[cfg(test)]
 mod endless_traces;
 #[cfg(test)]
+mod engine_lines;
+#[cfg(test)]
 mod failing_traces;
 #[cfg(test)]
 mod node_traces;
@@ -18,5 +20,7 @@ mod places;
 mod rewriting;
 #[cfg(test)]
 mod same;
+#[cfg(test)]
+mod stored;
 #[cfg(test)]
 mod traces;

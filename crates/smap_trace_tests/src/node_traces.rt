@@ -20,8 +20,8 @@ fn meant(sign: char) -> char {
     }
 }
 
-// A text of the rows, with what its signs stand for.
-fn plain(alloc: Global, text: &str) -> Result<String, AllocError> {
+/// A text of the rows, with what its signs stand for.
+pub fn plain(alloc: Global, text: &str) -> Result<String, AllocError> {
     text.chars().map(meant).collect(alloc)
 }
 

@@ -83,6 +83,27 @@ const ROWS: &[(&str, &str)] = &[
     ("/x /u:1:1", "1 1 0|/x /u:1:1"),
     ("/u:1:1/u:1:6", "1 1 1|c.ts:1:1/u:1:6"),
     (": ::1:1", "1 1 1|: h.ts:1:1"),
+    // A colour of a terminal, and what is none.
+    (
+        "\u{1b}[36m/u:1:1\u{1b}[39m /u:1:1",
+        "1 2 2|\u{1b}[36mc.ts:1:1\u{1b}[39m c.ts:1:1",
+    ),
+    (
+        "\u{1b}[m/u:1:1\u{1b}[1;38;5;208m/u:1:1\u{1b}[0m",
+        "1 2 2|\u{1b}[mc.ts:1:1\u{1b}[1;38;5;208mc.ts:1:1\u{1b}[0m",
+    ),
+    (
+        "\u{1b}[00000000000000000000000000000000m/u:1:1",
+        "1 1 1|\u{1b}[00000000000000000000000000000000mc.ts:1:1",
+    ),
+    (
+        "\u{1b}[000000000000000000000000000000000m/u:1:1",
+        "1 0 0|\u{1b}[000000000000000000000000000000000m/u:1:1",
+    ),
+    (
+        "m/u:1:1 [36m/u:1:1 \u{1b}36m/u:1:1 \u{1b}[3:6m/u:1:1 \u{1b}[36K/u:1:1",
+        "1 0 0|m/u:1:1 [36m/u:1:1 \u{1b}36m/u:1:1 \u{1b}[3:6m/u:1:1 \u{1b}[36K/u:1:1",
+    ),
     // A place that stays, and others beside it.
     ("/u:2:1", "1 1 0|/u:2:1"),
     ("/empty:1:1 /u:1:1 tail", "1 2 1|/empty:1:1 c.ts:1:1 tail"),
@@ -143,12 +164,15 @@ fn ended_text(
     }
 }
 
+// How many bytes a text has at most, where no row says otherwise.
+const MOST_BYTES: u64 = 1_000_000;
+
 // A text with its places rewritten, over devices that move at most so many bytes a call, and one at least.
 fn placed(alloc: Global, table: &Table, text: &[u8], most: usize) -> Result<String, Fail> {
     let most = most.max(1);
     let mut input = MemorySource::new(text.to_vec(alloc)?, most, 0);
-    let mut output = MemorySink::new(Vec::with_capacity(alloc, 100_000)?, most, 0);
-    let outcome = rewrite_places(alloc, &mut input, &mut output, table);
+    let mut output = MemorySink::new(Vec::with_capacity(alloc, 200_000)?, most, 0);
+    let outcome = rewrite_places(alloc, &mut input, &mut output, table, MOST_BYTES);
     Ok(ended_text(alloc, outcome, &output)?)
 }
 
@@ -177,20 +201,98 @@ fn places_are_rewritten(rt: HostRuntime) -> Result<(), Fail> {
 }
 
 #[test]
-fn a_longer_line_stays(rt: HostRuntime) -> Result<(), Fail> {
+fn a_long_line_is_rewritten(rt: HostRuntime) -> Result<(), Fail> {
     let table = table_of_rows(rt.alloc())?;
     let mut line = Vec::new(rt.alloc());
-    line.resize(65_529, b' ')?;
-    line.extend_from_slice(b"/u:1:1\n/u:1:1")?;
+    line.resize(79_000, b' ')?;
+    line.extend_from_slice(b"/u:1:1,")?;
+    line.resize(90_000, b'x')?;
+    line.extend_from_slice(b" /u:1:2\n/u:1:1")?;
     let left = placed(rt.alloc(), &table, &line, 8_192)?;
-    assert!(rt; left.starts_with("2 2 2| "));
-    line.insert(0, b' ')?;
-    let left = placed(rt.alloc(), &table, &line, 8_192)?;
-    assert!(rt; left.starts_with("2 2 2| "));
-    line.insert(0, b' ')?;
-    let left = placed(rt.alloc(), &table, &line, 8_192)?;
-    assert!(rt; left.starts_with("2 1 1| "));
-    assert!(rt; left.ends_with(" /u:1:1\nc.ts:1:1"));
+    assert!(rt; left.starts_with("2 3 3| "));
+    assert!(rt; left.contains(" c.ts:1:1,xxx"));
+    assert!(rt; left.ends_with("xxx c.ts:1:2\nc.ts:1:1"));
+    Ok(())
+}
+
+// A text behind so many spaces, and again behind more than a read gives.
+fn twice(alloc: Global, text: &str, before: usize) -> Result<Vec<u8>, AllocError> {
+    let mut line = Vec::new(alloc);
+    line.resize(before, b' ')?;
+    line.extend_from_slice(text.as_bytes())?;
+    for _ in 0..8_300 {
+        line.push(b'.')?;
+    }
+    line.extend_from_slice(text.as_bytes())?;
+    Ok(line)
+}
+
+#[test]
+fn a_place_at_the_border_of_a_read_is_found_once(rt: HostRuntime) -> Result<(), Fail> {
+    let table = table_of_rows(rt.alloc())?;
+    let rows = [
+        (" /u:1:6 /u:1:6,", " c.ts:1:2 c.ts:1:2,"),
+        (
+            "\u{1b}[1;36m/u:1:1\u{1b}[0m",
+            "\u{1b}[1;36mc.ts:1:1\u{1b}[0m",
+        ),
+        ("x/u:1:1 /u:1:12", "x/u:1:1 c.ts:1:2"),
+        (" /y /u:1:1/z:1:1", " e.ts:1:1"),
+    ];
+    for (text, wanted) in &rows {
+        for before in 8_100..8_200 {
+            let left = placed(rt.alloc(), &table, &twice(rt.alloc(), text, before)?, 8_192)?;
+            let (_, left) = halves(&left);
+            let wanted = twice(rt.alloc(), wanted, before)?;
+            assert!(rt;
+                left.as_bytes() == wanted.as_slice(),
+                "{text} behind {before} bytes"
+            );
+        }
+    }
+    Ok(())
+}
+
+#[test]
+fn parts_of_a_text_are_rewritten_apart(rt: HostRuntime) -> Result<(), Fail> {
+    let table = table_of_rows(rt.alloc())?;
+    let text = "at /u:1:1\n\n/u:1:6 \u{1b}[1m/u:1:1\n/u:1:1";
+    let whole = placed(rt.alloc(), &table, text.as_bytes(), 8_192)?;
+    let (_, whole) = halves(&whole);
+    for cut in 0..text.len() {
+        let (first, rest) = text.as_bytes().split_at(cut);
+        if first.is_empty() || first.ends_with(b"\n") {
+            let first = placed(rt.alloc(), &table, first, 8_192)?;
+            let rest = placed(rt.alloc(), &table, rest, 8_192)?;
+            let (_, first) = halves(&first);
+            let (_, rest) = halves(&rest);
+            assert_same(&rt, text, &[first, rest].concat(rt.alloc())?, whole);
+        }
+    }
+    Ok(())
+}
+
+// What a text of too many bytes, and devices that fail, leave.
+#[test]
+fn a_front_is_written_where_it_ends_early(rt: HostRuntime) -> Result<(), Fail> {
+    let table = table_of_rows(rt.alloc())?;
+    let text = b"at /u:1:1\nat /u:1:6 and /u:1:1";
+    for (most, fails_in, most_bytes, wanted) in [
+        (10, 2, 1_000, "Read|at c.ts:1:1\n"),
+        (10, 0, 19, "TooMuch|at c.ts:1:1\n"),
+        (10, 0, 30, "2 3 3|at c.ts:1:1\nat c.ts:1:2 and c.ts:1:1"),
+        (10, 0, 29, "TooMuch|at c.ts:1:1\n"),
+    ] {
+        let mut input = MemorySource::new(text.to_vec(rt.alloc())?, most, fails_in);
+        let mut output = MemorySink::new(Vec::with_capacity(rt.alloc(), 1_000)?, 8_192, 0);
+        let outcome = rewrite_places(rt.alloc(), &mut input, &mut output, &table, most_bytes);
+        assert_same(
+            &rt,
+            "a front",
+            &ended_text(rt.alloc(), outcome, &output)?,
+            wanted,
+        );
+    }
     Ok(())
 }
 

@@ -16,8 +16,8 @@ const IGNORING: &str =
 
 const APP: &str = "https://ex.test/app.js";
 
-// The parts of a frame, with `|` between two.
-fn frame_text(alloc: Global, line: &str) -> Result<String, AllocError> {
+/// The parts of a frame, with `|` between two.
+pub fn frame_text(alloc: Global, line: &str) -> Result<String, AllocError> {
     let Some(frame) = frame(line.as_bytes()) else {
         return String::from_str(alloc, "none");
     };

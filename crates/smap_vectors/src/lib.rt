@@ -13,6 +13,7 @@ mod anywhere;
 mod composed_maps;
 mod composing;
 mod encodings;
+mod engines;
 mod example_map;
 mod index_maps;
 mod intervals;
@@ -31,7 +32,7 @@ pub use composing::{ComposedThree, ComposedTwo, INNER, OUTER, threes, twos};
 pub use intervals::INTERVALS;
 pub use rows::{caret_text, halves, rows_of};
 pub use tables::{
-    answered_texts, composed_rows, encoded_texts, example_text, excerpt_rows, hidden_trace_rows,
-    index_map_rows, lookup_after_rows, lookup_rows, mappings_rows, name_rows, place_rows,
-    printed_map, printed_rows, refused_texts, trace_maps, trace_rows, written_rows,
+    answered_texts, composed_rows, encoded_texts, engine_rows, example_text, excerpt_rows,
+    hidden_trace_rows, index_map_rows, lookup_after_rows, lookup_rows, mappings_rows, name_rows,
+    place_rows, printed_map, printed_rows, refused_texts, trace_maps, trace_rows, written_rows,
 };

@@ -4,6 +4,7 @@ use crate::answers::ANSWERS;
 use crate::anywhere::{PRINTED, PRINTED_MAP};
 use crate::composed_maps::COMPOSED_MAPS;
 use crate::encodings::ENCODINGS;
+use crate::engines::ENGINE_LINES;
 use crate::example_map::EXAMPLE_MAP;
 use crate::index_maps::INDEX_MAPS;
 use crate::lookups::LOOKUPS;
@@ -104,4 +105,9 @@ pub fn printed_map() -> &'static str {
 /// it becomes where its places are rewritten.
 pub fn printed_rows() -> &'static str {
     PRINTED
+}
+
+/// Lines of traces: one that is no frame, as it is, or the five parts of a frame.
+pub fn engine_rows() -> &'static str {
+    ENGINE_LINES
 }

@@ -5,8 +5,8 @@
         if answer is not None and answer.source is not None:
             print(source_map.source(answer.source).name, answer.line + 1, answer.column + 1)
 
-Lines, columns, sources and names count from 0, columns in UTF-16 code units. The library is `libsmap.so.1`, or what the
-environment's `SMAP_LIBRARY` names.
+Lines, columns, sources and names count from 0, columns in UTF-16 code units. The library is the one of the wheel, or
+else the system's `libsmap.so.1`, or what the environment's `SMAP_LIBRARY` names.
 """
 
 from ._maps import SourceMap, compose

@@ -11,6 +11,9 @@ ANSWER_NUMBERS = 7
 COUNT_NAMES = ("sections", "sources", "names", "segments", "lines", "checkpoints")
 TRACE_COUNT_NAMES = ("lines", "frames", "mapped", "hidden")
 
+# What the counts of places anywhere are named, by the names that they have in the library.
+PLACE_COUNT_NAMES = {"lines": "lines", "places": "frames", "mapped": "mapped"}
+
 
 class Handle(ctypes.Structure):
     _fields_ = [("at", ctypes.c_void_p)]
@@ -43,8 +46,19 @@ class TraceCounts(ctypes.Structure):
     _fields_ = [(name, ctypes.c_uint64) for name in TRACE_COUNT_NAMES]
 
 
+class FrameUrl(ctypes.Structure):
+    _fields_ = [(name, ctypes.c_size_t) for name in ("start", "length", "next")]
+
+
+def _place() -> str:
+    """The file of the library: the one that SMAP_LIBRARY names, or that lies here, as in a wheel, or the system's."""
+    name = "libsmap.so.1"
+    here = os.path.join(os.path.dirname(os.path.abspath(__file__)), name)
+    return os.environ.get("SMAP_LIBRARY", here if os.path.exists(here) else name)
+
+
 def _loaded() -> ctypes.CDLL:
-    library = ctypes.CDLL(os.environ.get("SMAP_LIBRARY", "libsmap.so.1"))
+    library = ctypes.CDLL(_place())
     pointer, size, number = ctypes.POINTER, ctypes.c_size_t, ctypes.c_uint32
     handle, text, bytes_in = pointer(Handle), pointer(Text), ctypes.c_char_p
     for name, result, words in [
@@ -68,6 +82,8 @@ def _loaded() -> ctypes.CDLL:
         ("smap_table_refusal_text", number, [number, text]),
         ("smap_table_free", None, [handle]),
         ("smap_rewrite", number, [handle, bytes_in, size, ctypes.c_bool, handle, pointer(TraceCounts)]),
+        ("smap_rewrite_anywhere", number, [handle, bytes_in, size, handle, pointer(TraceCounts)]),
+        ("smap_next_frame_url", number, [bytes_in, size, size, pointer(FrameUrl)]),
     ]:
         call = getattr(library, name)
         call.restype, call.argtypes = result, words

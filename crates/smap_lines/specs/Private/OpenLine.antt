@@ -1,7 +1,8 @@
 -- The line that is not yet ended.
-use Rattle.std.specs.Prelude.{◌==◌, ◌||◌, ℕ, Bool, not, true, false, List, [], ◌++◌, length, nat_le, if◌then◌else◌}
+use Rattle.std.specs.Prelude.{◌≡◌, ◌==◌, ◌||◌, MatchBool, ℕ, Bool, not, true, false, cond, List, [], ◌++◌, length, nat_le, if◌then◌else◌}
 use Rattle.smap_lines.specs.Limits.{most_line_bytes}
 use Rattle.smap_lines.specs.Lines.{Line, line_text}
+use Rattle.smap_lines.specs.declared.counts.LineCounts.{LineCounts}
 
 -- its bytes so far; or that it is longer than a line that is edited, and was handed on
 pub record OpenState : Type 0 where
@@ -22,13 +23,14 @@ line_with state bytes is_ended = record { bytes = state.kept ++ bytes; is_ended 
 
 -- ---- these bytes come, and the end of the line
 
--- what is handed on, and the editor after it
-abbrev pub ended_text : (Line → List ℕ) → OpenState → (bytes : List ℕ) → List ℕ
-ended_text becomes state bytes =
-    if is_kept state bytes then becomes (line_with state bytes true) else line_text (line_with state bytes true)
+-- what may be handed on; and what was, and how the editor stands after it
+abbrev pub EndedText : (Line → List ℕ → Type 0) → OpenState → (bytes text : List ℕ) → Type 0
+EndedText Becomes state bytes text =
+    MatchBool (is_kept state bytes) (Becomes (line_with state bytes true) text) (text ≡ line_text (line_with state bytes true))
 
-abbrev pub after_ended : {E : Type 0} → (E → Line → E) → E → OpenState → (bytes : List ℕ) → E
-after_ended step editor state bytes = if is_kept state bytes then step editor (line_with state bytes true) else editor
+abbrev pub AfterEnded : {E : Type 0} → (E → Line → List ℕ → E → Type 0) → (old : E) → OpenState → (bytes text : List ℕ) → (new : E) → Type 0
+AfterEnded Steps old state bytes text new =
+    MatchBool (is_kept state bytes) (Steps old (line_with state bytes true) text new) ((text ≡ line_text (line_with state bytes true)) × (new ≡ old))
 
 -- ---- these bytes come, and no end of the line
 
@@ -46,9 +48,14 @@ continued state bytes =
 abbrev pub has_last : OpenState → Bool
 has_last state = state.is_passing || not (length state.kept == 0)
 
--- what is handed on, and the editor after it
-abbrev pub last_text : (Line → List ℕ) → OpenState → List ℕ
-last_text becomes state = if length state.kept == 0 then [] else becomes (record { bytes = state.kept; is_ended = false })
+-- what may be handed on; and what was, and how the editor stands after it
+abbrev pub LastText : (Line → List ℕ → Type 0) → OpenState → (text : List ℕ) → Type 0
+LastText Becomes state text = MatchBool (length state.kept == 0) (text ≡ []) (Becomes (record { bytes = state.kept; is_ended = false }) text)
 
-abbrev pub after_last : {E : Type 0} → (E → Line → E) → E → OpenState → E
-after_last step editor state = if length state.kept == 0 then editor else step editor (record { bytes = state.kept; is_ended = false })
+abbrev pub AfterLast : {E : Type 0} → (E → Line → List ℕ → E → Type 0) → (old : E) → OpenState → (text : List ℕ) → (new : E) → Type 0
+AfterLast Steps old state text new =
+    MatchBool (length state.kept == 0) ((text ≡ []) × (new ≡ old)) (Steps old (record { bytes = state.kept; is_ended = false }) text new)
+
+-- how many lines that is, and how many of them are too long
+abbrev pub last_counts : OpenState → LineCounts
+last_counts state = record { lines = cond (has_last state) 1 0; long = cond state.is_passing 1 0 }

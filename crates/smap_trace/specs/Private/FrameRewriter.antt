@@ -1,38 +1,29 @@
 -- The editor that rewrites the frames of a trace, and counts them.
-use Rattle.std.specs.Prelude.{ℕ, ◌+◌, ◌-◌, ◌^◌}
+use Rattle.std.specs.Prelude.{◌≡◌, ℕ, ◌+◌, ◌-◌, ◌^◌, List, Option}
 use Rattle.smap_lines.specs.Lines.{Line}
-use Rattle.smap_trace.specs.Rewritten.{Fate, fate, hidden, no_frame, replaced, stays}
+use Rattle.smap_record.specs.Record.{MapRecord}
+use Rattle.smap_trace.specs.Rewriting.{BecomesFrame, Looked, TraceNow, TraceStep}
 use Rattle.smap_trace.specs.declared.frame_rewriter.FrameRewriter.{FrameRewriter}
 
--- how many frames stay then, how many are replaced, and how many are hidden
-abbrev pub staying_in : Fate → ℕ
-staying_in no_frame = 0
-staying_in stays = 1
-staying_in (replaced text) = 0
-staying_in hidden = 0
+-- the maps, and what was counted
+abbrev pub trace_now : {M : Type 0} → FrameRewriter M → TraceNow M
+trace_now rewriter = record { maps = rewriter.maps.now; staying = rewriter.staying; mapped = rewriter.mapped; hidden = rewriter.hidden }
 
-abbrev pub mapped_in : Fate → ℕ
-mapped_in no_frame = 0
-mapped_in stays = 0
-mapped_in (replaced text) = 1
-mapped_in hidden = 0
+-- what a line may become
+abbrev pub RewriterBecomes : {M : Type 0} → (Gives : M → (url : List ℕ) → Option MapRecord → Type 0) → FrameRewriter M → Line → (text : List ℕ) → Type 0
+RewriterBecomes Gives rewriter = BecomesFrame (Gives rewriter.maps.now) rewriter.hide_ignored
 
-abbrev pub hidden_in : Fate → ℕ
-hidden_in no_frame = 0
-hidden_in stays = 0
-hidden_in (replaced text) = 0
-hidden_in hidden = 1
+-- what it became, and the editor after it
+pub record RewriterSteps {M : Type 0} (Finds : M → (url : List ℕ) → M → Type 0) (found : M → (url : List ℕ) → Option MapRecord)
+    (old : FrameRewriter M) (line : Line) (text : List ℕ) (new : FrameRewriter M) : Type 0 where
+  pub step : TraceStep Finds found old.hide_ignored (trace_now old) line text (trace_now new)
+  pub hides : new.hide_ignored ≡ old.hide_ignored
+  pub same : new.maps.ghost_name ≡ old.maps.ghost_name
 
--- the editor after a line
-abbrev pub after_frame : FrameRewriter → Line → FrameRewriter
-after_frame rewriter line =
-    let met = fate line.bytes rewriter.table.now rewriter.hide_ignored in
-    record rewriter {
-      staying = rewriter.staying + staying_in met;
-      mapped = rewriter.mapped + mapped_in met;
-      hidden = rewriter.hidden + hidden_in met;
-    }
+-- how it may stand later
+abbrev pub RewriterReaches : {M : Type 0} → (Finds : M → (url : List ℕ) → M → Type 0) → FrameRewriter M → (later : FrameRewriter M) → Type 0
+RewriterReaches Finds old later = Looked Finds old.maps.now later.maps.now × (later.maps.ghost_name ≡ old.maps.ghost_name)
 
 -- how many lines it can take, each of which adds to one count at most
-abbrev pub room_of : FrameRewriter → ℕ
+abbrev pub room_of : {M : Type 0} → FrameRewriter M → ℕ
 room_of rewriter = 2 ^ 64 - 1 - (rewriter.staying + rewriter.mapped + rewriter.hidden)

@@ -1,6 +1,6 @@
 use Rattle.std.proofs.Common.{refl}
 use Rattle.smap_answers.proofs.RunLaws.{runs_one}
-use Rattle.smap_answers.proofs.running.run_reading.Goals.{in-Raw, in-Check, in-Show, in-Lookup, in-Positions, in-Rewrite, in-RewriteAnywhere, in-Compose}
+use Rattle.smap_answers.proofs.running.run_reading.Goals.{in-Raw, in-Check, in-Show, in-Lookup, in-Positions, in-Rewrite, in-Compose}
 use Rattle.smap_answers.proofs.running.run_reading.Goals as goal
 
 pub returns : goal.returns
@@ -21,9 +21,6 @@ returns g c = elim c.match-command.branch [
   | in-Rewrite w ↦ rw (w.in-Rewrite.is, w.input-is)
       (runs_one _ _ _ _ _ _ (rw (w.deref-in-Rewrite.ensures.value, w.as_ref-in-Rewrite.ensures.value) at w.answer_rewrite-outcome.ensures)
       (rw (w.output-is, w.outcome-is) at c.tell.ensures))
-  | in-RewriteAnywhere w ↦ rw (w.in-RewriteAnywhere.is, w.input-is)
-      (runs_one _ _ _ _ _ _ (rw (w.deref-in-RewriteAnywhere.ensures.value, w.as_ref-in-RewriteAnywhere.ensures.value) at
-      w.answer_anywhere-outcome.ensures) (rw (w.output-is, w.outcome-is) at c.tell.ensures))
   | in-Compose w ↦ rw (w.in-Compose.is, w.input-is)
       (runs_one _ _ _ _ _ _ (
         refl,

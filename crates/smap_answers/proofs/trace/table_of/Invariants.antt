@@ -10,5 +10,6 @@ abbrev pub invariant-loop-number : goal.invariant-loop-number
 invariant-loop-number g l =
     let Reads = g.F.FileReader.gives l.fn.maps.files.now in
     let base = option_copied l.fn.maps.base in
-    (result : Result Maps Telling) → Gathers Reads base l.fn.maps.interval l.number (gathered l.table) (map argument_of (drop l.number l.arguments)) result
-    → Gathers Reads base l.fn.maps.interval 0 (Ok []) (map argument_of l.arguments) result
+    (result : Result Maps Telling) → Gathers l.fn.passes_folders Reads base l.fn.maps.interval l.number (gathered l.table)
+    (map argument_of (drop l.number l.arguments)) result
+    → Gathers l.fn.passes_folders Reads base l.fn.maps.interval 0 (Ok []) (map argument_of l.arguments) result

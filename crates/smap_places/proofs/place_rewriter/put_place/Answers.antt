@@ -1,4 +1,4 @@
-use Rattle.std.proofs.Common.{arith, ◌∙◌}
+use Rattle.std.proofs.Common.{arith, option_map, ◌∙◌}
 use Rattle.std.specs.Prelude.{slice_range}
 use Rattle.std.proofs.lemmas.Result.{err_from_is_err_and}
 use Rattle.smap_places.specs.PlaceSeen.{place_seen}
@@ -8,13 +8,15 @@ use Rattle.smap_places.proofs.place_rewriter.put_place.Goals as goal
 pub returns-in_err-put-clause-put : goal.returns-in_err-put-clause-put
 returns-in_err-put-clause-put g c =
     let p = err_from_is_err_and c.from_residual.result c.from_residual.ensures.1 in
-    let is = text_stays c.args.line.now c.args.from c.args.place.now.start c.args.place.now.end (place_seen c.args.place.now) c.requires.after
+    let is = text_stays (option_map (λ file. file.now.stated) c.args.map) c.args.line.now c.args.from c.args.place.now.start c.args.place.now.end
+    (place_seen c.args.place.now) c.requires.after
     (omega (arith, c.requires.some)) c.in_default.ensures in
     rw p.1 (rw is at c.in_err-put.ensures)
 
 pub returns-in_default-clause-put : goal.returns-in_default-clause-put
 returns-in_default-clause-put g c =
-    let is = text_stays c.args.line.now c.args.from c.args.place.now.start c.args.place.now.end (place_seen c.args.place.now) c.requires.after
+    let is = text_stays (option_map (λ file. file.now.stated) c.args.map) c.args.line.now c.args.from c.args.place.now.start c.args.place.now.end
+    (place_seen c.args.place.now) c.requires.after
     (omega (arith, c.requires.some)) c.in_default.ensures in
     rw is at c.in_ok-put.ensures
 
@@ -28,8 +30,8 @@ returns-in_err-put_all-clause-put g c =
       c.as_bytes-3.ensures.value,
       c.format-2.ensures.text,
     ) at c.pieces_of-pieces.ensures in
-    rw p.1 (rw (pieces ∙ text_replaced _ (slice_range c.args.line.now c.args.place.now.start c.args.place.now.end) _
-    (place_seen c.args.place.now) c.in-Some.ensures) at c.in_err-put_all.ensures)
+    rw p.1 (rw (pieces ∙ text_replaced (option_map (λ file. file.now.stated) c.args.map) _
+    (slice_range c.args.line.now c.args.place.now.start c.args.place.now.end) _ (place_seen c.args.place.now) c.in-Some.ensures) at c.in_err-put_all.ensures)
 
 pub returns-clause-put : goal.returns-clause-put
 returns-clause-put g c =
@@ -40,5 +42,5 @@ returns-clause-put g c =
       c.as_bytes-3.ensures.value,
       c.format-2.ensures.text,
     ) at c.pieces_of-pieces.ensures in
-    rw (pieces ∙ text_replaced _ (slice_range c.args.line.now c.args.place.now.start c.args.place.now.end) _
-    (place_seen c.args.place.now) c.in-Some.ensures) at c.in_ok-put_all.ensures
+    rw (pieces ∙ text_replaced (option_map (λ file. file.now.stated) c.args.map) _
+    (slice_range c.args.line.now c.args.place.now.start c.args.place.now.end) _ (place_seen c.args.place.now) c.in-Some.ensures) at c.in_ok-put_all.ensures

@@ -1,15 +1,23 @@
-use Rattle.std.proofs.Common.{refl}
-use Rattle.smap_places.proofs.CountLaws.{counts_are, no_memory}
+use Rattle.std.proofs.Common.{◌≡◌, refl}
+use Rattle.std.proofs.lemmas.Result.{IfOk-weaker, MatchResult-weaker}
+use Rattle.smap_trace.specs.Table.{record_for}
+use Rattle.smap_places.specs.Places.{place_at}
+use Rattle.smap_places.specs.PlacesSeenLaws.{front_of_none}
+use Rattle.smap_places.proofs.TableLaws.{front_table, rewrites_table}
 use Rattle.smap_places.proofs.rewriting.rewrite_places.Goals as goal
 
 pub returns-in_default-clause-front : goal.returns-in_default-clause-front
-returns-in_default-clause-front g c = no_memory _ _
+returns-in_default-clause-front g c =
+    front_table c.args.table.now c.args.most_bytes _ _ _
+    (front_of_none (λ url stated. stated ≡ record_for url c.args.table.now) (place_at c.args.table.now)
+    c.args.most_bytes _)
 
 pub returns-clause-rewrites : goal.returns-clause-rewrites
 returns-clause-rewrites g c =
-    let edits = c.in_ok-lines.ensures.edits in
-    record {
-      bytes = edits.0;
-      edits = rw c.in-Ok.ensures at edits.1;
-      counted = counts_are c.args.table.now _ c.edit_lines.new.editor edits.0 c.in_ok-lines.lines c.in-Ok.ensures refl refl edits.2 edits.1.counted;
-    }
+    let over = rw c.in-Ok.ensures at c.rewrite_places_over.ensures.rewrites in
+    IfOk-weaker c.rewrite_places_over.result _ _ (λ summary is. rewrites_table c.args.table.now c.args.most_bytes _ _ _ _ summary refl is) over
+
+pub returns-clause-front : goal.returns-clause-front
+returns-clause-front g c =
+    let over = rw c.in-Ok.ensures at c.rewrite_places_over.ensures.front in
+    MatchResult-weaker c.rewrite_places_over.result over (λ summary is. is) (λ fault is. front_table c.args.table.now c.args.most_bytes _ _ fault is)

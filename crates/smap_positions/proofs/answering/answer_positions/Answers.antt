@@ -1,13 +1,27 @@
 use Rattle.std.proofs.Common.{refl}
+use Rattle.std.proofs.lemmas.Result.{err_from_is_err_and}
+use Rattle.smap_lines.specs.OneTextLaws.{OnlyStep, edits_front_one, edits_one}
+use Rattle.smap_positions.specs.Positions.{answered_line}
+use Rattle.smap_positions.specs.Private.Answerer.{after_position, answer_of}
+use Rattle.smap_positions.specs.Private.AnswererLaws.{AnswersFrom, only_answer}
 use Rattle.smap_positions.proofs.CountLaws.{answered_is, bad_is}
 use Rattle.smap_positions.proofs.answering.answer_positions.Goals as goal
 
 pub returns-clause-answers : goal.returns-clause-answers
 returns-clause-answers g c =
-    let edits = c.in_ok-lines.ensures.edits in
+    let stated = c.args.map.now.stated in
+    let after = c.args.options.after in
+    let json = c.args.options.json in
+    let edits = edits_one (OnlyStep answer_of after_position) (answered_line stated after json) after_position (AnswersFrom stated after json)
+    (only_answer stated after json) _ _ _ _ _ _ (λ line. refl) c.in_ok-counts.ensures.edits in
     record {
       bytes = edits.0;
       edits = edits.1;
       answered = answered_is _ c.edit_lines.new.editor edits.0 refl refl edits.2;
       bad = bad_is _ c.edit_lines.new.editor edits.0 refl refl edits.2;
     }
+
+pub returns-in_err-counts-clause-front : goal.returns-in_err-counts-clause-front
+returns-in_err-counts-clause-front g c =
+    let p = err_from_is_err_and c.from_residual.result c.from_residual.ensures.1 in
+    rw (p.1, p.2) (edits_front_one (answered_line c.args.map.now.stated c.args.options.after c.args.options.json) _ _ _ _ c.in_err-counts.ensures.front)

@@ -1,33 +1,12 @@
-use Rattle.std.proofs.Common.{arith, refl}
-use Rattle.smap_trace.proofs.CountLaws.{counts_are, frames_few}
+use Rattle.std.proofs.Common.{refl}
+use Rattle.std.proofs.lemmas.Result.{err_from_is_err_and}
+use Rattle.smap_trace.proofs.CountLaws.{front_one, rewrites_one}
 use Rattle.smap_trace.proofs.rewriting.rewrite.Goals as goal
 
-pub overflow_add-result : goal.overflow_add-result
-overflow_add-result g c =
-    let edits = c.in_ok-lines.ensures.edits in
-    omega (
-      arith,
-      frames_few c.args.table.now c.args.hide_ignored _ c.edit_lines.new.editor edits.0 c.in_ok-lines.lines (refl, refl) refl
-          refl refl edits.2 edits.1.counted,
-      c.in_ok-lines.ensures.few,
-    )
-
-pub overflow_add-result-2 : goal.overflow_add-result-2
-overflow_add-result-2 g c =
-    let edits = c.in_ok-lines.ensures.edits in
-    omega (
-      arith,
-      frames_few c.args.table.now c.args.hide_ignored _ c.edit_lines.new.editor edits.0 c.in_ok-lines.lines (refl, refl) refl
-          refl refl edits.2 edits.1.counted,
-      c.in_ok-lines.ensures.few,
-    )
-
 pub returns-clause-rewrites : goal.returns-clause-rewrites
-returns-clause-rewrites g c =
-    let edits = c.in_ok-lines.ensures.edits in
-    record {
-      bytes = edits.0;
-      edits = edits.1;
-      counted = counts_are c.args.table.now c.args.hide_ignored _ c.edit_lines.new.editor edits.0 c.in_ok-lines.lines (refl, refl) refl refl
-          refl edits.2 edits.1.counted;
-    }
+returns-clause-rewrites g c = rewrites_one c.args.table.now c.args.hide_ignored _ _ _ _ c.in_ok-counts.counts refl c.in_ok-counts.ensures.rewrites
+
+pub returns-in_err-counts-clause-front : goal.returns-in_err-counts-clause-front
+returns-in_err-counts-clause-front g c =
+    let p = err_from_is_err_and c.from_residual.result c.from_residual.ensures.1 in
+    rw (p.1, p.2) (front_one c.args.table.now c.args.hide_ignored _ _ _ c.in_err-counts.ensures.front)

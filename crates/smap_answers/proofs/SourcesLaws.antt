@@ -1,0 +1,95 @@
+-- What the folders and the list come to over which a text is rewritten.
+use Rattle.std.proofs.Common.{◌≡◌, ◌≤◌, ℕ, ◌⊎◌, List, ◌∷◌, refl, sym, ap, subst, ◌∙◌, inl, inr, le-ltb, length, codes, not}
+use Rattle.std.proofs.lemmas.Bool.{cond-false, cond-true, false_from_ne_true}
+use Rattle.std.proofs.lemmas.Str.{IsUtf8-from_is_utf8, is_utf8-from_IsUtf8}
+use Rattle.std.specs.Prelude.{true, false, Option, Some, None, Result, Ok, Err, MatchBool, MatchOption}
+use Rattle.std.specs.Str.{IsUtf8, is_utf8}
+use Rattle.std.specs.Str.Lines.{lines}
+use Rattle.smap_locations.specs.Locations.{LocationsSeen}
+use Rattle.smap_store.specs.MapList.{AreTaken, IsRefusedAt, PutsFolder, folder_fault, is_folder}
+use Rattle.smap_store.specs.declared.refusal.ListFault.{ListFault}
+use Rattle.smap_store.specs.declared.refusal.ListRefusal.{ListRefusal}
+use Rattle.smap_answers.specs.Lines.{map_refused_line}
+use Rattle.smap_answers.specs.Outcome.{OrMemory, Telling, out_of_memory, refusal}
+use Rattle.smap_answers.specs.Private.Sources.{IsFolderRefusal}
+use Rattle.smap_answers.specs.Sources.{AddsLines, AddsList, NamesFolders, folder_refusal, list_bytes_refusal, list_refusal, most_list_bytes}
+use Rattle.smap_answers.specs.Trace.{Maps}
+use Rattle.smap_answers.specs.declared.sources.MapSources.{MapSources}
+
+-- ---- folders
+
+module _ (arguments rest : List (List ℕ × List ℕ)) (url path : List ℕ) (old : LocationsSeen) (is : arguments ≡ (url, path) ∷ rest) where
+  -- an argument names a file
+  pub names_none : is_folder path ≡ false → (result : Result LocationsSeen Telling) → NamesFolders rest old result → NamesFolders arguments old result
+  names_none file result names =
+      subst (λ left. NamesFolders left old result) (sym is)
+      (subst (λ b. MatchBool b ((result ≡ Err out_of_memory) ⊎ MatchOption (folder_fault old url)
+      ((next : LocationsSeen) × PutsFolder old url path next × NamesFolders rest next result)
+      (λ fault. result ≡ Err (folder_refusal fault url path))) (NamesFolders rest old result)) (sym file) names)
+
+  -- or a folder
+  named : is_folder path ≡ true → (result : Result LocationsSeen Telling) → (result ≡ Err out_of_memory) ⊎ MatchOption (folder_fault old url)
+      ((next : LocationsSeen) × PutsFolder old url path next × NamesFolders rest next result)
+      (λ fault. result ≡ Err (folder_refusal fault url path)) → NamesFolders arguments old result
+  named folder result names =
+      subst (λ left. NamesFolders left old result) (sym is)
+      (subst (λ b. MatchBool b ((result ≡ Err out_of_memory) ⊎ MatchOption (folder_fault old url)
+      ((next : LocationsSeen) × PutsFolder old url path next × NamesFolders rest next result)
+      (λ fault. result ≡ Err (folder_refusal fault url path))) (NamesFolders rest old result)) (sym folder) names)
+
+  -- which is named
+  pub names_next : is_folder path ≡ true → folder_fault old url ≡ None → (next : LocationsSeen) → PutsFolder old url path next
+      → (result : Result LocationsSeen Telling) → NamesFolders rest next result → NamesFolders arguments old result
+  names_next folder faultless next puts result names =
+      named folder result (inr (subst (λ fault. MatchOption fault
+      ((next : LocationsSeen) × PutsFolder old url path next × NamesFolders rest next result)
+      (λ fault. result ≡ Err (folder_refusal fault url path))) (sym faultless) (next, puts, names)))
+
+  -- or refused
+  refused_so : (fault : Option ListFault) (telling : Telling) (result : Result LocationsSeen Telling) → result ≡ Err telling
+      → (telling ≡ out_of_memory) ⊎ MatchOption fault ⊥ (λ fault. telling ≡ folder_refusal fault url path)
+      → (result ≡ Err out_of_memory) ⊎ MatchOption fault ((next : LocationsSeen) × PutsFolder old url path next × NamesFolders rest next result)
+      (λ fault. result ≡ Err (folder_refusal fault url path))
+  refused_so fault telling result given (inl no_memory) = inl (given ∙ ap Err no_memory)
+  refused_so None telling result given (inr never) = absurd never
+  refused_so (Some fault) telling result given (inr told) = inr (given ∙ ap Err told)
+
+  pub names_refused : is_folder path ≡ true → (telling : Telling) → OrMemory (IsFolderRefusal old url path) telling → NamesFolders arguments old (Err telling)
+  names_refused folder telling refused = named folder (Err telling) (refused_so (folder_fault old url) telling (Err telling) refl refused)
+
+-- ---- a list
+
+module _ (list bytes : List ℕ) (words : Maps) (old : LocationsSeen) (short : length bytes ≤ most_list_bytes) where
+  -- its bytes are no text
+  no_text : (IsUtf8 bytes → ⊥) → list_bytes_refusal bytes ≡ Some (codes "NotUtf8")
+  no_text not_text =
+      cond-false _ _ _ (le-ltb most_list_bytes (length bytes) short)
+      ∙ cond-true _ _ _ (ap not (false_from_ne_true (is_utf8 bytes) (λ is. not_text (IsUtf8-from_is_utf8 bytes is))))
+
+  refused_for : (reason : List ℕ) (result : Result MapSources Telling) → list_bytes_refusal bytes ≡ Some reason
+      → result ≡ Err (refusal (map_refused_line list reason)) → AddsList list bytes words old result
+  refused_for reason result is given =
+      inr (subst (λ r. MatchOption r (AddsLines list bytes words old result) (λ reason. result ≡ Err (refusal (map_refused_line list reason)))) (sym is) given)
+
+  pub adds_no_text : (IsUtf8 bytes → ⊥) → (line : List ℕ) → line ≡ map_refused_line list (codes "NotUtf8") → AddsList list bytes words old (Err (refusal line))
+  adds_no_text not_text line is = refused_for (codes "NotUtf8") (Err (refusal line)) (no_text not_text) (ap (λ text. Err (refusal text)) is)
+
+  -- or a text
+  a_text : IsUtf8 bytes → list_bytes_refusal bytes ≡ None
+  a_text is_text = cond-false _ _ _ (le-ltb most_list_bytes (length bytes) short) ∙ cond-false _ _ _ (ap not (is_utf8-from_IsUtf8 bytes is_text))
+
+  of_lines : IsUtf8 bytes → (result : Result MapSources Telling) → AddsLines list bytes words old result → AddsList list bytes words old result
+  of_lines is_text result adds =
+      inr (subst (λ r. MatchOption r (AddsLines list bytes words old result) (λ reason. result ≡ Err (refusal (map_refused_line list reason))))
+      (sym (a_text is_text)) adds)
+
+  -- whose lines are taken
+  pub adds_taken : IsUtf8 bytes → (new : LocationsSeen) → AreTaken words (lines bytes) old new
+      → AddsList list bytes words old (Ok (record { words = words; locations = new }))
+  adds_taken is_text new taken = of_lines is_text _ (Ok tt, (new, taken, refl))
+
+  -- up to one that is refused
+  pub adds_refused : IsUtf8 bytes → (new : LocationsSeen) (refused : ListRefusal) → IsRefusedAt words (lines bytes) old new refused
+      → (telling : Telling) → OrMemory (λ t. t ≡ list_refusal list refused) telling → AddsList list bytes words old (Err telling)
+  adds_refused is_text new refused at telling (inl no_memory) = inl (ap Err no_memory)
+  adds_refused is_text new refused at telling (inr told) = of_lines is_text _ (Err refused, (new, at, ap Err told))

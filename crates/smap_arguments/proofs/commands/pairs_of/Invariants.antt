@@ -1,7 +1,0 @@
-use Rattle.std.proofs.Common.{take}
-use Rattle.smap_arguments.proofs.Pairs.{Zips}
-use Rattle.smap_arguments.proofs.commands.pairs_of.Given as goal
-
--- the arguments so far are cut
-abbrev pub invariant-loop-argument : goal.invariant-loop-argument
-invariant-loop-argument l = Zips (take l.argument-index l.arguments) l.pairs.items

@@ -1,0 +1,118 @@
+//! What clap found for the arguments.
+ghost use Rattle.std.specs.Prelude.{◌≡◌, ◌≤◌, ◌+◌, IfErr, IfOk, IfSome, codes, map, string_bytes, true};
+ghost use Rattle.clap.specs.Words.{found_of, rows_of};
+ghost use Rattle.smap_command.specs.Limits.{is_interval, limit, most_bytes};
+ghost use Rattle.smap_arguments.specs.CommandLine.{bytes_number, interval_number, number, source_number};
+ghost use Rattle.smap_arguments.specs.Arguments.{GivesBase, GivesFlag, GivesInterval, GivesList, GivesNumber, GivesText, GivesTexts, HasValue};
+ghost use Rattle.smap_arguments.specs.Arguments.{HasValueIfGiven, IsNamedRefusal, TellsOfBase, bytes_given};
+ghost use Rattle.clap.specs.declared.builder.value_parser.ValueParser.TheVariants as parser;
+
+use crate::mistakes::{BAD_BASE, LONG_BASE};
+use crate::usage::Usage;
+use clap::ArgMatches;
+use smap_command::USUAL_INTERVAL;
+use std::alloc::{AllocError, Global};
+use url::{ParseError, Url};
+
+pub fn text_in(alloc: Global, matches: &ArgMatches<'_>, name: &str) -> Result<String, AllocError>
+    requires { HasValue parser.String (rows_of (found_of matches.now)) name.now }
+    ensures { IfOk result (λ text. GivesText (rows_of (found_of matches.now)) name.now
+        (string_bytes text)) }
+{
+    String::from_str(alloc, matches.get_str(name).unwrap())
+}
+
+pub fn texts_in<'m, 'a>(matches: &'m ArgMatches<'a>, name: &str) -> &'m [&'a str]
+    requires { HasValue parser.String (rows_of (found_of matches.now)) name.now }
+    ensures { GivesTexts (rows_of (found_of matches.now)) name.now
+        (map (λ text. text.now) result.now) }
+{
+    matches.get_strs(name).unwrap()
+}
+
+/// Counted from 0, where the argument counts from 1.
+pub fn position_number_in(matches: &ArgMatches<'_>, name: &str) -> u32
+    requires { HasValue number (rows_of (found_of matches.now)) name.now }
+    ensures given { GivesNumber (rows_of (found_of matches.now)) name.now (result + 1) }
+    ensures in_range { result ≤ limit }
+{
+    matches.get_one::<u32>(name).unwrap() - 1
+}
+
+pub fn source_in(matches: &ArgMatches<'_>) -> u32
+    requires { HasValue source_number (rows_of (found_of matches.now)) (codes "SOURCE") }
+    ensures { GivesNumber (rows_of (found_of matches.now)) (codes "SOURCE") result }
+{
+    matches.get_one::<u32>("SOURCE").unwrap()
+}
+
+/// The interval of the option `--interval`, or the usual one where it is not given.
+pub fn interval_in(matches: &ArgMatches<'_>) -> u32
+    requires { HasValueIfGiven interval_number (rows_of (found_of matches.now)) (codes "K") }
+    ensures given { GivesInterval (rows_of (found_of matches.now)) result }
+    ensures in_range { is_interval result ≡ true }
+{
+    match matches.get_one::<u32>("K") {
+        Some(interval) => interval,
+        None => USUAL_INTERVAL,
+    }
+}
+
+/// Whether the flag is given that looks up in the other direction.
+pub fn after_in(matches: &ArgMatches<'_>) -> bool
+    requires { HasValueIfGiven parser.Bool (rows_of (found_of matches.now)) (codes "after") }
+    ensures { GivesFlag (rows_of (found_of matches.now)) (codes "after") result }
+{
+    flag_in(matches, "after")
+}
+
+pub fn json_in(matches: &ArgMatches<'_>) -> bool
+    requires { HasValueIfGiven parser.Bool (rows_of (found_of matches.now)) (codes "json") }
+    ensures { GivesFlag (rows_of (found_of matches.now)) (codes "json") result }
+{
+    flag_in(matches, "json")
+}
+
+pub fn flag_in(matches: &ArgMatches<'_>, name: &str) -> bool
+    requires { HasValueIfGiven parser.Bool (rows_of (found_of matches.now)) name.now }
+    ensures { GivesFlag (rows_of (found_of matches.now)) name.now result }
+{
+    matches.get_flag(name)
+}
+
+/// None where `--base` is not given.
+pub fn base_in(alloc: Global, matches: &ArgMatches<'_>) -> Result<Option<Url>, Usage>
+    ensures given { IfOk result (GivesBase (rows_of (found_of matches.now))) }
+    ensures refused { IfErr result (IsNamedRefusal (TellsOfBase (rows_of (found_of matches.now)))) }
+{
+    let Some(text) = matches.get_str("URL") else {
+        return Ok(None);
+    };
+    match Url::parse(alloc, text) {
+        Ok(url) => Ok(Some(url)),
+        Err(error) => match error {
+            ParseError::OutOfMemory => Err(Usage::Memory),
+            ParseError::Overflow => Err(Usage::Mistake(String::from_str(alloc, LONG_BASE)?)),
+            _ => Err(Usage::Mistake(String::from_str(alloc, BAD_BASE)?)),
+        },
+    }
+}
+
+/// How many bytes this option names, where it is given: not more than there may be.
+pub fn bytes_in(matches: &ArgMatches<'_>, name: &str, least: u64) -> Option<u64>
+    requires { HasValueIfGiven (bytes_number least) (rows_of (found_of matches.now)) name.now }
+    ensures given { result ≡ bytes_given (rows_of (found_of matches.now)) name.now }
+    ensures in_range { IfSome result (λ bytes. (least ≤ bytes) × (bytes ≤ most_bytes)) }
+{
+    matches.get_one::<u64>(name)
+}
+
+/// The path of the list of maps, where one is given.
+pub fn list_in(alloc: Global, matches: &ArgMatches<'_>) -> Result<Option<String>, AllocError>
+    ensures { IfOk result (GivesList (rows_of (found_of matches.now))) }
+{
+    match matches.get_str("LIST") {
+        Some(path) => Ok(Some(String::from_str(alloc, path)?)),
+        None => Ok(None),
+    }
+}

@@ -1,0 +1,18 @@
+-- The numbers of bytes that a command has.
+use Rattle.std.specs.Prelude.{◌≤◌, ⊤}
+use Rattle.smap_command.specs.Limits.{most_bytes}
+use Rattle.smap_command.specs.declared.command.Command.{Command}
+use Rattle.smap_command.specs.declared.command.Command.TheVariants.{Raw, Check, CheckAll, Show, Lookup, Positions, Rewrite, RewriteFrom, Compose}
+
+-- where a command says how many bytes may be kept and how many are taken, as many may be, and at least one is taken
+abbrev pub HasBytes : Command → Type 0
+HasBytes (Raw line column interval) = ⊤
+HasBytes (Check path base interval) = ⊤
+HasBytes (CheckAll paths base interval json) = ⊤
+HasBytes (Show path base) = ⊤
+HasBytes (Lookup path line column base interval after json) = ⊤
+HasBytes (Positions path base interval after json) = ⊤
+HasBytes (Rewrite maps base interval hide_ignored) = ⊤
+HasBytes (RewriteFrom maps list base interval hide_ignored anywhere cache_bytes limit_bytes summary) =
+    (cache_bytes ≤ most_bytes) × (1 ≤ limit_bytes) × (limit_bytes ≤ most_bytes)
+HasBytes (Compose outer source inner base) = ⊤

@@ -1,0 +1,2 @@
+mod NamedLaws
+mod PathLaws

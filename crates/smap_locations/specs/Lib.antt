@@ -1,0 +1,4 @@
+pub mod Named
+pub mod Paths
+pub mod Locations
+pub mod KeyLaws

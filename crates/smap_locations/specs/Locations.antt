@@ -1,0 +1,52 @@
+-- Where the map of a URL is (this project's own): in the file that is named for it, or for it without its query and its
+-- fragment; else in the folder of the longest prefix of the latter.
+use Rattle.std.specs.Prelude.{ℕ, zero, suc, Bool, List, Option, Some, None, codes, is_some, length, take, drop, if◌then◌else◌}
+use Rattle.std.specs.Bool.{nat_eq}
+use Rattle.std.specs.List.{ends_with}
+use Rattle.smap_locations.specs.Named.{Named, path_under, twice}
+use Rattle.smap_locations.specs.Paths.{map_path, without_query}
+use Rattle.smap_locations.specs.declared.refusal.LocationRefusal.{LocationRefusal}
+use Rattle.smap_locations.specs.declared.refusal.LocationRefusal.TheVariants.{NoFolder}
+
+-- files under URLs, and folders under prefixes
+pub record LocationsSeen : Type 0 where
+  pub files : Named
+  pub folders : Named
+
+-- what a folder has for a URL behind so many bytes, or else what another has
+abbrev pub folder_path : (url : List ℕ) → (bytes : ℕ) → Option (List ℕ) → (other : Option (List ℕ)) → Option (List ℕ)
+folder_path url bytes None other = other
+folder_path url bytes (Some folder) other = map_path folder (drop bytes url)
+
+-- what the folder of its longest prefix of at most so many bytes has for a URL
+abbrev pub path_within : Named → (url : List ℕ) → (bytes : ℕ) → Option (List ℕ)
+path_within folders url zero = None
+path_within folders url (suc bytes) = folder_path url (suc bytes) (path_under (take (suc bytes) url) folders) (path_within folders url bytes)
+
+-- what the folder of its longest prefix has
+abbrev pub path_in_folders : Named → (url : List ℕ) → Option (List ℕ)
+path_in_folders folders url = path_within folders url (length url)
+
+abbrev pub or_else : Option (List ℕ) → Option (List ℕ) → Option (List ℕ)
+or_else (Some path) other = Some path
+or_else None other = other
+
+-- the path of a URL's map, where it has one
+abbrev pub path_for : LocationsSeen → (url : List ℕ) → Option (List ℕ)
+path_for locations url =
+    or_else (path_under url locations.files)
+    (or_else (path_under (without_query url) locations.files) (path_in_folders locations.folders (without_query url)))
+
+-- the text that stands for a URL where maps are remembered
+abbrev pub key_for : LocationsSeen → (url : List ℕ) → List ℕ
+key_for locations url = if is_some (path_under url locations.files) then url else without_query url
+
+-- ---- what is added
+
+-- a folder's prefix ends in `/`
+abbrev pub is_prefix : List ℕ → Bool
+is_prefix url = ends_with nat_eq url (codes "/")
+
+-- why a folder is not put under a prefix, memory aside
+abbrev pub prefix_refusal : Named → (prefix : List ℕ) → Option LocationRefusal
+prefix_refusal folders prefix = if is_prefix prefix then twice folders prefix else Some NoFolder

@@ -1,0 +1,19 @@
+//! Where the maps of a trace are: in files that are named for a URL, and in folders in which the URLs behind a prefix have
+//! files of their own.
+//!
+//! ```
+//! locations.add_folder(text("https://example.test/js/"), text("maps/"))?;
+//! let path = locations.path_for(alloc, b"https://example.test/js/a/app.js?v=2")?; // maps/a/app.js.map
+//! ```
+#![tactic(auto)]
+
+mod locations;
+mod named;
+mod paths;
+mod refusal;
+#[cfg(test)]
+mod tests;
+
+pub use locations::Locations;
+pub use paths::without_query;
+pub use refusal::LocationRefusal;

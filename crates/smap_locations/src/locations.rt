@@ -1,0 +1,156 @@
+//! The files and the folders that maps are in.
+ghost use Rattle.std.specs.Prelude.{◌≡◌, [], is_some, string_bytes, option_map, MatchOption};
+ghost use Rattle.std.specs.Prelude.{OnErr, OnOk, IfErr, IfOk, IsErrAnd, length, map};
+ghost use Rattle.smap_locations.specs.Locations.{is_prefix, key_for, path_for, path_in_folders, prefix_refusal};
+ghost use Rattle.smap_locations.specs.Named.{IsWith, path_under, twice};
+ghost use Rattle.smap_locations.specs.declared.refusal.LocationRefusal.TheVariants.{Memory};
+
+use crate::named::NamedPaths;
+use crate::paths::{map_path, without_query};
+use crate::refusal::LocationRefusal;
+use std::alloc::{AllocError, Global};
+use std::marker::Model;
+
+/// The files that are named for URLs, and the folders under prefixes of URLs, which end in `/`.
+#[derive(Drop)]
+pub struct Locations {
+    files: NamedPaths,
+    folders: NamedPaths,
+}
+
+impl Model for Locations {
+    ghost use Rattle.std.specs.Prelude.{◌≡◌, true};
+    ghost use Rattle.std.specs.List.{list_all};
+    ghost use Rattle.smap_locations.specs.Locations.{LocationsSeen, is_prefix};
+
+    ghost Value = { LocationsSeen };
+
+    ghost view = { λ locations. record {
+      files = locations.files;
+      folders = locations.folders;
+    } };
+
+    ghost invariant = { λ locations. list_all (λ e. is_prefix e.0) locations.folders ≡ true };
+}
+
+impl Locations {
+    /// No location. The call takes no memory.
+    pub fn new(alloc: Global) -> Locations
+        ensures { result ≡ record { files = []; folders = [] } }
+    {
+        Locations {
+            files: NamedPaths::new(alloc),
+            folders: NamedPaths::new(alloc),
+        }
+    }
+
+    /// Names a file for a URL. After a refusal nothing is changed.
+    pub fn add_file(&mut self, url: String, path: String) -> Result<(), LocationRefusal>
+        ensures added { OnOk result
+            (IsWith self.old.files (string_bytes url) (string_bytes path) self.new.files) }
+        ensures others { self.new.folders ≡ self.old.folders }
+        ensures kept { OnErr result (self.new ≡ self.old) }
+        ensures refused { MatchOption (twice self.old.files (string_bytes url))
+            (IfErr result (λ refusal. refusal ≡ Memory)) (λ refusal. IsErrAnd result (λ e. e ≡ refusal)) }
+    {
+        self.files.add(url, path)
+    }
+
+    /// Whether a file is named for a URL.
+    pub fn has_file(&self, url: &[u8]) -> bool
+        ensures { result ≡ is_some (path_under url.now self.now.files) }
+    {
+        self.files.path_under(url).is_some()
+    }
+
+    /// Whether a folder is named for a prefix.
+    pub fn has_folder(&self, prefix: &[u8]) -> bool
+        ensures { result ≡ is_some (path_under prefix.now self.now.folders) }
+    {
+        is_prefix(prefix) && self.folders.path_under(prefix).is_some()
+    }
+
+    /// How many bytes the URLs have for which files are named, one after another in the order of the URLs.
+    pub fn url_lengths(&self, alloc: Global) -> Result<Vec<usize>, AllocError>
+        ensures { IfOk result (λ lengths. lengths.items ≡ map (λ pair. length pair.0) self.now.files) }
+    {
+        self.files.lengths(alloc)
+    }
+
+    /// How many bytes the prefixes have for which folders are named, one after another in the order of the prefixes.
+    pub fn prefix_lengths(&self, alloc: Global) -> Result<Vec<usize>, AllocError>
+        ensures { IfOk result (λ lengths.
+            lengths.items ≡ map (λ pair. length pair.0) self.now.folders) }
+    {
+        self.folders.lengths(alloc)
+    }
+
+    /// Names a folder for a prefix. The path stands before the names of its files as it is. After a refusal, which comes
+    /// in the order of `LocationRefusal`, nothing is changed.
+    pub fn add_folder(&mut self, prefix: String, folder: String) -> Result<(), LocationRefusal>
+        ensures added { OnOk result
+            (IsWith self.old.folders (string_bytes prefix) (string_bytes folder) self.new.folders) }
+        ensures others { self.new.files ≡ self.old.files }
+        ensures kept { OnErr result (self.new ≡ self.old) }
+        ensures refused { MatchOption (prefix_refusal self.old.folders (string_bytes prefix))
+            (IfErr result (λ refusal. refusal ≡ Memory)) (λ refusal. IsErrAnd result (λ e. e ≡ refusal)) }
+    {
+        if !is_prefix(prefix.as_bytes()) {
+            return Err(LocationRefusal::NoFolder);
+        }
+        self.folders.add(prefix, folder)
+    }
+
+    /// The path of the file that has a URL's map, where there is one: what is named for the URL, or for it without its query
+    /// and its fragment; or the file in the folder of the longest prefix, if what stands behind that is a plain path.
+    pub fn path_for(&self, alloc: Global, url: &[u8]) -> Result<Option<String>, AllocError>
+        ensures { IfOk result (λ path. option_map string_bytes path ≡ path_for self.now url.now) }
+    {
+        if let Some(path) = self.files.path_under(url) {
+            return Ok(Some(String::from_str(alloc, path)?));
+        }
+        let short = without_query(url);
+        if let Some(path) = self.files.path_under(short) {
+            return Ok(Some(String::from_str(alloc, path)?));
+        }
+        self.path_in_folders(alloc, short)
+    }
+
+    /// The text that stands for a URL where maps are remembered: the URL itself where a file is named for it, else the URL
+    /// without its query and its fragment. So URLs of one text have one path.
+    pub fn key_for<'u>(&self, url: &'u [u8]) -> &'u [u8]
+        ensures key { result.now ≡ key_for self.now url.now }
+        ensures path { path_for self.now result.now ≡ path_for self.now url.now }
+    {
+        if self.has_file(url) {
+            url
+        } else {
+            without_query(url)
+        }
+    }
+
+    // The path of the file in the folder of the longest prefix of a URL.
+    fn path_in_folders(&self, alloc: Global, url: &[u8]) -> Result<Option<String>, AllocError>
+        ensures { IfOk result (λ path.
+            option_map string_bytes path ≡ path_in_folders self.now.folders url.now) }
+    {
+        let mut end = url.len();
+        while end > 0 {
+            let (prefix, rest) = url.split_at(end);
+            if is_prefix(prefix) {
+                if let Some(folder) = self.folders.path_under(prefix) {
+                    return map_path(alloc, folder, rest);
+                }
+            }
+            end -= 1;
+        }
+        Ok(None)
+    }
+}
+
+// Whether a URL is a folder's prefix.
+fn is_prefix(url: &[u8]) -> bool
+    ensures { result ≡ is_prefix url.now }
+{
+    url.ends_with(b"/")
+}

@@ -1,0 +1,244 @@
+-- A text that is cut at an LF: its parts are those of what stands before it, the LF, and those of what stands behind it.
+use Rattle.std.proofs.Common.{◌≡◌, ◌==◌, ◌&&◌, ◌||◌, ◌+◌, ◌-◌, ◌≤◌, ℕ, zero, suc, Bool, true, false, cond, not, List, [], ◌∷◌, ◌++◌, length, take, drop, Option}
+use Rattle.std.proofs.Common.{Some, None, refl, sym, ap, ◌∙◌, arith, append_assoc, inl, inr, length-drop, reverse, ⊎_elim}
+use Rattle.std.proofs.Math.Seq.{drop-append-add, take-append-add}
+use Rattle.std.proofs.lemmas.Bool.{cases_lt}
+use Rattle.std.proofs.lemmas.Grind.{flat_map-append}
+use Rattle.std.proofs.lemmas.List.{drop-append-le, drop_all, reverse-append, take-append-le}
+use Rattle.smap_lines.specs.Lines.{IsWholeLines}
+use Rattle.smap_record.specs.Record.{MapRecord}
+use Rattle.smap_places.specs.Places.{Part, PlaceUrl, begins_colour, begun_at, found, is_escape, is_parameter, is_word, longest_within, may_begin, may_follow}
+use Rattle.smap_places.specs.Places.{number_after, numbers_after, or_else, other, parts_by, parts_from, parts_of, place_at, place_with, placed, record_of_place}
+use Rattle.smap_places.specs.Places.{with_column, with_line}
+use Rattle.smap_places.specs.PlacesRewritten.{maps_of, part_text, parts_text, placed_text}
+use Rattle.smap_places.specs.PlacesNear.{EndsAtLines}
+use Rattle.smap_places.proofs.NearLaws.{place_line}
+use Rattle.smap_places.proofs.NumberReach.{number_size}
+
+-- ---- a place has no more bytes than the text that it begins
+
+no_numbers : numbers_after [] ≡ None
+unfolding numbers_after
+no_numbers = refl
+
+abbrev pub size_or : Option PlaceUrl → ℕ
+size_or None = 0
+size_or (Some place) = place.size
+
+abbrev pub third : Option (ℕ × ℕ × ℕ) → ℕ
+third None = 0
+third (Some (line, column, size)) = size
+
+column_size : (line first size : ℕ) (rest : List ℕ) (o : Option (ℕ × ℕ)) (numbers : ℕ × ℕ × ℕ) → number_after rest ≡ o
+    → with_column line first o ≡ Some numbers → third (Some numbers) ≤ first + length rest
+column_size line first size rest None numbers from is = cc
+column_size line first size rest (Some (n, bytes)) numbers from is =
+    let sized = number_size rest n bytes from in let both : first + bytes ≡ third (Some numbers) = ap third is in omega (arith, sized.1, both)
+
+line_size : (text : List ℕ) (o : Option (ℕ × ℕ)) (numbers : ℕ × ℕ × ℕ) → number_after text ≡ o → with_line text o ≡ Some numbers
+    → third (Some numbers) ≤ length text
+line_size text None numbers from is = cc
+line_size text (Some (n, bytes)) numbers from is =
+    let sized = number_size text n bytes from in
+    let most = column_size n bytes 0 (drop bytes text) (number_after (drop bytes text)) numbers refl is in
+    omega (arith, most, sized.1, length-drop bytes text)
+
+pub numbers_size : (text : List ℕ) (numbers : ℕ × ℕ × ℕ) → numbers_after text ≡ Some numbers → third (Some numbers) ≤ length text
+unfolding numbers_after
+numbers_size text numbers is = line_size text (number_after text) numbers refl is
+
+placed_size : (url : List ℕ) (bytes : ℕ) (stated : Option MapRecord) (o : Option (ℕ × ℕ × ℕ)) (place : PlaceUrl) (most : ℕ) →
+    ((numbers : ℕ × ℕ × ℕ) → o ≡ Some numbers → bytes + third (Some numbers) ≤ most) → placed url bytes stated o ≡ Some place → place.size ≤ most
+placed_size url bytes None o place most few is = cc
+placed_size url bytes (Some stated) None place most few is = cc
+placed_size url bytes (Some stated) (Some (line, column, size)) place most few is =
+    let both : bytes + size ≡ place.size = ap (λ o. size_or o) is in
+    let within : bytes + size ≤ most = few (line, column, size) refl in omega (arith, both, within)
+
+with_size : (table : List (List ℕ × MapRecord)) (text : List ℕ) (bytes : ℕ) (place : PlaceUrl) → place_with table text bytes ≡ Some place
+    → place.size ≤ length text
+with_size table text bytes place is =
+    placed_size (take bytes text) bytes (record_of_place (take bytes text) table) (numbers_after (drop bytes text)) place (length text)
+    (λ numbers some. elim (cases_lt bytes (length text)) [
+      | inl inside ↦ omega (arith, inside, numbers_size (drop bytes text) numbers some, length-drop bytes text)
+      | inr past ↦ absurd (cc (ap numbers_after (drop_all bytes text past), no_numbers, some))
+    ]) is
+
+one_of : (first second : Option PlaceUrl) (place : PlaceUrl) (most : ℕ) → (first ≡ Some place → place.size ≤ most)
+    → (second ≡ Some place → place.size ≤ most) → or_else first second ≡ Some place → place.size ≤ most
+one_of (Some longest) second place most one two is = one is
+one_of None second place most one two is = two is
+
+longest_size : (table : List (List ℕ × MapRecord)) (text : List ℕ) (n : ℕ) (place : PlaceUrl) → longest_within table text n ≡ Some place
+    → place.size ≤ length text
+longest_size table text zero place is = cc
+longest_size table text (suc n) place is =
+    one_of (place_with table text (suc n)) (longest_within table text n) place (length text) (with_size table text (suc n) place)
+    (longest_size table text n place) is
+
+at_size : (table : List (List ℕ × MapRecord)) (text : List ℕ) (place : PlaceUrl) → place_at table text ≡ Some place → place.size ≤ length text
+unfolding place_at
+at_size table text place is = longest_size table text (length text) place is
+
+if_so : (t : Bool) (o : Option PlaceUrl) (place : PlaceUrl) → cond t o None ≡ Some place → o ≡ Some place
+if_so true o place is = is
+if_so false o place is = cc
+
+begun_size : (begins : List ℕ → Option PlaceUrl) → EndsAtLines begins → (text : List ℕ) (start : ℕ) (place : PlaceUrl)
+    → begun_at begins text start ≡ Some place → place.size ≤ length (drop start text)
+unfolding begun_at
+begun_size begins ends text start place is =
+    ends.sized (drop start text) place (if_so (may_begin text start) (begins (drop start text)) place is)
+
+next_drop : (start byte : ℕ) (bytes text : List ℕ) → drop start text ≡ byte ∷ bytes → drop (suc start) text ≡ bytes
+next_drop zero byte bytes [] is = cc
+next_drop zero byte bytes (first ∷ text) is = cc
+next_drop (suc start) byte bytes [] is = cc
+next_drop (suc start) byte bytes (first ∷ text) is = next_drop start byte bytes text is
+
+-- ---- what stands before an LF decides nothing behind it
+
+escape_line : (bytes rest : List ℕ) → is_escape (bytes ++ 10 ∷ rest) ≡ is_escape bytes
+escape_line [] rest = refl
+escape_line (byte ∷ bytes) rest = refl
+
+colour_line : (many : ℕ) (bytes rest : List ℕ) → begins_colour many (bytes ++ 10 ∷ rest) ≡ begins_colour many bytes
+unfolding begins_colour
+colour_line zero bytes rest = refl
+colour_line (suc many) [] rest = refl
+colour_line (suc many) (byte ∷ bytes) rest =
+    ap (λ b. cond (byte == 91) b (is_parameter byte && begins_colour many (bytes ++ 10 ∷ rest))) (escape_line bytes rest)
+    ∙ ap (λ b. cond (byte == 91) (is_escape bytes) (is_parameter byte && b)) (colour_line many bytes rest)
+
+follow_line : (bytes rest : List ℕ) → may_follow (bytes ++ 10 ∷ rest) ≡ may_follow bytes
+unfolding may_follow
+follow_line [] rest = refl
+follow_line (byte ∷ bytes) rest = ap (λ b. not (is_word byte) || byte == 109 && b) (colour_line 33 bytes rest)
+
+module _ (begins : List ℕ → Option PlaceUrl) (ends : EndsAtLines begins) (line rest : List ℕ) where
+  abbrev whole : List ℕ
+  whole = line ++ 10 ∷ rest
+
+  -- ---- before the LF
+
+  begun_before : (start : ℕ) → start ≤ length line → begun_at begins whole start ≡ begun_at begins line start
+  unfolding begun_at
+  begun_before start within =
+      ap (λ b. cond b (begins (drop start whole)) None) (ap (λ l. may_follow (reverse l)) (take-append-le start line (10 ∷ rest) within))
+      ∙ ap (λ o. cond (may_begin line start) o None)
+      (ap begins (drop-append-le start line (10 ∷ rest) within) ∙ ends.line (drop start line) rest)
+
+  off_none : (t : Bool) → ◌≡◌ {A = Option PlaceUrl} (cond t None None) None
+  off_none true = refl
+  off_none false = refl
+
+  none_at_end : begun_at begins whole (length line) ≡ None
+  unfolding begun_at
+  none_at_end =
+      let past : drop (length line) line ≡ [] = drop_all (length line) line (omega arith) in
+      begun_before (length line) (omega arith)
+      ∙ ap (λ o. cond (may_begin line (length line)) o None) (ap begins past ∙ ends.empty) ∙ off_none (may_begin line (length line))
+
+  -- ---- and behind it
+
+  begun_behind : (start : ℕ) → begun_at begins whole (length line + suc start) ≡ begun_at begins rest start
+  unfolding begun_at
+  begun_behind start =
+      let front : take (length line + suc start) whole ≡ line ++ 10 ∷ take start rest = take-append-add line (10 ∷ rest) (suc start) in
+      let back : drop (length line + suc start) whole ≡ drop start rest = drop-append-add line (10 ∷ rest) (suc start) in
+      let apart : line ++ 10 ∷ take start rest ≡ (line ++ 10 ∷ []) ++ take start rest = sym (append_assoc line (10 ∷ []) (take start rest)) in
+      let turned : reverse (line ++ 10 ∷ []) ≡ 10 ∷ reverse line = reverse-append line (10 ∷ []) in
+      let follow : may_follow (reverse (take (length line + suc start) whole)) ≡ may_follow (reverse (take start rest)) =
+      ap (λ l. may_follow (reverse l)) (front ∙ apart) ∙ ap may_follow (reverse-append (line ++ 10 ∷ []) (take start rest))
+      ∙ ap (λ l. may_follow (reverse (take start rest) ++ l)) turned ∙ follow_line (reverse (take start rest)) (reverse line) in
+      ap (λ b. cond b (begins (drop (length line + suc start) whole)) None) follow
+      ∙ ap (λ t. cond (may_begin rest start) (begins t) None) back
+
+  behind : (bytes : List ℕ) (start within : ℕ) → parts_from begins whole (length line + suc start) within bytes ≡ parts_from begins rest start within bytes
+  behind [] start within = refl
+  behind (byte ∷ bytes) start (suc within) =
+      let next : suc (length line + suc start) ≡ length line + suc (suc start) = omega arith in
+      ap (λ k. parts_from begins whole k within bytes) next ∙ behind bytes (suc start) within
+  behind (byte ∷ bytes) start zero =
+      let next : suc (length line + suc start) ≡ length line + suc (suc start) = omega arith in
+      ap (parts_by (byte ∷ bytes) byte (λ within. parts_from begins whole (suc (length line + suc start)) within bytes)) (begun_behind start)
+      ∙ ap (λ k. parts_by (byte ∷ bytes) byte (λ within. parts_from begins whole k within bytes) (begun_at begins rest start)) next
+      ∙ by_both (byte ∷ bytes) byte _ _ (λ within. behind bytes (suc start) within) (begun_at begins rest start)
+    where
+      by_both : (text : List ℕ) (byte : ℕ) (one other : ℕ → List Part) → ((within : ℕ) → one within ≡ other within) → (o : Option PlaceUrl)
+          → parts_by text byte one o ≡ parts_by text byte other o
+      by_both text byte one more same None = ap (λ l. other byte ∷ l) (same 0)
+      by_both text byte one more same (Some place) = ap (λ l. found place (take place.size text) ∷ l) (same (place.size - 1))
+
+  at_line_end : parts_from begins whole (length line) 0 (10 ∷ rest) ≡ other 10 ∷ parts_of begins rest
+  unfolding parts_of
+  at_line_end =
+      let next : suc (length line) ≡ length line + suc 0 = omega arith in
+      ap (parts_by (10 ∷ rest) 10 (λ within. parts_from begins whole (suc (length line)) within rest)) none_at_end
+      ∙ ap (λ k. other 10 ∷ parts_from begins whole k 0 rest) next ∙ ap (λ l. other 10 ∷ l) (behind rest 0 0)
+
+  cut_by : (bytes : List ℕ) (start : ℕ) → drop start line ≡ bytes → (after more : ℕ → List Part) → (byte : ℕ) (o : Option PlaceUrl) →
+      ((within : ℕ) → within ≤ length bytes - 1 → after within ≡ more within ++ (other 10 ∷ parts_of begins rest)) →
+      ((place : PlaceUrl) → o ≡ Some place → place.size ≤ length bytes) →
+      parts_by (bytes ++ 10 ∷ rest) byte after o ≡ parts_by bytes byte more o ++ (other 10 ∷ parts_of begins rest)
+  cut_by bytes start is after more byte None same few = ap (λ l. other byte ∷ l) (same 0 (omega arith))
+  cut_by bytes start is after more byte (Some place) same few =
+      let small : place.size ≤ length bytes = few place refl in
+      ap (λ l. found place l ∷ after (place.size - 1)) (take-append-le place.size bytes (10 ∷ rest) small)
+      ∙ ap (λ l. found place (take place.size bytes) ∷ l) (same (place.size - 1) (omega (arith, small)))
+
+  cut_from : (bytes : List ℕ) (start within : ℕ) → start + length bytes ≡ length line → drop start line ≡ bytes → within ≤ length bytes →
+      parts_from begins whole start within (bytes ++ 10 ∷ rest) ≡ parts_from begins line start within bytes ++ (other 10 ∷ parts_of begins rest)
+  cut_from [] start (suc within) at is few = absurd (omega (arith, few))
+  cut_from [] start zero at is few =
+      let here : start ≡ length line = omega (arith, at) in ap (λ k. parts_from begins whole k 0 (10 ∷ rest)) here ∙ at_line_end
+  cut_from (byte ∷ bytes) start (suc within) at is few =
+      cut_from bytes (suc start) within (omega (arith, at)) (next_drop start byte bytes line is) (omega (arith, few))
+  cut_from (byte ∷ bytes) start zero at is few =
+      ap (parts_by (byte ∷ (bytes ++ 10 ∷ rest)) byte (λ within. parts_from begins whole (suc start) within (bytes ++ 10 ∷ rest)))
+      (begun_before start (omega (arith, at)))
+      ∙ cut_by (byte ∷ bytes) start is (λ within. parts_from begins whole (suc start) within (bytes ++ 10 ∷ rest))
+      (λ within. parts_from begins line (suc start) within bytes) byte (begun_at begins line start)
+      (λ within small. cut_from bytes (suc start) within (omega (arith, at)) (next_drop start byte bytes line is) (omega (arith, small)))
+      (λ place some. let sized = begun_size begins ends line start place some in omega (arith, sized, ap length is))
+
+  pub parts_cut : parts_of begins whole ≡ parts_of begins line ++ (other 10 ∷ parts_of begins rest)
+  unfolding parts_of
+  parts_cut = cut_from line 0 0 (omega arith) refl (omega arith)
+
+-- ---- the law
+
+no_place : (table : List (List ℕ × MapRecord)) → place_at table [] ≡ None
+unfolding place_at
+no_place table = refl
+
+pub table_ends : (table : List (List ℕ × MapRecord)) → EndsAtLines (place_at table)
+table_ends table = record { empty = no_place table; sized = at_size table; line = place_line table }
+
+pub no_parts : (begins : List ℕ → Option PlaceUrl) → parts_of begins [] ≡ []
+unfolding parts_of
+no_parts begins = refl
+
+module _ (table : List (List ℕ × MapRecord)) where
+  pub text_cut : (line rest : List ℕ) → placed_text (line ++ 10 ∷ rest) table ≡ placed_text line table ++ 10 ∷ placed_text rest table
+  unfolding placed_text
+  text_cut line rest =
+      ap (parts_text (maps_of table)) (parts_cut (place_at table) (table_ends table) line rest)
+      ∙ flat_map-append (part_text (maps_of table)) (parts_of (place_at table) line) (other 10 ∷ parts_of (place_at table) rest)
+
+  pub none_placed : placed_text [] table ≡ []
+  unfolding placed_text parts_of
+  none_placed = refl
+
+  ended : (line : List ℕ) → placed_text (line ++ 10 ∷ []) table ≡ placed_text line table ++ 10 ∷ []
+  ended line = text_cut line [] ∙ ap (λ l. placed_text line table ++ 10 ∷ l) none_placed
+
+  pub placed_apart : (first rest : List ℕ) → IsWholeLines first → placed_text (first ++ rest) table ≡ placed_text first table ++ placed_text rest table
+  placed_apart first rest whole = ⊎_elim
+      (λ (none : first ≡ []). ap (λ l. placed_text (l ++ rest) table) none ∙ ap (λ l. l ++ placed_text rest table) (sym none_placed)
+      ∙ ap (λ l. placed_text l table ++ placed_text rest table) (sym none))
+      (λ (is : (front : List ℕ) × (first ≡ front ++ 10 ∷ [])).
+      ap (λ l. placed_text (l ++ rest) table) is.1 ∙ ap (λ l. placed_text l table) (append_assoc is.0 (10 ∷ []) rest) ∙ text_cut is.0 rest
+      ∙ sym (append_assoc (placed_text is.0 table) (10 ∷ []) (placed_text rest table))
+      ∙ ap (λ l. l ++ placed_text rest table) (sym (ended is.0)) ∙ ap (λ l. placed_text l table ++ placed_text rest table) (sym is.1))
+      whole

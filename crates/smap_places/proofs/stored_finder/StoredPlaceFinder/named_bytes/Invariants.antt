@@ -1,0 +1,13 @@
+use Rattle.std.proofs.Common.{◌≡◌, ◌≤◌, ◌⊎◌, true, length}
+use Rattle.smap_places.specs.Candidates.{has_named}
+use Rattle.smap_places.specs.StoredPlaces.{is_named}
+use Rattle.smap_places.proofs.GreatestLaws.{NoneGreater}
+use Rattle.smap_places.proofs.stored_finder.StoredPlaceFinder.named_bytes.Given as goal
+
+-- it is the greatest so far that passes
+abbrev pub invariant-loop-bytes : goal.invariant-loop-bytes
+invariant-loop-bytes l = record {
+  some : (l.most ≡ 0) ⊎ (has_named (is_named l.self) l.text l.most ≡ true);
+  within : l.most ≤ length l.text;
+  none : NoneGreater (has_named (is_named l.self) l.text) l.bytes-items (length l.text) l.bytes-index l.most;
+}

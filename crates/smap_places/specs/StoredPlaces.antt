@@ -1,0 +1,25 @@
+-- Which place begins a text over a table of maps, and over the files and the folders that maps are in.
+use Rattle.std.specs.Prelude.{ℕ, ◌||◌, Bool, List, Option, is_some}
+use Rattle.smap_locations.specs.Locations.{LocationsSeen}
+use Rattle.smap_locations.specs.Named.{path_under}
+use Rattle.smap_record.specs.Record.{MapRecord}
+use Rattle.smap_trace.specs.Table.{record_for}
+use Rattle.smap_places.specs.Candidates.{candidate_at}
+use Rattle.smap_places.specs.Places.{PlaceUrl}
+
+-- the maps that are there, and where others are
+pub record MapsSeen : Type 0 where
+  pub table : List (List ℕ × MapRecord)
+  pub locations : LocationsSeen
+
+-- the table has a map under a URL, or a file is named for it
+abbrev pub is_named : MapsSeen → (url : List ℕ) → Bool
+is_named maps url = is_some (record_for url maps.table) || is_some (path_under url maps.locations.files)
+
+-- a folder is named for a text
+abbrev pub is_prefix : MapsSeen → (text : List ℕ) → Bool
+is_prefix maps text = is_some (path_under text maps.locations.folders)
+
+-- the place that begins a text
+abbrev pub stored_place_at : MapsSeen → (text : List ℕ) → Option PlaceUrl
+stored_place_at maps = candidate_at (is_named maps) (is_prefix maps)

@@ -1,0 +1,44 @@
+//! The line ends of a text that is read part by part.
+ghost use Rattle.std.specs.Prelude.{◌≡◌, ◌==◌, ◌+◌, ◌<◌, ◌≤◌, ◌⊎◌, ℕ, count_by, drop, false, length, true};
+ghost use Rattle.smap_lines.specs.Lines.{has_line_end};
+ghost use Rattle.smap_places.specs.Private.LineEnds.{has_open_line};
+
+use memchr::memrchr;
+
+/// How many LFs stand in a text.
+pub fn count_ends(text: &[u8]) -> usize
+    ensures count { result ≡ count_by (λ byte. byte == 10) text.now }
+    ensures few { result ≤ length text.now }
+{
+    text.iter().filter(|byte| **byte == b'\n').count()
+}
+
+/// Whether a text ends in a line without an LF.
+pub fn has_open_line(text: &[u8]) -> bool
+    ensures { result ≡ has_open_line text.now }
+{
+    match text.split_last() {
+        None => false,
+        Some((byte, _)) => *byte != b'\n',
+    }
+}
+
+/// Up to which byte of a window, which is `from` or after it, the places that begin are decided, whatever follows the
+/// window: where so many bytes as `reach` or an LF stand from their first byte on.
+pub fn decided_end(window: &[u8], from: usize, reach: usize) -> usize
+    requires from { from ≤ length window.now }
+    requires some { 0 < reach }
+    ensures low { from ≤ result }
+    ensures within { result ≤ length window.now }
+    ensures decided { (start : ℕ) → from ≤ start → start < result →
+        (start + reach ≤ length window.now) ⊎ (has_line_end (drop start window.now) ≡ true) }
+    ensures open { has_line_end (drop result window.now) ≡ false }
+    ensures few { length window.now < result + reach }
+{
+    let lines_end = match memrchr(b'\n', &window[from..]) {
+        Some(place) => from + place + 1,
+        None => from,
+    };
+    let reached = (window.len() + 1).saturating_sub(reach);
+    lines_end.max(reached)
+}

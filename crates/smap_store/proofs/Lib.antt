@@ -1,0 +1,3 @@
+mod KeptLaws
+mod ListLaws
+mod Examples

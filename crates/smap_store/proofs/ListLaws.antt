@@ -1,0 +1,48 @@
+-- Lines of a list that are taken, one more each time.
+use Rattle.std.proofs.Common.{◌≡◌, ◌<◌, ◌≤◌, ◌+◌, ℕ, List, [], ◌∷◌, ◌++◌, length, get_or, take, drop, refl, sym, ap, subst, suc, arith, add-one, ◌∙◌}
+use Rattle.std.proofs.Math.Seq.{drop-cons, take-length, take-suc}
+use Rattle.std.proofs.lemmas.List.{length-take-le, take-append-drop}
+use Rattle.smap_locations.specs.Locations.{LocationsSeen}
+use Rattle.smap_record.specs.Record.{MapRecord}
+use Rattle.smap_store.specs.MapList.{AreTaken, IsRefused, IsRefusedAt, IsTaken}
+use Rattle.smap_store.specs.declared.refusal.ListFault.{ListFault}
+
+one_taken : (words : List (List ℕ × MapRecord)) (lines : List (List ℕ)) (line : List ℕ) (old now new : LocationsSeen) → AreTaken words lines old now
+    → IsTaken words now line new → AreTaken words (lines ++ line ∷ []) old new
+one_taken words [] line old now new taken is =
+    let P : LocationsSeen → Type 0 = λ old. IsTaken words old line new in
+    (new, subst P taken is, refl)
+one_taken words (first ∷ lines) line old now new taken is = (taken.0, taken.1, one_taken words lines line taken.0 now new taken.2 is)
+
+module _ (words : List (List ℕ × MapRecord)) (lines : List (List ℕ)) (number : ℕ) (line : List ℕ) (old now new : LocationsSeen)
+    (is : (number < length lines) × (line ≡ get_or lines number line)) (taken : AreTaken words (take number lines) old now) where
+  pub more_taken : IsTaken words now line new → AreTaken words (take (number + 1) lines) old new
+  more_taken one =
+      let all : take (number + 1) lines ≡ take number lines ++ line ∷ [] =
+      ap (λ n. take n lines) (add-one number) ∙ take-suc lines number line is.0 ∙ ap (λ l. take number lines ++ l ∷ []) (sym is.1) in
+      let P : List (List ℕ) → Type 0 = λ lines. AreTaken words lines old new in
+      subst P (sym all) (one_taken words (take number lines) line old now new taken one)
+
+  pub refused_here : (fault : ListFault) (count : ℕ) → count ≡ number → new ≡ now → IsRefused words now line fault
+      → IsRefusedAt words lines old new (record { line = count + 1; fault = fault })
+  refused_here fault count counted kept refused =
+      let P : LocationsSeen → Type 0 = λ l. AreTaken words (take number lines) old l in
+      let Q : LocationsSeen → Type 0 = λ l. IsRefused words l line fault in
+      let within : number ≤ length lines = omega (arith, is.0) in
+      record {
+        before = take number lines;
+        line = line;
+        after = drop (suc number) lines;
+        lines_are =
+            sym (take-append-drop number lines) ∙ ap (λ l. take number lines ++ l) (drop-cons lines number line is.0)
+            ∙ ap (λ l. take number lines ++ l ∷ drop (suc number) lines) (sym is.1);
+        number = ap (λ n. n + 1) (counted ∙ sym (length-take-le number lines within));
+        taken = subst P (sym kept) taken;
+        refused = subst Q (sym kept) refused;
+      }
+
+pub all_taken : (words : List (List ℕ × MapRecord)) (lines : List (List ℕ)) (number : ℕ) (old now : LocationsSeen) → number ≡ length lines
+    → AreTaken words (take number lines) old now → AreTaken words lines old now
+all_taken words lines number old now is taken =
+    let P : List (List ℕ) → Type 0 = λ lines. AreTaken words lines old now in
+    subst P (ap (λ n. take n lines) is ∙ take-length lines) taken

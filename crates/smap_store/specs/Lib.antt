@@ -1,0 +1,10 @@
+pub mod Loaded
+pub mod Cache
+pub mod Stored
+pub mod KeptLaws
+pub mod StoredMaps
+pub mod StoredLaws
+pub mod SeenLaws
+pub mod ByPath
+pub mod SameLaws
+pub mod MapList

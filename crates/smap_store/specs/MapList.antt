@@ -1,0 +1,103 @@
+-- A list of maps (this project's own): lines of a URL and the path of its map, or of a prefix of URLs and the path of a folder,
+-- with a TAB between them. A path that ends in `/` is that of a folder. Lines end in LF or CR LF; an empty line and one that
+-- begins with `#` say nothing.
+use Rattle.std.specs.Prelude.{◌≡◌, ◌⊎◌, ℕ, ◌+◌, ◌==◌, ◌||◌, Bool, false, not, List, [], ◌∷◌, ◌++◌, Option, Some, None, is_some, Result}
+use Rattle.std.specs.Prelude.{MatchBool, MatchResult, codes, if◌then◌else◌, length}
+use Rattle.std.specs.Bool.{nat_eq}
+use Rattle.std.specs.List.{after_first, before_first, ends_with, position_or_len, starts_with}
+use Rattle.smap_locations.specs.Locations.{LocationsSeen, is_prefix}
+use Rattle.smap_locations.specs.Named.{IsWith, path_under}
+use Rattle.smap_record.specs.Record.{MapRecord}
+use Rattle.smap_trace.specs.Table.{is_bad_url, record_for}
+use Rattle.smap_store.specs.declared.refusal.ListFault.{ListFault}
+use Rattle.smap_store.specs.declared.refusal.ListFault.TheVariants.{NoTab, NoFolder, BadUrl, Twice, Memory}
+use Rattle.smap_store.specs.declared.refusal.ListRefusal.{ListRefusal}
+
+-- ---- a line
+
+-- it says nothing
+abbrev pub is_passed_over : (line : List ℕ) → Bool
+is_passed_over line = length line == 0 || starts_with nat_eq line (codes "#")
+
+abbrev pub is_tab : ℕ → Bool
+is_tab byte = byte == 9
+
+-- what stands before its first TAB, and what stands behind that
+abbrev pub entry_of : (line : List ℕ) → Option (List ℕ × List ℕ)
+entry_of line = if position_or_len is_tab line == length line then None else Some (before_first is_tab line, after_first is_tab line)
+
+-- the path is that of a folder
+abbrev pub is_folder : (path : List ℕ) → Bool
+is_folder path = ends_with nat_eq path (codes "/")
+
+-- ---- why it is not taken, memory aside
+
+abbrev pub file_fault : List (List ℕ × MapRecord) → LocationsSeen → (url : List ℕ) → Option ListFault
+file_fault words locations url =
+    if is_bad_url url then Some BadUrl
+    else if is_some (record_for url words) || is_some (path_under url locations.files) then Some Twice
+    else None
+
+abbrev pub folder_fault : LocationsSeen → (prefix : List ℕ) → Option ListFault
+folder_fault locations prefix =
+    if not (is_prefix prefix) then Some NoFolder
+    else if is_bad_url prefix then Some BadUrl
+    else if is_some (path_under prefix locations.folders) then Some Twice
+    else None
+
+abbrev pub entry_fault : List (List ℕ × MapRecord) → LocationsSeen → Option (List ℕ × List ℕ) → Option ListFault
+entry_fault words locations None = Some NoTab
+entry_fault words locations (Some (url, path)) = if is_folder path then folder_fault locations url else file_fault words locations url
+
+abbrev pub line_fault : List (List ℕ × MapRecord) → LocationsSeen → (line : List ℕ) → Option ListFault
+line_fault words locations line = if is_passed_over line then None else entry_fault words locations (entry_of line)
+
+-- ---- what it changes
+
+-- one file more
+pub record PutsFile (old : LocationsSeen) (url path : List ℕ) (new : LocationsSeen) : Type 0 where
+  pub files : IsWith old.files url path new.files
+  pub folders : new.folders ≡ old.folders
+
+-- one folder more
+pub record PutsFolder (old : LocationsSeen) (prefix folder : List ℕ) (new : LocationsSeen) : Type 0 where
+  pub folders : IsWith old.folders prefix folder new.folders
+  pub files : new.files ≡ old.files
+
+-- what a line names
+abbrev pub Puts : (old : LocationsSeen) → Option (List ℕ × List ℕ) → (new : LocationsSeen) → Type 0
+Puts old None new = new ≡ old
+Puts old (Some (url, path)) new = MatchBool (is_folder path) (PutsFolder old url path new) (PutsFile old url path new)
+
+-- a line is taken
+pub record IsTaken (words : List (List ℕ × MapRecord)) (old : LocationsSeen) (line : List ℕ) (new : LocationsSeen) : Type 0 where
+  pub faultless : line_fault words old line ≡ None
+  pub puts : MatchBool (is_passed_over line) (new ≡ old) (Puts old (entry_of line) new)
+
+-- a line is refused: for this fault, or for want of memory, where it has none
+abbrev pub IsRefused : List (List ℕ × MapRecord) → LocationsSeen → (line : List ℕ) → ListFault → Type 0
+IsRefused words locations line fault =
+    (line_fault words locations line ≡ Some fault)
+    ⊎ ((is_passed_over line ≡ false) × (line_fault words locations line ≡ None) × (fault ≡ Memory))
+
+-- ---- a list
+
+-- lines are taken, one after another
+abbrev pub AreTaken : List (List ℕ × MapRecord) → (lines : List (List ℕ)) → (old new : LocationsSeen) → Type 0
+AreTaken words [] old new = new ≡ old
+AreTaken words (line ∷ lines) old new = (between : LocationsSeen) × IsTaken words old line between × AreTaken words lines between new
+
+-- the first line that is refused, whose number counts from 1, ends it; those before it are taken
+pub record IsRefusedAt (words : List (List ℕ × MapRecord)) (lines : List (List ℕ)) (old new : LocationsSeen) (refusal : ListRefusal) : Type 0 where
+  pub before : List (List ℕ)
+  pub line : List ℕ
+  pub after : List (List ℕ)
+  pub lines_are : lines ≡ before ++ line ∷ after
+  pub number : refusal.line ≡ length before + 1
+  pub taken : AreTaken words before old new
+  pub refused : IsRefused words new line refusal.fault
+
+-- all lines of a list are taken, or those before one that is refused
+abbrev pub TakesList : List (List ℕ × MapRecord) → (lines : List (List ℕ)) (old : LocationsSeen) → Result (Unit {0}) ListRefusal
+    → (new : LocationsSeen) → Type 0
+TakesList words lines old result new = MatchResult result (λ _. AreTaken words lines old new) (IsRefusedAt words lines old new)

@@ -1,0 +1,139 @@
+-- Laws of maps that are found in a table and in files, where each file gives the same map whenever it is read: what is found
+-- under a URL is then the same whenever it is looked for, however much is remembered and whatever was looked for before.
+use Rattle.std.specs.Prelude.{◌≡◌, ℕ, List, [], Option, Some, None, MatchOption}
+use Rattle.std.proofs.Common.{ap, arith, inl, inr, refl, subst, sym, ◌∙◌}
+use Rattle.smap_locations.specs.KeyLaws.{path_of_key}
+use Rattle.smap_locations.specs.Locations.{LocationsSeen, key_for, path_for}
+use Rattle.smap_record.specs.Record.{MapRecord}
+use Rattle.smap_trace.specs.Table.{record_for}
+use Rattle.smap_store.specs.ByPath.{IsGood, IsRight, MapsByPath, by_path, stored_maps}
+use Rattle.smap_store.specs.Cache.{CacheSeen, Keeps, Kept, Remembers, counted, kept_of, kept_under, one_more}
+use Rattle.smap_store.specs.KeptLaws.{IsOf, other_remembered, own_remembered}
+use Rattle.smap_store.specs.Loaded.{record_in}
+use Rattle.smap_store.specs.Stored.{Asks, Comes, FindsIn, LoadsStep, Recalls, StoredSeen, Untouched, found_in, map_in, or_map}
+
+-- nothing is remembered at first
+pub right_start : {L : Type 0} (load : MapsByPath) (maps : StoredSeen L) → maps.cache.kept ≡ [] → IsRight load maps.words maps.locations maps
+right_start load maps empty = record {
+  words = refl;
+  locations = refl;
+  kept = λ key one is. let none : None ≡ Some one = ap (kept_under key) (sym empty) ∙ is in cc;
+}
+
+-- ---- what is found
+
+-- where memory ran out, that was counted
+short_is_some : (shortages : ℕ) → one_more shortages ≡ 0 → ⊥
+short_is_some shortages is = omega (arith, is)
+
+counted_shortages : (cache : CacheSeen) (came : Option (MapRecord × ℕ)) → (counted cache came).shortages ≡ cache.shortages
+counted_shortages cache None = refl
+counted_shortages cache (Some came) = refl
+
+found_of : (came : Option (MapRecord × ℕ)) → (kept_of came).found ≡ record_in came
+found_of None = refl
+found_of (Some came) = refl
+
+-- what came was remembered, and there was memory for that so far, where there was at the end
+remembered : (old : CacheSeen) (url : List ℕ) (came : Option (MapRecord × ℕ)) (new : CacheSeen) → Remembers old url came new → new.shortages ≡ 0
+    → Keeps old.most old.kept url (kept_of came) new.kept × (old.shortages ≡ 0)
+remembered old url came new (inl kept) none = (kept.0, sym (counted_shortages old came) ∙ sym (ap (λ c. c.shortages) kept.1) ∙ none)
+remembered old url came new (inr is) none = absurd (short_is_some (counted old came).shortages (sym (ap (λ c. c.shortages) is) ∙ none))
+
+module _ {L : Type 0} (Loads : LoadsStep L) (Good : L → Type 0) (load : MapsByPath)
+    (loads_right : (old new : L) (url path : List ℕ) (came : Option (MapRecord × ℕ)) → Loads old url path came new → Good new
+    → Good old × (record_in came ≡ load url path)) where
+  comes_right : (old new : L) (url : List ℕ) (path : Option (List ℕ)) (came : Option (MapRecord × ℕ)) → Comes Loads old url path came new → Good new
+      → Good old × (record_in came ≡ by_path load url path)
+  comes_right old new url None came comes good = (subst Good comes.1 good, ap record_in comes.0)
+  comes_right old new url (Some path) came comes good = loads_right old new url path came comes good
+
+  -- ---- no trouble came before either
+
+  untouched_good : (old new : StoredSeen L) → Untouched old new → IsGood Good new → IsGood Good old
+  untouched_good old new same good = (subst Good same.loader good.0, sym (ap (λ c. c.shortages) same.cache) ∙ good.1)
+
+  asks_good : (old new : StoredSeen L) (key : List ℕ) → Asks Loads old key new → IsGood Good new → IsGood Good old
+  asks_good old new key (inl asked) good = (
+    (comes_right old.loader new.loader key (path_for old.locations key) asked.came asked.comes good.0).0,
+    (remembered old.cache key asked.came new.cache asked.remembered good.1).1,
+  )
+  asks_good old new key (inr is) good = absurd (short_is_some old.cache.shortages (sym (ap (λ c. c.shortages) is.cache) ∙ good.1))
+
+  recalls_good : (old new : StoredSeen L) (key : List ℕ) (one : Option Kept) → MatchOption one (Asks Loads old key new) (λ one. Untouched old new)
+      → IsGood Good new → IsGood Good old
+  recalls_good old new key None asks good = asks_good old new key asks good
+  recalls_good old new key (Some one) same good = untouched_good old new same good
+
+  steps_good : (old new : StoredSeen L) (key : List ℕ) (words : Option MapRecord)
+      → MatchOption words (Recalls Loads old key new) (λ stated. Untouched old new) → IsGood Good new → IsGood Good old
+  steps_good old new key None recalls good = recalls_good old new key (kept_under key old.cache.kept) recalls good
+  steps_good old new key (Some stated) same good = untouched_good old new same good
+
+  pub good_before : (old new : StoredSeen L) (url : List ℕ) → FindsIn Loads old url new → IsGood Good new → IsGood Good old
+  good_before old new url finds good = steps_good old new (key_for old.locations url) (record_for url old.words) finds.steps good
+
+  -- ---- what is found is the map of the file, and what is remembered stays right
+
+  module _ (words : List (List ℕ × MapRecord)) (locations : LocationsSeen) where
+    -- what is remembered under each text is what its file gives
+    abbrev AllKept : StoredSeen L → Type 0
+    AllKept maps = (key : List ℕ) (one : Kept) → kept_under key maps.cache.kept ≡ Some one → one.found ≡ by_path load key (path_for locations key)
+
+    -- it is under this one
+    abbrev FindsKept : (key : List ℕ) → StoredSeen L → Type 0
+    FindsKept key maps = map_in (kept_under key maps.cache.kept) ≡ by_path load key (path_for locations key)
+
+    untouched_kept : (old new : StoredSeen L) → Untouched old new → AllKept old → AllKept new
+    untouched_kept old new same kept key one is = kept key one (ap (λ c. kept_under key c.kept) (sym same.cache) ∙ is)
+
+    asked_kept : (old new : StoredSeen L) (key : List ℕ) → kept_under key old.cache.kept ≡ None → Asks Loads old key new → IsGood Good new
+        → old.locations ≡ locations → AllKept old → FindsKept key new × AllKept new
+    asked_kept old new key absent (inr is) good same kept = absurd (short_is_some old.cache.shortages (sym (ap (λ c. c.shortages) is.cache) ∙ good.1))
+    asked_kept old new key absent (inl asked) good same kept =
+        let one = kept_of asked.came in
+        let keeps = (remembered old.cache key asked.came new.cache asked.remembered good.1).0 in
+        let right : one.found ≡ by_path load key (path_for locations key) =
+        found_of asked.came ∙ (comes_right old.loader new.loader key (path_for old.locations key) asked.came asked.comes good.0).1
+        ∙ ap (λ l. by_path load key (path_for l key)) same in (
+          ap map_in (own_remembered old.cache.kept key one new.cache.kept old.cache.most keeps absent) ∙ right,
+          (λ other it has. other_right one right other it (other_remembered old.cache.kept key one new.cache.kept old.cache.most keeps other it has)),
+        )
+      where
+        other_right : (one : Kept) → one.found ≡ by_path load key (path_for locations key) → (other : List ℕ) (it : Kept)
+            → IsOf other key one it (kept_under other old.cache.kept) → it.found ≡ by_path load other (path_for locations other)
+        other_right one right other it (inr was) = kept other it was
+        other_right one right other it (inl now) =
+            ap (λ k. k.found) now.1 ∙ right ∙ ap (λ k. by_path load k (path_for locations k)) (sym now.0)
+
+    recalled_kept : (old new : StoredSeen L) (key : List ℕ) (one : Option Kept) → kept_under key old.cache.kept ≡ one
+        → MatchOption one (Asks Loads old key new) (λ one. Untouched old new) → IsGood Good new → old.locations ≡ locations → AllKept old
+        → FindsKept key new × AllKept new
+    recalled_kept old new key None absent asks good same kept = asked_kept old new key absent asks good same kept
+    recalled_kept old new key (Some one) is untouched good same kept = (
+      ap (λ c. map_in (kept_under key c.kept)) untouched.cache ∙ ap map_in is ∙ kept key one is,
+      untouched_kept old new untouched kept,
+    )
+
+    -- where the table has a map, that is found, and else that of the file
+    found_right : (old new : StoredSeen L) (key : List ℕ) (stated : Option MapRecord)
+        → MatchOption stated (Recalls Loads old key new) (λ stated. Untouched old new) → IsGood Good new → old.locations ≡ locations → AllKept old
+        → (or_map stated (map_in (kept_under key new.cache.kept)) ≡ or_map stated (by_path load key (path_for locations key))) × AllKept new
+    found_right old new key None recalls good same kept = recalled_kept old new key (kept_under key old.cache.kept) refl recalls good same kept
+    found_right old new key (Some stated) untouched good same kept = (refl, untouched_kept old new untouched kept)
+
+    pub right_after : (old new : StoredSeen L) (url : List ℕ) → FindsIn Loads old url new → IsGood Good new → IsRight load words locations old
+        → (found_in new url ≡ stored_maps load words locations url) × IsRight load words locations new
+    right_after old new url finds good right =
+        let key = key_for locations url in
+        let P : List (List ℕ × MapRecord) × LocationsSeen → Type 0 = λ (w, l).
+        MatchOption (record_for url w) (Recalls Loads old (key_for l url) new) (λ stated. Untouched old new) in
+        let both : ◌≡◌ {A = List (List ℕ × MapRecord) × LocationsSeen} (old.words, old.locations) (words, locations) =
+        λ i. (right.words i, right.locations i) in
+        let all = found_right old new key (record_for url words) (subst P both finds.steps) good right.locations right.kept in
+        let new_words : new.words ≡ words = finds.words ∙ right.words in
+        let new_locations : new.locations ≡ locations = finds.locations ∙ right.locations in (
+          (λ i. or_map (record_for url (new_words i)) (map_in (kept_under (key_for (new_locations i) url) new.cache.kept)))
+              ∙ all.0 ∙ ap (λ path. or_map (record_for url words) (by_path load key path)) (path_of_key locations url),
+          record { words = new_words; locations = new_locations; kept = all.1 },
+        )

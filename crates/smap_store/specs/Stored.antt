@@ -1,0 +1,85 @@
+-- Where the map of a URL is found (this project's own): among those of a table; else among those that are remembered, under
+-- the text that stands for the URL; else in its file, which is then read, and what came of that is remembered.
+use Rattle.std.specs.Prelude.{◌≡◌, ◌⊎◌, ℕ, List, Option, Some, None, MatchOption}
+use Rattle.std.specs.Option.{IsSomeAnd}
+use Rattle.smap_locations.specs.Locations.{LocationsSeen, key_for, path_for}
+use Rattle.smap_record.specs.Record.{MapRecord}
+use Rattle.smap_trace.specs.Table.{record_for}
+use Rattle.smap_store.specs.Cache.{CacheSeen, Kept, Remembers, kept_under, short}
+
+-- the map that is remembered, where one is
+abbrev pub map_in : Option Kept → Option MapRecord
+map_in None = None
+map_in (Some one) = one.found
+
+-- the map of a table, where it has one, and else another
+abbrev pub or_map : Option MapRecord → (other : Option MapRecord) → Option MapRecord
+or_map None other = other
+or_map (Some stated) other = Some stated
+
+-- maps that are found there: in a table, and else in files, by what is remembered of these and by what reads them
+pub record StoredSeen (L : Type 0) : Type 0 where
+  pub words : List (List ℕ × MapRecord)
+  pub locations : LocationsSeen
+  pub cache : CacheSeen
+  pub loader : L
+
+-- what a loader may give for a URL and a path
+abbrev pub LoadsMay : (L : Type 0) → Type 1
+LoadsMay L = L → (url path : List ℕ) → Option MapRecord → Type 0
+
+-- what it gave, and how it stands then
+abbrev pub LoadsStep : (L : Type 0) → Type 1
+LoadsStep L = L → (url path : List ℕ) → Option (MapRecord × ℕ) → L → Type 0
+
+module _ {L : Type 0} where
+  -- what came for a URL of this path, and how the loader stands then: none and as before, where the URL has no path
+  abbrev pub Comes : LoadsStep L → (loader : L) (url : List ℕ) (path : Option (List ℕ)) → Option (MapRecord × ℕ) → (after : L) → Type 0
+  Comes Loads loader url None came after = (came ≡ None) × (after ≡ loader)
+  Comes Loads loader url (Some path) came after = Loads loader url path came after
+
+  -- what came for a URL that was not remembered is
+  pub record Asked (Loads : LoadsStep L) (old : StoredSeen L) (url : List ℕ) (new : StoredSeen L) : Type 0 where
+    pub came : Option (MapRecord × ℕ)
+    pub comes : Comes Loads old.loader url (path_for old.locations url) came new.loader
+    pub remembered : Remembers old.cache url came new.cache
+
+  -- there was not enough memory to ask for it
+  pub record Unasked (old new : StoredSeen L) : Type 0 where
+    pub cache : new.cache ≡ short old.cache
+    pub loader : new.loader ≡ old.loader
+
+  -- nothing was asked for, and nothing is changed
+  pub record Untouched (old new : StoredSeen L) : Type 0 where
+    pub cache : new.cache ≡ old.cache
+    pub loader : new.loader ≡ old.loader
+
+  abbrev pub Asks : LoadsStep L → (old : StoredSeen L) (url : List ℕ) (new : StoredSeen L) → Type 0
+  Asks Loads old url new = Asked Loads old url new ⊎ Unasked old new
+
+  -- what is remembered under this text is used, or it is asked for
+  abbrev pub Recalls : LoadsStep L → (old : StoredSeen L) (url : List ℕ) (new : StoredSeen L) → Type 0
+  Recalls Loads old url new = MatchOption (kept_under url old.cache.kept) (Asks Loads old url new) (λ one. Untouched old new)
+
+  -- what is found under a URL: what the table has, and else what is remembered
+  abbrev pub found_in : StoredSeen L → (url : List ℕ) → Option MapRecord
+  found_in maps url = or_map (record_for url maps.words) (map_in (kept_under (key_for maps.locations url) maps.cache.kept))
+
+  -- how the maps stand after the map of a URL was looked for
+  pub record FindsIn (Loads : LoadsStep L) (old : StoredSeen L) (url : List ℕ) (new : StoredSeen L) : Type 0 where
+    pub words : new.words ≡ old.words
+    pub locations : new.locations ≡ old.locations
+    pub steps : MatchOption (record_for url old.words) (Recalls Loads old (key_for old.locations url) new) (λ stated. Untouched old new)
+
+  -- what may come for a URL of this path: none, where it has no path, or else where there is not enough memory
+  abbrev pub MayCome : LoadsMay L → (loader : L) (url : List ℕ) (path : Option (List ℕ)) → (found : Option MapRecord) → Type 0
+  MayCome MayLoad loader url None found = found ≡ None
+  MayCome MayLoad loader url (Some path) found = (found ≡ None) ⊎ MayLoad loader url path found
+
+  -- what may be found for a URL from now on: what the table has; else what is remembered, or what may come
+  abbrev pub GivesIn : LoadsMay L → StoredSeen L → (url : List ℕ) → (found : Option MapRecord) → Type 0
+  GivesIn MayLoad maps url found =
+      let key = key_for maps.locations url in
+      MatchOption (record_for url maps.words)
+      (IsSomeAnd (kept_under key maps.cache.kept) (λ one. found ≡ one.found) ⊎ MayCome MayLoad maps.loader key (path_for maps.locations url) found)
+      (λ stated. found ≡ Some stated)

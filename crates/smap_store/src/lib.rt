@@ -1,0 +1,26 @@
+//! The maps of a trace that are read when a frame first names their URLs: from the files and folders of
+//! [`Locations`](smap_locations::Locations), and kept in memory while their bytes are within a bound.
+//!
+//! ```
+//! let mut locations = Locations::new(alloc);
+//! add_list(alloc, &mut locations, &words, "https://example.test/js/\tmaps/\n")?;
+//! let mut cache = MapCache::new(alloc, 1_073_741_824);
+//! let mut maps = StoredMaps { alloc, words: &words, locations: &locations, cache: &mut cache, loader: &mut loader };
+//! maps.find(b"https://example.test/js/app.js");
+//! let map = maps.map_for(b"https://example.test/js/app.js"); // that of maps/app.js.map, read by the loader
+//! ```
+#![tactic(auto)]
+
+mod cache;
+mod list;
+mod loader;
+mod refusal;
+mod stored;
+#[cfg(test)]
+mod tests;
+
+pub use cache::MapCache;
+pub use list::{add_folder, add_list, is_folder};
+pub use loader::{LoadedMap, MapLoader};
+pub use refusal::{ListFault, ListRefusal};
+pub use stored::StoredMaps;

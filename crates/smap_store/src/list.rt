@@ -1,0 +1,142 @@
+//! A list of the maps of URLs.
+ghost use Rattle.std.specs.Prelude.{◌≡◌, string_bytes, IfErr, IfOk, IsErrAnd, MatchOption, OnErr, OnOk};
+ghost use Rattle.std.specs.Str.Lines.{lines};
+ghost use Rattle.smap_store.specs.MapList.{IsRefused, IsTaken, PutsFile, PutsFolder, TakesList};
+ghost use Rattle.smap_store.specs.MapList.{file_fault, folder_fault, is_folder, is_passed_over};
+ghost use Rattle.smap_store.specs.declared.refusal.ListFault.TheVariants.{Memory};
+
+use crate::refusal::{ListFault, ListRefusal};
+use smap_locations::Locations;
+use smap_trace::{Table, is_bad_url};
+use std::alloc::Global;
+
+/// Adds the files and the folders of a list: lines of a URL and a path, or of a prefix of URLs and a folder's path, which
+/// ends in `/`, with a TAB between them. Lines end in LF or CR LF; empty ones and those that begin with `#` are passed over.
+/// The first line that is refused ends it, and those before it stay added. A URL that the table has is refused, too.
+pub fn add_list(
+    alloc: Global,
+    locations: &mut Locations,
+    words: &Table,
+    text: &str,
+) -> Result<(), ListRefusal>
+    ensures { TakesList words.now (lines text.now) locations.old result locations.new }
+{
+    let mut number = 0;
+    for line in text.lines() {
+        number += 1;
+        if let Err(fault) = add_line(alloc, locations, words, line) {
+            return Err(ListRefusal {
+                line: number,
+                fault,
+            });
+        }
+    }
+    Ok(())
+}
+
+// Adds what a line names. After a refusal nothing is changed.
+fn add_line(
+    alloc: Global,
+    locations: &mut Locations,
+    words: &Table,
+    line: &str,
+) -> Result<(), ListFault>
+    ensures taken { OnOk result (IsTaken words.now locations.old line.now locations.new) }
+    ensures kept { OnErr result (locations.new ≡ locations.old) }
+    ensures refused { IfErr result (IsRefused words.now locations.old line.now) }
+{
+    if is_passed_over(line.as_bytes()) {
+        return Ok(());
+    }
+    let Some((url, path)) = line.split_once('\t') else {
+        return Err(ListFault::NoTab);
+    };
+    if is_folder(path.as_bytes()) {
+        add_folder(alloc, locations, url, path)
+    } else {
+        add_file(alloc, locations, words, url, path)
+    }
+}
+
+// Adds a file for a URL. After a refusal nothing is changed.
+fn add_file(
+    alloc: Global,
+    locations: &mut Locations,
+    words: &Table,
+    url: &str,
+    path: &str,
+) -> Result<(), ListFault>
+    ensures added { OnOk result (PutsFile locations.old url.now path.now locations.new) }
+    ensures kept { OnErr result (locations.new ≡ locations.old) }
+    ensures refused { MatchOption (file_fault words.now locations.old url.now)
+        (IfErr result (λ fault. fault ≡ Memory)) (λ fault. IsErrAnd result (λ e. e ≡ fault)) }
+{
+    if is_bad_url(url.as_bytes()) {
+        return Err(ListFault::BadUrl);
+    }
+    if words.map_for(url.as_bytes()).is_some() || locations.has_file(url.as_bytes()) {
+        return Err(ListFault::Twice);
+    }
+    let (url, path) = texts(alloc, url, path)?;
+    match locations.add_file(url, path) {
+        Ok(()) => Ok(()),
+        Err(_) => Err(ListFault::Memory),
+    }
+}
+
+/// Adds a folder for a prefix, as a line of a list does. After a refusal nothing is changed.
+pub fn add_folder(
+    alloc: Global,
+    locations: &mut Locations,
+    prefix: &str,
+    folder: &str,
+) -> Result<(), ListFault>
+    ensures added { OnOk result (PutsFolder locations.old prefix.now folder.now locations.new) }
+    ensures kept { OnErr result (locations.new ≡ locations.old) }
+    ensures refused { MatchOption (folder_fault locations.old prefix.now)
+        (IfErr result (λ fault. fault ≡ Memory)) (λ fault. IsErrAnd result (λ e. e ≡ fault)) }
+{
+    if !is_folder(prefix.as_bytes()) {
+        return Err(ListFault::NoFolder);
+    }
+    if is_bad_url(prefix.as_bytes()) {
+        return Err(ListFault::BadUrl);
+    }
+    if locations.has_folder(prefix.as_bytes()) {
+        return Err(ListFault::Twice);
+    }
+    let (prefix, folder) = texts(alloc, prefix, folder)?;
+    match locations.add_folder(prefix, folder) {
+        Ok(()) => Ok(()),
+        Err(_) => Err(ListFault::Memory),
+    }
+}
+
+// Two texts of one's own.
+fn texts(alloc: Global, first: &str, second: &str) -> Result<(String, String), ListFault>
+    ensures texts { IfOk result
+        (λ texts. (string_bytes texts.0 ≡ first.now) × (string_bytes texts.1 ≡ second.now)) }
+    ensures memory { IfErr result (λ fault. fault ≡ Memory) }
+{
+    match String::from_str(alloc, first) {
+        Ok(first) => match String::from_str(alloc, second) {
+            Ok(second) => Ok((first, second)),
+            Err(_) => Err(ListFault::Memory),
+        },
+        Err(_) => Err(ListFault::Memory),
+    }
+}
+
+// Whether a line says nothing.
+fn is_passed_over(line: &[u8]) -> bool
+    ensures { result ≡ is_passed_over line.now }
+{
+    line.is_empty() || line.starts_with(b"#")
+}
+
+/// Whether a path is that of a folder, and a prefix that of URLs: it ends in `/`.
+pub fn is_folder(path: &[u8]) -> bool
+    ensures { result ≡ is_folder path.now }
+{
+    path.ends_with(b"/")
+}

@@ -1,0 +1,24 @@
+//! Why a list of maps is not taken.
+
+/// Why a list of maps is not taken: the first line that can't be, and why.
+#[derive(Clone, Copy, Debug, PartialEq, Eq)]
+pub struct ListRefusal {
+    /// The line's number, from 1.
+    pub line: u64,
+    pub fault: ListFault,
+}
+
+/// Why a line is not taken. The first that holds, in this order, is told.
+#[derive(Clone, Copy, Debug, PartialEq, Eq)]
+pub enum ListFault {
+    /// It has no TAB.
+    NoTab,
+    /// It names a folder, and what stands before the TAB does not end in `/`.
+    NoFolder,
+    /// What stands before the TAB is empty, holds a CR, or begins with `async ` or `eval at `.
+    BadUrl,
+    /// The URL has a map or a file already, or the prefix a folder.
+    Twice,
+    /// Memory ran out.
+    Memory,
+}

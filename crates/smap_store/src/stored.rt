@@ -1,0 +1,90 @@
+//! Maps that are read when they are named.
+ghost use Rattle.std.specs.Prelude.{◌≡◌, None};
+ghost use Rattle.smap_store.specs.Cache.{kept_under};
+ghost use Rattle.smap_store.specs.Stored.{Asks};
+ghost use Rattle.smap_store.specs.StoredMaps.{IsSameStore, stored_seen};
+
+use crate::cache::MapCache;
+use crate::loader::MapLoader;
+use smap_locations::Locations;
+use smap_record::MapFile;
+use smap_trace::{Maps, Table};
+use std::alloc::Global;
+
+/// The maps of a table, and those of files, which are read when a URL is first named, and kept in a cache.
+#[derive(Drop)]
+pub struct StoredMaps<'s, 'c, L: MapLoader> {
+    pub alloc: Global,
+    /// What it has comes first.
+    pub words: &'s Table,
+    /// The files of the others.
+    pub locations: &'s Locations,
+    pub cache: &'c mut MapCache,
+    pub loader: &'c mut L,
+}
+
+impl<L: MapLoader> StoredMaps<'_, '_, L> {
+    // Asks for the map of a URL that is not remembered, and remembers what came.
+    fn ask(&mut self, url: &[u8])
+        requires { kept_under url.now self.old.cache.now.kept ≡ None }
+        ensures steps { Asks L.Loads (stored_seen self.old) url.now (stored_seen self.new) }
+        ensures same { IsSameStore self.old self.new }
+    {
+        let Ok(key) = Vec::from_slice(self.alloc, url) else {
+            self.cache.count_shortage();
+            return;
+        };
+        let Ok(path) = self.locations.path_for(self.alloc, url) else {
+            self.cache.count_shortage();
+            return;
+        };
+        let loaded = match path {
+            Some(path) => self.loader.load(self.alloc, url, &path),
+            None => None,
+        };
+        self.cache.remember(self.alloc, key, loaded);
+    }
+}
+
+impl<L: MapLoader> Maps for StoredMaps<'_, '_, L> {
+    ghost use Rattle.smap_store.specs.Stored.{FindsIn, GivesIn, found_in};
+    ghost use Rattle.smap_store.specs.StoredMaps.{IsSameStore, stored_seen};
+    ghost use Rattle.smap_store.specs.StoredLaws.{given_in, same_in, some_in};
+
+    ghost Gives = { λ maps. GivesIn L.MayLoad (stored_seen maps) };
+
+    ghost Finds = { λ maps url after.
+        FindsIn L.Loads (stored_seen maps) url (stored_seen after) × IsSameStore maps after };
+
+    ghost found = { λ maps. found_in (stored_seen maps) };
+
+    fn find(&mut self, url: &[u8]) {
+        if self.words.map_for(url).is_some() {
+            return;
+        }
+        let key = self.locations.key_for(url);
+        if !self.cache.remembers(key) {
+            self.ask(key);
+        }
+    }
+
+    fn map_for(&self, url: &[u8]) -> Option<&MapFile> {
+        if let Some(map) = self.words.map_for(url) {
+            return Some(map);
+        }
+        let key = self.locations.key_for(url);
+        match self.cache.recall(key) {
+            Some(kept) => kept.map(),
+            None => None,
+        }
+    }
+
+    ghost some = { λ maps url. some_in L.MayLoad (stored_seen maps) url };
+
+    ghost given = { λ maps after url finds.
+        given_in L.MayLoad L.Loads L.given (stored_seen maps) (stored_seen after) url finds.0 };
+
+    ghost same = { λ maps after url other more finds.
+        same_in L.MayLoad L.Loads L.given L.same (stored_seen maps) (stored_seen after)
+        url other more finds.0 };
+}

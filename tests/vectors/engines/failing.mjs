@@ -1,0 +1,1 @@
+const made = () => { throw new Error("failing"); }; await null; made();

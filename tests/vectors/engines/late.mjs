@@ -1,0 +1,1 @@
+export async function run() { await null; throw new Error("late"); }

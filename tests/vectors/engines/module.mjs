@@ -1,0 +1,11 @@
+import { lost, Kept } from './dep.mjs?v=2';
+import * as all from './dep.mjs?v=2';
+export { fail } from './dep.mjs?v=2';
+await seen('a module', () => lost());
+await seen('a default', () => all.default());
+await seen('a class of a module', () => new Kept().run());
+await seen('a dynamic import', () => import('./late.mjs').then((late) => late.run()));
+await seen('a module that fails', () => import('./failing.mjs'));
+await seen('a module that is not there', () => import('./none.mjs'));
+await seen('awaited at the top', async () => { await null; lost(); });
+ended();
