@@ -47,16 +47,18 @@ MOST_BLOCK_BYTES = 536_870_912
 # none of these: Dask gives its blocks to others by itself.)
 RETRIES = 2
 
-# So many URLs are looked for in the block itself; of more, those that can't be in it are left out first.
-FEW_URLS = 32
+# What the program tells of a trace that it rewrote to its end, before its counts.
+SUMMARY = "ok "
 
-DIGITS = b"0123456789"
+# So many lines about maps are told, as by the program.
+MOST_TOLD = 100
 
 # A free port that only this machine reaches.
 LOOPBACK = "127.0.0.1:0"
 
-USAGE = """%(prog)s rewrite [--base URL] [--interval K] [--hide-ignored] [--block SIZE]
-                   [--scheduler ADDRESS] [--program PROGRAM] --output DIR URL=FILE.. -- TRACE.."""
+USAGE = """%(prog)s rewrite [--maps LIST] [--base URL] [--interval K] [--hide-ignored | --anywhere]
+                   [--cache BYTES] [--summary] [--block SIZE] [--scheduler ADDRESS] [--program PROGRAM]
+                   --output DIR [URL=FILE | PREFIX=FOLDER/].. -- TRACE.."""
 
 HELP = """
 Rewrites each TRACE as `smap rewrite` does, on many processors, to a file of the same name in DIR.
@@ -65,7 +67,8 @@ A file stands in DIR under that name only when it is whole. A trace whose file s
 over: so a run that ended early is given once more, and does what is missing. To have a trace rewritten anew, remove
 its file.
 
-A map is read only where its URL stands in a block.
+The maps of words URL=FILE are read for each block. Those of folders and lists are read only for blocks that name them;
+one that can't be had is told once, and ends nothing.
 """
 
 END = """
@@ -86,22 +89,16 @@ class Stop(Exception):
 # What runs on a worker
 
 
-def named_in(block: bytes, words: list[str]) -> list[str]:
-    """The words URL=FILE whose URL stands somewhere in the block.
-
-    A URL that is not there takes a look at the whole block. So of many URLs only those are looked for that stand on a
-    line of the block once all digits are left out: the lines of a trace differ most in their numbers, and few are left.
-    """
-    urls = [(os.fsencode(word.rpartition("=")[0]), word) for word in words]
-    if len(urls) > FEW_URLS:
-        shapes = b"\n".join(set(block.translate(None, DIGITS).split(b"\n")))
-        urls = [(url, word) for url, word in urls if url.translate(None, DIGITS) in shapes]
-    return [word for url, word in urls if url in block]
+def counts_in(line: str) -> dict[str, int]:
+    """The counts in the line that the program tells at the end."""
+    words = line.removeprefix(SUMMARY).split(" ")
+    return dict(zip(words[0::2], map(int, words[1::2])))
 
 
-def rewrite_block(folder: str, trace: str, start: int, length: int) -> tuple[int, str, str, int]:
+def rewrite_block(folder: str, trace: str, start: int, length: int) -> tuple[int, str, str, dict[str, int]]:
     """Rewrites the block of so many bytes that starts there, with the job of this folder of parts. The result is a
-    status and what the program said, and, where that is 0, the path of the part and how many lines the block has.
+    status and what the program said, and, where the block was rewritten to its end, the path of the part and the counts
+    of the program. The status may then be that of maps which could not be had.
 
     Each try writes a part of its own, since a program may outlive its worker for a while.
     """
@@ -110,26 +107,22 @@ def rewrite_block(folder: str, trace: str, start: int, length: int) -> tuple[int
         file.seek(start)
         block = file.read(length)
     if len(block) < length:
-        return *READ_FAILED, "", 0
+        return *READ_FAILED, "", {}
     part = os.path.join(folder, uuid.uuid4().hex)
-    words = named_in(block, job["words"])
-    if words:
-        with open(part, "xb") as output, tempfile.TemporaryFile() as errors:
-            command = [job["program"], "rewrite", *job["options"], *words]
-            status = subprocess.run(command, input=block, stdout=output, stderr=errors).returncode
-            errors.seek(0)
-            said = errors.read().decode(errors="replace").rstrip("\n")
-        if status < 0:
-            raise ChildProcessError(f"{job['program']} was killed by signal {-status}")
-        if status > 0:
-            return status, said, "", 0
-    else:
-        # No line of it is a frame of a map that is given, so every line stays. The program takes no empty table.
-        try:
-            Path(part).write_bytes(block)
-        except OSError:
-            return *WRITE_FAILED, "", 0
-    return 0, "", part, block.count(b"\n") + (not block.endswith(b"\n"))
+    with open(part, "xb") as output, tempfile.TemporaryFile() as errors:
+        command = [job["program"], "rewrite", "--summary", *job["options"], *job["words"]]
+        done = subprocess.run(command, input=block, stdout=output, stderr=errors, cwd=job["from"])
+        errors.seek(0)
+        said = errors.read().decode(errors="replace").rstrip("\n")
+    if done.returncode < 0:
+        raise ChildProcessError(f"{job['program']} was killed by signal {-done.returncode}")
+    before, _, last = said.rpartition("\n")
+    if not last.startswith(SUMMARY):
+        return done.returncode, said, "", {}
+    # With more memory the block may become another text.
+    if any(line.startswith("memory") for line in before.splitlines()):
+        return done.returncode, before, "", {}
+    return done.returncode, before, part, counts_in(last)
 
 
 # What runs where the command is given
@@ -229,11 +222,9 @@ def program_of(given: str | None) -> str:
     return str(BUILT)
 
 
-def try_options(program: str, options: list[str], folder: Path) -> None:
-    """Has the program read the options, over a map without mappings and an empty trace, before any block is begun."""
-    empty = folder / "empty.map"
-    empty.write_text('{"version":3,"sources":[],"mappings":""}')
-    command = [program, "rewrite", *options, f"none={empty}"]
+def try_options(program: str, options: list[str], words: list[str]) -> None:
+    """Has the program read the options, the list and the words over an empty trace, before any block is begun."""
+    command = [program, "rewrite", *options, *words]
     tried = subprocess.run(command, stdin=subprocess.DEVNULL, capture_output=True, text=True)
     if tried.returncode != 0:
         raise Stop(tried.returncode, tried.stderr.rstrip("\n"))
@@ -260,9 +251,31 @@ def show(bar: str) -> None:
         print(f"\r\33[2K{bar}", end="", file=sys.stderr, flush=True)
 
 
-def rewrite_all(client: Client, traces: list[Trace], folder: Path) -> int:
-    """Has all blocks rewritten, and joins what becomes of them. The answer is how many lines they have."""
-    lines = 0
+@dataclass
+class Told:
+    """What the programs told of all blocks: the greatest status, the lines about maps, and the sums of the counts."""
+
+    status: int = 0
+    lines: set[str] = field(default_factory=set)
+    counts: dict[str, int] = field(default_factory=dict)
+
+    def add(self, status: int, said: str, counts: dict[str, int]) -> None:
+        """Takes what was told of a block. A line that no block had before is told, up to so many."""
+        self.status = max(self.status, status)
+        for line in said.splitlines():
+            if line not in self.lines and len(self.lines) < MOST_TOLD:
+                self.lines.add(line)
+                show("")
+                print(line, file=sys.stderr)
+        for name, count in counts.items():
+            self.counts[name] = self.counts.get(name, 0) + count
+
+    def summary(self) -> str:
+        return SUMMARY + " ".join(f"{name} {count}" for name, count in self.counts.items())
+
+
+def rewrite_all(client: Client, traces: list[Trace], folder: Path, told: Told) -> None:
+    """Has all blocks rewritten, and joins what becomes of them."""
     tasks = [(trace, number) for trace in traces for number in range(len(trace.blocks))]
     futures: list[Future] = client.map(
         rewrite_block,
@@ -280,11 +293,11 @@ def rewrite_all(client: Client, traces: list[Trace], folder: Path) -> int:
     try:
         done = 0
         for batch in completed.batches():
-            for future, (status, said, part, count) in zip(batch, client.gather(batch)):
-                if status != 0:
+            for future, (status, said, part, counts) in zip(batch, client.gather(batch)):
+                if not part:
                     raise Stop(status, said)
                 trace, number = tasks_of.pop(future.key)
-                lines += count
+                told.add(status, said, counts)
                 try:
                     trace.add(number, Path(part))
                 except OSError:
@@ -296,7 +309,6 @@ def rewrite_all(client: Client, traces: list[Trace], folder: Path) -> int:
     finally:
         show("")
         client.cancel(list(completed.futures))
-    return lines
 
 
 def block_bytes(text: str) -> int:
@@ -323,9 +335,14 @@ def arguments(words: list[str]) -> argparse.Namespace:
         help="rewrite stack traces to the sources",
         allow_abbrev=False,
     )
-    rewrite.add_argument("--base", metavar="URL", help="as of `smap rewrite`")
-    rewrite.add_argument("--interval", metavar="K", help="as of `smap rewrite`")
-    rewrite.add_argument("--hide-ignored", action="store_true", help="as of `smap rewrite`")
+    same = "as of `smap rewrite`"
+    rewrite.add_argument("--maps", metavar="LIST", help=same)
+    rewrite.add_argument("--base", metavar="URL", help=same)
+    rewrite.add_argument("--interval", metavar="K", help=same)
+    rewrite.add_argument("--hide-ignored", action="store_true", help=same)
+    rewrite.add_argument("--anywhere", action="store_true", help=same)
+    rewrite.add_argument("--cache", metavar="BYTES", help=f"{same}, for each block")
+    rewrite.add_argument("--summary", action="store_true", help="tell the sums of the counts of all blocks at the end")
     rewrite.add_argument(
         "--block",
         metavar="SIZE",
@@ -344,33 +361,54 @@ def arguments(words: list[str]) -> argparse.Namespace:
         "--program", metavar="PROGRAM", help="smap itself; where not given, that which ./smap of this repository builds"
     )
     rewrite.add_argument("--output", metavar="DIR", type=Path, required=True, help="made where it is missing")
-    rewrite.add_argument("words", metavar="URL=FILE", nargs="+", help="the URL of frames, and the path of its map")
+    rewrite.add_argument(
+        "words",
+        metavar="URL=FILE",
+        nargs="*",
+        help="the URL of frames, and the path of its map; or a prefix of URLs, and a folder of maps",
+    )
     given = parser.parse_args(words[:split])
     given.traces = words[split + 1 :]
     if not given.traces:
         rewrite.error("there is no `--` with a TRACE behind it")
+    if not given.words and given.maps is None:
+        rewrite.error("there is no map: neither URL=FILE, nor PREFIX=FOLDER/, nor --maps")
     return given
 
 
-def run(given: argparse.Namespace) -> str:
-    """Does what is missing. The answer is the line that tells what was done."""
+def absolute(path: str) -> str:
+    """The whole path, which still ends in `/` where that of a folder does."""
+    whole = os.path.abspath(path)
+    return os.path.join(whole, "") if path.endswith("/") else whole
+
+
+def run(given: argparse.Namespace) -> int:
+    """Does what is missing, and tells what was done. The answer is the greatest status of all blocks."""
     begun = time.monotonic()
     words = []
     for word in given.words:
         url, sign, file = word.rpartition("=")
         if not sign:
             raise Stop(2, f"usage: no URL=FILE: {word}")
-        words.append(f"{url}={os.path.abspath(file)}")
+        words.append(f"{url}={absolute(file)}")
     options = ["--hide-ignored"] if given.hide_ignored else []
-    for name, value in (("--base", given.base), ("--interval", given.interval)):
+    options += ["--anywhere"] if given.anywhere else []
+    for name, value in (
+        ("--maps", given.maps and absolute(given.maps)),
+        ("--base", given.base),
+        ("--interval", given.interval),
+        ("--cache", given.cache),
+    ):
         options += [] if value is None else [f"{name}={value}"]
+    # The paths in a list are taken from where this command is given.
+    job = {"options": options, "words": words, "from": None if given.maps is None else os.getcwd()}
     output = given.output.absolute()
     to_do = traces_to_do(given.traces, output)
     program = program_of(given.program)
-    lines = 0
+    told = Told()
     with folder_of_parts(output) as folder:
-        try_options(program, options, folder)
-        (folder / "job").write_text(json.dumps({"program": program, "options": options, "words": words}))
+        try_options(program, options, words)
+        (folder / "job").write_text(json.dumps({"program": program, **job}))
         traces = [Trace(path, final, folder / f"whole-{number}") for number, (path, final) in enumerate(to_do)]
         for trace in traces:
             trace.blocks = list(cut(trace.path, given.block))
@@ -379,11 +417,14 @@ def run(given: argparse.Namespace) -> str:
         blocks = sum(len(trace.blocks) for trace in traces)
         if blocks > 0:
             with cluster_of(given.scheduler) as client:
-                lines = rewrite_all(client, traces, folder)
-    return (
-        f"ok traces {len(traces)} finished before {len(given.traces) - len(traces)} blocks {blocks} lines {lines} "
-        f"seconds {time.monotonic() - begun:.1f}"
+                rewrite_all(client, traces, folder, told)
+    if given.summary and blocks > 0:
+        print(told.summary(), file=sys.stderr)
+    print(
+        f"ok traces {len(traces)} finished before {len(given.traces) - len(traces)} blocks {blocks} "
+        f"lines {told.counts.get('lines', 0)} seconds {time.monotonic() - begun:.1f}"
     )
+    return told.status
 
 
 def fail(status: int, said: str) -> NoReturn:
@@ -395,7 +436,7 @@ def main() -> None:
     # Ends as an error does, so that the parts are removed.
     signal.signal(signal.SIGTERM, lambda *_: sys.exit(128 + signal.SIGTERM))
     try:
-        print(run(arguments(sys.argv[1:])))
+        sys.exit(run(arguments(sys.argv[1:])))
     except Stop as stop:
         fail(stop.status, stop.said)
     except KeyboardInterrupt:

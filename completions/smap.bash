@@ -14,14 +14,16 @@ _smap() {
     case $command in
     '') options='--help --version' ;;
     lookup | positions) options='--after --base --interval --json --help' ;;
-    rewrite) options='--anywhere --base --interval --hide-ignored --help' ;;
+    rewrite) options='--anywhere --base --cache --hide-ignored --interval --limit --maps --summary --help' ;;
     check) options='--base --interval --json --help' ;;
     show | compose) options='--base --help' ;;
     raw) options='--interval --help' ;;
     esac
 
     COMPREPLY=()
-    if [[ $before == --base ]]; then return; fi
+    case $before in
+    --base | --cache | --limit) return ;;
+    esac
     if [[ $before == --interval ]]; then
         mapfile -t COMPREPLY < <(compgen -W '1 4 16 64 256 1024 4096' -- "$current")
     elif [[ $current == -* ]]; then

@@ -17,4 +17,8 @@ complete -c smap -n '__fish_seen_subcommand_from lookup positions rewrite check 
 complete -c smap -n '__fish_seen_subcommand_from lookup positions' -l after -d 'The first mapping at or after the position'
 complete -c smap -n '__fish_seen_subcommand_from lookup positions check' -l json -d 'Answer in JSON'
 complete -c smap -n '__fish_seen_subcommand_from rewrite' -l anywhere -d 'Rewrite places anywhere in a line'
+complete -c smap -n '__fish_seen_subcommand_from rewrite' -l cache -x -d 'How many bytes of maps of folders and lists are kept'
 complete -c smap -n '__fish_seen_subcommand_from rewrite' -l hide-ignored -d 'Leave out the frames of ignored sources'
+complete -c smap -n '__fish_seen_subcommand_from rewrite' -l limit -x -d 'How many bytes of the text are taken'
+complete -c smap -n '__fish_seen_subcommand_from rewrite' -l maps -r -F -d 'A list of more maps, each a URL, a TAB and a file'
+complete -c smap -n '__fish_seen_subcommand_from rewrite' -l summary -d 'Tell counts on standard error at the end'
