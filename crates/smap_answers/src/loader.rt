@@ -42,8 +42,8 @@ impl<F: FileReader, E: ByteSink> FileLoader<'_, '_, '_, F, E> {
         ensures read { IfOk result (λ loaded. IsLoaded (F.gives self.now.maps.now.files.now)
             (option_copied self.now.maps.now.base) self.now.maps.now.interval self.now.number
             url.now path.now loaded.map.stated loaded.file_bytes) }
-        ensures failed { IfErr result (λ failure. OrMemory (FailsToRead (F.gives self.now.maps.now.files.now)
-            (option_copied self.now.maps.now.base) self.now.maps.now.interval self.now.number
+        ensures failed { IfErr result (λ failure. OrMemory (FailsToRead
+            (F.gives self.now.maps.now.files.now) (option_copied self.now.maps.now.base) self.now.maps.now.interval self.now.number
             url.now path.now) (failure_telling failure)) }
     {
         let bytes = file_bytes(alloc, self.maps.files, self.number, path)?;
@@ -60,8 +60,8 @@ impl<F: FileReader, E: ByteSink> FileLoader<'_, '_, '_, F, E> {
         path: &str,
         bytes: Vec<u8>,
     ) -> Result<MapFile, Failure>
-        ensures read { IfOk result (λ map. IsReadAs (option_copied self.now.maps.now.base) self.now.maps.now.interval
-            (without_query url.now) bytes.items (Ok map.stated)) }
+        ensures read { IfOk result (λ map. IsReadAs (option_copied self.now.maps.now.base)
+            self.now.maps.now.interval (without_query url.now) bytes.items (Ok map.stated)) }
         ensures refused { IfErr result (λ failure. OrMemory
             (IsReadRefusal (option_copied self.now.maps.now.base) self.now.maps.now.interval
             (without_query url.now) path.now bytes.items)
@@ -75,7 +75,8 @@ impl<F: FileReader, E: ByteSink> FileLoader<'_, '_, '_, F, E> {
 
     // Tells why a map can't be had, and counts that.
     fn note(&mut self, failure: &Failure)
-        ensures noted { Notes (loader_seen E.seen self.old) (failure_telling failure.now) (loader_seen E.seen self.new) }
+        ensures noted { Notes (loader_seen E.seen self.old) (failure_telling failure.now)
+            (loader_seen E.seen self.new) }
         ensures maps { self.new.maps ≡ self.old.maps }
         ensures number { self.new.number ≡ self.old.number }
         ensures errors { self.new.errors.ghost_name ≡ self.old.errors.ghost_name }

@@ -56,8 +56,8 @@ pub fn rewrite_from<F: FileReader, R: ByteSource, W: ByteSink, E: ByteSink>(
     requires input_works { (R.seen input.old).failed ≡ false }
     requires output_works { (W.seen output.old).failed ≡ false }
     requires limit { request.now.limit_bytes < 2 ^ 63 }
-    ensures { RewritesFrom (F.gives request.now.maps.now.files.now) (option_copied request.now.maps.now.base)
-        request.now.maps.now.interval (request_seen request.now) result
+    ensures { RewritesFrom (F.gives request.now.maps.now.files.now)
+        (option_copied request.now.maps.now.base) request.now.maps.now.interval (request_seen request.now) result
         (streams_seen (R.seen input.old) (W.seen output.old) (E.seen errors.old))
         (streams_seen (R.seen input.new) (W.seen output.new) (E.seen errors.new)) }
 {
@@ -99,8 +99,8 @@ fn over_store<F: FileReader, R: ByteSource, W: ByteSink, E: ByteSink>(
     requires input_works { (R.seen input.old).failed ≡ false }
     requires output_works { (W.seen output.old).failed ≡ false }
     requires limit { request.now.limit_bytes < 2 ^ 63 }
-    ensures over { IsOverStore (F.gives request.now.maps.now.files.now) (option_copied request.now.maps.now.base)
-        request.now.maps.now.interval (request_seen request.now) sources.now result
+    ensures over { IsOverStore (F.gives request.now.maps.now.files.now)
+        (option_copied request.now.maps.now.base) request.now.maps.now.interval (request_seen request.now) sources.now result
         (streams_seen (R.seen input.old) (W.seen output.old) (E.seen errors.old))
         (streams_seen (R.seen input.new) (W.seen output.new) (E.seen errors.new)) }
     ensures output_failure { (W.seen output.new).failed ≡ is_write_fault result.result }
@@ -155,13 +155,15 @@ fn rewrite_text<L: MapLoader, R: ByteSource, W: ByteSink>(
     requires input_works { (R.seen input.old).failed ≡ false }
     requires output_works { (W.seen output.old).failed ≡ false }
     requires limit { asked.now.options.most < 2 ^ 63 }
-    ensures rewrites { IfOk result (RewritesText asked.now.anywhere (FindsIn L.Loads) (places_of asked.now.sources.now)
-        asked.now.options.hide_ignored asked.now.options.most
+    ensures rewrites { IfOk result (RewritesText asked.now.anywhere (FindsIn L.Loads)
+        (places_of asked.now.sources.now) asked.now.options.hide_ignored asked.now.options.most
         (devices_seen (R.seen input.old) (W.seen output.old))
         (devices_seen (R.seen input.new) (W.seen output.new))
-        (store_of asked.now.sources.now cache.old loader.old) (store_of asked.now.sources.now cache.new loader.new)) }
+        (store_of asked.now.sources.now cache.old loader.old)
+        (store_of asked.now.sources.now cache.new loader.new)) }
     ensures front { IfErr result (RewritesTextFront asked.now.anywhere
-        (GivesIn L.MayLoad (store_of asked.now.sources.now cache.old loader.old)) (places_of asked.now.sources.now)
+        (GivesIn L.MayLoad (store_of asked.now.sources.now cache.old loader.old))
+        (places_of asked.now.sources.now)
         asked.now.options.hide_ignored asked.now.options.most
         (devices_seen (R.seen input.old) (W.seen output.old))
         (devices_seen (R.seen input.new) (W.seen output.new))) }
@@ -191,11 +193,14 @@ fn rewrite_stored<L: MapLoader, R: ByteSource, W: ByteSink>(
     requires input_works { (R.seen input.old).failed ≡ false }
     requires output_works { (W.seen output.old).failed ≡ false }
     requires limit { asked.now.options.most < 2 ^ 63 }
-    ensures rewrites { IfOk result (RewritesOver (FindsIn L.Loads) found_in asked.now.options.hide_ignored asked.now.options.most
+    ensures rewrites { IfOk result (RewritesOver (FindsIn L.Loads) found_in
+        asked.now.options.hide_ignored asked.now.options.most
         (devices_seen (R.seen input.old) (W.seen output.old))
         (devices_seen (R.seen input.new) (W.seen output.new))
-        (store_of asked.now.sources.now cache.old loader.old) (store_of asked.now.sources.now cache.new loader.new)) }
-    ensures front { IfErr result (RewritesFrontOver (GivesIn L.MayLoad (store_of asked.now.sources.now cache.old loader.old))
+        (store_of asked.now.sources.now cache.old loader.old)
+        (store_of asked.now.sources.now cache.new loader.new)) }
+    ensures front { IfErr result (RewritesFrontOver
+        (GivesIn L.MayLoad (store_of asked.now.sources.now cache.old loader.old))
         asked.now.options.hide_ignored asked.now.options.most
         (devices_seen (R.seen input.old) (W.seen output.old))
         (devices_seen (R.seen input.new) (W.seen output.new))) }
@@ -227,12 +232,15 @@ fn rewrite_stored_places<L: MapLoader, R: ByteSource, W: ByteSink>(
     requires input_works { (R.seen input.old).failed ≡ false }
     requires output_works { (W.seen output.old).failed ≡ false }
     requires limit { asked.now.options.most < 2 ^ 63 }
-    ensures rewrites { IfOk result (RewritesPlacesCounted (FindsIn L.Loads) (places_of asked.now.sources.now) asked.now.options.most
+    ensures rewrites { IfOk result (RewritesPlacesCounted (FindsIn L.Loads)
+        (places_of asked.now.sources.now) asked.now.options.most
         (devices_seen (R.seen input.old) (W.seen output.old))
         (devices_seen (R.seen input.new) (W.seen output.new))
-        (store_of asked.now.sources.now cache.old loader.old) (store_of asked.now.sources.now cache.new loader.new)) }
+        (store_of asked.now.sources.now cache.old loader.old)
+        (store_of asked.now.sources.now cache.new loader.new)) }
     ensures front { IfErr result (RewritesPlacesFrontOver
-        (GivesIn L.MayLoad (store_of asked.now.sources.now cache.old loader.old)) (places_of asked.now.sources.now)
+        (GivesIn L.MayLoad (store_of asked.now.sources.now cache.old loader.old))
+        (places_of asked.now.sources.now)
         asked.now.options.most
         (devices_seen (R.seen input.old) (W.seen output.old))
         (devices_seen (R.seen input.new) (W.seen output.new))) }

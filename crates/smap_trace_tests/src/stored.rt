@@ -75,7 +75,7 @@ const ROWS: &[(Words, Option<&str>, &str, &str)] = &[
         "at https://ex.test/js/app.js:1:1\nat https://ex.test/lib/b.js:1:1\nat https://ex.test/js/ignored.js:1:1\n",
         "3|at https://ex.test/js/b.ts:1:1\nat https://ex.test/lib/a.ts:1:1\nat https://ex.test/js/ignored.js:1:1\n|device: read other/ignored.js.map\n",
     ),
-    // A map that can't be read or is refused is told once, its frames stay, and the greatest status of all is that of the run.
+    // A map that can't be read or is refused is told once, and its frames stay. The status is the greatest of all.
     (
         JS,
         None,
