@@ -16,7 +16,7 @@ use Rattle.smap_places.specs.Candidates.{run_length, url_bytes, with_run}
 use Rattle.smap_places.specs.Places.{PlaceUrl, begun_at, numbers_after}
 use Rattle.smap_places.specs.PlacesNear.{DecidedWithin, EndsAtLines}
 use Rattle.smap_places.specs.Private.Finder.{is_among}
-use Rattle.smap_places.specs.Private.StoredPlaces.{HasLengths, IsLongest, KnowsLengths}
+use Rattle.smap_places.specs.Private.StoredPlaces.{HasLengths, IsBarred, IsLongest, IsOpen, KnowsLengths}
 use Rattle.smap_places.specs.StoredPlaces.{MapsSeen, is_named, is_prefix, stored_place_at}
 use Rattle.smap_places.specs.declared.lengths.Lengths.{Lengths}
 use Rattle.smap_places.proofs.BegunLaws.{not_begun}
@@ -249,6 +249,18 @@ module _ (named prefixes : List ℕ → Bool) where
   unfolding candidate_at
   none_at_all text none = place_none text (url_bytes named prefixes text) (none (url_bytes named prefixes text))
 
+  no_more : (n : ℕ) → max n 0 ≡ n
+  no_more n = omega arith
+
+  -- nor where nothing runs from a prefix, and no numbers stand after the named URL
+  pub no_candidate : (text : List ℕ) → run_bytes text (prefix_bytes prefixes text) ≡ 0
+      → (1 ≤ named_bytes named text → numbers_after (drop (named_bytes named text) text) ≡ None) → candidate_at named prefixes text ≡ None
+  unfolding candidate_at
+  no_candidate text no_run none =
+      ap (λ n. place_of_bytes text (max (named_bytes named text) n)) no_run
+      ∙ ap (place_of_bytes text) (no_more (named_bytes named text))
+      ∙ place_none text (named_bytes named text) none
+
   module _ (urls folders : Lengths) (has_urls : HasLengths urls named) (has_folders : HasLengths folders prefixes) (longest : ℕ)
       (is : IsLongest urls.greatest folders.greatest longest) where
     bytes_few : (text : List ℕ) → url_bytes named prefixes text ≤ longest
@@ -335,6 +347,39 @@ module _ (maps : MapsSeen) (urls folders : Lengths) (longest : Option ℕ) (know
           not_begun (stored_place_at maps) line i
           (none_near (is_named maps) (is_prefix maps) urls folders known.named known.prefixes most few (drop i line)
           (λ bytes some within. ap numbers_after (drop-drop bytes i line) ∙ none (i + bytes) (omega (arith, least, some)) (omega (arith, below, within, far))))
+
+-- none begins where no named URL reaches the numbers, and no prefix what bars
+module _ (maps : MapsSeen) (line : List ℕ) (near first numbers barred : ℕ)
+    (none : (i : ℕ) → near < i → i < numbers → numbers_after (drop i line) ≡ None) (bars : IsBarred line near barred)
+    (opens : IsOpen maps near first numbers barred) (i : ℕ) (least : near ≤ i) (below : i < first) where
+  abbrev named_there : ℕ
+  named_there = named_bytes (is_named maps) (drop i line)
+
+  abbrev prefix_there : ℕ
+  prefix_there = prefix_bytes (is_prefix maps) (drop i line)
+
+  no_run : 1 ≤ prefix_there → run_length 2048 (drop prefix_there (drop i line)) ≡ None
+  no_run some = elim (greatest_passes (has_prefix (is_prefix maps) (drop i line)) (length (drop i line))) [
+    | inl zero_is ↦ absurd (omega (arith, zero_is, some))
+    | inr on ↦
+        let short = (opens (take prefix_there (drop i line)) i least below).1 (prefix_on (is_prefix maps) (drop i line) prefix_there on) in
+        let all = length-take-le prefix_there (drop i line) (greatest_within (has_prefix (is_prefix maps) (drop i line)) (length (drop i line))) in
+        ap (run_length 2048) (drop-drop prefix_there i line) ∙ bars (i + prefix_there) (omega (arith, least, some)) (omega (arith, short, all))
+  ]
+
+  none_after : 1 ≤ named_there → numbers_after (drop named_there (drop i line)) ≡ None
+  none_after some = elim (greatest_passes (has_named (is_named maps) (drop i line)) (length (drop i line))) [
+    | inl zero_is ↦ absurd (omega (arith, zero_is, some))
+    | inr on ↦
+        let short = (opens (take named_there (drop i line)) i least below).0 (named_on (is_named maps) (drop i line) named_there on) in
+        let all = length-take-le named_there (drop i line) (greatest_within (has_named (is_named maps) (drop i line)) (length (drop i line))) in
+        ap numbers_after (drop-drop named_there i line) ∙ none (i + named_there) (omega (arith, least, some)) (omega (arith, short, all))
+  ]
+
+  pub stored_none_open : begun_at (stored_place_at maps) line i ≡ None
+  stored_none_open =
+      not_begun (stored_place_at maps) line i
+      (no_candidate (is_named maps) (is_prefix maps) (drop i line) (run_none (drop i line) prefix_there no_run) none_after)
 
 -- ---- the lengths are known
 

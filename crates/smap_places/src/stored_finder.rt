@@ -3,7 +3,7 @@ ghost use Rattle.std.specs.Prelude.{◌≡◌, ◌<◌, ◌≤◌, ◌+◌, IfOk
 ghost use Rattle.smap_lines.specs.Lines.{has_line_end};
 ghost use Rattle.smap_places.specs.Candidates.{has_named, has_prefix, named_bytes, place_of_bytes, prefix_bytes, run_bytes};
 ghost use Rattle.smap_places.specs.PlaceSeen.{IsNext, NoneBetween, place_seen};
-ghost use Rattle.smap_places.specs.Private.StoredPlaces.{IsBarred, IsLongest};
+ghost use Rattle.smap_places.specs.Private.StoredPlaces.{IsBarred, IsLongest, IsOpen};
 ghost use Rattle.smap_places.specs.StoredPlaces.{is_named, is_prefix, stored_place_at};
 
 use crate::begins::may_begin;
@@ -67,6 +67,17 @@ impl<'t> StoredPlaceFinder<'t> {
             prefixes,
             longest,
         })
+    }
+
+    // The first byte from `near` on where a named URL may begin that ends before these numbers, or a prefix that ends at
+    // `barred` or after it.
+    fn first_open(&self, near: usize, numbers: usize, barred: usize) -> usize
+        ensures after { near ≤ result }
+        ensures open { IsOpen self.now near result numbers barred }
+    {
+        let named = numbers.saturating_sub(self.named.greatest);
+        let in_folder = barred.saturating_sub(self.prefixes.greatest);
+        named.min(in_folder).max(near)
     }
 
     // The first place that begins from `low` on and before `high`. No URL runs behind a prefix that ends before `barred`.
@@ -192,8 +203,9 @@ impl UrlSeeker for StoredPlaceFinder<'_> {
         let mut start = from;
         while start < high {
             let numbers = find_numbers(text, start + 1)?;
-            let low = first_start(self.longest, start, numbers);
-            let barred = barred_end(text, low, numbers);
+            let near = first_start(self.longest, start, numbers);
+            let barred = barred_end(text, near, numbers);
+            let low = self.first_open(near, numbers, barred);
             if let Some(place) = self.first_between(text, low, numbers.min(high), barred) {
                 return Some(place);
             }

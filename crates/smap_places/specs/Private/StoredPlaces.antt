@@ -23,3 +23,9 @@ pub record KnowsLengths (urls folders : Lengths) (most : Option ℕ) (maps : Map
 -- behind a prefix that ends after one byte and before another no URL runs
 abbrev pub IsBarred : (line : List ℕ) → (low high : ℕ) → Type 0
 IsBarred line low high = (end : ℕ) → low < end → end < high → run_length 2048 (drop end line) ≡ None
+
+-- between one byte and another no URL of these maps begins that may reach these numbers, and no prefix that ends at the last byte
+-- or after it
+abbrev pub IsOpen : MapsSeen → (near first numbers barred : ℕ) → Type 0
+IsOpen maps near first numbers barred = (text : List ℕ) → (i : ℕ) → near ≤ i → i < first →
+    (is_named maps text ≡ true → i + length text < numbers) × (is_prefix maps text ≡ true → i + length text < barred)
