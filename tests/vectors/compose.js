@@ -74,4 +74,4 @@ function composedMap(outer, source, inner) {
   return { file, ignoreList, mappings, names, sources, sourcesContent, version: 3 };
 }
 
-module.exports = { composedMap };
+module.exports = { composedMap, encoded, follow, sourceNameOf };

@@ -10,6 +10,7 @@
 
 mod answers;
 mod anywhere;
+mod chains;
 mod composed_maps;
 mod composing;
 mod encodings;
@@ -28,6 +29,7 @@ mod tables;
 mod traces;
 mod written_maps;
 
+pub use chains::{ChainOfThree, ChainOfTwo, NamedMap, chains_of_three, chains_of_two};
 pub use composing::{ComposedThree, ComposedTwo, INNER, OUTER, threes, twos};
 pub use intervals::INTERVALS;
 pub use rows::{caret_text, halves, rows_of};
