@@ -12,7 +12,7 @@ use Rattle.smap_index.specs.Answer.{answer_with, answer_at_or_before}
 use Rattle.smap_index.specs.declared.answer.Answer.{Answer}
 use Rattle.smap_index.specs.declared.answer.Answer.TheVariants.{Nothing, Unmapped, Found}
 use Rattle.smap_compose.specs.Follow.{CountedMappings, moved_origin, origin_of_answer, followed_origin, follow, followed, followed_answer}
-use Rattle.smap_compose.proofs.FollowLaws.{answer_followed}
+use Rattle.smap_compose.proofs.FollowLaws.{answer_alike}
 
 -- two moves are one by the sum
 two_moves : (a b : ℕ) (inner outer : Option ℕ) (further : Option ℕ)
@@ -24,8 +24,8 @@ two_moves a b inner outer (Some n) = ap Some (add_assoc a b n)
 module _ (first : CountedMappings) (s : ℕ) (second : CountedMappings) (t : ℕ) (third : CountedMappings) where
   -- what the third list makes of an origin of the second that was moved after the first's
   moved_further : (name : Option ℕ) (origin : Origin) (answer : Answer)
-      → origin_of_answer (followed first s second) (moved_origin first name origin).name answer
-      ≡ option_map (moved_origin first name) (origin_of_answer second origin.name answer)
+      → origin_of_answer (first.sources + second.sources) (first.names + second.names) (moved_origin first.sources first.names name origin).name answer
+      ≡ option_map (moved_origin first.sources first.names name) (origin_of_answer second.sources second.names origin.name answer)
   moved_further name origin Nothing = refl
   moved_further name origin (Unmapped column) = refl
   moved_further name origin (Found column further) =
@@ -34,7 +34,7 @@ module _ (first : CountedMappings) (s : ℕ) (second : CountedMappings) (t : ℕ
 
   -- an answer that has an origin or none gives that origin moved
   moved_answer : (name : Option ℕ) (column : ℕ) (origin : Option Origin)
-      → origin_of_answer first name (answer_with column origin) ≡ option_map (moved_origin first name) origin
+      → origin_of_answer first.sources first.names name (answer_with column origin) ≡ option_map (moved_origin first.sources first.names name) origin
   moved_answer name column None = refl
   moved_answer name column (Some origin) = refl
 
@@ -47,14 +47,14 @@ module _ (first : CountedMappings) (s : ℕ) (second : CountedMappings) (t : ℕ
 
   -- an origin of the second list, moved after the first's and then followed, is the one that was followed and then moved
   moved_then_followed : (name : Option ℕ) (origin : Origin)
-      → followed_origin (followed first s second) (first.sources + t) third (moved_origin first name origin)
-      ≡ option_map (moved_origin first name) (followed_origin second t third origin)
+      → followed_origin (followed first s second) (first.sources + t) third (moved_origin first.sources first.names name origin)
+      ≡ option_map (moved_origin first.sources first.names name) (followed_origin second t third origin)
   moved_then_followed name origin =
-      ap (λ is. if is then origin_of_answer (followed first s second) (moved_origin first name origin).name found
-      else Some (moved_origin first name origin)) (same_source origin.source)
+      ap (λ is. if is then origin_of_answer (first.sources + second.sources) (first.names + second.names) (moved_origin first.sources first.names name origin).name found
+      else Some (moved_origin first.sources first.names name origin)) (same_source origin.source)
       ∙ ⊎_elim
-      (λ same. cond-true _ _ _ same ∙ moved_further name origin found ∙ ap (option_map (moved_origin first name)) (sym (cond-true _ _ _ same)))
-      (λ other. cond-false _ _ _ other ∙ ap (option_map (moved_origin first name)) (sym (cond-false _ _ _ other)))
+      (λ same. cond-true _ _ _ same ∙ moved_further name origin found ∙ ap (option_map (moved_origin first.sources first.names name)) (sym (cond-true _ _ _ same)))
+      (λ other. cond-false _ _ _ other ∙ ap (option_map (moved_origin first.sources first.names name)) (sym (cond-false _ _ _ other)))
       (cases_Bool (eqb origin.source t))
     where
       found : Answer
@@ -62,8 +62,8 @@ module _ (first : CountedMappings) (s : ℕ) (second : CountedMappings) (t : ℕ
 
   -- what the second list answers, followed in either way
   either_way : (name : Option ℕ) (answer : Answer)
-      → option_and_then (followed_origin (followed first s second) (first.sources + t) third) (origin_of_answer first name answer)
-      ≡ origin_of_answer first name (followed_answer second t third answer)
+      → option_and_then (followed_origin (followed first s second) (first.sources + t) third) (origin_of_answer first.sources first.names name answer)
+      ≡ origin_of_answer first.sources first.names name (followed_answer second t third answer)
   either_way name Nothing = refl
   either_way name (Unmapped column) = refl
   either_way name (Found column origin) = moved_then_followed name origin ∙ sym (moved_answer name column (followed_origin second t third origin))
@@ -76,7 +76,7 @@ module _ (first : CountedMappings) (s : ℕ) (second : CountedMappings) (t : ℕ
       (λ same.
       ap (option_and_then (followed_origin (followed first s second) (first.sources + t) third)) (cond-true _ _ _ same)
       ∙ either_way origin.name (answer_at_or_before second.mappings origin.line origin.column)
-      ∙ ap (origin_of_answer first origin.name) (sym (answer_followed second t third origin.line origin.column))
+      ∙ ap (origin_of_answer first.sources first.names origin.name) (sym (answer_alike (followed_origin second t third) origin.line origin.column second.mappings))
       ∙ sym (cond-true _ _ _ same))
       (λ other.
       ap (option_and_then (followed_origin (followed first s second) (first.sources + t) third)) (cond-false _ _ _ other)

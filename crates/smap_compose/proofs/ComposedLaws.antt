@@ -1,8 +1,7 @@
 -- What a composed map keeps to: it may be written as one regular map.
-use Rattle.std.proofs.Common.{◌≡◌, ℕ, ◌+◌, ◌≤◌, false, List, ◌++◌, length, map, sym, ap, subst, ◌∙◌, arith}
+use Rattle.std.proofs.Common.{◌≡◌, ℕ, ◌≤◌, false, List, length, sym, subst, arith}
 use Rattle.std.specs.List.{All}
 use Rattle.std.proofs.lemmas.Bool.{ltb-false}
-use Rattle.std.proofs.lemmas.List.{length-append, length-map}
 use Rattle.smap_mappings.specs.Accepted.{IsAccepted}
 use Rattle.smap_mappings.specs.Canonical.{canonical_text}
 use Rattle.smap_mappings.specs.Encode.{is_text_too_long}
@@ -11,11 +10,6 @@ use Rattle.smap_mappings.specs.Within.{IsWithin}
 use Rattle.smap_mappings.specs.declared.mapping.Mapping.{Mapping}
 use Rattle.smap_record.specs.Limits.{most_listed}
 use Rattle.smap_record.specs.ReadBack.{IsRegularMap}
-
--- as many entries as those of both maps
-pub entries_counted : {A B : Type 0} (f : A → B) (items : List A) (first second : List B) → map f items ≡ first ++ second
-    → length items ≡ length first + length second
-entries_counted f items first second are = sym (length-map items f) ∙ ap length are ∙ length-append first second
 
 pub is_regular : (list : List Mapping) (sources names s n : ℕ) → s ≡ sources → n ≡ names → sources ≤ most_listed → names ≤ most_listed
     → is_text_too_long list ≡ false → All (IsWithin sources names) list

@@ -1,6 +1,6 @@
--- What composing two maps gives, and why it is refused, which is this project's own. The sources of both maps stand side
--- by side, and so do their names: none is merged, and the source that is followed stays listed.
-use Rattle.std.specs.Prelude.{ℕ, ◌+◌, List, ◌++◌, Option, Some, None, Result, Bool, ◌||◌, nat_le, nat_lt, if◌then◌else◌, length}
+-- What composing maps gives, and why it is refused, which is this project's own. The sources of all maps stand side by side,
+-- and so do their names: none is merged, and the sources that are followed stay listed.
+use Rattle.std.specs.Prelude.{ℕ, ◌+◌, List, [], ◌∷◌, ◌++◌, Option, Some, None, Result, Bool, ◌||◌, nat_le, nat_lt, if◌then◌else◌, flat_map, length, map, option_map}
 use Rattle.std.specs.Option.{option_or}
 use Rattle.smap_mappings.specs.Encode.{is_text_too_long}
 use Rattle.smap_mappings.specs.declared.mapping.Mapping.{Mapping}
@@ -10,6 +10,8 @@ use Rattle.smap_record.specs.Record.{MapRecord}
 use Rattle.smap_record.specs.Refusals.{unless}
 use Rattle.smap_record.specs.Sources.{StatedSource}
 use Rattle.smap_compose.specs.Follow.{CountedMappings, followed}
+use Rattle.smap_compose.specs.FollowAll.{followed_all}
+use Rattle.smap_compose.specs.InnerNames.{source_from}
 use Rattle.smap_compose.specs.declared.refusal.ComposeRefusal.{ComposeRefusal}
 use Rattle.smap_compose.specs.declared.refusal.ComposeRefusal.TheVariants.{SourceIndex, TooLarge}
 
@@ -66,3 +68,66 @@ compose_refusal outer source inner =
 -- what two maps compose to, or why they do not
 abbrev pub composed_of : MapRecord → ℕ → MapRecord → Result Composition ComposeRefusal
 composed_of outer source inner = unless (compose_refusal outer source inner) (composition outer source inner)
+
+-- ---- all inner maps at once, source by source of the outer map: some of its sources have none
+
+-- the mappings of the inner maps
+abbrev pub inner_lists : List (Option MapRecord) → List (Option CountedMappings)
+inner_lists inners = map (option_map mappings_of_map) inners
+
+abbrev pub all_followed : MapRecord → List (Option MapRecord) → CountedMappings
+all_followed outer inners = followed_all (mappings_of_map outer) (inner_lists inners)
+
+-- the sources of the inner map of a source, where it has one, as they are called by it
+abbrev pub sources_below : StatedSource → Option MapRecord → List StatedSource
+sources_below source None = []
+sources_below source (Some inner) = map (source_from source.name) inner.sources
+
+-- those of the inner maps of all these sources
+abbrev pub sources_within : List StatedSource → List (Option MapRecord) → List StatedSource
+sources_within [] inners = []
+sources_within (source ∷ sources) [] = []
+sources_within (source ∷ sources) (inner ∷ inners) = sources_below source inner ++ sources_within sources inners
+
+abbrev pub names_within : Option MapRecord → List (List ℕ)
+names_within None = []
+names_within (Some inner) = inner.names
+
+-- the outer map's mappings, followed through all inner maps, with the sources and names of all; it is a map of the file that
+-- the outer map is of
+abbrev pub composition_of_all : MapRecord → List (Option MapRecord) → Composition
+composition_of_all outer inners = record {
+  mappings = (all_followed outer inners).mappings;
+  sources = outer.sources ++ sources_within outer.sources inners;
+  names = outer.names ++ flat_map names_within inners;
+  file = outer.file;
+}
+
+-- the maps have more sources together than a map lists, or more names
+abbrev pub all_list_too_many : MapRecord → List (Option MapRecord) → Bool
+all_list_too_many outer inners =
+    nat_lt most_listed (all_followed outer inners).sources || nat_lt most_listed (all_followed outer inners).names
+
+-- the refusal that the numbers of sources and names decide, if there is one
+abbrev pub count_refusal_of_all : MapRecord → List (Option MapRecord) → Option ComposeRefusal
+count_refusal_of_all outer inners = if all_list_too_many outer inners then Some TooLarge else None
+
+-- a composed map, where its canonical text is not too long
+abbrev pub unless_too_long : Composition → Result Composition ComposeRefusal
+unless_too_long whole = unless (if is_text_too_long whole.mappings then Some TooLarge else None) whole
+
+-- what a map and the inner maps of its sources compose to, or why they do not
+abbrev pub all_composed : MapRecord → List (Option MapRecord) → Result Composition ComposeRefusal
+all_composed outer inners =
+    unless
+    (option_or (count_refusal_of_all outer inners) (if is_text_too_long (all_followed outer inners).mappings then Some TooLarge else None))
+    (composition_of_all outer inners)
+
+-- ---- less of a composed map
+
+abbrev pub without_content : StatedSource → StatedSource
+without_content source = record source { content = None }
+
+-- without the contents of its sources
+abbrev pub without_contents : Composition → Composition
+without_contents whole = record whole { sources = map without_content whole.sources }

@@ -14,30 +14,47 @@ pub record CountedMappings : Type 0 where
   pub sources : ℕ
   pub names : ℕ
 
--- an origin of the inner list, its indices after those of the outer list's sources and names; where it has no name, it
--- gets that of the outer mapping
-abbrev pub moved_origin : CountedMappings → Option ℕ → Origin → Origin
-moved_origin outer outer_name origin = record origin {
-  source = outer.sources + origin.source;
-  name = option_or (option_map (λ name. outer.names + name) origin.name) outer_name;
+-- ---- another origin for each mapping
+
+-- a mapping with what becomes of its origin, at its generated place; without an origin, it stays
+abbrev pub with_origin : (Origin → Option Origin) → Mapping → Mapping
+with_origin origin_of mapping = record mapping { origin = option_and_then origin_of mapping.origin }
+
+-- an answer with what becomes of its origin
+abbrev pub answer_with_origin : (Origin → Option Origin) → Answer → Answer
+answer_with_origin origin_of Nothing = Nothing
+answer_with_origin origin_of (Unmapped column) = Unmapped column
+answer_with_origin origin_of (Found column origin) = answer_with column (origin_of origin)
+
+-- ---- an origin that is looked up in an inner list
+
+-- an origin of the inner list, its indices after as many sources and names; where it has no name, it gets that of the outer
+-- mapping
+abbrev pub moved_origin : (sources names : ℕ) → Option ℕ → Origin → Origin
+moved_origin sources names outer_name origin = record origin {
+  source = sources + origin.source;
+  name = option_or (option_map (λ name. names + name) origin.name) outer_name;
 }
 
 -- the origin that comes of an answer of the inner list: none, where it has none
-abbrev pub origin_of_answer : CountedMappings → Option ℕ → Answer → Option Origin
-origin_of_answer outer outer_name Nothing = None
-origin_of_answer outer outer_name (Unmapped column) = None
-origin_of_answer outer outer_name (Found column origin) = Some (moved_origin outer outer_name origin)
+abbrev pub origin_of_answer : (sources names : ℕ) → Option ℕ → Answer → Option Origin
+origin_of_answer sources names outer_name Nothing = None
+origin_of_answer sources names outer_name (Unmapped column) = None
+origin_of_answer sources names outer_name (Found column origin) = Some (moved_origin sources names outer_name origin)
+
+-- ---- one source
 
 -- what becomes of an origin of the outer list: where it is of this source, its line and column are looked up in the
 -- inner list; of another source, it stays
 abbrev pub followed_origin : CountedMappings → ℕ → CountedMappings → Origin → Option Origin
 followed_origin outer source inner origin =
-    if origin.source == source then origin_of_answer outer origin.name (answer_at_or_before inner.mappings origin.line origin.column)
+    if origin.source == source
+    then origin_of_answer outer.sources outer.names origin.name (answer_at_or_before inner.mappings origin.line origin.column)
     else Some origin
 
--- a mapping of the outer list, which keeps its generated place; without an origin, it stays
+-- a mapping of the outer list, followed
 abbrev pub follow : CountedMappings → ℕ → CountedMappings → Mapping → Mapping
-follow outer source inner mapping = record mapping { origin = option_and_then (followed_origin outer source inner) mapping.origin }
+follow outer source inner = with_origin (followed_origin outer source inner)
 
 -- the outer list, each mapping followed; the inner list's sources and names stand after the outer list's
 abbrev pub followed : CountedMappings → ℕ → CountedMappings → CountedMappings
@@ -49,6 +66,4 @@ followed outer source inner = record {
 
 -- what becomes of an answer of the outer list
 abbrev pub followed_answer : CountedMappings → ℕ → CountedMappings → Answer → Answer
-followed_answer outer source inner Nothing = Nothing
-followed_answer outer source inner (Unmapped column) = Unmapped column
-followed_answer outer source inner (Found column origin) = answer_with column (followed_origin outer source inner origin)
+followed_answer outer source inner = answer_with_origin (followed_origin outer source inner)

@@ -1,2 +1,6 @@
 -- What contracts of private functions alone cite.
-pub mod Few
+pub mod Placed
+pub mod Listing
+pub mod Left
+pub mod Used
+pub mod Keys

@@ -1,5 +1,5 @@
-//! A map that two maps compose to.
-ghost use Rattle.std.specs.Prelude.{◌≡◌, ◌≤◌, ◌⊎◌, ℕ, ◌+◌, option_copied, None, Some, Err, false, length, option_map, string_bytes, IfErr, IfOk, MatchResult, OnOk, IsTrue, nat_lt};
+//! A map that maps compose to.
+ghost use Rattle.std.specs.Prelude.{◌≡◌, ◌≤◌, ◌⊎◌, ℕ, option_copied, None, false, length, map, option_map, string_bytes, IfErr, IfOk, OnOk, IsTrue};
 ghost use Rattle.std.specs.List.{All};
 ghost use Rattle.smap_mappings.specs.Accepted.{IsAccepted};
 ghost use Rattle.smap_mappings.specs.Canonical.{canonical_text};
@@ -8,26 +8,22 @@ ghost use Rattle.smap_mappings.specs.Exact.{GivesOr};
 ghost use Rattle.smap_mappings.specs.Mappings.{mappings_of};
 ghost use Rattle.smap_mappings.specs.Within.{IsWithin};
 ghost use Rattle.smap_mappings.specs.Writing.{IsLengthOf};
-ghost use Rattle.smap_index.specs.Answer.{answer_at_or_before};
 ghost use Rattle.smap_record.specs.Limits.{most_listed, most_file_bytes};
 ghost use Rattle.smap_record.specs.ReadBack.{ReadsBackAs};
-ghost use Rattle.smap_record.specs.Record.{answer_of_map};
+ghost use Rattle.smap_record.specs.Sources.{source_of};
 ghost use Rattle.smap_record.specs.Written.{written};
-ghost use Rattle.smap_compose.specs.Composition.{composed_of, count_refusal, mappings_of_map};
-ghost use Rattle.smap_compose.specs.Follow.{followed_answer};
+ghost use Rattle.smap_compose.specs.Composition.{unless_too_long, without_content, without_contents};
+ghost use Rattle.smap_compose.specs.Private.Listing.{listing_seen};
 ghost use Rattle.smap_compose.specs.declared.refusal.ComposeRefusal.TheVariants.{Memory, TooLarge};
 
-use crate::follow::followed_mappings;
-use crate::laws::answers_are_followed;
-use crate::listed::{joined_names, joined_sources};
 use crate::refusal::ComposeRefusal;
-use smap_mappings::laws::lists_in_order_have_no_fault;
+use smap_mappings::laws::{accepted_texts_have_no_fault, lists_in_order_have_no_fault};
 use smap_mappings::{TextLength, TextWriter};
-use smap_record::{MOST_LISTED, MapFile, Mapping, SourceEntry, write_record};
+use smap_record::{Mapping, SourceEntry, write_record};
 use std::alloc::{AllocError, Global};
 use std::marker::Model;
 
-/// Holds the mappings, their canonical text, and the sources and names of both maps.
+/// Holds the mappings, their canonical text, and the sources and names of all maps.
 #[derive(Drop)]
 pub struct Composed {
     mappings: Vec<Mapping>,
@@ -48,40 +44,36 @@ impl Model for Composed {
     ghost invariant = { IsComposed };
 }
 
-/// Composes two maps, the inner one being of source `source`, from 0, of the outer one. A mapping of the outer map to
-/// that source gets the origin that the inner map answers at its original line and column, and none where that answers
-/// without one; its name is the inner map's, or the outer's where that has none. Every other mapping stays. Each costs
-/// at most one look-up in the inner map.
-pub fn compose(
+/// What a composed map lists beside its mappings.
+#[derive(Drop)]
+pub struct Listing {
+    pub sources: Vec<SourceEntry>,
+    pub names: Vec<String>,
+    pub file: Option<String>,
+}
+
+/// The map of these mappings, whose canonical text has this length, and of what they name.
+pub fn composed_map(
     alloc: Global,
-    outer: &MapFile,
-    source: u32,
-    inner: &MapFile,
+    mappings: Vec<Mapping>,
+    text_length: &TextLength,
+    listing: Listing,
 ) -> Result<Composed, ComposeRefusal>
-    ensures composed { GivesOr Memory (λ composed. composed) result
-        (composed_of outer.now.stated source inner.now.stated) }
-    ensures answers { IfOk result (λ composed. (line column : ℕ) →
-        answer_at_or_before composed.mappings line column
-        ≡ followed_answer (mappings_of_map outer.now.stated) source
-        (mappings_of_map inner.now.stated) (answer_of_map outer.now.stated line column)) }
-    ensures counted { (refusal : ComposeRefusal) →
-        count_refusal outer.now.stated source inner.now.stated ≡ Some refusal →
-        result ≡ Err refusal }
+    requires measured { IsLengthOf mappings.items text_length.now }
+    requires no_fault { list_fault mappings.items ≡ None }
+    requires within { All
+        (IsWithin (length listing.sources.items) (length listing.names.items)) mappings.items }
+    requires few_sources { length listing.sources.items ≤ most_listed }
+    requires few_names { length listing.names.items ≤ most_listed }
+    ensures { GivesOr Memory (λ composed. composed) result
+        (unless_too_long (listing_seen mappings.items listing)) }
 {
-    if source as u64 >= outer.sources() {
-        return Err(ComposeRefusal::SourceIndex);
-    }
-    if are_too_many(outer.sources(), inner.sources())
-        || are_too_many(outer.names(), inner.names())
-    {
-        return Err(ComposeRefusal::TooLarge);
-    }
-    let (mappings, length) = followed_mappings(alloc, outer, source, inner)?;
-    let text = text_of(alloc, &mappings, &length)?;
-    let sources = joined_sources(alloc, outer, inner)?;
-    let names = joined_names(alloc, outer, inner)?;
-    let file = file_of(alloc, outer)?;
-    answers_are_followed();
+    let text = text_of(alloc, &mappings, text_length)?;
+    let Listing {
+        sources,
+        names,
+        file,
+    } = listing;
     Ok(Composed {
         mappings,
         text,
@@ -89,14 +81,6 @@ pub fn compose(
         names,
         file,
     })
-}
-
-// Whether a map may not list as many sources or names as two maps have.
-fn are_too_many(outer: u64, inner: u64) -> bool
-    ensures { result ≡ nat_lt most_listed (outer + inner) }
-{
-    let most = MOST_LISTED as u64;
-    outer > most || inner > most - outer
 }
 
 // The canonical text of these mappings, which has this length.
@@ -126,13 +110,12 @@ fn text_of(
     Ok(writer.into_text())
 }
 
-// The name of the generated file, where the map has one.
-fn file_of(alloc: Global, map_file: &MapFile) -> Result<Option<String>, AllocError>
-    ensures { IfOk result (λ file. option_map string_bytes file ≡ map_file.now.stated.file) }
+// Leaves the contents of the sources out.
+fn leave_contents_out(sources: &mut [SourceEntry])
+    ensures { map source_of sources.new ≡ map without_content (map source_of sources.old) }
 {
-    match map_file.file() {
-        Some(file) => Ok(Some(String::from_str(alloc, file)?)),
-        None => Ok(None),
+    for source in sources.iter_mut() {
+        source.content = None;
     }
 }
 
@@ -154,6 +137,40 @@ impl Composed {
             self.now.names self.now.file) }
     {
         write_record(alloc, &self.sources, &self.names, self.file(), &self.text)
+    }
+
+    /// Leaves the contents of all sources out. The call takes no memory.
+    pub fn leave_contents_out(&mut self)
+        ensures { self.new ≡ without_contents self.old }
+    {
+        leave_contents_out(&mut self.sources);
+    }
+
+    // The mappings, and what is listed beside them.
+    pub(crate) fn into_parts(self) -> (Vec<Mapping>, Listing)
+        ensures parts { listing_seen result.0.items result.1 ≡ self }
+        ensures no_fault { list_fault result.0.items ≡ None }
+        ensures within { All (IsWithin (length result.1.sources.items)
+            (length result.1.names.items)) result.0.items }
+        ensures few_sources { length result.1.sources.items ≤ most_listed }
+        ensures few_names { length result.1.names.items ≤ most_listed }
+    {
+        accepted_texts_have_no_fault();
+        let Composed {
+            mappings,
+            sources,
+            names,
+            file,
+            ..
+        } = self;
+        (
+            mappings,
+            Listing {
+                sources,
+                names,
+                file,
+            },
+        )
     }
 
     // The name of the generated file, where there is one.

@@ -1,17 +1,26 @@
 //! The composition of two source maps: where the outer map is of a minified file, and the inner one of a source of it
-//! that was itself generated, the composed map leads from the minified file to what was written by hand.
+//! that was itself generated, the composed map leads from the minified file to what was written by hand. So it is with
+//! a bundle and the maps of all its modules.
 //!
 //! ```text
 //! let composed = compose(alloc, &outer, 0, &inner)?;
 //! let text = composed.write(alloc)?;
+//! let all = compose_all(alloc, &outer, &[Some(&first), None, Some(&third)])?;
 //! ```
 #![tactic(auto)]
 
 mod composed;
+mod composing;
 mod follow;
+mod inner_names;
 pub mod laws;
+mod left;
 mod listed;
+mod placed;
+mod pruned;
 mod refusal;
+mod used;
 
-pub use composed::{Composed, compose};
+pub use composed::Composed;
+pub use composing::{compose, compose_all};
 pub use refusal::ComposeRefusal;

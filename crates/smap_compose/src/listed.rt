@@ -1,27 +1,33 @@
-//! The sources and names of two maps, side by side.
-ghost use Rattle.std.specs.Prelude.{◌≡◌, ◌≤◌, ◌++◌, length, map, option_map, string_bytes, IfOk, OnOk};
+//! The sources and names of several maps, one map after another.
+ghost use Rattle.std.specs.Prelude.{◌≡◌, ◌≤◌, ◌++◌, flat_map, length, map, option_copied, option_map, string_bytes, IfOk, OnOk};
 ghost use Rattle.smap_resolve.specs.SourceName.{name_of};
 ghost use Rattle.smap_record.specs.Limits.{most_listed};
 ghost use Rattle.smap_record.specs.Sources.{source_of};
-ghost use Rattle.smap_compose.specs.Private.Few.{AreFew};
+ghost use Rattle.smap_compose.specs.Composition.{all_followed, names_together, names_within, sources_below, sources_together, sources_within};
+ghost use Rattle.smap_compose.specs.FollowAll.{inner_sources};
+ghost use Rattle.smap_compose.specs.InnerNames.{source_from};
+ghost use Rattle.smap_compose.specs.Inners.{stated_inners};
+ghost use Rattle.smap_compose.specs.Private.Placed.{inner_list};
 
+use crate::inner_names::name_from_outer;
 use smap_record::{MapFile, SourceEntry, SourceName};
 use std::alloc::{AllocError, Global};
 
-/// The sources of both maps, those of the outer one first.
+/// The sources of both maps, those of the outer one first. All keep their names.
 pub fn joined_sources(
     alloc: Global,
     outer: &MapFile,
     inner: &MapFile,
 ) -> Result<Vec<SourceEntry>, AllocError>
-    requires few { AreFew outer.now.stated inner.now.stated }
-    ensures { IfOk result (λ sources. map source_of sources.items
+    requires few { sources_together outer.now.stated inner.now.stated ≤ most_listed }
+    ensures sources { IfOk result (λ sources. map source_of sources.items
         ≡ outer.now.stated.sources ++ inner.now.stated.sources) }
+    ensures counted { IfOk result (λ sources. length sources.items
+        ≡ sources_together outer.now.stated inner.now.stated) }
 {
-    let count = outer.sources() as usize + inner.sources() as usize;
-    let mut sources = Vec::with_capacity(alloc, count)?;
-    add_sources(outer, &mut sources)?;
-    add_sources(inner, &mut sources)?;
+    let mut sources = Vec::new(alloc);
+    add_sources(alloc, None, outer, &mut sources)?;
+    add_sources(alloc, None, inner, &mut sources)?;
     Ok(sources)
 }
 
@@ -31,26 +37,95 @@ pub fn joined_names(
     outer: &MapFile,
     inner: &MapFile,
 ) -> Result<Vec<String>, AllocError>
-    requires few { AreFew outer.now.stated inner.now.stated }
-    ensures { IfOk result (λ names. map string_bytes names.items
+    requires few { names_together outer.now.stated inner.now.stated ≤ most_listed }
+    ensures names { IfOk result (λ names. map string_bytes names.items
         ≡ outer.now.stated.names ++ inner.now.stated.names) }
+    ensures counted { IfOk result (λ names. length names.items
+        ≡ names_together outer.now.stated inner.now.stated) }
 {
-    let count = outer.names() as usize + inner.names() as usize;
-    let mut names = Vec::with_capacity(alloc, count)?;
+    let mut names = Vec::new(alloc);
     add_names(alloc, outer, &mut names)?;
     add_names(alloc, inner, &mut names)?;
     Ok(names)
 }
 
-// Adds the sources of a map to those before them.
-fn add_sources(map_file: &MapFile, sources: &mut Vec<SourceEntry>) -> Result<(), AllocError>
+/// The sources of all maps, those of the outer one first; those of an inner map by the name of the outer source.
+pub fn all_sources(
+    alloc: Global,
+    outer: &MapFile,
+    inners: &[Option<&MapFile>],
+) -> Result<Vec<SourceEntry>, AllocError>
+    requires inners { length inners.now ≤ length outer.now.stated.sources }
+    requires few { (all_followed outer.now.stated (stated_inners inners.now)).sources ≤ most_listed }
+    ensures sources { IfOk result (λ sources. map source_of sources.items
+        ≡ outer.now.stated.sources ++ sources_within outer.now.stated.sources (stated_inners inners.now)) }
+    ensures counted { IfOk result (λ sources. length sources.items
+        ≡ (all_followed outer.now.stated (stated_inners inners.now)).sources) }
+{
+    let mut sources = Vec::new(alloc);
+    add_sources(alloc, None, outer, &mut sources)?;
+    for (i, inner) in inners.iter().enumerate() {
+        if let Some(source) = outer.source(i as u32) {
+            add_sources_below(alloc, source, *inner, &mut sources)?;
+        }
+    }
+    Ok(sources)
+}
+
+/// The names of all maps, those of the outer one first.
+pub fn all_names(
+    alloc: Global,
+    outer: &MapFile,
+    inners: &[Option<&MapFile>],
+) -> Result<Vec<String>, AllocError>
+    requires few { (all_followed outer.now.stated (stated_inners inners.now)).names ≤ most_listed }
+    ensures names { IfOk result (λ names. map string_bytes names.items
+        ≡ outer.now.stated.names ++ flat_map names_within (stated_inners inners.now)) }
+    ensures counted { IfOk result (λ names. length names.items
+        ≡ (all_followed outer.now.stated (stated_inners inners.now)).names) }
+{
+    let mut names = Vec::new(alloc);
+    add_names(alloc, outer, &mut names)?;
+    for inner in inners {
+        if let Some(inner) = inner {
+            add_names(alloc, inner, &mut names)?;
+        }
+    }
+    Ok(names)
+}
+
+// Adds the sources of the inner map of a source, where it has one.
+fn add_sources_below(
+    alloc: Global,
+    source: &SourceEntry,
+    inner: Option<&MapFile>,
+    sources: &mut Vec<SourceEntry>,
+) -> Result<(), AllocError>
+    requires { inner_sources (inner_list inner) ≤ most_listed }
+    ensures { OnOk result (map source_of sources.new.items ≡ map source_of sources.old.items
+        ++ sources_below (source_of source.now) (option_map (λ inner. inner.now.stated) inner.entry)) }
+{
+    match inner {
+        Some(inner) => add_sources(alloc, source.name.as_ref(), inner, sources),
+        None => Ok(()),
+    }
+}
+
+// Adds the sources of a map to those before them, by the name of the outer source that it is a map of.
+fn add_sources(
+    alloc: Global,
+    outer: Option<&SourceName>,
+    map_file: &MapFile,
+    sources: &mut Vec<SourceEntry>,
+) -> Result<(), AllocError>
     requires { length map_file.now.stated.sources ≤ most_listed }
     ensures { OnOk result (map source_of sources.new.items
-        ≡ map source_of sources.old.items ++ map_file.now.stated.sources) }
+        ≡ map source_of sources.old.items
+        ++ map (source_from (option_map name_of (option_copied outer.entry))) map_file.now.stated.sources) }
 {
     for i in 0..map_file.sources() as u32 {
         if let Some(source) = map_file.source(i) {
-            sources.push(copied_source(source)?)?;
+            sources.push(copied_source(alloc, outer, source)?)?;
         }
     }
     Ok(())
@@ -70,25 +145,24 @@ fn add_names(alloc: Global, map_file: &MapFile, names: &mut Vec<String>) -> Resu
     Ok(())
 }
 
-// The source once more, with texts of its own.
-fn copied_source(source: &SourceEntry) -> Result<SourceEntry, AllocError>
-    ensures { IfOk result (λ copy. source_of copy ≡ source_of source.now) }
+// The source once more, with texts of its own, by the name of the outer source.
+fn copied_source(
+    alloc: Global,
+    outer: Option<&SourceName>,
+    source: &SourceEntry,
+) -> Result<SourceEntry, AllocError>
+    ensures { IfOk result (λ copy. source_of copy
+        ≡ source_from (option_map name_of (option_copied outer.entry)) (source_of source.now)) }
 {
+    let name = match &source.name {
+        Some(name) => Some(name_from_outer(alloc, outer, name)?),
+        None => None,
+    };
     Ok(SourceEntry {
-        name: copied_name(&source.name)?,
+        name,
         content: copied_text(&source.content)?,
         ignored: source.ignored,
     })
-}
-
-fn copied_name(name: &Option<SourceName>) -> Result<Option<SourceName>, AllocError>
-    ensures { IfOk result (λ copy. option_map name_of copy ≡ option_map name_of name.now) }
-{
-    match name {
-        Some(SourceName::Resolved(url)) => Ok(Some(SourceName::Resolved(url.clone()?))),
-        Some(SourceName::Kept(text)) => Ok(Some(SourceName::Kept(text.clone()?))),
-        None => Ok(None),
-    }
 }
 
 fn copied_text(text: &Option<String>) -> Result<Option<String>, AllocError>

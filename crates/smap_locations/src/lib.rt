@@ -15,5 +15,6 @@ mod refusal;
 mod tests;
 
 pub use locations::Locations;
+pub use named::NamedPaths;
 pub use paths::without_query;
 pub use refusal::LocationRefusal;

@@ -9,7 +9,7 @@ use std::alloc::{AllocError, Global};
 use std::collections::BTreeMap;
 use std::marker::Model;
 
-// Paths, each under a URL or a prefix of URLs.
+/// Paths, each under a text: a URL, a prefix of URLs, or another name. No two have the same.
 #[derive(Drop)]
 pub struct NamedPaths {
     paths: BTreeMap<Vec<u8>, String>,
@@ -24,7 +24,7 @@ impl Model for NamedPaths {
 }
 
 impl NamedPaths {
-    // No path. The call takes no memory.
+    /// No path. The call takes no memory.
     pub fn new(alloc: Global) -> NamedPaths
         ensures { result ≡ [] }
     {
@@ -33,7 +33,7 @@ impl NamedPaths {
         }
     }
 
-    // Puts a path under a URL that has none yet. After a refusal nothing is changed.
+    /// Puts a path under a name that has none yet. After a refusal nothing is changed.
     pub fn add(&mut self, url: String, path: String) -> Result<(), LocationRefusal>
         ensures added { OnOk result
             (IsWith self.old (string_bytes url) (string_bytes path) self.new) }
@@ -50,14 +50,14 @@ impl NamedPaths {
         }
     }
 
-    // The path under a URL, where there is one.
+    /// The path under a name, where there is one. The call takes no memory.
     pub fn path_under(&self, url: &[u8]) -> Option<&String>
         ensures { option_map (λ path. string_bytes path.now) result ≡ path_under url.now self.now }
     {
         self.paths.get(url)
     }
 
-    // How many bytes the URLs or prefixes have, one after another in their order.
+    /// How many bytes the names have, one after another in their order.
     pub fn lengths(&self, alloc: Global) -> Result<Vec<usize>, AllocError>
         ensures { IfOk result (λ lengths. lengths.items ≡ map (λ pair. length pair.0) self.now) }
     {

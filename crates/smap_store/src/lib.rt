@@ -20,7 +20,7 @@ mod stored;
 mod tests;
 
 pub use cache::MapCache;
-pub use list::{add_folder, add_list, is_folder};
+pub use list::{add_folder, add_list, entry_of_line, is_folder};
 pub use loader::{LoadedMap, MapLoader};
 pub use refusal::{ListFault, ListRefusal};
 pub use stored::StoredMaps;

@@ -1,8 +1,9 @@
 //! A list of the maps of URLs.
-ghost use Rattle.std.specs.Prelude.{◌≡◌, string_bytes, IfErr, IfOk, IsErrAnd, MatchOption, OnErr, OnOk};
+ghost use Rattle.std.specs.Prelude.{◌≡◌, option_map, string_bytes, IfErr, IfOk, IsErrAnd, MatchOption, OnErr, OnOk};
+ghost use Rattle.std.specs.Result.{result_map_both};
 ghost use Rattle.std.specs.Str.Lines.{lines};
 ghost use Rattle.smap_store.specs.MapList.{IsRefused, IsTaken, PutsFile, PutsFolder, TakesList};
-ghost use Rattle.smap_store.specs.MapList.{file_fault, folder_fault, is_folder, is_passed_over};
+ghost use Rattle.smap_store.specs.MapList.{file_fault, folder_fault, is_folder, is_passed_over, line_entry};
 ghost use Rattle.smap_store.specs.declared.refusal.ListFault.TheVariants.{Memory};
 
 use crate::refusal::{ListFault, ListRefusal};
@@ -45,16 +46,28 @@ fn add_line(
     ensures kept { OnErr result (locations.new ≡ locations.old) }
     ensures refused { IfErr result (IsRefused words.now locations.old line.now) }
 {
-    if is_passed_over(line.as_bytes()) {
-        return Ok(());
+    match entry_of_line(line) {
+        Ok(Some((prefix, folder))) if is_folder(folder.as_bytes()) => {
+            add_folder(alloc, locations, prefix, folder)
+        }
+        Ok(Some((url, path))) => add_file(alloc, locations, words, url, path),
+        Ok(None) => Ok(()),
+        Err(fault) => Err(fault),
     }
-    let Some((url, path)) = line.split_once('\t') else {
-        return Err(ListFault::NoTab);
-    };
-    if is_folder(path.as_bytes()) {
-        add_folder(alloc, locations, url, path)
-    } else {
-        add_file(alloc, locations, words, url, path)
+}
+
+/// What a line of a list says: what stands before its first TAB, and what behind that. An empty line, and one that begins
+/// with `#`, says nothing; any other without a TAB is refused.
+pub fn entry_of_line(line: &str) -> Result<Option<(&str, &str)>, ListFault>
+    ensures { result_map_both (option_map (λ entry. (entry.0.now, entry.1.now))) (λ fault. fault) result
+        ≡ line_entry line.now }
+{
+    if is_passed_over(line.as_bytes()) {
+        return Ok(None);
+    }
+    match line.split_once('\t') {
+        Some(entry) => Ok(Some(entry)),
+        None => Err(ListFault::NoTab),
     }
 }
 

@@ -7,22 +7,21 @@ use Rattle.smap_mappings.specs.Within.{IsWithin}
 use Rattle.smap_mappings.specs.Writing.{IsLengthOf}
 use Rattle.smap_mappings.specs.declared.mapping.Mapping.{Mapping}
 use Rattle.smap_index.specs.Parts.{joined}
-use Rattle.smap_compose.specs.Composition.{mappings_of_map, names_together, sources_together}
-use Rattle.smap_compose.specs.Follow.{follow}
-use Rattle.smap_compose.proofs.FollowLaws.{followed_in_order}
+use Rattle.smap_compose.specs.Follow.{with_origin}
+use Rattle.smap_compose.specs.FollowAll.{origin_through_all}
+use Rattle.smap_compose.specs.Private.Placed.{inners_seen}
+use Rattle.smap_compose.proofs.FollowLaws.{alike_in_order}
 use Rattle.smap_compose.proofs.follow.followed_mappings.Goals as goal
 
 pub loop-mapping-preserved : goal.loop-mapping-preserved
 loop-mapping-preserved c =
-    let outer = c.args.outer.now.stated in
-    let inner = c.args.inner.now.stated in
-    let following = follow (mappings_of_map outer) c.args.source (mappings_of_map inner) in
+    let following = with_origin (origin_through_all (inners_seen c.args.inners.now)) in
     let so_far = c.loop-mapping.invariant in
     let front = so_far.front.0 in
     let m = c.in-Some.mapping in
     let before = c.loop-mapping.list.items in
     let pushed = c.in_ok-push.ensures.items in
-    let P : Mapping → Type 0 = IsWithin (sources_together outer inner) (names_together outer inner) in
+    let P : Mapping → Type 0 = IsWithin c.args.inners.now.sources c.args.inners.now.names in
     record {
       can = tt;
       finite = tt;
@@ -40,13 +39,12 @@ loop-mapping-preserved c =
 pub returns-clause-no_fault : goal.returns-clause-no_fault
 returns-clause-no_fault c =
     let outer = c.args.outer.now.stated in
-    let inner = c.args.inner.now.stated in
-    let following = follow (mappings_of_map outer) c.args.source (mappings_of_map inner) in
+    let inners = c.args.inners.now in
+    let following = with_origin (origin_through_all (inners_seen inners)) in
     let so_far = c.loop-mapping.invariant in
     let front = so_far.front.0 in
     let all : front ≡ joined outer.parts = sym (append-nil front) ∙ ap (λ left. front ++ left) (sym c.in-None.ensures.steps.0) ∙ so_far.front.1 in
     let list : c.loop-mapping.list.items ≡ map following (joined outer.parts) = so_far.front.2 ∙ ap (map following) all in
-    c.lists_in_order_have_no_fault.ensures.within c.loop-mapping.list.items (sources_together outer inner) (names_together outer inner)
-    (subst IsInOrder (sym list) (followed_in_order (mappings_of_map outer) c.args.source (mappings_of_map inner) (joined outer.parts)
-    c.mappings-mapping-items.ensures.ordered))
+    c.lists_in_order_have_no_fault.ensures.within c.loop-mapping.list.items inners.sources inners.names
+    (subst IsInOrder (sym list) (alike_in_order (origin_through_all (inners_seen inners)) (joined outer.parts) c.mappings-mapping-items.ensures.ordered))
     so_far.within

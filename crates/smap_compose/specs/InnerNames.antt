@@ -1,0 +1,98 @@
+-- What the sources of an inner map are called in a composed map (this project's own): where the outer source's name is no
+-- URL, a name that is a relative path goes on from the folder of the outer source.
+use Rattle.std.specs.Prelude.{ℕ, ◌-◌, ◌==◌, ◌||◌, ◌&&◌, Bool, false, not, List, [], ◌∷◌, ◌++◌, Option, Some, None, codes, length, take, if◌then◌else◌, option_map, slice_get}
+use Rattle.std.specs.Option.{option_map_or}
+use Rattle.std.specs.Bool.{nat_eq}
+use Rattle.std.specs.Char.{is_ascii_alphabetic, is_ascii_alphanumeric}
+use Rattle.std.specs.List.{fold, slice_split, starts_with}
+use Rattle.std.specs.Str.{bytes_eq}
+use Rattle.smap_resolve.specs.SourceName.{Name}
+use Rattle.smap_resolve.specs.SourceName.Name.{resolved, kept}
+use Rattle.smap_record.specs.Sources.{StatedSource}
+
+-- ---- which names are relative paths
+
+-- a byte of a URL's scheme behind its first letter
+abbrev pub is_scheme_byte : ℕ → Bool
+is_scheme_byte byte = is_ascii_alphanumeric byte || byte == 43 || byte == 45 || byte == 46
+
+-- the first other byte is a `:`
+abbrev pub ends_scheme : List ℕ → Bool
+ends_scheme [] = false
+ends_scheme (byte ∷ text) = if is_scheme_byte byte then ends_scheme text else byte == 58
+
+-- a text begins with a scheme, as that of a URL or a drive's letter: a letter, further letters, digits, `+`, `-` and `.`, and `:`
+abbrev pub has_scheme : List ℕ → Bool
+has_scheme [] = false
+has_scheme (byte ∷ text) = is_ascii_alphabetic byte && ends_scheme text
+
+-- a path from the root of the folders
+abbrev pub is_rooted : List ℕ → Bool
+is_rooted path = starts_with nat_eq path (codes "/")
+
+-- a path that goes on from a folder
+abbrev pub is_relative : List ℕ → Bool
+is_relative text = not (length text == 0) && not (is_rooted text) && not (has_scheme text)
+
+-- ---- a path that goes on from a folder
+
+-- the pieces of a path, which stand between `/`
+abbrev pub pieces_of_path : List ℕ → List (List ℕ)
+pieces_of_path path = slice_split (λ byte. byte == 47) path
+
+-- those of the folder that a file is in
+abbrev pub folder_of : (path : List ℕ) → List (List ℕ)
+folder_of path = take (length (pieces_of_path path) - 1) (pieces_of_path path)
+
+-- a piece for the folder that is reached already
+abbrev pub stays : (piece : List ℕ) → Bool
+stays piece = length piece == 0 || bytes_eq piece (codes ".")
+
+abbrev pub goes_back : (piece : List ℕ) → Bool
+goes_back piece = bytes_eq piece (codes "..")
+
+-- there is a piece that `..` takes back: the last one, which is no `..`
+abbrev pub can_go_back : List (List ℕ) → Bool
+can_go_back pieces = option_map_or (λ last. not (goes_back last)) (slice_get pieces (length pieces - 1)) false
+
+-- one piece further, from the root or from a folder that nothing is known of
+abbrev pub one_further : (rooted : Bool) → List (List ℕ) → (piece : List ℕ) → List (List ℕ)
+one_further rooted pieces piece =
+    if stays piece then pieces
+    else (if goes_back piece && can_go_back pieces then take (length pieces - 1) pieces
+    else (if goes_back piece && rooted && length pieces == 0 then pieces else pieces ++ piece ∷ []))
+
+-- the pieces that are left of a file's folder and of a path that goes on from there
+abbrev pub pieces_from : (file text : List ℕ) → List (List ℕ)
+pieces_from file text = fold (one_further (is_rooted file)) [] (folder_of file ++ pieces_of_path text)
+
+-- pieces, each behind a `/`
+abbrev pub behind_slashes : List (List ℕ) → List ℕ
+behind_slashes [] = []
+behind_slashes (piece ∷ pieces) = codes "/" ++ (piece ++ behind_slashes pieces)
+
+-- pieces with `/` between them
+abbrev pub joined_pieces : List (List ℕ) → List ℕ
+joined_pieces [] = []
+joined_pieces (piece ∷ pieces) = piece ++ behind_slashes pieces
+
+-- the path
+abbrev pub path_from : (file text : List ℕ) → List ℕ
+path_from file text = (if is_rooted file then codes "/" else []) ++ joined_pieces (pieces_from file text)
+
+-- ---- names
+
+-- what a text is called that an inner map keeps, by the name of the outer source
+abbrev pub text_from : Option Name → (text : List ℕ) → List ℕ
+text_from None text = text
+text_from (Some (resolved url)) text = text
+text_from (Some (kept file)) text = if is_relative text && not (has_scheme file) then path_from file text else text
+
+-- what a source of the inner map is called; a URL stays
+abbrev pub name_from_outer : Option Name → Name → Name
+name_from_outer outer (resolved url) = resolved url
+name_from_outer outer (kept text) = kept (text_from outer text)
+
+-- a source of the inner map
+abbrev pub source_from : Option Name → StatedSource → StatedSource
+source_from outer source = record source { name = option_map (name_from_outer outer) source.name }

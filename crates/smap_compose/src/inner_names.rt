@@ -1,0 +1,166 @@
+//! What the sources of an inner map are called in a composed map.
+ghost use Rattle.std.specs.Prelude.{◌≡◌, ◌++◌, [], codes, if◌then◌else◌, option_copied, option_map, map, string_bytes, IfOk, OnOk};
+ghost use Rattle.std.specs.List.{fold};
+ghost use Rattle.smap_resolve.specs.SourceName.{name_of};
+ghost use Rattle.smap_compose.specs.InnerNames.{can_go_back, ends_scheme, has_scheme, is_relative, is_rooted, is_scheme_byte, name_from_outer};
+ghost use Rattle.smap_compose.specs.InnerNames.{behind_slashes, joined_pieces, one_further, path_from, pieces_of_path};
+
+use smap_record::SourceName;
+use std::alloc::{AllocError, Global};
+
+/// The name of a source of an inner map, by the name of the outer source that the map is of, where that has one: a relative
+/// path goes on from the folder of a path.
+pub fn name_from_outer(
+    alloc: Global,
+    outer: Option<&SourceName>,
+    name: &SourceName,
+) -> Result<SourceName, AllocError>
+    ensures { IfOk result (λ made. name_of made
+        ≡ name_from_outer (option_map name_of (option_copied outer.entry)) (name_of name.now)) }
+{
+    match (outer, name) {
+        (_, SourceName::Resolved(url)) => Ok(SourceName::Resolved(url.clone()?)),
+        (Some(SourceName::Kept(file)), SourceName::Kept(text))
+            if is_relative(text) && !has_scheme(file) => {
+            Ok(SourceName::Kept(path_from(alloc, file, text)?))
+        }
+        (_, SourceName::Kept(text)) => Ok(SourceName::Kept(text.clone()?)),
+    }
+}
+
+// Whether a text is a path that goes on from a folder.
+fn is_relative(text: &str) -> bool
+    ensures { result ≡ is_relative text.now }
+{
+    !text.is_empty() && !is_rooted(text) && !has_scheme(text)
+}
+
+fn is_rooted(path: &str) -> bool
+    ensures { result ≡ is_rooted path.now }
+{
+    path.as_bytes().starts_with(b"/")
+}
+
+// Whether a text begins with the scheme of a URL, or a drive's letter, and `:`.
+fn has_scheme(text: &str) -> bool
+    ensures { result ≡ has_scheme text.now }
+{
+    let Some((first, rest)) = text.as_bytes().split_first() else {
+        return false;
+    };
+    first.is_ascii_alphabetic() && scheme_ends(rest)
+}
+
+// Whether a `:` stands behind the bytes of a scheme that the text begins with.
+fn scheme_ends(text: &[u8]) -> bool
+    ensures { result ≡ ends_scheme text.now }
+{
+    for byte in text {
+        if !is_scheme_byte(*byte) {
+            return *byte == b':';
+        }
+    }
+    false
+}
+
+fn is_scheme_byte(byte: u8) -> bool
+    ensures { result ≡ is_scheme_byte byte }
+{
+    byte.is_ascii_alphanumeric() || byte == b'+' || byte == b'-' || byte == b'.'
+}
+
+// The path that a text is, going on from the folder that a file is in.
+fn path_from(alloc: Global, file: &str, text: &str) -> Result<String, AllocError>
+    ensures { IfOk result (λ path. string_bytes path ≡ path_from file.now text.now) }
+{
+    let rooted = is_rooted(file);
+    let before = pieces_of_path(alloc, file)?;
+    let behind = pieces_of_path(alloc, text)?;
+    let mut pieces = Vec::with_capacity(alloc, before.len() + behind.len())?;
+    if let Some((_, folder)) = before.split_last() {
+        go_on(rooted, &mut pieces, folder)?;
+    }
+    go_on(rooted, &mut pieces, &behind)?;
+    joined_path(alloc, rooted, &pieces)
+}
+
+fn pieces_of_path<'a>(alloc: Global, path: &'a str) -> Result<Vec<&'a str>, AllocError>
+    ensures { IfOk result (λ pieces. map (λ piece. piece.now) pieces.items
+        ≡ pieces_of_path path.now) }
+{
+    path.split('/').collect(alloc)
+}
+
+// Goes on by these pieces.
+fn go_on<'a>(rooted: bool, pieces: &mut Vec<&'a str>, further: &[&'a str]) -> Result<(), AllocError>
+    ensures { OnOk result (map (λ piece. piece.now) pieces.new.items
+        ≡ fold (one_further rooted) (map (λ piece. piece.now) pieces.old.items) (map (λ piece. piece.now) further.now)) }
+{
+    for piece in further {
+        one_further(rooted, pieces, piece)?;
+    }
+    Ok(())
+}
+
+// Goes on by a piece.
+fn one_further<'a>(
+    rooted: bool,
+    pieces: &mut Vec<&'a str>,
+    piece: &'a str,
+) -> Result<(), AllocError>
+    ensures { OnOk result (map (λ piece. piece.now) pieces.new.items
+        ≡ one_further rooted (map (λ piece. piece.now) pieces.old.items) piece.now) }
+{
+    if piece.is_empty() || piece == "." {
+        return Ok(());
+    }
+    if piece == ".." {
+        if can_go_back(pieces) {
+            pieces.pop();
+            return Ok(());
+        }
+        if rooted && pieces.is_empty() {
+            return Ok(());
+        }
+    }
+    pieces.push(piece)?;
+    Ok(())
+}
+
+// Whether `..` takes a piece back.
+fn can_go_back(pieces: &[&str]) -> bool
+    ensures { result ≡ can_go_back (map (λ piece. piece.now) pieces.now) }
+{
+    match pieces.last() {
+        Some(last) => *last != "..",
+        None => false,
+    }
+}
+
+// The path of these pieces.
+fn joined_path(alloc: Global, rooted: bool, pieces: &[&str]) -> Result<String, AllocError>
+    ensures { IfOk result (λ path. string_bytes path
+        ≡ (if rooted then codes "/" else []) ++ joined_pieces (map (λ piece. piece.now) pieces.now)) }
+{
+    let mut path = String::new(alloc);
+    if rooted {
+        path.push('/')?;
+    }
+    if let Some((first, others)) = pieces.split_first() {
+        path.push_str(first)?;
+        push_behind(&mut path, others)?;
+    }
+    Ok(path)
+}
+
+// Adds pieces, each behind a `/`.
+fn push_behind(path: &mut String, pieces: &[&str]) -> Result<(), AllocError>
+    ensures { OnOk result (string_bytes path.new
+        ≡ string_bytes path.old ++ behind_slashes (map (λ piece. piece.now) pieces.now)) }
+{
+    for piece in pieces {
+        path.push('/')?;
+        path.push_str(piece)?;
+    }
+    Ok(())
+}
