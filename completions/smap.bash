@@ -16,7 +16,8 @@ _smap() {
     lookup | positions) options='--after --base --interval --json --help' ;;
     rewrite) options='--anywhere --base --cache --hide-ignored --interval --limit --maps --summary --help' ;;
     check) options='--base --interval --json --help' ;;
-    show | compose) options='--base --help' ;;
+    show) options='--base --no-content --prune --help' ;;
+    compose) options='--base --inner --inners --no-content --prune --help' ;;
     raw) options='--interval --help' ;;
     esac
 
@@ -31,7 +32,7 @@ _smap() {
     elif [[ -z $command || $command == help ]]; then
         mapfile -t COMPREPLY < <(compgen -W 'lookup positions rewrite check show compose raw help' -- "$current")
     elif [[ $command != raw ]]; then
-        # The last `=` of an argument of `rewrite` stands before the path, and by default arguments are cut there.
+        # The last `=` of a pair of `rewrite` or `compose` stands before the path, and by default arguments are cut there.
         compopt -o filenames
         mapfile -t COMPREPLY < <(compgen -f -- "${current#=}")
     fi

@@ -9,3 +9,4 @@ mod ShownLaws
 mod SourcesLaws
 mod StoreLaws
 mod TraceLaws
+mod InnersLaws

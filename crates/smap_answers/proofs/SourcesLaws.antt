@@ -3,6 +3,7 @@ use Rattle.std.proofs.Common.{◌≡◌, ◌≤◌, ℕ, ◌⊎◌, List, ◌∷
 use Rattle.std.proofs.lemmas.Bool.{cond-false, cond-true, false_from_ne_true}
 use Rattle.std.proofs.lemmas.Str.{IsUtf8-from_is_utf8, is_utf8-from_IsUtf8}
 use Rattle.std.specs.Prelude.{true, false, Option, Some, None, Result, Ok, Err, MatchBool, MatchOption}
+use Rattle.std.specs.Option.{IsSomeAnd}
 use Rattle.std.specs.Str.{IsUtf8, is_utf8}
 use Rattle.std.specs.Str.Lines.{lines}
 use Rattle.smap_locations.specs.Locations.{LocationsSeen}
@@ -59,37 +60,47 @@ module _ (arguments rest : List (List ℕ × List ℕ)) (url path : List ℕ) (o
 
 -- ---- a list
 
-module _ (list bytes : List ℕ) (words : Maps) (old : LocationsSeen) (short : length bytes ≤ most_list_bytes) where
+module _ (bytes : List ℕ) (short : length bytes ≤ most_list_bytes) where
   -- its bytes are no text
-  no_text : (IsUtf8 bytes → ⊥) → list_bytes_refusal bytes ≡ Some (codes "NotUtf8")
+  pub no_text : (IsUtf8 bytes → ⊥) → list_bytes_refusal bytes ≡ Some (codes "NotUtf8")
   no_text not_text =
       cond-false _ _ _ (le-ltb most_list_bytes (length bytes) short)
       ∙ cond-true _ _ _ (ap not (false_from_ne_true (is_utf8 bytes) (λ is. not_text (IsUtf8-from_is_utf8 bytes is))))
 
-  refused_for : (reason : List ℕ) (result : Result MapSources Telling) → list_bytes_refusal bytes ≡ Some reason
-      → result ≡ Err (refusal (map_refused_line list reason)) → AddsList list bytes words old result
-  refused_for reason result is given =
-      inr (subst (λ r. MatchOption r (AddsLines list bytes words old result) (λ reason. result ≡ Err (refusal (map_refused_line list reason)))) (sym is) given)
-
-  pub adds_no_text : (IsUtf8 bytes → ⊥) → (line : List ℕ) → line ≡ map_refused_line list (codes "NotUtf8") → AddsList list bytes words old (Err (refusal line))
-  adds_no_text not_text line is = refused_for (codes "NotUtf8") (Err (refusal line)) (no_text not_text) (ap (λ text. Err (refusal text)) is)
-
   -- or a text
-  a_text : IsUtf8 bytes → list_bytes_refusal bytes ≡ None
+  pub a_text : IsUtf8 bytes → list_bytes_refusal bytes ≡ None
   a_text is_text = cond-false _ _ _ (le-ltb most_list_bytes (length bytes) short) ∙ cond-false _ _ _ (ap not (is_utf8-from_IsUtf8 bytes is_text))
 
-  of_lines : IsUtf8 bytes → (result : Result MapSources Telling) → AddsLines list bytes words old result → AddsList list bytes words old result
+-- it is refused for this reason
+pub for_reason : (list bytes reason : List ℕ) (telling : Telling) → list_bytes_refusal bytes ≡ Some reason → telling ≡ refusal (map_refused_line list reason)
+    → IsSomeAnd (list_bytes_refusal bytes) (λ reason. telling ≡ refusal (map_refused_line list reason))
+for_reason list bytes reason telling is told =
+    subst (λ r. IsSomeAnd r (λ reason. telling ≡ refusal (map_refused_line list reason))) (sym is) told
+
+module _ (list bytes : List ℕ) (words : Maps) (old : LocationsSeen) where
+  -- its bytes are refused
+  refused_for : (why : Option (List ℕ)) (telling : Telling) → IsSomeAnd why (λ reason. telling ≡ refusal (map_refused_line list reason))
+      → MatchOption why (AddsLines list bytes words old (Err telling)) (λ reason. ◌≡◌ {A = Result MapSources Telling} (Err telling) (Err (refusal (map_refused_line list reason))))
+  refused_for None telling told = absurd told
+  refused_for (Some reason) telling told = ap Err told
+
+  pub adds_no_text : (telling : Telling) → OrMemory (λ t. IsSomeAnd (list_bytes_refusal bytes) (λ reason. t ≡ refusal (map_refused_line list reason))) telling
+      → AddsList list bytes words old (Err telling)
+  adds_no_text telling (inl no_memory) = inl (ap Err no_memory)
+  adds_no_text telling (inr told) = inr (refused_for (list_bytes_refusal bytes) telling told)
+
+  of_lines : list_bytes_refusal bytes ≡ None → (result : Result MapSources Telling) → AddsLines list bytes words old result → AddsList list bytes words old result
   of_lines is_text result adds =
       inr (subst (λ r. MatchOption r (AddsLines list bytes words old result) (λ reason. result ≡ Err (refusal (map_refused_line list reason))))
-      (sym (a_text is_text)) adds)
+      (sym is_text) adds)
 
   -- whose lines are taken
-  pub adds_taken : IsUtf8 bytes → (new : LocationsSeen) → AreTaken words (lines bytes) old new
+  pub adds_taken : list_bytes_refusal bytes ≡ None → (new : LocationsSeen) → AreTaken words (lines bytes) old new
       → AddsList list bytes words old (Ok (record { words = words; locations = new }))
   adds_taken is_text new taken = of_lines is_text _ (Ok tt, (new, taken, refl))
 
   -- up to one that is refused
-  pub adds_refused : IsUtf8 bytes → (new : LocationsSeen) (refused : ListRefusal) → IsRefusedAt words (lines bytes) old new refused
+  pub adds_refused : list_bytes_refusal bytes ≡ None → (new : LocationsSeen) (refused : ListRefusal) → IsRefusedAt words (lines bytes) old new refused
       → (telling : Telling) → OrMemory (λ t. t ≡ list_refusal list refused) telling → AddsList list bytes words old (Err telling)
   adds_refused is_text new refused at telling (inl no_memory) = inl (ap Err no_memory)
   adds_refused is_text new refused at telling (inr told) = of_lines is_text _ (Err refused, (new, at, ap Err told))

@@ -8,7 +8,9 @@ pub mod Check
 pub mod Show
 pub mod Lookup
 pub mod Positions
+pub mod Written
 pub mod Compose
+pub mod ComposeAll
 pub mod Trace
 pub mod Sources
 pub mod Loader

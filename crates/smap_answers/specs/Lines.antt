@@ -109,3 +109,7 @@ no_source_line = line_from (codes "refused: C1 SourceIndex" ∷ [])
 
 abbrev pub composed_too_large_line : List ℕ
 composed_too_large_line = line_from (codes "refused: C2 TooLarge" ∷ [])
+
+-- no source of the outer map has this name
+abbrev pub no_source_named_line : (name : List ℕ) → List ℕ
+no_source_named_line name = line_from (codes "refused: C4 NoSource " ∷ shown name ∷ [])

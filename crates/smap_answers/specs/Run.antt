@@ -5,6 +5,7 @@ use Rattle.smap_command.specs.Interval.{HasInterval}
 use Rattle.smap_command.specs.Limits.{usual_interval}
 use Rattle.smap_answers.specs.Check.{ChecksAll, ChecksFile, form_of}
 use Rattle.smap_answers.specs.Compose.{TellsComposed}
+use Rattle.smap_answers.specs.ComposeAll.{TellsAllComposed}
 use Rattle.smap_answers.specs.Files.{MayRead}
 use Rattle.smap_answers.specs.Lines.{input_failed_line}
 use Rattle.smap_answers.specs.Lookup.{lookup_print}
@@ -13,13 +14,15 @@ use Rattle.smap_answers.specs.Outcome.{OrMemory, Telling, failure}
 use Rattle.smap_answers.specs.Positions.{PositionsTells}
 use Rattle.smap_answers.specs.Raw.{raw_result}
 use Rattle.smap_answers.specs.RewriteFrom.{RewritesFrom}
-use Rattle.smap_answers.specs.Show.{show_result}
+use Rattle.smap_answers.specs.Show.{show_result, show_with_result}
 use Rattle.smap_io.specs.Device.{SinkSeen}
 use Rattle.smap_answers.specs.Streams.{Streams, Ends, sinks_seen}
+use Rattle.smap_answers.specs.Written.{all_written}
 use Rattle.smap_lines.specs.Editing.{DevicesSeen, devices_seen}
 use Rattle.smap_answers.specs.Trace.{IsTraceRewritten, RewriteTells, argument_of}
 use Rattle.smap_command.specs.declared.command.Command.{Command}
-use Rattle.smap_command.specs.declared.command.Command.TheVariants.{Raw, Check, CheckAll, Show, Lookup, Positions, Rewrite, RewriteFrom, Compose}
+use Rattle.smap_command.specs.declared.command.Command.TheVariants.{Raw, Check, CheckAll, Show, ShowWith, Lookup, Positions}
+use Rattle.smap_command.specs.declared.command.Command.TheVariants.{Rewrite, RewriteFrom, Compose, ComposeWith, ComposeAll}
 use Rattle.smap_answers.specs.declared.check.Form.TheVariants.{Counts}
 
 -- ---- `raw`
@@ -62,6 +65,8 @@ Runs Reads (Check path base interval) = RunsOne (TellsAside (ChecksFile Reads ba
 Runs Reads (CheckAll paths base interval json) = λ status before after. (after.input ≡ before.input)
     × ChecksAll Reads base interval (form_of json) 0 (map string_bytes paths.items) status before.sinks after.sinks
 Runs Reads (Show path base) = RunsOne (TellsAside (TellsMap Reads 0 (string_bytes path) base usual_interval (IsResult show_result)))
+Runs Reads (ShowWith path base options) =
+    RunsOne (TellsAside (TellsMap Reads 0 (string_bytes path) base usual_interval (IsResult (show_with_result options))))
 Runs Reads (Lookup path line column base interval after json) =
     RunsOne (TellsAside (TellsMap Reads 0 (string_bytes path) base interval (IsLine (lookup_print after json line column))))
 Runs Reads (Positions path base interval after json) = RunsOne (PositionsTells Reads (string_bytes path) base interval after json)
@@ -78,4 +83,8 @@ Runs Reads (RewriteFrom maps list base interval hide_ignored anywhere cache_byte
       summary = summary;
     })
 Runs Reads (Compose outer source inner base) =
-    RunsOne (TellsAside (TellsComposed Reads (string_bytes outer) source (string_bytes inner) base))
+    RunsOne (TellsAside (TellsComposed Reads all_written (string_bytes outer) source (string_bytes inner) base))
+Runs Reads (ComposeWith outer source inner base options) =
+    RunsOne (TellsAside (TellsComposed Reads options (string_bytes outer) source (string_bytes inner) base))
+Runs Reads (ComposeAll outer inners list base options) =
+    RunsOne (TellsAside (TellsAllComposed Reads options (string_bytes outer) (map argument_of inners.items) (option_map string_bytes list) base))

@@ -6,7 +6,12 @@ use Rattle.smap_index.specs.Parts.{joined}
 use Rattle.smap_record.specs.Record.{MapRecord}
 use Rattle.smap_record.specs.Written.{written}
 use Rattle.smap_answers.specs.Lines.{line_from, written_text_too_long_line}
-use Rattle.smap_answers.specs.Outcome.{Telling, answer, refusal}
+use Rattle.smap_answers.specs.Outcome.{Telling, answer, out_of_memory, refusal}
+use Rattle.smap_answers.specs.Written.{written_result}
+use Rattle.smap_command.specs.declared.command.WriteOptions.{WriteOptions}
+use Rattle.smap_compose.specs.Composition.{all_composed}
+use Rattle.smap_compose.specs.declared.refusal.ComposeRefusal.{ComposeRefusal}
+use Rattle.smap_compose.specs.declared.refusal.ComposeRefusal.TheVariants.{SourceIndex, TooLarge, Memory}
 
 -- the written map, as a line
 abbrev pub written_line : MapRecord → List ℕ
@@ -17,3 +22,15 @@ written_line stated = line_from (
 abbrev pub show_result : MapRecord → Telling
 show_result stated =
     if is_text_too_long (joined stated.parts) then refusal written_text_too_long_line else answer (written_line stated)
+
+-- ---- without what is left out
+
+-- why such a map is not written
+abbrev pub show_refusal_result : ComposeRefusal → Telling
+show_refusal_result SourceIndex = out_of_memory
+show_refusal_result TooLarge = refusal written_text_too_long_line
+show_refusal_result Memory = out_of_memory
+
+-- what a map states, composed with no inner map
+abbrev pub show_with_result : WriteOptions → MapRecord → Telling
+show_with_result options stated = written_result show_refusal_result options (all_composed stated [])

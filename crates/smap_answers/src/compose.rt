@@ -1,55 +1,91 @@
-//! Composing the maps of two files.
-ghost use Rattle.std.specs.Prelude.{option_copied};
-ghost use Rattle.smap_answers.specs.Compose.{TellsComposed, compose_result};
+//! Composing the maps of files.
+ghost use Rattle.std.specs.Prelude.{◌≡◌, MatchResult, option_copied};
+ghost use Rattle.smap_answers.specs.Compose.{TellsComposed, compose_refusal_result, compose_result};
 ghost use Rattle.smap_answers.specs.Map.{IsResult};
-ghost use Rattle.smap_answers.specs.Outcome.{OrMemory, telling_of};
+ghost use Rattle.smap_answers.specs.Outcome.{OrMemory, failure_telling, reply_telling, telling_of};
+ghost use Rattle.smap_answers.specs.Written.{written_of};
+ghost use Rattle.smap_compose.specs.Composition.{composed_of};
+ghost use Rattle.smap_mappings.specs.Exact.{GivesOr};
 
 use crate::files::FileReader;
 use crate::lines;
 use crate::map::{file_bytes, map_of};
 use crate::outcome::{Failure, Reply};
 use crate::refusal::refused;
-use crate::show::line_of;
-use smap_command::USUAL_INTERVAL;
+use crate::written::written;
+use smap_command::{USUAL_INTERVAL, WriteOptions};
 use smap_compose::{ComposeRefusal, compose};
 use smap_record::{MapFile, Url};
 use std::alloc::Global;
 
-/// Reads the maps that the files at the two paths are, the outer one first, and composes them at the outer map's source of
-/// this number, from 0. Where the outer map is refused, the other file is read all the same: one that can't be read is told
-/// before that.
+/// The maps of two files that are to be composed.
+#[derive(Drop)]
+pub struct TwoMaps<'a> {
+    /// The path of the outer map.
+    pub outer: &'a str,
+    /// The number of its source, from 0, that the inner map is of.
+    pub source: u32,
+    /// The path of the inner map.
+    pub inner: &'a str,
+    /// The URL against which the sources of both are resolved, where one is given.
+    pub base: Option<&'a Url>,
+}
+
+/// Reads the maps that the files at the two paths are, the outer one first, and composes them, without what the options leave
+/// out. Where the outer map is refused, the other file is read all the same: one that can't be read is told before that.
 pub fn answer_compose<F: FileReader>(
     alloc: Global,
     reader: &F,
-    outer: &str,
-    source: u32,
-    inner: &str,
-    base: Option<&Url>,
+    maps: &TwoMaps<'_>,
+    options: WriteOptions,
 ) -> Result<Reply, Failure>
-    ensures { OrMemory (TellsComposed (F.gives reader.now) outer.now source inner.now
-        (option_copied base.entry))
+    ensures { OrMemory (TellsComposed (F.gives reader.now) options maps.now.outer.now maps.now.source
+        maps.now.inner.now (option_copied maps.now.base))
         (telling_of result) }
 {
-    let bytes = file_bytes(alloc, reader, 0, outer)?;
-    let outer_map = map_of(alloc, outer, bytes, base, USUAL_INTERVAL);
-    let bytes = file_bytes(alloc, reader, 1, inner)?;
+    let bytes = file_bytes(alloc, reader, 0, maps.outer)?;
+    let outer_map = map_of(alloc, maps.outer, bytes, maps.base, USUAL_INTERVAL);
+    let bytes = file_bytes(alloc, reader, 1, maps.inner)?;
     let outer_map = outer_map?;
-    let inner_map = map_of(alloc, inner, bytes, base, USUAL_INTERVAL)?;
-    composed_map(alloc, &outer_map, source, &inner_map)
+    let inner_map = map_of(alloc, maps.inner, bytes, maps.base, USUAL_INTERVAL)?;
+    composed_two(alloc, &outer_map, maps.source, &inner_map, options)
 }
 
-// The composed map as a line, or why the maps are not composed.
-fn composed_map(
+// The composed map, or why the maps are not composed.
+fn composed_two(
     alloc: Global,
     outer: &MapFile,
     source: u32,
     inner: &MapFile,
+    options: WriteOptions,
 ) -> Result<Reply, Failure>
-    ensures { OrMemory (IsResult (compose_result outer.now.stated source) inner.now.stated)
+    ensures { OrMemory (IsResult (compose_result options outer.now.stated source) inner.now.stated)
         (telling_of result) }
 {
-    match compose(alloc, outer, source, inner) {
-        Ok(composed) => Ok(Reply::Bytes(line_of(composed.write(alloc)?)?)),
+    told(alloc, composed_line(alloc, outer, source, inner, options))
+}
+
+// The composed map as a line.
+fn composed_line(
+    alloc: Global,
+    outer: &MapFile,
+    source: u32,
+    inner: &MapFile,
+    options: WriteOptions,
+) -> Result<Reply, ComposeRefusal>
+    ensures { GivesOr ComposeRefusal.Memory reply_telling result
+        (written_of options (composed_of outer.now.stated source inner.now.stated)) }
+{
+    written(alloc, compose(alloc, outer, source, inner)?, options)
+}
+
+/// The composed map, or why maps are not composed.
+pub fn told(alloc: Global, made: Result<Reply, ComposeRefusal>) -> Result<Reply, Failure>
+    ensures { MatchResult made (λ reply. telling_of result ≡ reply_telling reply)
+        (λ refusal. OrMemory (λ telling. telling ≡ compose_refusal_result refusal) (telling_of result)) }
+{
+    match made {
+        Ok(reply) => Ok(reply),
         Err(ComposeRefusal::SourceIndex) => Err(refused(alloc, lines::NO_SOURCE)),
         Err(ComposeRefusal::TooLarge) => Err(refused(alloc, lines::COMPOSED_TOO_LARGE)),
         Err(ComposeRefusal::Memory) => Err(Failure::Memory),

@@ -10,7 +10,9 @@
 
 mod check;
 mod compose;
+mod compose_all;
 mod files;
+mod inners;
 mod limits;
 mod lines;
 mod loader;
@@ -26,10 +28,13 @@ mod show;
 mod sources;
 mod telling;
 mod trace;
+mod written;
 
 pub use files::{FileReader, Loaded};
 pub use outcome::{Failure, Reply};
 pub use refusal::refusal_line;
 pub use running::{run, run_reading};
-pub use smap_command::{Command, MOST_BYTES, USUAL_CACHE_BYTES, USUAL_INTERVAL, USUAL_LIMIT_BYTES};
+pub use smap_command::{
+    Command, MOST_BYTES, USUAL_CACHE_BYTES, USUAL_INTERVAL, USUAL_LIMIT_BYTES, WriteOptions,
+};
 pub use telling::tell;

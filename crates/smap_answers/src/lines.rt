@@ -4,7 +4,7 @@ ghost use Rattle.smap_answers.specs.Lines.{counts_line, file_failed_line, found_
 ghost use Rattle.smap_answers.specs.Lines.{map_counts_line, map_memory_line, map_refused_line};
 ghost use Rattle.smap_answers.specs.Lines.{refused_line};
 ghost use Rattle.smap_answers.specs.Lines.{bad_url_line, twice_line};
-ghost use Rattle.smap_answers.specs.Lines.{folder_refused_line, list_refused_line};
+ghost use Rattle.smap_answers.specs.Lines.{folder_refused_line, list_refused_line, no_source_named_line};
 ghost use Rattle.smap_answers.specs.Trace.{argument_text};
 ghost use Rattle.smap_command.specs.Shown.{shown};
 
@@ -169,6 +169,14 @@ pub fn list_refused_line(
 {
     let path = shown(alloc, path)?;
     format!(in alloc; "usage: {path} line {number}: {reason}\n")
+}
+
+/// Standard error: no source of the outer map has this name.
+pub fn no_source_named_line(alloc: Global, name: &str) -> Result<String, AllocError>
+    ensures { IfOk result (λ text. string_bytes text ≡ no_source_named_line name.now) }
+{
+    let name = shown(alloc, name)?;
+    format!(in alloc; "refused: C4 NoSource {name}\n")
 }
 
 // An argument of `rewrite`, for one line.

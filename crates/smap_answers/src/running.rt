@@ -5,16 +5,18 @@ ghost use Rattle.smap_answers.specs.Run.{IsRunnable, Runs};
 ghost use Rattle.smap_answers.specs.Streams.{streams_seen};
 
 use crate::check::{Form, answer_check, check_all};
-use crate::compose::answer_compose;
+use crate::compose::{TwoMaps, answer_compose};
+use crate::compose_all::{AllMaps, answer_compose_all};
 use crate::files::{FileReader, Loaded, LoadedFiles};
 use crate::lookup::answer_lookup;
 use crate::map::MapReader;
 use crate::positions::answer_positions;
 use crate::raw::answer_raw;
 use crate::rewrite_from::{RewriteRequest, rewrite_from};
-use crate::show::answer_show;
+use crate::show::{answer_show, answer_show_with};
 use crate::telling::tell;
 use crate::trace::answer_rewrite;
+use crate::written::ALL_WRITTEN;
 use smap_command::Command;
 use smap_io::{ByteSink, ByteSource};
 use smap_positions::AnswerOptions;
@@ -93,6 +95,11 @@ pub fn run_reading<F: FileReader, R: ByteSource, W: ByteSink, E: ByteSink>(
             return check_all(alloc, &maps, paths, *json, output, errors);
         }
         Command::Show { path, base } => answer_show(alloc, reader, path, base.as_ref()),
+        Command::ShowWith {
+            path,
+            base,
+            options,
+        } => answer_show_with(alloc, reader, path, base.as_ref(), *options),
         Command::Lookup {
             path,
             line,
@@ -173,7 +180,45 @@ pub fn run_reading<F: FileReader, R: ByteSource, W: ByteSink, E: ByteSink>(
             source,
             inner,
             base,
-        } => answer_compose(alloc, reader, outer, *source, inner, base.as_ref()),
+        } => {
+            let maps = TwoMaps {
+                outer,
+                source: *source,
+                inner,
+                base: base.as_ref(),
+            };
+            answer_compose(alloc, reader, &maps, ALL_WRITTEN)
+        }
+        Command::ComposeWith {
+            outer,
+            source,
+            inner,
+            base,
+            options,
+        } => {
+            let maps = TwoMaps {
+                outer,
+                source: *source,
+                inner,
+                base: base.as_ref(),
+            };
+            answer_compose(alloc, reader, &maps, *options)
+        }
+        Command::ComposeAll {
+            outer,
+            inners,
+            list,
+            base,
+            options,
+        } => {
+            let maps = AllMaps {
+                outer,
+                words: inners,
+                list: list.as_deref(),
+                base: base.as_ref(),
+            };
+            answer_compose_all(alloc, reader, &maps, *options)
+        }
     };
     tell(&outcome, output, errors)
 }

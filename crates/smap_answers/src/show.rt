@@ -1,18 +1,23 @@
 //! Writing what a map file states as one regular map.
-ghost use Rattle.std.specs.Prelude.{◌≡◌, ◌++◌, ◌∷◌, [], option_copied, IfOk};
+ghost use Rattle.std.specs.Prelude.{[], option_copied};
 ghost use Rattle.smap_answers.specs.Map.{IsResult, TellsMap};
-ghost use Rattle.smap_answers.specs.Outcome.{OrMemory, telling_of};
-ghost use Rattle.smap_answers.specs.Show.{show_result};
+ghost use Rattle.smap_answers.specs.Outcome.{OrMemory, reply_telling, telling_of};
+ghost use Rattle.smap_answers.specs.Show.{show_result, show_with_result};
+ghost use Rattle.smap_answers.specs.Written.{written_of};
 ghost use Rattle.smap_command.specs.Limits.{usual_interval};
+ghost use Rattle.smap_compose.specs.Composition.{all_composed};
+ghost use Rattle.smap_mappings.specs.Exact.{GivesOr};
 
 use crate::files::FileReader;
 use crate::lines;
 use crate::map::{MapReader, read_map};
 use crate::outcome::{Failure, Reply};
 use crate::refusal::refused;
-use smap_command::USUAL_INTERVAL;
+use crate::written::{line_of, written};
+use smap_command::{USUAL_INTERVAL, WriteOptions};
+use smap_compose::{ComposeRefusal, compose_all};
 use smap_record::{MapFile, Url, WriteRefusal};
-use std::alloc::{AllocError, Global};
+use std::alloc::Global;
 
 /// Reads the map that the file at this path is, and writes what it states as one regular map.
 pub fn answer_show<F: FileReader>(
@@ -44,10 +49,36 @@ fn written_map(alloc: Global, map: &MapFile) -> Result<Reply, Failure>
     }
 }
 
-/// The bytes of a map, and an LF.
-pub fn line_of(mut bytes: Vec<u8>) -> Result<Vec<u8>, AllocError>
-    ensures { IfOk result (λ line. line.items ≡ bytes.items ++ 10 ∷ []) }
+/// Reads the map that the file at this path is, and writes what it states as one regular map, without what the options leave
+/// out.
+pub fn answer_show_with<F: FileReader>(
+    alloc: Global,
+    reader: &F,
+    path: &str,
+    base: Option<&Url>,
+    options: WriteOptions,
+) -> Result<Reply, Failure>
+    ensures { OrMemory (TellsMap (F.gives reader.now) 0 path.now (option_copied base.entry)
+        usual_interval
+        (IsResult (show_with_result options))) (telling_of result) }
 {
-    bytes.push(b'\n')?;
-    Ok(bytes)
+    let maps = MapReader {
+        files: reader,
+        base,
+        interval: USUAL_INTERVAL,
+    };
+    let map = read_map(alloc, &maps, 0, path)?;
+    match left_of_map(alloc, &map, options) {
+        Ok(reply) => Ok(reply),
+        Err(ComposeRefusal::TooLarge) => Err(refused(alloc, lines::WRITTEN_TEXT_TOO_LONG)),
+        Err(_) => Err(Failure::Memory),
+    }
+}
+
+// What the options leave of a map, as a line.
+fn left_of_map(alloc: Global, map: &MapFile, options: WriteOptions) -> Result<Reply, ComposeRefusal>
+    ensures { GivesOr ComposeRefusal.Memory reply_telling result
+        (written_of options (all_composed map.now.stated [])) }
+{
+    written(alloc, compose_all(alloc, map, &[])?, options)
 }

@@ -1,9 +1,10 @@
 //! What a text is rewritten over, where folders and a list of maps are given beside files.
-ghost use Rattle.std.specs.Prelude.{◌≡◌, [], None, Some, map, option_copied, option_map, IfErr, IfOk, OnErr, OnOk};
-ghost use Rattle.smap_answers.specs.Outcome.{OrMemory, failure_telling};
+ghost use Rattle.std.specs.Prelude.{◌≡◌, [], None, Some, map, option_copied, option_map, IfErr, IfOk, IsSomeAnd, OnErr, OnOk};
+ghost use Rattle.smap_answers.specs.Lines.{map_refused_line};
+ghost use Rattle.smap_answers.specs.Outcome.{OrMemory, failure_telling, refusal};
 ghost use Rattle.smap_answers.specs.Private.Sources.{IsFolderRefusal, or_told};
 ghost use Rattle.smap_answers.specs.Sources.{AddsList, GathersSources, NamesFolders, ReadsList};
-ghost use Rattle.smap_answers.specs.Sources.{folder_refusal, list_refusal, reason_of};
+ghost use Rattle.smap_answers.specs.Sources.{folder_refusal, list_bytes_refusal, list_refusal, reason_of};
 ghost use Rattle.smap_answers.specs.Trace.{argument_of};
 ghost use Rattle.smap_store.specs.MapList.{PutsFolder, folder_fault};
 
@@ -123,12 +124,7 @@ fn with_lines(
 ) -> Result<MapSources, Failure>
     ensures { AddsList list.now bytes.now sources.words sources.locations (or_told result) }
 {
-    if bytes.len() > MOST_LIST_BYTES {
-        return Err(Failure::Refusal(lines::map_refused_line(alloc, list, "TooLarge")?));
-    }
-    let Ok(text) = str::from_utf8(bytes) else {
-        return Err(Failure::Refusal(lines::map_refused_line(alloc, list, "NotUtf8")?));
-    };
+    let text = list_text(alloc, list, bytes)?;
     let MapSources {
         words,
         mut locations,
@@ -139,8 +135,25 @@ fn with_lines(
     }
 }
 
-// Why the list at a path is refused.
-fn refused_list(alloc: Global, list: &str, refused: ListRefusal) -> Failure
+/// The text of a list of these bytes.
+pub fn list_text<'a>(alloc: Global, list: &str, bytes: &'a [u8]) -> Result<&'a str, Failure>
+    ensures text { IfOk result (λ text. text.now ≡ bytes.now) }
+    ensures short { OnOk result (list_bytes_refusal bytes.now ≡ None) }
+    ensures refused { IfErr result (λ failure. OrMemory (λ telling. IsSomeAnd
+        (list_bytes_refusal bytes.now)
+        (λ reason. telling ≡ refusal (map_refused_line list.now reason))) (failure_telling failure)) }
+{
+    if bytes.len() > MOST_LIST_BYTES {
+        return Err(Failure::Refusal(lines::map_refused_line(alloc, list, "TooLarge")?));
+    }
+    match str::from_utf8(bytes) {
+        Ok(text) => Ok(text),
+        Err(_) => Err(Failure::Refusal(lines::map_refused_line(alloc, list, "NotUtf8")?)),
+    }
+}
+
+/// Why the list at a path is refused.
+pub fn refused_list(alloc: Global, list: &str, refused: ListRefusal) -> Failure
     ensures { OrMemory (λ telling. telling ≡ list_refusal list.now refused)
         (failure_telling result) }
 {

@@ -16,19 +16,19 @@ use Rattle.clap.specs.Takes.{is_given}
 use Rattle.clap.specs.ValueTests.{accepts}
 use Rattle.clap.specs.Values.{kind_of}
 use Rattle.clap.proofs.OnLiterals.{clap_on_literals}
-use Rattle.clap.specs.declared.builder.action.ArgAction.TheVariants.{Append}
+use Rattle.clap.specs.declared.builder.action.ArgAction.TheVariants.{Append, SetTrue}
 use Rattle.clap.specs.declared.builder.value_parser.ValueParser.{ValueParser}
 use Rattle.clap.specs.declared.builder.value_parser.ValueParser.TheVariants as parser
 use Rattle.clap.specs.declared.error.Error.{Error}
 use Rattle.clap.specs.declared.error.kind.ErrorKind.TheVariants.{DisplayHelp, DisplayVersion, OutOfMemory}
-use Rattle.smap_arguments.specs.CommandLine.{after_rule, anywhere_rule, base_rule, bytes_number, bytes_rule, check, compose, hide_rule}
-use Rattle.smap_arguments.specs.CommandLine.{interval_number, interval_rule, json_rule, list_rule, lookup, named, number, positions, raw}
-use Rattle.smap_arguments.specs.CommandLine.{rewrite, show, smap, source_number, summary_rule}
+use Rattle.smap_arguments.specs.CommandLine.{base_rule, bytes_number, bytes_rule, check, compose, flag_rule, interval_number, interval_rule}
+use Rattle.smap_arguments.specs.CommandLine.{list_rule, lookup, named, number, pairs_rule, positions, raw, rewrite, show, smap, source_number}
 use Rattle.smap_arguments.specs.declared.usage.Usage.{Usage}
 use Rattle.smap_arguments.specs.declared.usage.Usage.TheVariants.{Help, Mistake, Memory}
-use Rattle.smap_arguments.specs.Arguments.{HasArguments, HasCommand, HasValue, HasValues, IsNamedRefusal, IsUsageOf, IsRefusalOf, SubcommandTells}
+use Rattle.smap_arguments.specs.Arguments.{HasArguments, HasCommand, HasValue, HasValues}
+use Rattle.smap_arguments.specs.Refusals.{IsNamedRefusal, IsUsageOf, IsRefusalOf, SubcommandTells}
 use Rattle.smap_arguments.proofs.Rows.{AreReadRows, Keeps, first_none, flag_at, flag_default_keeps, flag_keeps, given_value, help_keeps}
-use Rattle.smap_arguments.proofs.Rows.{long_option_keeps, more_values_keeps, named_option_keeps, no_default_keeps, second_none}
+use Rattle.smap_arguments.proofs.Rows.{long_option_keeps, more_option_keeps, more_values_keeps, named_option_keeps, no_default_keeps, second_none}
 use Rattle.smap_arguments.proofs.Rows.{settle_keeps, text_value, value_keeps, walk_keeps}
 use Rattle.smap_arguments.proofs.Stops.{IsNoHelp, walk_names}
 
@@ -110,8 +110,9 @@ module _ (parser_at : Text → ValueParser) where
       values_given s.rules rows plain (finished_keeps s.rules (settled s.rules end).rows plain end_good)
       (none_missing _ _ s.subcommand_negates_reqs (list_any (λ a. a.required && not (is_given a.id rows)) s.rules) last)
 
-  value : (i : ℕ) (id : Text) → IsPlain (with_index i (filled (record (new_rule id) { required = true; parser = Some (parser_at id) })))
-  value i id = (value_keeps parser_at i id true, inl refl, refl)
+  value : (i : ℕ) (id : Text) (required : Bool)
+      → IsPlain (with_index i (filled (record (new_rule id) { required = required; parser = Some (parser_at id) })))
+  value i id required = (value_keeps parser_at i id required, inl refl, refl)
 
   more_values : (i : ℕ) (id : Text) (required : Bool) → IsPlain
       (with_index i (filled (record (new_rule id) { required = required; action = Some Append; parser = Some (parser_at id) })))
@@ -123,6 +124,10 @@ module _ (parser_at : Text → ValueParser) where
   named_option : (i : ℕ) (id long : Text) → IsPlain
       (with_index i (filled (record (new_rule id) { long = Some long; value_names = 1; parser = Some (parser_at id) })))
   named_option i id long = (named_option_keeps parser_at i id long, inl refl, refl)
+
+  more_option : (i : ℕ) (id long : Text) → IsPlain
+      (with_index i (filled (record (new_rule id) { long = Some long; action = Some Append; parser = Some (parser_at id) })))
+  more_option i id long = (more_option_keeps parser_at i id long, inl refl, refl)
 
   flag : (i : ℕ) (id long : Text) → accepts false (parser_at id) (codes "false") ≡ true → IsPlain (flag_at parser_at i id long)
   flag i id long accepted = (flag_keeps parser_at i id long, inr (flag_default_keeps parser_at i id long accepted), refl)
@@ -143,7 +148,9 @@ at_argument id = cond (bytes_eq id (codes "SOURCE")) source_number
     (cond (bytes_eq id (codes "json")) parser.Bool
     (cond (bytes_eq id (codes "summary")) parser.Bool
     (cond (bytes_eq id (codes "hide-ignored")) parser.Bool
-    (cond (bytes_eq id (codes "LINE") || bytes_eq id (codes "COLUMN")) number parser.String)))))))))
+    (cond (bytes_eq id (codes "prune")) parser.Bool
+    (cond (bytes_eq id (codes "no-content")) parser.Bool
+    (cond (bytes_eq id (codes "LINE") || bytes_eq id (codes "COLUMN")) number parser.String)))))))))))
 
 base_plain : (i : ℕ) → IsPlain at_argument (with_index i (filled base_rule))
 base_plain i = option at_argument i (codes "URL") (codes "base")
@@ -151,20 +158,16 @@ base_plain i = option at_argument i (codes "URL") (codes "base")
 interval_plain : (i : ℕ) → IsPlain at_argument (with_index i (filled interval_rule))
 interval_plain i = option at_argument i (codes "K") (codes "interval")
 
-after_plain : (i : ℕ) → IsPlain at_argument (with_index i (filled after_rule))
-after_plain i = flag at_argument i (codes "after") (codes "after") refl
+flag_plain : (i : ℕ) (name : Text) → parser.Bool ≡ at_argument name → IsPlain at_argument (with_index i (filled (flag_rule name)))
+flag_plain i name is = subst
+    (λ by. IsPlain at_argument (with_index i (filled (record (new_rule name) { long = Some name; action = Some SetTrue; parser = Some by }))))
+    (sym is) (flag at_argument i name name (subst (λ by. accepts false by (codes "false") ≡ true) is refl))
 
-json_plain : (i : ℕ) → IsPlain at_argument (with_index i (filled json_rule))
-json_plain i = flag at_argument i (codes "json") (codes "json") refl
+list_plain : (i : ℕ) (long : Text) → IsPlain at_argument (with_index i (filled (list_rule long)))
+list_plain i long = option at_argument i (codes "LIST") long
 
-hide_plain : (i : ℕ) → IsPlain at_argument (with_index i (filled hide_rule))
-hide_plain i = flag at_argument i (codes "hide-ignored") (codes "hide-ignored") refl
-
-anywhere_plain : (i : ℕ) → IsPlain at_argument (with_index i (filled anywhere_rule))
-anywhere_plain i = flag at_argument i (codes "anywhere") (codes "anywhere") refl
-
-list_plain : (i : ℕ) → IsPlain at_argument (with_index i (filled list_rule))
-list_plain i = option at_argument i (codes "LIST") (codes "maps")
+pairs_plain : (i : ℕ) → IsPlain at_argument (with_index i (filled pairs_rule))
+pairs_plain i = more_option at_argument i (codes "NAME=FILE") (codes "inner")
 
 cache_plain : (i : ℕ) → IsPlain at_argument (with_index i (filled (bytes_rule 0 (codes "cache"))))
 cache_plain i = named_option at_argument i (codes "cache") (codes "cache")
@@ -172,56 +175,83 @@ cache_plain i = named_option at_argument i (codes "cache") (codes "cache")
 limit_plain : (i : ℕ) → IsPlain at_argument (with_index i (filled (bytes_rule 1 (codes "limit"))))
 limit_plain i = named_option at_argument i (codes "limit") (codes "limit")
 
-summary_plain : (i : ℕ) → IsPlain at_argument (with_index i (filled summary_rule))
-summary_plain i = flag at_argument i (codes "summary") (codes "summary") refl
-
 help_plain : IsPlain at_argument (filled help_rule)
 help_plain = help at_argument refl
 
 lookup_plain : Each (IsPlain at_argument) (built_leaf lookup.top).rules
 lookup_plain = (
-  value at_argument 1 (codes "PATH"),
+  value at_argument 1 (codes "PATH") true,
   (
-    value at_argument 2 (codes "LINE"),
-    (value at_argument 3 (codes "COLUMN"), (base_plain 4, (interval_plain 4, (after_plain 4, (json_plain 4, (help_plain, tt)))))),
+    value at_argument 2 (codes "LINE") true,
+    (
+      value at_argument 3 (codes "COLUMN") true,
+      (base_plain 4, (interval_plain 4, (flag_plain 4 (codes "after") refl, (flag_plain 4 (codes "json") refl, (help_plain, tt))))),
+    ),
   ),
 )
 
 positions_plain : Each (IsPlain at_argument) (built_leaf positions.top).rules
-positions_plain = (value at_argument 1 (codes "MAP"), (base_plain 2, (interval_plain 2, (after_plain 2, (json_plain 2, (help_plain, tt))))))
+positions_plain = (
+  value at_argument 1 (codes "MAP") true,
+  (base_plain 2, (interval_plain 2, (flag_plain 2 (codes "after") refl, (flag_plain 2 (codes "json") refl, (help_plain, tt))))),
+)
 
 rewrite_plain : Each (IsPlain at_argument) (built_leaf rewrite.top).rules
 rewrite_plain = (
   more_values at_argument 1 (codes "URL=FILE") false,
   (
-    list_plain 2,
+    list_plain 2 (codes "maps"),
     (
       base_plain 2,
       (
         interval_plain 2,
-        (hide_plain 2, (anywhere_plain 2, (cache_plain 2, (limit_plain 2, (summary_plain 2, (help_plain, tt)))))),
+        (
+          flag_plain 2 (codes "hide-ignored") refl,
+          (
+            flag_plain 2 (codes "anywhere") refl,
+            (cache_plain 2, (limit_plain 2, (flag_plain 2 (codes "summary") refl, (help_plain, tt)))),
+          ),
+        ),
       ),
     ),
   ),
 )
 
 check_plain : Each (IsPlain at_argument) (built_leaf check.top).rules
-check_plain = (more_values at_argument 1 (codes "PATH") true, (base_plain 2, (interval_plain 2, (json_plain 2, (help_plain, tt)))))
+check_plain = (
+  more_values at_argument 1 (codes "PATH") true,
+  (base_plain 2, (interval_plain 2, (flag_plain 2 (codes "json") refl, (help_plain, tt)))),
+)
 
 show_plain : Each (IsPlain at_argument) (built_leaf show.top).rules
-show_plain = (value at_argument 1 (codes "PATH"), (base_plain 2, (help_plain, tt)))
+show_plain = (
+  value at_argument 1 (codes "PATH") true,
+  (base_plain 2, (flag_plain 2 (codes "prune") refl, (flag_plain 2 (codes "no-content") refl, (help_plain, tt)))),
+)
 
 compose_plain : Each (IsPlain at_argument) (built_leaf compose.top).rules
 compose_plain = (
-  value at_argument 1 (codes "OUTER"),
+  value at_argument 1 (codes "OUTER") true,
   (
-    value at_argument 2 (codes "SOURCE"),
-    (value at_argument 3 (codes "INNER"), (base_plain 4, (help_plain, tt))),
+    value at_argument 2 (codes "SOURCE") false,
+    (
+      value at_argument 3 (codes "INNER") false,
+      (
+        pairs_plain 4,
+        (
+          list_plain 4 (codes "inners"),
+          (base_plain 4, (flag_plain 4 (codes "prune") refl, (flag_plain 4 (codes "no-content") refl, (help_plain, tt)))),
+        ),
+      ),
+    ),
   ),
 )
 
 raw_plain : Each (IsPlain at_argument) (built_leaf raw.top).rules
-raw_plain = (value at_argument 1 (codes "LINE"), (value at_argument 2 (codes "COLUMN"), (interval_plain 3, (help_plain, tt))))
+raw_plain = (
+  value at_argument 1 (codes "LINE") true,
+  (value at_argument 2 (codes "COLUMN") true, (interval_plain 3, (help_plain, tt))),
+)
 
 -- where clap finds no fault in the arguments of the subcommand, it has its arguments
 abbrev Gives : Shape → Type 0
@@ -321,7 +351,7 @@ failed_smap a arguments e usage is_smap fails is =
     ]
     refusal_of Memory kind is = tt
 
--- where clap finds no fault in the arguments, but the base or an argument of `rewrite` is refused
+-- where clap finds no fault in the arguments, but the base or what else a command is given is refused
 pub named_refused : (arguments : List Text) (usage : Usage) → fault_of smap arguments ≡ []
     → IsNamedRefusal (SubcommandTells (subcommand_of smap arguments)) usage
     → IsRefusalOf arguments usage

@@ -2,7 +2,7 @@ mod Flags
 mod Growth
 mod Named
 mod Numbers
-mod Pairs
+mod Cuts
 mod Rows
 mod Stops
 mod Texts

@@ -13,8 +13,9 @@ use Rattle.clap.specs.declared.parser.matches.ArgMatches.TheViews.{out-ArgMatche
 use Rattle.clap.specs.declared.parser.matches.SubCommand.{SubCommand}
 use Rattle.smap_command.specs.declared.command.Command.{Command}
 use Rattle.smap_arguments.specs.CommandLine.{check, compose, interval_number, lookup, named, number, positions, raw, rewrite, show}
-use Rattle.smap_arguments.specs.Arguments.{HasArguments, HasCommand, HasValue, HasValueIfGiven, IsNamedRefusal, NamedAsksFor, SubcommandAsksFor}
-use Rattle.smap_arguments.specs.Arguments.{SubcommandTells, TellsOfBase, TellsRefusal}
+use Rattle.smap_arguments.specs.Arguments.{HasArguments, HasCommand, HasValue, HasValueIfGiven, NamedAsksFor, SubcommandAsksFor}
+use Rattle.smap_arguments.specs.Refusals.{IsNamedRefusal}
+use Rattle.smap_arguments.specs.Refusals.{SubcommandTells, TellsOfBase, TellsRefusal}
 use Rattle.smap_arguments.specs.declared.usage.Usage.{Usage}
 use Rattle.smap_arguments.specs.declared.usage.Usage.TheVariants.{Help, Mistake, Memory}
 

@@ -1,5 +1,5 @@
 -- A number that clap reads for an argument.
-use Rattle.std.proofs.Common.{◌≡◌, ◌∙◌, ◌≤◌, ◌<◌, ◌^◌, ℕ, Option, Some, None, sym, subst, pos, codes, List, refl, leb, arith, true, false, ap}
+use Rattle.std.proofs.Common.{◌≡◌, ◌∙◌, ◌≤◌, ◌<◌, ◌^◌, ℕ, Option, Some, None, sym, subst, pos, codes, List, refl, leb, arith, true, false, ap, is_some}
 use Rattle.std.proofs.Common.{Result}
 use Rattle.std.specs.Option.{IsSome}
 use Rattle.std.specs.Prelude.{IfSome, option_map}
@@ -15,7 +15,7 @@ use Rattle.clap.proofs.CallerReads.{signed_reads}
 use Rattle.clap.specs.Words.{Row, one_of}
 use Rattle.smap_command.specs.Limits.{is_interval, most_bytes, most_interval, usual_interval}
 use Rattle.smap_arguments.specs.CommandLine.{bytes_number, interval_number}
-use Rattle.smap_arguments.specs.Arguments.{GivesInterval, GivesNumber, HasValue, HasValueIfGiven, IsIntervalOf, bytes_given}
+use Rattle.smap_arguments.specs.Arguments.{GivesInterval, GivesNumber, GivesNumberIfGiven, HasValue, HasValueIfGiven, IsIntervalOf, bytes_given}
 
 -- how a `u32` is read from a text
 abbrev pub ReadsU32 : Text → Result ℕ ParseIntError → Type 0
@@ -31,6 +31,25 @@ number_read low high fits found name result has reads =
     let got = signed_reads _ ReadsU32 32 low high has.0 result one (λ u x g. g.0) fits has.2 in
     let read = subst (ReadsOne ReadsU32 (without_minus has.0)) got.1 one in
     (got.0, got.1, got.2, got.3, (without_minus has.0, has.1, sym read.0.1))
+
+-- so it is with one that may be missing
+pub number_if_given : (low high : ℕ) → high < 2 ^ 32 → (found : Found) (name : Text) (result : Option ℕ)
+    → HasValueIfGiven (Signed (pos low) (pos high)) (rows_of found) name
+    → (one_text found name ≡ None → result ≡ None) → ((t : Text) → one_text found name ≡ Some t → ReadsOne ReadsU32 t result)
+    → GivesNumberIfGiven (rows_of found) name result
+number_if_given low high fits found name result has none reads = go (one_of name (rows_of found)) refl
+  where
+    go : (o : Option Text) → one_of name (rows_of found) ≡ o → GivesNumberIfGiven (rows_of found) name result
+    go None is = subst (GivesNumberIfGiven (rows_of found) name) (sym (none (one_text-rows found name ∙ is))) is
+    go (Some text) is =
+        let read = number_read low high fits found name result (has (subst IsSome (sym is) refl)) reads in
+        subst (GivesNumberIfGiven (rows_of found) name) (sym read.1) read.4
+
+-- a number is there where its text is
+pub number_given : (rows : List Row) (name : Text) (result : Option ℕ) → GivesNumberIfGiven rows name result
+    → is_some (one_of name rows) ≡ is_some result
+number_given rows name None given = ap is_some given
+number_given rows name (Some n) given = ap is_some given.1
 
 -- ---- a number of bytes
 

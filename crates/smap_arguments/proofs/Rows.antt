@@ -145,6 +145,18 @@ module _ (parser_at : Text → ValueParser) where
       go none = with_values_keeps id CommandLine (v ∷ vs) (without id rows)
           (accepted_values id v vs (second_none (repeat_fault again id rows) _ none)) (without_keeps id rows good)
 
+  -- an option of one value that may be given more than once
+  pub more_option_keeps : (i : ℕ) (id long : Text)
+      → Keeps (with_index i (filled (record (new_rule id) { long = Some long; action = Some Append; parser = Some (parser_at id) })))
+  more_option_keeps i id long again [] rows none good = cc
+  more_option_keeps i id long again (v ∷ vs) rows none good = go (second_none _ (values_fault a (v ∷ vs)) none)
+    where
+      a : Rule
+      a = with_index i (filled (record (new_rule id) { long = Some long; action = Some Append; parser = Some (parser_at id) }))
+
+      go : values_fault a (v ∷ vs) ≡ [] → AreReadRows (used a (v ∷ vs) rows)
+      go none = with_values_keeps id CommandLine (v ∷ vs) rows (accepted_values id v vs none) good
+
   -- a flag
   abbrev pub flag_at : (i : ℕ) (id long : Text) → Rule
   flag_at i id long = with_index i (filled (record (new_rule id) { long = Some long; action = Some SetTrue; parser = Some (parser_at id) }))

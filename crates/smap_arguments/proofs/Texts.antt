@@ -1,5 +1,5 @@
 -- A text that clap reads for an argument.
-use Rattle.std.proofs.Common.{◌≡◌, ℕ, List, Option, Some, None, refl, find, map}
+use Rattle.std.proofs.Common.{◌≡◌, ℕ, List, Option, Some, None, refl, find, is_some, map}
 use Rattle.std.specs.Borrow.{Bor}
 use Rattle.std.specs.Option.{IsSome}
 use Rattle.std.specs.Prelude.{option_and_then, option_map, slice_get}
@@ -15,6 +15,11 @@ use Rattle.smap_arguments.specs.Arguments.{GivesText, HasValue}
 pub some_text : (o : Option (Bor (List ℕ))) (text : List ℕ) → option_map (λ s. s.now) o ≡ Some text → IsSome o
 some_text None text is = cc
 some_text (Some s) text is = refl
+
+-- a text that is made of another is there where that is
+pub some_mapped : {A B : Type 0} (f : A → B) (o : Option A) → is_some (option_map f o) ≡ is_some o
+some_mapped f None = refl
+some_mapped f (Some x) = refl
 
 row_found : (name text : Text) (rows : List Row) → one_of name rows ≡ Some text → (r : Row) × (find (λ r. bytes_eq r.id name) rows ≡ Some r)
 row_found name text rows is = go (find (λ r. bytes_eq r.id name) rows) is

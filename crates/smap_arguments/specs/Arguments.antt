@@ -1,7 +1,6 @@
 -- What the arguments of the command line ask for.
 use Rattle.std.specs.Prelude.{◌≡◌, ◌≢◌, ◌≤◌, ◌+◌, ◌++◌, ◌==◌, ◌||◌, ◌&&◌, ◌⊎◌, ◌∷◌, ℕ, Bool, false, true, codes, length, List, []}
-use Rattle.std.specs.Prelude.{Err, None, Ok, Option, Some, String, find, if◌then◌else◌, is_some, map, not, option_map, unwrap_or, ⊤}
-use Rattle.std.specs.declared.alloc.Global.{Global}
+use Rattle.std.specs.Prelude.{None, Ok, Option, Some, String, if◌then◌else◌, is_some, map, option_map, unwrap_or, ⊤}
 use Rattle.std.specs.Bool.{nat_eq}
 use Rattle.std.specs.List.{AllZip, ends_with, list_any}
 use Rattle.std.specs.Option.{IsSome}
@@ -10,23 +9,18 @@ use Rattle.std.specs.String.{string_bytes}
 use Rattle.smap_command.specs.Bytes.{HasBytes}
 use Rattle.smap_command.specs.Interval.{HasInterval}
 use Rattle.smap_command.specs.Limits.{limit, usual_cache_bytes, usual_interval, usual_limit_bytes}
-use Rattle.smap_command.specs.Shown.{shown}
-use Rattle.url.specs.Parser.{IsOutOfRoom, parse_url}
+use Rattle.url.specs.Parser.{parse_url}
 use Rattle.url.specs.Parts.{Parts}
-use Rattle.url.specs.declared.error.ParseError.{ParseError}
 use Rattle.clap.specs.Faults.{fault_of}
-use Rattle.clap.specs.Kinds.{IsAmong}
 use Rattle.clap.specs.Simple.{built_leaf}
 use Rattle.clap.specs.Words.{Accepts, Row, Rule, Shape, Text, all_of, first_of, one_of, read_as, reading_of, subcommand_of}
 use Rattle.clap.specs.declared.builder.value_parser.ValueParser.{ValueParser}
 use Rattle.clap.specs.declared.builder.value_parser.ValueParser.TheVariants as parser
-use Rattle.clap.specs.declared.error.kind.ErrorKind.{ErrorKind}
-use Rattle.clap.specs.declared.error.kind.ErrorKind.TheVariants.{DisplayHelp, DisplayVersion, OutOfMemory}
 use Rattle.smap_command.specs.declared.command.Command.{Command}
-use Rattle.smap_command.specs.declared.command.Command.TheVariants.{Raw, Check, CheckAll, Show, Lookup, Positions, Rewrite, RewriteFrom, Compose}
+use Rattle.smap_command.specs.declared.command.Command.TheVariants.{Raw, Check, CheckAll, Show, ShowWith, Lookup, Positions}
+use Rattle.smap_command.specs.declared.command.Command.TheVariants.{Rewrite, RewriteFrom, Compose, ComposeWith, ComposeAll}
+use Rattle.smap_command.specs.declared.command.WriteOptions.{WriteOptions}
 use Rattle.smap_arguments.specs.CommandLine.{named, smap}
-use Rattle.smap_arguments.specs.declared.usage.Usage.{Usage}
-use Rattle.smap_arguments.specs.declared.usage.Usage.TheVariants.{Help, Mistake, Memory}
 
 -- the lines and columns are ones that there can be, counted from 0
 abbrev pub HasPosition : Command → Type 0
@@ -34,11 +28,14 @@ HasPosition (Raw line column interval) = (line ≤ limit) × (column ≤ limit)
 HasPosition (Check path base interval) = ⊤
 HasPosition (CheckAll paths base interval json) = ⊤
 HasPosition (Show path base) = ⊤
+HasPosition (ShowWith path base options) = ⊤
 HasPosition (Lookup path line column base interval after json) = (line ≤ limit) × (column ≤ limit)
 HasPosition (Positions path base interval after json) = ⊤
 HasPosition (Rewrite maps base interval hide_ignored) = ⊤
 HasPosition (RewriteFrom maps list base interval hide_ignored anywhere cache_bytes limit_bytes summary) = ⊤
 HasPosition (Compose outer source inner base) = ⊤
+HasPosition (ComposeWith outer source inner base options) = ⊤
+HasPosition (ComposeAll outer inners list base options) = ⊤
 
 -- the same, checkpoints may stand at its interval, and there may be as many bytes as it says
 abbrev pub IsInRange : Command → Type 0
@@ -64,9 +61,18 @@ abbrev pub GivesNumber : List Row → (name : Text) → ℕ → Type 0
 GivesNumber rows name n = (text : Text) × (one_of name rows ≡ Some text)
     × (digits_value 10 (without_leading_plus text) ≡ n)
 
+-- the same, where it is given
+abbrev pub GivesNumberIfGiven : List Row → (name : Text) → Option ℕ → Type 0
+GivesNumberIfGiven rows name None = one_of name rows ≡ None
+GivesNumberIfGiven rows name (Some n) = GivesNumber rows name n
+
 -- it is this text
 abbrev pub GivesText : List Row → (name text : Text) → Type 0
 GivesText rows name text = first_of name rows ≡ Some text
+
+-- the same, where it is given
+abbrev pub GivesTextIfGiven : {A : Type 0} → List Row → (name : Text) → Option (String A) → Type 0
+GivesTextIfGiven rows name text = first_of name rows ≡ option_map string_bytes text
 
 -- it is these texts, in their order
 abbrev pub GivesTexts : List Row → (name : Text) → List Text → Type 0
@@ -99,31 +105,37 @@ IsFlagOf (Some text) given = text ≡ (if given then codes "true" else codes "fa
 abbrev pub GivesFlag : List Row → (name : Text) → Bool → Type 0
 GivesFlag rows name = IsFlagOf (one_of name rows)
 
--- ---- the arguments of `rewrite`
+-- ---- arguments that are pairs, and lists of more
 
 -- the text has an `=`
 abbrev pub has_equals_sign : Text → Bool
 has_equals_sign = list_any (λ byte. byte == 61)
 
--- the argument is a URL, `=` and a path, and is cut at its last `=`
-abbrev pub IsPair : (argument url path : Text) → Type 0
-IsPair argument url path = (argument ≡ url ++ (codes "=" ++ path)) × (has_equals_sign path ≡ false)
+-- the argument is a URL or a name, `=` and a path, and is cut at its last `=`
+abbrev pub IsPair : (argument front path : Text) → Type 0
+IsPair argument front path = (argument ≡ front ++ (codes "=" ++ path)) × (has_equals_sign path ≡ false)
 
--- the arguments are these pairs of a URL and a path
+-- the arguments are these pairs
 abbrev pub ArePairs : {A : Type 0} → List Text → List (String A × String A) → Type 0
 ArePairs = AllZip (λ argument pair. IsPair argument (string_bytes pair.0) (string_bytes pair.1))
 
--- the words, of which there may be none
-abbrev pub words_of : List Row → List Text
-words_of rows = unwrap_or (all_of (codes "URL=FILE") rows) []
+-- the arguments of a form, of which there may be none
+abbrev pub words_of : List Row → (form : Text) → List Text
+words_of rows form = unwrap_or (all_of form rows) []
 
--- the words that clap reads are these pairs
-abbrev pub GivesPairs : {A : Type 0} → List Row → List (String A × String A) → Type 0
-GivesPairs rows = ArePairs (words_of rows)
+-- those that clap reads are these pairs
+abbrev pub GivesPairs : {A : Type 0} → List Row → (form : Text) → List (String A × String A) → Type 0
+GivesPairs rows form = ArePairs (words_of rows form)
 
--- the first argument that is no pair
-abbrev pub first_without : List Text → Option Text
-first_without = find (λ argument. not (has_equals_sign argument))
+-- the path of a list of more, where one is given
+abbrev pub GivesList : {A : Type 0} → List Row → Option (String A) → Type 0
+GivesList rows = GivesTextIfGiven rows (codes "LIST")
+
+-- there are pairs, or a list
+abbrev pub HasMaps : {A B : Type 0} → (maps : List A) → (list : Option B) → Type 0
+HasMaps maps list = (maps ≢ []) ⊎ IsSome list
+
+-- ---- the arguments of `rewrite`
 
 -- the path is that of a folder
 abbrev pub is_folder : Text → Bool
@@ -132,14 +144,6 @@ is_folder path = ends_with nat_eq path (codes "/")
 -- one of the pairs is of a prefix and a folder
 abbrev pub has_folder : {A : Type 0} → List (String A × String A) → Bool
 has_folder = list_any (λ pair. is_folder (string_bytes pair.1))
-
--- the path of a list of maps, where one is given
-abbrev pub GivesList : {A : Type 0} → List Row → Option (String A) → Type 0
-GivesList rows list = first_of (codes "LIST") rows ≡ option_map string_bytes list
-
--- there are words, or a list
-abbrev pub HasMaps : {A B : Type 0} → (maps : List A) → (list : Option B) → Type 0
-HasMaps maps list = (maps ≢ []) ⊎ IsSome list
 
 -- the number of bytes that an option names, where it is given
 abbrev pub bytes_given : List Row → (name : Text) → Option ℕ
@@ -166,6 +170,35 @@ AsksForMore rows maps anywhere summary = (has_folder maps || has_further rows an
 abbrev pub TellsEachFile : {A : Type 0} → (paths : List A) → (json : Bool) → Type 0
 TellsEachFile paths json = (json ≡ true) ⊎ (length paths ≢ 1)
 
+-- ---- the arguments of `show` and `compose`
+
+-- something is left out of the map that is written
+abbrev pub leaves_out : WriteOptions → Bool
+leaves_out options = options.prune || options.no_content
+
+-- what is left out
+abbrev pub GivesOptions : List Row → WriteOptions → Type 0
+GivesOptions rows options =
+    GivesFlag rows (codes "prune") options.prune × GivesFlag rows (codes "no-content") options.no_content
+
+-- no source's map is given by the source's name
+abbrev pub HasNoInners : List Row → Type 0
+HasNoInners rows = (words_of rows (codes "NAME=FILE") ≡ []) × (first_of (codes "LIST") rows ≡ None)
+
+-- SOURCE or INNER is given
+abbrev pub has_inner : List Row → Bool
+has_inner rows = is_some (one_of (codes "SOURCE") rows) || is_some (first_of (codes "INNER") rows)
+
+-- one map is given by the number of its source
+abbrev pub GivesInner : {A : Type 0} → List Row → (source : ℕ) → (inner : String A) → Type 0
+GivesInner rows source inner =
+    GivesNumber rows (codes "SOURCE") source × GivesText rows (codes "INNER") (string_bytes inner) × HasNoInners rows
+
+-- maps are given by the names of their sources, as pairs or in a list
+abbrev pub GivesInners : {A : Type 0} → List Row → List (String A × String A) → Option (String A) → Type 0
+GivesInners rows inners list = GivesPairs rows (codes "NAME=FILE") inners × GivesList rows list × HasMaps inners list
+    × (has_inner rows ≡ false)
+
 -- ---- what any arguments ask for
 
 -- how the command is called
@@ -174,11 +207,14 @@ name_of (Raw line column interval) = codes "raw"
 name_of (Check path base interval) = codes "check"
 name_of (CheckAll paths base interval json) = codes "check"
 name_of (Show path base) = codes "show"
+name_of (ShowWith path base options) = codes "show"
 name_of (Lookup path line column base interval after json) = codes "lookup"
 name_of (Positions path base interval after json) = codes "positions"
 name_of (Rewrite maps base interval hide_ignored) = codes "rewrite"
 name_of (RewriteFrom maps list base interval hide_ignored anywhere cache_bytes limit_bytes summary) = codes "rewrite"
 name_of (Compose outer source inner base) = codes "compose"
+name_of (ComposeWith outer source inner base options) = codes "compose"
+name_of (ComposeAll outer inners list base options) = codes "compose"
 
 -- what clap reads for the arguments of a command asks for it, with lines and columns counted from 1
 abbrev pub RowsAskFor : List Row → Command → Type 0
@@ -189,20 +225,29 @@ RowsAskFor rows (Check path base interval) = GivesTexts rows (codes "PATH") (str
 RowsAskFor rows (CheckAll paths base interval json) = GivesTexts rows (codes "PATH") (texts paths.items) × GivesBase rows base
     × GivesInterval rows interval × GivesFlag rows (codes "json") json × TellsEachFile paths.items json
 RowsAskFor rows (Show path base) = GivesText rows (codes "PATH") (string_bytes path) × GivesBase rows base
+    × GivesFlag rows (codes "prune") false × GivesFlag rows (codes "no-content") false
+RowsAskFor rows (ShowWith path base options) = GivesText rows (codes "PATH") (string_bytes path) × GivesBase rows base
+    × GivesOptions rows options × (leaves_out options ≡ true)
 RowsAskFor rows (Lookup path line column base interval after json) = GivesText rows (codes "PATH") (string_bytes path)
     × GivesNumber rows (codes "LINE") (line + 1) × GivesNumber rows (codes "COLUMN") (column + 1) × GivesBase rows base
     × GivesInterval rows interval × GivesFlag rows (codes "after") after × GivesFlag rows (codes "json") json
 RowsAskFor rows (Positions path base interval after json) = GivesText rows (codes "MAP") (string_bytes path) × GivesBase rows base
     × GivesInterval rows interval × GivesFlag rows (codes "after") after × GivesFlag rows (codes "json") json
-RowsAskFor rows (Rewrite maps base interval hide_ignored) = GivesPairs rows maps.items × GivesBase rows base × GivesInterval rows interval
-    × GivesFlag rows (codes "hide-ignored") hide_ignored × AsksPlainly rows maps.items
-RowsAskFor rows (RewriteFrom maps list base interval hide_ignored anywhere cache_bytes limit_bytes summary) = GivesPairs rows maps.items
-    × GivesList rows list × GivesBase rows base × GivesInterval rows interval × GivesFlag rows (codes "hide-ignored") hide_ignored
-    × GivesFlag rows (codes "anywhere") anywhere × (unwrap_or (bytes_given rows (codes "cache")) usual_cache_bytes ≡ cache_bytes)
+RowsAskFor rows (Rewrite maps base interval hide_ignored) = GivesPairs rows (codes "URL=FILE") maps.items × GivesBase rows base
+    × GivesInterval rows interval × GivesFlag rows (codes "hide-ignored") hide_ignored × AsksPlainly rows maps.items
+RowsAskFor rows (RewriteFrom maps list base interval hide_ignored anywhere cache_bytes limit_bytes summary) =
+    GivesPairs rows (codes "URL=FILE") maps.items × GivesList rows list × GivesBase rows base × GivesInterval rows interval
+    × GivesFlag rows (codes "hide-ignored") hide_ignored × GivesFlag rows (codes "anywhere") anywhere
+    × (unwrap_or (bytes_given rows (codes "cache")) usual_cache_bytes ≡ cache_bytes)
     × (unwrap_or (bytes_given rows (codes "limit")) usual_limit_bytes ≡ limit_bytes) × GivesFlag rows (codes "summary") summary
     × ((hide_ignored && anywhere) ≡ false) × HasMaps maps.items list × AsksForMore rows maps.items anywhere summary
 RowsAskFor rows (Compose outer source inner base) = GivesText rows (codes "OUTER") (string_bytes outer)
-    × GivesNumber rows (codes "SOURCE") source × GivesText rows (codes "INNER") (string_bytes inner) × GivesBase rows base
+    × GivesInner rows source inner × GivesBase rows base × GivesFlag rows (codes "prune") false
+    × GivesFlag rows (codes "no-content") false
+RowsAskFor rows (ComposeWith outer source inner base options) = GivesText rows (codes "OUTER") (string_bytes outer)
+    × GivesInner rows source inner × GivesBase rows base × GivesOptions rows options × (leaves_out options ≡ true)
+RowsAskFor rows (ComposeAll outer inners list base options) = GivesText rows (codes "OUTER") (string_bytes outer)
+    × GivesInners rows inners.items list × GivesBase rows base × GivesOptions rows options
 
 -- the same, where the arguments name the command so
 abbrev pub NamedAsksFor : (name : Text) → List Row → Command → Type 0
@@ -235,98 +280,3 @@ HasArguments (Some command) rows = HasValues (built_leaf command).rules rows
 -- the subcommand is one of `smap`, and has its arguments
 abbrev pub HasCommand : Option (Text × List Row) → Type 0
 HasCommand subcommand = (name : Text) × (rows : List Row) × (subcommand ≡ Some (name, rows)) × HasArguments (named name) rows
-
--- ---- why there is no command
-
--- an error of this kind is a request for help or for the version
-abbrev pub IsRequest : ErrorKind → Type 0
-IsRequest kind = (kind ≡ DisplayHelp) ⊎ (kind ≡ DisplayVersion)
-
--- what an error of this kind comes to
-abbrev pub IsUsageOf : ErrorKind → Usage → Type 0
-IsUsageOf kind (Help text) = IsRequest kind
-IsUsageOf kind (Mistake text) = (¬ (IsRequest kind)) × (kind ≢ OutOfMemory)
-IsUsageOf kind Memory = ⊤
-
--- the base is no URL
-abbrev pub bad_base_line : Text
-bad_base_line = codes "usage: bad base URL" ++ 10 ∷ []
-
--- the base is a URL of 4 GB or more
-abbrev pub long_base_line : Text
-long_base_line = codes "usage: base URL too long" ++ 10 ∷ []
-
--- an argument of `rewrite` has no `=`
-abbrev pub no_pair_line : (argument : Text) → Text
-no_pair_line argument = codes "usage: no URL=FILE: " ++ shown argument ++ 10 ∷ []
-
--- `rewrite` has both of these flags
-abbrev pub both_flags_line : Text
-both_flags_line = codes "usage: --hide-ignored with --anywhere" ++ 10 ∷ []
-
--- `rewrite` has neither a word nor a list, which is told as clap tells of an argument that is missing
-abbrev pub no_maps_text : Text
-no_maps_text = codes "error: the following required arguments were not provided:" ++ 10 ∷ codes "  <URL=FILE>..." ++ 10 ∷ 10
-    ∷ codes "Usage: smap rewrite <URL=FILE>..." ++ 10 ∷ 10 ∷ codes "For more information, try '--help'." ++ 10 ∷ []
-
--- it is told that the base is no URL: url's definition finds an error in its text, which is not that it is too long
-abbrev pub TellsBadBase : List Row → Text → Type 0
-TellsBadBase rows text = (text ≡ bad_base_line)
-    × ((base : Text) × (error : ParseError) × GivesText rows (codes "URL") base × (parse_url None base ≡ Err error)
-    × (¬ (IsOutOfRoom error)))
-
--- it is told that the base is too long: any that is given may be, since no definition of url's says when one is
-abbrev pub TellsLongBase : List Row → Text → Type 0
-TellsLongBase rows text = (text ≡ long_base_line) × ((base : Text) × GivesText rows (codes "URL") base)
-
--- it is told why the base that is given is none
-abbrev pub TellsOfBase : List Row → Text → Type 0
-TellsOfBase rows text = TellsBadBase rows text ⊎ TellsLongBase rows text
-
--- an argument of `rewrite` is told that is the first without `=`
-abbrev pub TellsNoPair : List Text → Text → Type 0
-TellsNoPair arguments text = (argument : Text) × (first_without arguments ≡ Some argument) × (text ≡ no_pair_line argument)
-
--- the same, of the words that clap reads
-abbrev pub TellsBadPair : List Row → Text → Type 0
-TellsBadPair rows = TellsNoPair (words_of rows)
-
--- it is told that there is neither a word nor a list
-abbrev pub TellsNoMaps : List Row → Text → Type 0
-TellsNoMaps rows text = (text ≡ no_maps_text) × (words_of rows ≡ []) × (first_of (codes "LIST") rows ≡ None)
-
--- it is told that both flags are given, of words that are pairs
-abbrev pub TellsBothFlags : List Row → Text → Type 0
-TellsBothFlags rows text = (text ≡ both_flags_line) × ((pairs : List (String Global × String Global)) × GivesPairs rows pairs)
-    × GivesFlag rows (codes "hide-ignored") true × GivesFlag rows (codes "anywhere") true
-
--- what `rewrite` refuses after its base: a word, that there are no maps, and then its flags
-abbrev pub TellsRewrite : List Row → Text → Type 0
-TellsRewrite rows text = TellsBadPair rows text ⊎ TellsNoMaps rows text ⊎ TellsBothFlags rows text
-
--- the arguments are told that clap takes, but the command of this name does not: its base or, where that is not refused,
--- what else `rewrite` refuses
-abbrev pub TellsRefusal : (name : Text) → List Row → Text → Type 0
-TellsRefusal name rows text = TellsOfBase rows text
-    ⊎ ((base : Option Parts) × (name ≡ codes "rewrite") × GivesBase rows base × TellsRewrite rows text)
-
--- where clap finds no fault, this alone may be told, or memory ran out
-abbrev pub IsNamedRefusal : (Text → Type 0) → Usage → Type 0
-IsNamedRefusal Tells (Help text) = ⊥
-IsNamedRefusal Tells (Mistake text) = Tells (string_bytes text)
-IsNamedRefusal Tells Memory = ⊤
-
--- the same, of the subcommand that the arguments name
-abbrev pub SubcommandTells : Option (Text × List Row) → Text → Type 0
-SubcommandTells subcommand text =
-    (name : Text) × (rows : List Row) × (subcommand ≡ Some (name, rows)) × TellsRefusal name rows text
-
--- clap finds a request for help or for the version, or another fault in the arguments; or it finds none, and what is told is
--- that the base is no URL or too long, an argument no pair, that there are no maps, or that two flags exclude each other; or
--- memory ran out
-abbrev pub IsRefusalOf : List Text → Usage → Type 0
-IsRefusalOf arguments (Help text) = (kind : ErrorKind) × IsAmong kind (fault_of smap arguments) × IsRequest kind
-IsRefusalOf arguments (Mistake text) =
-    ((kind : ErrorKind) × IsAmong kind (fault_of smap arguments) × (¬ (IsRequest kind)))
-    ⊎ ((fault_of smap arguments ≡ []) × SubcommandTells (subcommand_of smap arguments) (string_bytes text))
-IsRefusalOf arguments Memory = ⊤

@@ -34,6 +34,10 @@ bytes_number least = parser.Unsigned least most_bytes
 abbrev pub text_rule : Text → Rule
 text_rule name = record (new_rule name) { required = true }
 
+-- one of any text that may be missing
+abbrev pub optional_rule : Text → Rule
+optional_rule name = new_rule name
+
 -- a required argument that this parser reads
 abbrev pub number_rule : ValueParser → Text → Rule
 number_rule parser name = record (new_rule name) { required = true; parser = Some parser }
@@ -50,34 +54,26 @@ base_rule = record (new_rule (codes "URL")) { long = Some (codes "base") }
 abbrev pub interval_rule : Rule
 interval_rule = record (new_rule (codes "K")) { long = Some (codes "interval"); parser = Some interval_number }
 
--- the flag that looks up in the other direction
-abbrev pub after_rule : Rule
-after_rule = record (new_rule (codes "after")) { long = Some (codes "after"); action = Some SetTrue }
+-- the argument that is the number of a source, which may be missing
+abbrev pub source_rule : Rule
+source_rule = record (new_rule (codes "SOURCE")) { parser = Some source_number }
 
--- the flag that answers in JSON
-abbrev pub json_rule : Rule
-json_rule = record (new_rule (codes "json")) { long = Some (codes "json"); action = Some SetTrue }
+-- a flag, which its name stands for
+abbrev pub flag_rule : Text → Rule
+flag_rule name = record (new_rule name) { long = Some name; action = Some SetTrue }
 
--- the flag that hides the frames of ignored sources
-abbrev pub hide_rule : Rule
-hide_rule = record (new_rule (codes "hide-ignored")) { long = Some (codes "hide-ignored"); action = Some SetTrue }
+-- the option of this name that is the path of a list of maps, of any text
+abbrev pub list_rule : (long : Text) → Rule
+list_rule long = record (new_rule (codes "LIST")) { long = Some long }
 
--- the flag that rewrites places anywhere in a text
-abbrev pub anywhere_rule : Rule
-anywhere_rule = record (new_rule (codes "anywhere")) { long = Some (codes "anywhere"); action = Some SetTrue }
-
--- the option that is the path of a list of maps, of any text
-abbrev pub list_rule : Rule
-list_rule = record (new_rule (codes "LIST")) { long = Some (codes "maps") }
+-- the option that is a source's name and a path, of any text, and may be given more than once
+abbrev pub pairs_rule : Rule
+pairs_rule = record (new_rule (codes "NAME=FILE")) { long = Some (codes "inner"); action = Some Append }
 
 -- an option that is a number of bytes, which its name in the help tells
 abbrev pub bytes_rule : (least : ℕ) → Text → Rule
 bytes_rule least name =
     record (new_rule name) { long = Some name; value_names = 1; parser = Some (bytes_number least) }
-
--- the flag that tells counts at the end
-abbrev pub summary_rule : Rule
-summary_rule = record (new_rule (codes "summary")) { long = Some (codes "summary"); action = Some SetTrue }
 
 -- clap's argument is the one described, and does not hold in subcommands too
 abbrev pub IsLocalArgument : Rule → ClapArgument → Type 0
@@ -91,24 +87,26 @@ with_rules name rules = fold with_rule (new_app name) rules
 
 abbrev pub lookup : App
 lookup = with_rules (codes "lookup") (text_rule (codes "PATH") ∷ number_rule number (codes "LINE")
-    ∷ number_rule number (codes "COLUMN") ∷ base_rule ∷ interval_rule ∷ after_rule ∷ json_rule ∷ [])
+    ∷ number_rule number (codes "COLUMN") ∷ base_rule ∷ interval_rule ∷ flag_rule (codes "after") ∷ flag_rule (codes "json") ∷ [])
 
 abbrev pub positions : App
-positions = with_rules (codes "positions") (text_rule (codes "MAP") ∷ base_rule ∷ interval_rule ∷ after_rule ∷ json_rule ∷ [])
+positions = with_rules (codes "positions") (text_rule (codes "MAP") ∷ base_rule ∷ interval_rule ∷ flag_rule (codes "after")
+    ∷ flag_rule (codes "json") ∷ [])
 
 abbrev pub rewrite : App
-rewrite = with_rules (codes "rewrite") (texts_rule false (codes "URL=FILE") ∷ list_rule ∷ base_rule ∷ interval_rule ∷ hide_rule
-    ∷ anywhere_rule ∷ bytes_rule 0 (codes "cache") ∷ bytes_rule 1 (codes "limit") ∷ summary_rule ∷ [])
+rewrite = with_rules (codes "rewrite") (texts_rule false (codes "URL=FILE") ∷ list_rule (codes "maps") ∷ base_rule ∷ interval_rule
+    ∷ flag_rule (codes "hide-ignored") ∷ flag_rule (codes "anywhere") ∷ bytes_rule 0 (codes "cache") ∷ bytes_rule 1 (codes "limit")
+    ∷ flag_rule (codes "summary") ∷ [])
 
 abbrev pub check : App
-check = with_rules (codes "check") (texts_rule true (codes "PATH") ∷ base_rule ∷ interval_rule ∷ json_rule ∷ [])
+check = with_rules (codes "check") (texts_rule true (codes "PATH") ∷ base_rule ∷ interval_rule ∷ flag_rule (codes "json") ∷ [])
 
 abbrev pub show : App
-show = with_rules (codes "show") (text_rule (codes "PATH") ∷ base_rule ∷ [])
+show = with_rules (codes "show") (text_rule (codes "PATH") ∷ base_rule ∷ flag_rule (codes "prune") ∷ flag_rule (codes "no-content") ∷ [])
 
 abbrev pub compose : App
-compose = with_rules (codes "compose") (text_rule (codes "OUTER") ∷ number_rule source_number (codes "SOURCE")
-    ∷ text_rule (codes "INNER") ∷ base_rule ∷ [])
+compose = with_rules (codes "compose") (text_rule (codes "OUTER") ∷ source_rule ∷ optional_rule (codes "INNER") ∷ pairs_rule
+    ∷ list_rule (codes "inners") ∷ base_rule ∷ flag_rule (codes "prune") ∷ flag_rule (codes "no-content") ∷ [])
 
 abbrev pub raw : App
 raw = with_rules (codes "raw") (number_rule number (codes "LINE") ∷ number_rule number (codes "COLUMN") ∷ interval_rule ∷ [])

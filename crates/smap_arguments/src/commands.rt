@@ -2,15 +2,17 @@
 ghost use Rattle.std.specs.Prelude.{◌≡◌, IfErr, IfOk, codes, map};
 ghost use Rattle.clap.specs.Words.{found_of, rows_of, subcommand_rows_of};
 ghost use Rattle.smap_arguments.specs.CommandLine.{interval_number, named};
-ghost use Rattle.smap_arguments.specs.Arguments.{GivesBase, HasArguments, HasCommand, HasValue, HasValueIfGiven, IsInRange, IsNamedRefusal};
-ghost use Rattle.smap_arguments.specs.Arguments.{NamedAsksFor, SubcommandAsksFor, SubcommandTells, TellsRefusal, texts};
+ghost use Rattle.smap_arguments.specs.Arguments.{GivesBase, HasArguments, HasCommand, HasValue, HasValueIfGiven, IsInRange, NamedAsksFor};
+ghost use Rattle.smap_arguments.specs.Arguments.{SubcommandAsksFor, texts};
+ghost use Rattle.smap_arguments.specs.Refusals.{IsNamedRefusal, SubcommandTells, TellsRefusal};
 ghost use Rattle.clap.specs.declared.builder.value_parser.ValueParser.TheVariants as parser;
 
 use crate::rewrite::rewrite_in;
 use crate::usage::Usage;
 use crate::values::{
-    after_in, base_in, interval_in, json_in, position_number_in, source_in, text_in, texts_in,
+    after_in, base_in, interval_in, json_in, position_number_in, text_in, texts_in,
 };
+use crate::written::{compose_in, show_in};
 use clap::ArgMatches;
 use smap_command::Command;
 use std::alloc::{AllocError, Global};
@@ -62,16 +64,8 @@ fn named_command(
         }),
         "rewrite" => rewrite_in(alloc, matches, base),
         "check" => Ok(check_in(alloc, matches, base)?),
-        "show" => Ok(Command::Show {
-            path: text_in(alloc, matches, "PATH")?,
-            base,
-        }),
-        "compose" => Ok(Command::Compose {
-            outer: text_in(alloc, matches, "OUTER")?,
-            source: source_in(matches),
-            inner: text_in(alloc, matches, "INNER")?,
-            base,
-        }),
+        "show" => Ok(show_in(alloc, matches, base)?),
+        "compose" => compose_in(alloc, matches, base),
         _ => {
             let (line, column) = (
                 position_number_in(matches, "LINE"),

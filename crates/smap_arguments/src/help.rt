@@ -88,19 +88,35 @@ Answer: the map as one regular map, in compact JSON on one line. An index map is
 under its resolved name, and `mappings` in its shortest spelling. Keys that smap does not read are dropped,
 and so is `sourceRoot`, which the names then have.
 
-Example: smap show examples/bundle.js.map > joined.js.map";
+With --prune sources and names that no mapping has are left out. Of sources with one name, content and mark, and
+of equal names, the first stands for all. Mappings keep their places.
 
-pub const COMPOSE_ABOUT: &str = "Composes two source map files into one regular map";
+Examples:
+  smap show examples/bundle.js.map > joined.js.map
+  smap show --prune --no-content examples/bundle.js.map > small.js.map";
+
+pub const COMPOSE_ABOUT: &str = "Composes source map files into one regular map";
 
 pub const COMPOSE_NOTES: &str = "\
 OUTER is the map of a file that was made of others, and INNER the map of one of these: of the source of
 OUTER with the number SOURCE, from 0.
 
+In place of SOURCE and INNER, the maps of several sources of OUTER are given by --inner and --inners, and composed
+at once. Each NAME=FILE is the name of a source, as `smap show` writes it, and the path of its map; the last `=`
+of the argument stands between them. Each line of the file of --inners is a name and a file, with one TAB between
+them.
+
 Answer: one regular map, in compact JSON on one line. Its sources are those of OUTER and then those of INNER.
 A mapping into source SOURCE leads to the place to which INNER maps that one, or nowhere, where INNER maps it
-to no place; the other mappings stay.
+to no place; the other mappings stay. So it is for each source that has a map; the sources of these maps come in
+the order of OUTER's sources.
 
-Example: smap compose examples/preset-react.min.js.map 0 examples/preset-react.js.map > whole.js.map";
+With --prune sources and names that no mapping has are left out. Of sources with one name, content and mark, and
+of equal names, the first stands for all. Mappings keep their places.
+
+Examples:
+  smap compose examples/preset-react.min.js.map 0 examples/preset-react.js.map > whole.js.map
+  smap compose --inner preset-react.js=examples/preset-react.js.map examples/preset-react.min.js.map > all.map";
 
 pub const RAW_ABOUT: &str =
     "Looks a generated position up in the bare mappings text on standard input";
@@ -134,6 +150,16 @@ pub const OUTER_HELP: &str = "Path of the source map file of the last step";
 pub const SOURCE_HELP: &str = "Number of the source of OUTER that INNER is the map of, from 0";
 
 pub const INNER_HELP: &str = "Path of the source map file of the step before";
+
+pub const INNER_PAIRS_HELP: &str =
+    "Name of a source of OUTER, `=` and the path of its map; may be given more than once";
+
+pub const INNER_LIST_HELP: &str = "Path of a list of more: on each line NAME, TAB and FILE";
+
+pub const PRUNE_HELP: &str =
+    "Leave out sources and names that no mapping has, and all but the first of equal ones";
+
+pub const NO_CONTENT_HELP: &str = "Leave out the texts of the sources (`sourcesContent`)";
 
 pub const INTERVAL_HELP: &str = "\
 Checkpoints in the index stand at every K-th segment of a line, 1 to 4096, else 64. A

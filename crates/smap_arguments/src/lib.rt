@@ -10,10 +10,12 @@ mod commands;
 mod help;
 mod line;
 mod mistakes;
+mod pairs;
 mod parsing;
 mod rewrite;
 mod usage;
 mod values;
+mod written;
 
 pub use parsing::parse;
 pub use smap_command::Command;

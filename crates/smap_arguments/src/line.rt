@@ -1,17 +1,17 @@
 //! The command line as clap gets it.
 ghost use Rattle.std.specs.Prelude.{◌≡◌, All, IfOk, codes, false, map};
 ghost use Rattle.clap.specs.Words.{app_of, rule_of};
-ghost use Rattle.smap_arguments.specs.CommandLine.{IsLocalArgument, IsLocalCommand, after_rule, anywhere_rule, base_rule, bytes_rule, check};
-ghost use Rattle.smap_arguments.specs.CommandLine.{compose, hide_rule, interval_rule, json_rule, list_rule, lookup, number, number_rule};
-ghost use Rattle.smap_arguments.specs.CommandLine.{positions, raw, rewrite, show, smap, source_number, summary_rule, text_rule, texts_rule};
-ghost use Rattle.smap_arguments.specs.CommandLine.{with_rules};
+ghost use Rattle.smap_arguments.specs.CommandLine.{IsLocalArgument, IsLocalCommand, base_rule, bytes_rule, check, compose, flag_rule};
+ghost use Rattle.smap_arguments.specs.CommandLine.{interval_rule, list_rule, lookup, number, number_rule, optional_rule, pairs_rule, positions};
+ghost use Rattle.smap_arguments.specs.CommandLine.{raw, rewrite, show, smap, source_rule, text_rule, texts_rule, with_rules};
 
 use crate::help::{
     AFTER_HELP, ANYWHERE_HELP, CACHE_HELP, CHECK_ABOUT, CHECK_NOTES, COLUMN_HELP, COMPOSE_ABOUT,
-    COMPOSE_NOTES, HIDE_HELP, INNER_HELP, INTERVAL_HELP, JSON_HELP, LIMIT_HELP, LINE_HELP,
-    LIST_HELP, LOOKUP_ABOUT, LOOKUP_NOTES, OUTER_HELP, PAIRS_HELP, PATH_HELP, PATHS_HELP,
-    POSITIONS_ABOUT, POSITIONS_NOTES, RAW_ABOUT, RAW_NOTES, REWRITE_ABOUT, REWRITE_NOTES,
-    SHOW_ABOUT, SHOW_NOTES, SOURCE_HELP, STATUSES, SUMMARY_HELP,
+    COMPOSE_NOTES, HIDE_HELP, INNER_HELP, INNER_LIST_HELP, INNER_PAIRS_HELP, INTERVAL_HELP,
+    JSON_HELP, LIMIT_HELP, LINE_HELP, LIST_HELP, LOOKUP_ABOUT, LOOKUP_NOTES, NO_CONTENT_HELP,
+    OUTER_HELP, PAIRS_HELP, PATH_HELP, PATHS_HELP, POSITIONS_ABOUT, POSITIONS_NOTES, PRUNE_HELP,
+    RAW_ABOUT, RAW_NOTES, REWRITE_ABOUT, REWRITE_NOTES, SHOW_ABOUT, SHOW_NOTES, SOURCE_HELP,
+    STATUSES, SUMMARY_HELP,
 };
 use clap::builder::ValueParser;
 use clap::{Arg, ArgAction, Command, value_parser};
@@ -51,8 +51,8 @@ fn lookup_command<'a>(alloc: Global) -> Result<Command<'a>, AllocError>
         position_number(alloc, "COLUMN", COLUMN_HELP),
         base_url(alloc),
         interval(alloc),
-        after(alloc),
-        json(alloc),
+        flag(alloc, "after", AFTER_HELP),
+        flag(alloc, "json", JSON_HELP),
     ]?;
     described(alloc, "lookup", LOOKUP_ABOUT, LOOKUP_NOTES, arguments)
 }
@@ -64,8 +64,8 @@ fn positions_command<'a>(alloc: Global) -> Result<Command<'a>, AllocError>
         text(alloc, "MAP", PATH_HELP),
         base_url(alloc),
         interval(alloc),
-        after(alloc),
-        json(alloc),
+        flag(alloc, "after", AFTER_HELP),
+        flag(alloc, "json", JSON_HELP),
     ]?;
     described(
         alloc,
@@ -81,14 +81,14 @@ fn rewrite_command<'a>(alloc: Global) -> Result<Command<'a>, AllocError>
 {
     let arguments = vec![in alloc;
         texts(alloc, "URL=FILE", PAIRS_HELP, false),
-        list(alloc),
+        list(alloc, "maps", LIST_HELP),
         base_url(alloc),
         interval(alloc),
-        hide_ignored(alloc),
-        anywhere(alloc),
+        flag(alloc, "hide-ignored", HIDE_HELP),
+        flag(alloc, "anywhere", ANYWHERE_HELP),
         bytes(alloc, "cache", CACHE_HELP, 0),
         bytes(alloc, "limit", LIMIT_HELP, 1),
-        summary(alloc),
+        flag(alloc, "summary", SUMMARY_HELP),
     ]?;
     described(alloc, "rewrite", REWRITE_ABOUT, REWRITE_NOTES, arguments)
 }
@@ -100,7 +100,7 @@ fn check_command<'a>(alloc: Global) -> Result<Command<'a>, AllocError>
         texts(alloc, "PATH", PATHS_HELP, true),
         base_url(alloc),
         interval(alloc),
-        json(alloc),
+        flag(alloc, "json", JSON_HELP),
     ]?;
     described(alloc, "check", CHECK_ABOUT, CHECK_NOTES, arguments)
 }
@@ -108,7 +108,12 @@ fn check_command<'a>(alloc: Global) -> Result<Command<'a>, AllocError>
 fn show_command<'a>(alloc: Global) -> Result<Command<'a>, AllocError>
     ensures { IfOk result (IsLocalCommand show) }
 {
-    let arguments = vec![in alloc; text(alloc, "PATH", PATH_HELP), base_url(alloc)]?;
+    let arguments = vec![in alloc;
+        text(alloc, "PATH", PATH_HELP),
+        base_url(alloc),
+        flag(alloc, "prune", PRUNE_HELP),
+        flag(alloc, "no-content", NO_CONTENT_HELP),
+    ]?;
     described(alloc, "show", SHOW_ABOUT, SHOW_NOTES, arguments)
 }
 
@@ -118,8 +123,12 @@ fn compose_command<'a>(alloc: Global) -> Result<Command<'a>, AllocError>
     let arguments = vec![in alloc;
         text(alloc, "OUTER", OUTER_HELP),
         source(alloc),
-        text(alloc, "INNER", INNER_HELP),
+        optional(alloc, "INNER", INNER_HELP),
+        inner_pairs(alloc),
+        list(alloc, "inners", INNER_LIST_HELP),
         base_url(alloc),
+        flag(alloc, "prune", PRUNE_HELP),
+        flag(alloc, "no-content", NO_CONTENT_HELP),
     ]?;
     described(alloc, "compose", COMPOSE_ABOUT, COMPOSE_NOTES, arguments)
 }
@@ -160,6 +169,13 @@ fn text<'a>(alloc: Global, name: &'a str, help: &'a str) -> Arg<'a>
     Arg::new(alloc, name).required(true).help(help)
 }
 
+// The same, where it may be missing.
+fn optional<'a>(alloc: Global, name: &'a str, help: &'a str) -> Arg<'a>
+    ensures { IsLocalArgument (optional_rule name.entry.now) result }
+{
+    Arg::new(alloc, name).help(help)
+}
+
 // An argument that is one or more arguments, of any text.
 fn texts<'a>(alloc: Global, name: &'a str, help: &'a str, required: bool) -> Arg<'a>
     ensures { IsLocalArgument (texts_rule required name.entry.now) result }
@@ -180,12 +196,11 @@ fn position_number<'a>(alloc: Global, name: &'a str, help: &'a str) -> Arg<'a>
         .help(help)
 }
 
-// The argument that is the number of a source.
+// The argument that is the number of a source, which may be missing.
 fn source<'a>(alloc: Global) -> Arg<'a>
-    ensures { IsLocalArgument (number_rule source_number (codes "SOURCE")) result }
+    ensures { IsLocalArgument source_rule result }
 {
     Arg::new(alloc, "SOURCE")
-        .required(true)
         .value_parser(value_parser!(u32))
         .help(SOURCE_HELP)
 }
@@ -209,51 +224,31 @@ fn interval<'a>(alloc: Global) -> Arg<'a>
         .help(INTERVAL_HELP)
 }
 
-// The flag that looks up in the other direction.
-fn after<'a>(alloc: Global) -> Arg<'a>
-    ensures { IsLocalArgument after_rule result }
+// A flag, which its name stands for.
+fn flag<'a>(alloc: Global, name: &'a str, help: &'a str) -> Arg<'a>
+    ensures { IsLocalArgument (flag_rule name.entry.now) result }
 {
-    Arg::new(alloc, "after")
-        .long("after")
+    Arg::new(alloc, name)
+        .long(name)
         .action(ArgAction::SetTrue)
-        .help(AFTER_HELP)
+        .help(help)
 }
 
-// The flag that answers in JSON.
-fn json<'a>(alloc: Global) -> Arg<'a>
-    ensures { IsLocalArgument json_rule result }
+// The option of this name that is the path of a list of maps.
+fn list<'a>(alloc: Global, long: &'a str, help: &'a str) -> Arg<'a>
+    ensures { IsLocalArgument (list_rule long.entry.now) result }
 {
-    Arg::new(alloc, "json")
-        .long("json")
-        .action(ArgAction::SetTrue)
-        .help(JSON_HELP)
+    Arg::new(alloc, "LIST").long(long).help(help)
 }
 
-// The flag that hides the frames of ignored sources.
-fn hide_ignored<'a>(alloc: Global) -> Arg<'a>
-    ensures { IsLocalArgument hide_rule result }
+// The option that is a source's name and the path of its map, and may be given more than once.
+fn inner_pairs<'a>(alloc: Global) -> Arg<'a>
+    ensures { IsLocalArgument pairs_rule result }
 {
-    Arg::new(alloc, "hide-ignored")
-        .long("hide-ignored")
-        .action(ArgAction::SetTrue)
-        .help(HIDE_HELP)
-}
-
-// The flag that rewrites places anywhere in a text.
-fn anywhere<'a>(alloc: Global) -> Arg<'a>
-    ensures { IsLocalArgument anywhere_rule result }
-{
-    Arg::new(alloc, "anywhere")
-        .long("anywhere")
-        .action(ArgAction::SetTrue)
-        .help(ANYWHERE_HELP)
-}
-
-// The option that is the path of a list of maps.
-fn list<'a>(alloc: Global) -> Arg<'a>
-    ensures { IsLocalArgument list_rule result }
-{
-    Arg::new(alloc, "LIST").long("maps").help(LIST_HELP)
+    Arg::new(alloc, "NAME=FILE")
+        .long("inner")
+        .action(ArgAction::Append)
+        .help(INNER_PAIRS_HELP)
 }
 
 // An option that is a number of bytes, from the least one on.
@@ -265,14 +260,4 @@ fn bytes<'a>(alloc: Global, name: &'a str, help: &'a str, least: u64) -> Arg<'a>
         .value_name("BYTES")
         .value_parser(ValueParser::unsigned(least, MOST_BYTES))
         .help(help)
-}
-
-// The flag that tells counts at the end.
-fn summary<'a>(alloc: Global) -> Arg<'a>
-    ensures { IsLocalArgument summary_rule result }
-{
-    Arg::new(alloc, "summary")
-        .long("summary")
-        .action(ArgAction::SetTrue)
-        .help(SUMMARY_HELP)
 }

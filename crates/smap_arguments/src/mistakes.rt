@@ -1,6 +1,6 @@
 //! The lines for arguments that clap takes, but the command does not.
 ghost use Rattle.std.specs.Prelude.{◌≡◌, string_bytes, IfOk};
-ghost use Rattle.smap_arguments.specs.Arguments.{no_pair_line};
+ghost use Rattle.smap_arguments.specs.Refusals.{no_pair_line};
 
 use smap_command::shown;
 use std::alloc::{AllocError, Global};
@@ -23,10 +23,33 @@ Usage: smap rewrite <URL=FILE>...
 For more information, try '--help'.
 ";
 
-/// Standard error: an argument of `rewrite` without `=`.
-pub fn no_pair_line(alloc: Global, argument: &str) -> Result<String, AllocError>
-    ensures { IfOk result (λ text. string_bytes text ≡ no_pair_line argument.now) }
+pub const SOURCE_WITH_INNERS: &str = "usage: SOURCE with --inner or --inners\n";
+
+/// Standard error: `compose` has neither SOURCE nor a map by its name. It is told as `NO_MAPS` is.
+pub const NO_SOURCE: &str = "\
+error: the following required arguments were not provided:
+  <SOURCE>
+  <INNER>
+
+Usage: smap compose <OUTER> <SOURCE> <INNER>
+
+For more information, try '--help'.
+";
+
+/// Standard error: `compose` has SOURCE without INNER. It is told as `NO_MAPS` is.
+pub const NO_INNER: &str = "\
+error: the following required arguments were not provided:
+  <INNER>
+
+Usage: smap compose <OUTER> <SOURCE> <INNER>
+
+For more information, try '--help'.
+";
+
+/// Standard error: an argument without `=`, which is to have this form.
+pub fn no_pair_line(alloc: Global, form: &str, argument: &str) -> Result<String, AllocError>
+    ensures { IfOk result (λ text. string_bytes text ≡ no_pair_line form.now argument.now) }
 {
     let argument = shown(alloc, argument)?;
-    format!(in alloc; "usage: no URL=FILE: {argument}\n")
+    format!(in alloc; "usage: no {form}: {argument}\n")
 }

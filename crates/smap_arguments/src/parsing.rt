@@ -1,7 +1,8 @@
 //! The arguments of the command line, read into a command.
 ghost use Rattle.std.specs.Prelude.{IfErr, IfOk};
 ghost use Rattle.clap.specs.Words.{kind_of};
-ghost use Rattle.smap_arguments.specs.Arguments.{IsInRange, IsRefusalOf, IsUsageOf, ArgumentsAskFor, texts};
+ghost use Rattle.smap_arguments.specs.Arguments.{IsInRange, ArgumentsAskFor, texts};
+ghost use Rattle.smap_arguments.specs.Refusals.{IsRefusalOf, IsUsageOf};
 
 use crate::commands::command_in;
 use crate::line::command_line;

@@ -1,14 +1,15 @@
 //! What `rewrite` is asked.
-ghost use Rattle.std.specs.Prelude.{◌≡◌, ◌∷◌, [], IfErr, IfOk, codes, map, string_bytes};
+ghost use Rattle.std.specs.Prelude.{◌≡◌, IfErr, IfOk, codes};
 ghost use Rattle.clap.specs.Words.{found_of, rows_of};
 ghost use Rattle.smap_arguments.specs.CommandLine.{named};
-ghost use Rattle.smap_arguments.specs.Arguments.{ArePairs, GivesBase, GivesPairs, HasArguments, IsInRange, IsNamedRefusal, IsPair};
-ghost use Rattle.smap_arguments.specs.Arguments.{NamedAsksFor, TellsBadPair, TellsNoPair, TellsRewrite, has_folder};
+ghost use Rattle.smap_arguments.specs.Arguments.{GivesBase, HasArguments, IsInRange, NamedAsksFor, has_folder};
+ghost use Rattle.smap_arguments.specs.Refusals.{IsNamedRefusal, TellsRewrite};
 ghost use Rattle.smap_arguments.specs.Private.Further.{GivesFurther, is_given};
 
-use crate::mistakes::{BOTH_FLAGS, NO_MAPS, no_pair_line};
+use crate::mistakes::{BOTH_FLAGS, NO_MAPS};
+use crate::pairs::pairs_in;
 use crate::usage::Usage;
-use crate::values::{bytes_in, flag_in, interval_in, list_in};
+use crate::values::{bytes_in, flag_in, interval_in, text_if_given};
 use clap::ArgMatches;
 use smap_command::{Command, USUAL_CACHE_BYTES, USUAL_LIMIT_BYTES};
 use std::alloc::{AllocError, Global};
@@ -50,7 +51,7 @@ pub fn rewrite_in(
     ensures refused { IfErr result (IsNamedRefusal
         (TellsRewrite (rows_of (found_of matches.now)))) }
 {
-    let maps = maps_in(alloc, matches)?;
+    let maps = pairs_in(alloc, matches, "URL=FILE")?;
     let further = further_in(alloc, matches)?;
     if maps.is_empty() && further.list.is_none() {
         return Err(Usage::Mistake(String::from_str(alloc, NO_MAPS)?));
@@ -86,7 +87,7 @@ fn further_in(alloc: Global, matches: &ArgMatches<'_>) -> Result<Further, AllocE
     ensures { IfOk result (GivesFurther (rows_of (found_of matches.now))) }
 {
     Ok(Further {
-        list: list_in(alloc, matches)?,
+        list: text_if_given(alloc, matches, "LIST")?,
         anywhere: flag_in(matches, "anywhere"),
         cache_bytes: bytes_in(matches, "cache", 0),
         limit_bytes: bytes_in(matches, "limit", 1),
@@ -99,48 +100,4 @@ fn has_folder(maps: &[(String, String)]) -> bool
     ensures { result ≡ has_folder maps.now }
 {
     maps.iter().any(|(_, path)| path.as_bytes().ends_with(b"/"))
-}
-
-// The words, cut into pairs.
-fn maps_in(alloc: Global, matches: &ArgMatches<'_>) -> Result<Vec<(String, String)>, Usage>
-    ensures given { IfOk result (λ maps. GivesPairs (rows_of (found_of matches.now)) maps.items) }
-    ensures refused { IfErr result (IsNamedRefusal
-        (TellsBadPair (rows_of (found_of matches.now)))) }
-{
-    match matches.get_strs("URL=FILE") {
-        Some(words) => pairs_of(alloc, words),
-        None => Ok(Vec::new(alloc)),
-    }
-}
-
-fn pairs_of(alloc: Global, arguments: &[&str]) -> Result<Vec<(String, String)>, Usage>
-    ensures cut { IfOk result (λ pairs. ArePairs (map (λ argument. argument.now) arguments.now)
-        pairs.items) }
-    ensures refused { IfErr result (IsNamedRefusal
-        (TellsNoPair (map (λ argument. argument.now) arguments.now))) }
-{
-    let mut pairs = Vec::new(alloc);
-    for argument in arguments {
-        let pair = pair_of(alloc, argument)?;
-        match pairs.push(pair) {
-            Ok(_) => {}
-            Err(_) => return Err(Usage::Memory),
-        }
-    }
-    Ok(pairs)
-}
-
-// The URL and the path of an argument, which is cut at its last `=`, since a URL may have others.
-fn pair_of(alloc: Global, argument: &str) -> Result<(String, String), Usage>
-    ensures cut { IfOk result (λ pair. IsPair argument.now (string_bytes pair.0)
-        (string_bytes pair.1)) }
-    ensures refused { IfErr result (IsNamedRefusal (TellsNoPair (argument.now ∷ []))) }
-{
-    match argument.rsplit_once('=') {
-        Some((url, path)) => Ok((
-            String::from_str(alloc, url)?,
-            String::from_str(alloc, path)?,
-        )),
-        None => Err(Usage::Mistake(no_pair_line(alloc, argument)?)),
-    }
 }

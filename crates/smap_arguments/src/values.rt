@@ -3,8 +3,10 @@ ghost use Rattle.std.specs.Prelude.{◌≡◌, ◌≤◌, ◌+◌, IfErr, IfOk, 
 ghost use Rattle.clap.specs.Words.{found_of, rows_of};
 ghost use Rattle.smap_command.specs.Limits.{is_interval, limit, most_bytes};
 ghost use Rattle.smap_arguments.specs.CommandLine.{bytes_number, interval_number, number, source_number};
-ghost use Rattle.smap_arguments.specs.Arguments.{GivesBase, GivesFlag, GivesInterval, GivesList, GivesNumber, GivesText, GivesTexts, HasValue};
-ghost use Rattle.smap_arguments.specs.Arguments.{HasValueIfGiven, IsNamedRefusal, TellsOfBase, bytes_given};
+ghost use Rattle.smap_arguments.specs.Arguments.{GivesBase, GivesFlag, GivesInterval, GivesNumber, GivesNumberIfGiven, GivesText};
+ghost use Rattle.smap_arguments.specs.Arguments.{GivesTextIfGiven, GivesTexts, HasValue};
+ghost use Rattle.smap_arguments.specs.Arguments.{HasValueIfGiven, bytes_given};
+ghost use Rattle.smap_arguments.specs.Refusals.{IsNamedRefusal, TellsOfBase};
 ghost use Rattle.clap.specs.declared.builder.value_parser.ValueParser.TheVariants as parser;
 
 use crate::mistakes::{BAD_BASE, LONG_BASE};
@@ -39,11 +41,12 @@ pub fn position_number_in(matches: &ArgMatches<'_>, name: &str) -> u32
     matches.get_one::<u32>(name).unwrap() - 1
 }
 
-pub fn source_in(matches: &ArgMatches<'_>) -> u32
-    requires { HasValue source_number (rows_of (found_of matches.now)) (codes "SOURCE") }
-    ensures { GivesNumber (rows_of (found_of matches.now)) (codes "SOURCE") result }
+/// The number of a source, where it is given.
+pub fn source_in(matches: &ArgMatches<'_>) -> Option<u32>
+    requires { HasValueIfGiven source_number (rows_of (found_of matches.now)) (codes "SOURCE") }
+    ensures { GivesNumberIfGiven (rows_of (found_of matches.now)) (codes "SOURCE") result }
 {
-    matches.get_one::<u32>("SOURCE").unwrap()
+    matches.get_one::<u32>("SOURCE")
 }
 
 /// The interval of the option `--interval`, or the usual one where it is not given.
@@ -107,12 +110,16 @@ pub fn bytes_in(matches: &ArgMatches<'_>, name: &str, least: u64) -> Option<u64>
     matches.get_one::<u64>(name)
 }
 
-/// The path of the list of maps, where one is given.
-pub fn list_in(alloc: Global, matches: &ArgMatches<'_>) -> Result<Option<String>, AllocError>
-    ensures { IfOk result (GivesList (rows_of (found_of matches.now))) }
+/// None where the argument is not given.
+pub fn text_if_given(
+    alloc: Global,
+    matches: &ArgMatches<'_>,
+    name: &str,
+) -> Result<Option<String>, AllocError>
+    ensures { IfOk result (GivesTextIfGiven (rows_of (found_of matches.now)) name.now) }
 {
-    match matches.get_str("LIST") {
-        Some(path) => Ok(Some(String::from_str(alloc, path)?)),
+    match matches.get_str(name) {
+        Some(text) => Ok(Some(String::from_str(alloc, text)?)),
         None => Ok(None),
     }
 }

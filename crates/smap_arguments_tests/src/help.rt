@@ -13,7 +13,7 @@ Commands:
   rewrite    Rewrites the stack trace on standard input over source map files
   check      Checks source map files and prints their counts
   show       Writes a source map file as one regular map
-  compose    Composes two source map files into one regular map
+  compose    Composes source map files into one regular map
   raw        Looks a generated position up in the bare mappings text on standard input
   help       Print this message or the help of the given subcommand(s)
 
@@ -173,37 +173,59 @@ Arguments:
 
 Options:
       --base <URL>  URL against which the names of sources are resolved
+      --prune       Leave out sources and names that no mapping has, and all but the first of equal ones
+      --no-content  Leave out the texts of the sources (`sourcesContent`)
   -h, --help        Print help
 
 Answer: the map as one regular map, in compact JSON on one line. An index map is joined, each source stands
 under its resolved name, and `mappings` in its shortest spelling. Keys that smap does not read are dropped,
 and so is `sourceRoot`, which the names then have.
 
-Example: smap show examples/bundle.js.map > joined.js.map
+With --prune sources and names that no mapping has are left out. Of sources with one name, content and mark, and
+of equal names, the first stands for all. Mappings keep their places.
+
+Examples:
+  smap show examples/bundle.js.map > joined.js.map
+  smap show --prune --no-content examples/bundle.js.map > small.js.map
 ";
 
 const COMPOSE: &str = "\
-Composes two source map files into one regular map
+Composes source map files into one regular map
 
-Usage: smap compose [OPTIONS] <OUTER> <SOURCE> <INNER>
+Usage: smap compose [OPTIONS] <OUTER> [SOURCE] [INNER]
 
 Arguments:
   <OUTER>   Path of the source map file of the last step
-  <SOURCE>  Number of the source of OUTER that INNER is the map of, from 0
-  <INNER>   Path of the source map file of the step before
+  [SOURCE]  Number of the source of OUTER that INNER is the map of, from 0
+  [INNER]   Path of the source map file of the step before
 
 Options:
-      --base <URL>  URL against which the names of sources are resolved
-  -h, --help        Print help
+      --inner <NAME=FILE>  Name of a source of OUTER, `=` and the path of its map; may be given more than once
+      --inners <LIST>      Path of a list of more: on each line NAME, TAB and FILE
+      --base <URL>         URL against which the names of sources are resolved
+      --prune              Leave out sources and names that no mapping has, and all but the first of equal ones
+      --no-content         Leave out the texts of the sources (`sourcesContent`)
+  -h, --help               Print help
 
 OUTER is the map of a file that was made of others, and INNER the map of one of these: of the source of
 OUTER with the number SOURCE, from 0.
 
+In place of SOURCE and INNER, the maps of several sources of OUTER are given by --inner and --inners, and composed
+at once. Each NAME=FILE is the name of a source, as `smap show` writes it, and the path of its map; the last `=`
+of the argument stands between them. Each line of the file of --inners is a name and a file, with one TAB between
+them.
+
 Answer: one regular map, in compact JSON on one line. Its sources are those of OUTER and then those of INNER.
 A mapping into source SOURCE leads to the place to which INNER maps that one, or nowhere, where INNER maps it
-to no place; the other mappings stay.
+to no place; the other mappings stay. So it is for each source that has a map; the sources of these maps come in
+the order of OUTER's sources.
 
-Example: smap compose examples/preset-react.min.js.map 0 examples/preset-react.js.map > whole.js.map
+With --prune sources and names that no mapping has are left out. Of sources with one name, content and mark, and
+of equal names, the first stands for all. Mappings keep their places.
+
+Examples:
+  smap compose examples/preset-react.min.js.map 0 examples/preset-react.js.map > whole.js.map
+  smap compose --inner preset-react.js=examples/preset-react.js.map examples/preset-react.min.js.map > all.map
 ";
 
 const RAW: &str = "\
@@ -232,7 +254,7 @@ Example: printf 'AAAA,CAAC;AACA' | smap raw 1 6
 ";
 
 // Requests for help, and the text that they show.
-const REQUESTS: [(&[&str], &str); 25] = [
+const REQUESTS: [(&[&str], &str); 27] = [
     (&["out/program", "--help"], SMAP),
     (&["smap", "-h"], SMAP),
     (&["smap", "help"], SMAP),
@@ -251,9 +273,11 @@ const REQUESTS: [(&[&str], &str); 25] = [
     (&["smap", "help", "show"], SHOW),
     (&["smap", "show", "--help"], SHOW),
     (&["smap", "show", "a.map", "--help"], SHOW),
+    (&["smap", "show", "--prune", "-h"], SHOW),
     (&["smap", "help", "compose"], COMPOSE),
     (&["smap", "compose", "--help"], COMPOSE),
     (&["smap", "compose", "-h"], COMPOSE),
+    (&["smap", "compose", "--inner", "a=b", "-h"], COMPOSE),
     (&["smap", "help", "raw"], RAW),
     (&["smap", "raw", "--help"], RAW),
     (&["smap", "raw", "-h"], RAW),

@@ -13,3 +13,5 @@ mod reading;
 mod refused;
 #[cfg(test)]
 mod rewrite;
+#[cfg(test)]
+mod written;

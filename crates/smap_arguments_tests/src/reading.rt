@@ -1,6 +1,6 @@
 //! What arguments come to, as a text that a test compares.
 use smap_arguments::{Usage, parse};
-use smap_command::{Command, Url};
+use smap_command::{Command, Url, WriteOptions};
 use std::alloc::{AllocError, Global};
 use std::process::Abort;
 use std::test::Fail;
@@ -48,6 +48,17 @@ pub fn read(alloc: Global, arguments: &[&str]) -> Result<String, AllocError> {
         Ok(Command::Show { path, base }) => {
             let base = base_text(&base);
             format!(in alloc; "show {path}{base}")
+        }
+        Ok(
+            Command::ShowWith {
+                path,
+                base,
+                options,
+            },
+        ) => {
+            let base = base_text(&base);
+            let options = options_text(options);
+            format!(in alloc; "show {path}{base}{options}")
         }
         Ok(
             Command::Lookup {
@@ -129,6 +140,39 @@ pub fn read(alloc: Global, arguments: &[&str]) -> Result<String, AllocError> {
             let base = base_text(&base);
             format!(in alloc; "compose {outer} {source} {inner}{base}")
         }
+        Ok(
+            Command::ComposeWith {
+                outer,
+                source,
+                inner,
+                base,
+                options,
+            },
+        ) => {
+            let base = base_text(&base);
+            let options = options_text(options);
+            format!(in alloc; "compose {outer} {source} {inner}{base}{options}")
+        }
+        Ok(
+            Command::ComposeAll {
+                outer,
+                inners,
+                list,
+                base,
+                options,
+            },
+        ) => {
+            let base = base_text(&base);
+            let options = options_text(options);
+            let mut told = format!(in alloc; "compose all {outer}{base}{options}")?;
+            if let Some(list) = list {
+                told = format!(in alloc; "{told} list {list}")?;
+            }
+            for (name, path) in inners {
+                told = format!(in alloc; "{told} [{name}][{path}]")?;
+            }
+            Ok(told)
+        }
         Err(usage) => read_usage(alloc, &usage),
     }
 }
@@ -154,6 +198,16 @@ fn rewrite_flags_text(hide_ignored: bool, anywhere: bool, summary: bool) -> &'st
         (true, false, true) => " hiding in sum",
         (false, true, true) => " anywhere in sum",
         (true, true, true) => " hiding anywhere in sum",
+    }
+}
+
+// What is left out of a written map, where a command says so by options of its own.
+fn options_text(options: WriteOptions) -> &'static str {
+    match (options.prune, options.no_content) {
+        (false, false) => " whole",
+        (true, false) => " pruned",
+        (false, true) => " without content",
+        (true, true) => " pruned without content",
     }
 }
 

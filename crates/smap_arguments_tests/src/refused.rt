@@ -154,7 +154,7 @@ const MORE_MISTAKES: [(&[&str], &str); 28] = [
     ),
     (
         &["smap", "compose", "o.map", "i.map"],
-        "error: invalid value 'i.map' for '<SOURCE>': invalid digit found in string\n",
+        "error: invalid value 'i.map' for '[SOURCE]': invalid digit found in string\n",
     ),
     (
         &["smap", "compose", "o.map", "0"],
@@ -162,7 +162,7 @@ const MORE_MISTAKES: [(&[&str], &str); 28] = [
     ),
     (
         &["smap", "compose", "o.map", "4294967296", "i.map"],
-        "error: invalid value '4294967296' for '<SOURCE>': 4294967296 is not in 0..=4294967295\n",
+        "error: invalid value '4294967296' for '[SOURCE]': 4294967296 is not in 0..=4294967295\n",
     ),
     (
         &["smap", "compose", "o.map", "-1", "i.map"],

@@ -2,6 +2,15 @@
 
 use url::Url;
 
+/// What is left out of a map that is written.
+#[derive(Clone, Copy)]
+pub struct WriteOptions {
+    /// Whether sources and names that no mapping has are left out, and of equal ones all but the first that is used.
+    pub prune: bool,
+    /// Whether the contents of the sources are left out.
+    pub no_content: bool,
+}
+
 /// A command. Lines and columns count from 0 here, columns in UTF-16 code units. Where a command has an interval, the
 /// indices that it makes have a checkpoint at the segments of number 0, `interval`, 2 `interval` and so on of each line.
 #[derive(Drop)]
@@ -30,6 +39,12 @@ pub enum Command {
     Show {
         path: String,
         base: Option<Url>,
+    },
+    /// Writes the same map without what the options leave out.
+    ShowWith {
+        path: String,
+        base: Option<Url>,
+        options: WriteOptions,
     },
     /// Looks up a generated line and column in the source map in the file at this path: the last mapping at the
     /// position or before it answers or, with `after`, the first at it or after it. Its sources are resolved against
@@ -87,5 +102,24 @@ pub enum Command {
         source: u32,
         inner: String,
         base: Option<Url>,
+    },
+    /// Composes the same two maps, and writes the result without what the options leave out.
+    ComposeWith {
+        outer: String,
+        source: u32,
+        inner: String,
+        base: Option<Url>,
+        options: WriteOptions,
+    },
+    /// Composes the source map in the file at the path `outer` with those of several of its sources at once: pairs of a
+    /// source's name, as it is written, and of the path of that source's map; and the pairs on the lines of the file `list`,
+    /// where there is one. The sources of the outer map are resolved against the base. The result is written without what
+    /// the options leave out.
+    ComposeAll {
+        outer: String,
+        inners: Vec<(String, String)>,
+        list: Option<String>,
+        base: Option<Url>,
+        options: WriteOptions,
     },
 }

@@ -13,7 +13,7 @@ mod command;
 mod limits;
 mod text;
 
-pub use command::Command;
+pub use command::{Command, WriteOptions};
 pub use limits::{
     LIMIT, MOST_BYTES, MOST_INTERVAL, USUAL_CACHE_BYTES, USUAL_INTERVAL, USUAL_LIMIT_BYTES,
 };

@@ -1,6 +1,6 @@
 use Rattle.std.proofs.Common.{refl}
 use Rattle.smap_answers.proofs.RunLaws.{runs_one}
-use Rattle.smap_answers.proofs.running.run_reading.Goals.{in-Raw, in-Check, in-Show, in-Lookup, in-Positions, in-Rewrite, in-Compose}
+use Rattle.smap_answers.proofs.running.run_reading.Goals.{in-Raw, in-Check, in-Show, in-ShowWith, in-Lookup, in-Positions, in-Rewrite, in-Compose, in-ComposeWith, in-ComposeAll}
 use Rattle.smap_answers.proofs.running.run_reading.Goals as goal
 
 pub returns : goal.returns
@@ -26,5 +26,20 @@ returns g c = elim c.match-command.branch [
         refl,
         (rw (w.deref-in-Compose.ensures, w.deref-in-Compose-2.ensures, w.as_ref-in-Compose.ensures.value) at
             w.answer_compose-outcome.ensures),
+      ) (rw (w.output-is, w.outcome-is) at c.tell.ensures))
+  | in-ShowWith w ↦ rw (w.in-ShowWith.is, w.input-is)
+      (runs_one _ _ _ _ _ _ (refl, (rw (w.deref-in-ShowWith.ensures, w.as_ref-in-ShowWith.ensures.value) at w.answer_show_with-outcome.ensures))
+      (rw (w.output-is, w.outcome-is) at c.tell.ensures))
+  | in-ComposeWith w ↦ rw (w.in-ComposeWith.is, w.input-is)
+      (runs_one _ _ _ _ _ _ (
+        refl,
+        (rw (w.deref-in-ComposeWith.ensures, w.deref-in-ComposeWith-2.ensures, w.as_ref-in-ComposeWith.ensures.value) at
+            w.answer_compose-outcome-in-ComposeWith.ensures),
+      ) (rw (w.output-is, w.outcome-is) at c.tell.ensures))
+  | in-ComposeAll w ↦ rw (w.in-ComposeAll.is, w.input-is)
+      (runs_one _ _ _ _ _ _ (
+        refl,
+        (rw (w.deref-in-ComposeAll.ensures, w.deref-in-ComposeAll-2.ensures.value, w.as_deref-in-ComposeAll.ensures.value, w.as_ref-in-ComposeAll.ensures.value) at
+            w.answer_compose_all-outcome.ensures),
       ) (rw (w.output-is, w.outcome-is) at c.tell.ensures))
 ]

@@ -1,6 +1,7 @@
 use Rattle.std.proofs.Common.{◌≡◌, ap, subst}
 use Rattle.std.proofs.lemmas.Result.{IfErr-weaker, IfOk-weaker}
-use Rattle.smap_arguments.specs.Arguments.{HasCommand, IsRefusalOf, ArgumentsAskFor, texts}
+use Rattle.smap_arguments.specs.Arguments.{HasCommand, ArgumentsAskFor, texts}
+use Rattle.smap_arguments.specs.Refusals.{IsRefusalOf}
 use Rattle.smap_arguments.proofs.Asked.{named_refused, command_asked, failed_smap, parsed_smap}
 use Rattle.smap_arguments.proofs.parsing.parse.Goals as goal
 

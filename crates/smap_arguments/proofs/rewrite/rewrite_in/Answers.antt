@@ -1,7 +1,7 @@
 use Rattle.std.proofs.Common.{◌≡◌, ◌∙◌, None, ap, inl, inr, length, rules}
 use Rattle.std.specs.Prelude.{option_map, string_bytes}
 use Rattle.std.proofs.lemmas.List.{nil_from_length}
-use Rattle.smap_arguments.proofs.Pairs.{no_pairs}
+use Rattle.smap_arguments.proofs.Cuts.{no_pairs}
 use Rattle.smap_arguments.proofs.rewrite.rewrite_in.Goals as goal
 
 pub returns-then-is_none-clause-refused : goal.returns-then-is_none-clause-refused

@@ -1,6 +1,6 @@
--- The arguments of `rewrite`.
+-- Arguments that are pairs.
 use Rattle.std.proofs.Common.{◌≡◌, ◌∙◌, ◌≢◌, ◌++◌, ◌<◌, ◌||◌, ◌==◌, ℕ, zero, suc, Bool, true, false, not, cond, List, [], ◌∷◌, length, map, take}
-use Rattle.std.proofs.Common.{drop, Some, None, refl, sym, ap, subst, arith, codes, get_or}
+use Rattle.std.proofs.Common.{drop, Some, None, refl, sym, ap, subst, arith, get_or}
 use Rattle.std.specs.Borrow.{Bor}
 use Rattle.std.specs.List.{AllZip}
 use Rattle.std.specs.Prelude.{String, string_bytes, unwrap_or}
@@ -10,7 +10,8 @@ use Rattle.std.proofs.lemmas.Bool.Decides.{Decides-eqb}
 use Rattle.std.proofs.lemmas.Str.Pattern.{NoCharPasses-char, drop_at_char}
 use Rattle.std.proofs.lemmas.List.{take-append-drop}
 use Rattle.clap.specs.Words.{Row, Text, all_of}
-use Rattle.smap_arguments.specs.Arguments.{ArePairs, IsNamedRefusal, IsPair, TellsNoPair, first_without, has_equals_sign, words_of}
+use Rattle.smap_arguments.specs.Arguments.{ArePairs, IsPair, has_equals_sign, words_of}
+use Rattle.smap_arguments.specs.Refusals.{IsNamedRefusal, TellsNoPair, first_without}
 use Rattle.smap_arguments.specs.declared.usage.Usage.{Usage}
 use Rattle.smap_arguments.specs.declared.usage.Usage.TheVariants.{Help, Mistake, Memory}
 
@@ -82,20 +83,20 @@ module _ {A : Type 0} where
       ap (λ b. cond (not b) (Some w.now) (first_without (map (λ argument. argument.now) ws))) has ∙ first_at ws ps i d first (omega arith) zips.1 found
 
   -- the argument after these pairs is refused as the first that is none
-  pub refused_at : (arguments : List (Bor Text)) (pairs : List (String A × String A)) (i : ℕ) (d : Bor Text) (usage : Usage) → i < length arguments
-      → Zips (take i arguments) pairs → IsNamedRefusal (TellsNoPair ((get_or arguments i d).now ∷ [])) usage
-      → IsNamedRefusal (TellsNoPair (map (λ argument. argument.now) arguments)) usage
-  refused_at arguments pairs i d (Help text) low zips refused = refused
-  refused_at arguments pairs i d (Mistake text) low zips refused = (refused.0, first_at arguments pairs i d refused.0 low zips refused.1, refused.2)
-  refused_at arguments pairs i d Memory low zips refused = tt
+  pub refused_at : (arguments : List (Bor Text)) (pairs : List (String A × String A)) (i : ℕ) (d : Bor Text) (form : Text) (usage : Usage)
+      → i < length arguments → Zips (take i arguments) pairs → IsNamedRefusal (TellsNoPair form ((get_or arguments i d).now ∷ [])) usage
+      → IsNamedRefusal (TellsNoPair form (map (λ argument. argument.now) arguments)) usage
+  refused_at arguments pairs i d form (Help text) low zips refused = refused
+  refused_at arguments pairs i d form (Mistake text) low zips refused = (refused.0, first_at arguments pairs i d refused.0 low zips refused.1, refused.2)
+  refused_at arguments pairs i d form Memory low zips refused = tt
 
 -- the words that the getter of all texts gives
-pub words_given : (rows : List Row) (arguments : List Text) → all_of (codes "URL=FILE") rows ≡ Some arguments → words_of rows ≡ arguments
-words_given rows arguments all = ap (λ o. unwrap_or o []) all
+pub words_given : (rows : List Row) (form : Text) (arguments : List Text) → all_of form rows ≡ Some arguments → words_of rows form ≡ arguments
+words_given rows form arguments all = ap (λ o. unwrap_or o []) all
 
 -- and none where it gives none
-pub no_words : (rows : List Row) → all_of (codes "URL=FILE") rows ≡ None → words_of rows ≡ []
-no_words rows none = ap (λ o. unwrap_or o []) none
+pub no_words : (rows : List Row) (form : Text) → all_of form rows ≡ None → words_of rows form ≡ []
+no_words rows form none = ap (λ o. unwrap_or o []) none
 
 -- words that are no pairs are none
 pub no_pairs : {A : Type 0} (words : List Text) (pairs : List (String A × String A)) → ArePairs words pairs → pairs ≡ [] → words ≡ []

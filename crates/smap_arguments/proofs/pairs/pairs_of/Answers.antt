@@ -1,15 +1,15 @@
 use Rattle.std.proofs.Common.{◌≡◌, ◌<◌, ◌+◌, ◌++◌, ◌∷◌, [], arith, length, subst, suc, take}
 use Rattle.std.proofs.lemmas.List.{take_all}
 use Rattle.std.proofs.lemmas.Result.{err_from_is_err_and}
-use Rattle.smap_arguments.proofs.Pairs.{Zips, pairs_of_zip, refused_at, zips_more}
-use Rattle.smap_arguments.proofs.rewrite.pairs_of.Goals as goal
+use Rattle.smap_arguments.proofs.Cuts.{Zips, pairs_of_zip, refused_at, zips_more}
+use Rattle.smap_arguments.proofs.pairs.pairs_of.Goals as goal
 
 pub returns-in_err-pair-clause-refused : goal.returns-in_err-pair-clause-refused
 returns-in_err-pair-clause-refused c =
     let at = c.loop-argument in
     let inside : at.argument-index < length c.args.arguments.now = omega (arith, c.loop-argument-test.true, at.auto.argument-index-end) in
     let p = err_from_is_err_and c.from_residual.result c.from_residual.ensures.1 in
-    rw (p.1, p.2) (refused_at c.args.arguments.now at.pairs.items at.argument-index _ _ inside at.invariant c.in_err-pair.ensures.refused)
+    rw (p.1, p.2) (refused_at c.args.arguments.now at.pairs.items at.argument-index _ c.args.form.now _ inside at.invariant c.in_err-pair.ensures.refused)
 
 pub loop-argument-preserved : goal.loop-argument-preserved
 loop-argument-preserved c =

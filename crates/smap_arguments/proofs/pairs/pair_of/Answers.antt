@@ -1,5 +1,5 @@
-use Rattle.smap_arguments.proofs.Pairs.{cut_at_last, none_to_cut}
-use Rattle.smap_arguments.proofs.rewrite.pair_of.Goals as goal
+use Rattle.smap_arguments.proofs.Cuts.{cut_at_last, none_to_cut}
+use Rattle.smap_arguments.proofs.pairs.pair_of.Goals as goal
 
 pub returns-in_ok-from_str-in-Some-2-clause-cut : goal.returns-in_ok-from_str-in-Some-2-clause-cut
 returns-in_ok-from_str-in-Some-2-clause-cut c =

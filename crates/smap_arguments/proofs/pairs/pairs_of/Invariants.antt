@@ -1,6 +1,6 @@
 use Rattle.std.proofs.Common.{take}
-use Rattle.smap_arguments.proofs.Pairs.{Zips}
-use Rattle.smap_arguments.proofs.rewrite.pairs_of.Given as goal
+use Rattle.smap_arguments.proofs.Cuts.{Zips}
+use Rattle.smap_arguments.proofs.pairs.pairs_of.Given as goal
 
 -- the arguments so far are cut
 abbrev pub invariant-loop-argument : goal.invariant-loop-argument

@@ -1,0 +1,151 @@
+-- Why the arguments of the command line give no command.
+use Rattle.std.specs.Prelude.{◌≡◌, ◌≢◌, ◌++◌, ◌⊎◌, ◌∷◌, true, codes, List, [], Err, None, Option, Some, String, find, not, ⊤}
+use Rattle.std.specs.declared.alloc.Global.{Global}
+use Rattle.std.specs.Option.{IsSome}
+use Rattle.std.specs.String.{string_bytes}
+use Rattle.smap_command.specs.Shown.{shown}
+use Rattle.url.specs.Parser.{IsOutOfRoom, parse_url}
+use Rattle.url.specs.Parts.{Parts}
+use Rattle.url.specs.declared.error.ParseError.{ParseError}
+use Rattle.clap.specs.Faults.{fault_of}
+use Rattle.clap.specs.Kinds.{IsAmong}
+use Rattle.clap.specs.Words.{Row, Text, first_of, one_of, subcommand_of}
+use Rattle.clap.specs.declared.error.kind.ErrorKind.{ErrorKind}
+use Rattle.clap.specs.declared.error.kind.ErrorKind.TheVariants.{DisplayHelp, DisplayVersion, OutOfMemory}
+use Rattle.smap_arguments.specs.CommandLine.{smap}
+use Rattle.smap_arguments.specs.Arguments.{GivesBase, GivesFlag, GivesPairs, GivesText, HasMaps, HasNoInners, has_equals_sign, has_inner}
+use Rattle.smap_arguments.specs.Arguments.{words_of}
+use Rattle.smap_arguments.specs.declared.usage.Usage.{Usage}
+use Rattle.smap_arguments.specs.declared.usage.Usage.TheVariants.{Help, Mistake, Memory}
+
+-- an error of this kind is a request for help or for the version
+abbrev pub IsRequest : ErrorKind → Type 0
+IsRequest kind = (kind ≡ DisplayHelp) ⊎ (kind ≡ DisplayVersion)
+
+-- what an error of this kind comes to
+abbrev pub IsUsageOf : ErrorKind → Usage → Type 0
+IsUsageOf kind (Help text) = IsRequest kind
+IsUsageOf kind (Mistake text) = (¬ (IsRequest kind)) × (kind ≢ OutOfMemory)
+IsUsageOf kind Memory = ⊤
+
+-- the base is no URL
+abbrev pub bad_base_line : Text
+bad_base_line = codes "usage: bad base URL" ++ 10 ∷ []
+
+-- the base is a URL of 4 GB or more
+abbrev pub long_base_line : Text
+long_base_line = codes "usage: base URL too long" ++ 10 ∷ []
+
+-- an argument has no `=`, and is to have this form
+abbrev pub no_pair_line : (form argument : Text) → Text
+no_pair_line form argument = codes "usage: no " ++ (form ++ (codes ": " ++ shown argument ++ 10 ∷ []))
+
+-- `rewrite` has both of these flags
+abbrev pub both_flags_line : Text
+both_flags_line = codes "usage: --hide-ignored with --anywhere" ++ 10 ∷ []
+
+-- `rewrite` has neither a word nor a list, which is told as clap tells of an argument that is missing
+abbrev pub no_maps_text : Text
+no_maps_text = codes "error: the following required arguments were not provided:" ++ 10 ∷ codes "  <URL=FILE>..." ++ 10 ∷ 10
+    ∷ codes "Usage: smap rewrite <URL=FILE>..." ++ 10 ∷ 10 ∷ codes "For more information, try '--help'." ++ 10 ∷ []
+
+-- `compose` has SOURCE beside maps that are given by the names of their sources
+abbrev pub source_with_inners_line : Text
+source_with_inners_line = codes "usage: SOURCE with --inner or --inners" ++ 10 ∷ []
+
+-- the end of what is told where `compose` has no inner map, which is told in clap's way, too
+abbrev pub compose_usage_lines : Text
+compose_usage_lines = codes "  <INNER>" ++ 10 ∷ 10 ∷ codes "Usage: smap compose <OUTER> <SOURCE> <INNER>" ++ 10 ∷ 10
+    ∷ codes "For more information, try '--help'." ++ 10 ∷ []
+
+-- `compose` has SOURCE without INNER
+abbrev pub no_inner_text : Text
+no_inner_text = codes "error: the following required arguments were not provided:" ++ 10 ∷ compose_usage_lines
+
+-- it has neither
+abbrev pub no_source_text : Text
+no_source_text = codes "error: the following required arguments were not provided:" ++ 10 ∷ codes "  <SOURCE>" ++ 10 ∷ compose_usage_lines
+
+-- it is told that the base is no URL: url's definition finds an error in its text, which is not that it is too long
+abbrev pub TellsBadBase : List Row → Text → Type 0
+TellsBadBase rows text = (text ≡ bad_base_line)
+    × ((base : Text) × (error : ParseError) × GivesText rows (codes "URL") base × (parse_url None base ≡ Err error)
+    × (¬ (IsOutOfRoom error)))
+
+-- it is told that the base is too long: any that is given may be, since no definition of url's says when one is
+abbrev pub TellsLongBase : List Row → Text → Type 0
+TellsLongBase rows text = (text ≡ long_base_line) × ((base : Text) × GivesText rows (codes "URL") base)
+
+-- it is told why the base that is given is none
+abbrev pub TellsOfBase : List Row → Text → Type 0
+TellsOfBase rows text = TellsBadBase rows text ⊎ TellsLongBase rows text
+
+-- the first argument that is no pair
+abbrev pub first_without : List Text → Option Text
+first_without = find (λ argument. not (has_equals_sign argument))
+
+-- it is told, with the form that it is to have
+abbrev pub TellsNoPair : (form : Text) → List Text → Text → Type 0
+TellsNoPair form arguments text =
+    (argument : Text) × (first_without arguments ≡ Some argument) × (text ≡ no_pair_line form argument)
+
+-- the same, of the arguments of that form that clap reads
+abbrev pub TellsBadPair : List Row → (form : Text) → Text → Type 0
+TellsBadPair rows form = TellsNoPair form (words_of rows form)
+
+-- it is told that there is neither a word nor a list
+abbrev pub TellsNoMaps : List Row → Text → Type 0
+TellsNoMaps rows text = (text ≡ no_maps_text) × (words_of rows (codes "URL=FILE") ≡ []) × (first_of (codes "LIST") rows ≡ None)
+
+-- it is told that both flags are given, of words that are pairs
+abbrev pub TellsBothFlags : List Row → Text → Type 0
+TellsBothFlags rows text = (text ≡ both_flags_line) × ((pairs : List (String Global × String Global)) × GivesPairs rows (codes "URL=FILE") pairs)
+    × GivesFlag rows (codes "hide-ignored") true × GivesFlag rows (codes "anywhere") true
+
+-- what `rewrite` refuses after its base: a word, that there are no maps, and then its flags
+abbrev pub TellsRewrite : List Row → Text → Type 0
+TellsRewrite rows text = TellsBadPair rows (codes "URL=FILE") text ⊎ TellsNoMaps rows text ⊎ TellsBothFlags rows text
+
+-- it is told that SOURCE or INNER is given beside maps that are given by the names of their sources, of words that are pairs
+abbrev pub TellsSourceWithInners : List Row → Text → Type 0
+TellsSourceWithInners rows text = (text ≡ source_with_inners_line) × (has_inner rows ≡ true)
+    × ((pairs : List (String Global × String Global)) × GivesPairs rows (codes "NAME=FILE") pairs
+    × HasMaps pairs (first_of (codes "LIST") rows))
+
+-- it is told that there is no inner map: SOURCE is missing, or INNER alone
+abbrev pub TellsNoInner : List Row → Text → Type 0
+TellsNoInner rows text = HasNoInners rows
+    × (((text ≡ no_source_text) × (one_of (codes "SOURCE") rows ≡ None))
+    ⊎ ((text ≡ no_inner_text) × IsSome (one_of (codes "SOURCE") rows) × (first_of (codes "INNER") rows ≡ None)))
+
+-- what `compose` refuses after its base: a word, and then SOURCE and INNER
+abbrev pub TellsCompose : List Row → Text → Type 0
+TellsCompose rows text = TellsBadPair rows (codes "NAME=FILE") text ⊎ TellsSourceWithInners rows text ⊎ TellsNoInner rows text
+
+-- the arguments are told that clap takes, but the command of this name does not: its base or, where that is not refused,
+-- what else `rewrite` and `compose` refuse
+abbrev pub TellsRefusal : (name : Text) → List Row → Text → Type 0
+TellsRefusal name rows text = TellsOfBase rows text
+    ⊎ ((base : Option Parts) × (name ≡ codes "rewrite") × GivesBase rows base × TellsRewrite rows text)
+    ⊎ ((base : Option Parts) × (name ≡ codes "compose") × GivesBase rows base × TellsCompose rows text)
+
+-- where clap finds no fault, this alone may be told, or memory ran out
+abbrev pub IsNamedRefusal : (Text → Type 0) → Usage → Type 0
+IsNamedRefusal Tells (Help text) = ⊥
+IsNamedRefusal Tells (Mistake text) = Tells (string_bytes text)
+IsNamedRefusal Tells Memory = ⊤
+
+-- the same, of the subcommand that the arguments name
+abbrev pub SubcommandTells : Option (Text × List Row) → Text → Type 0
+SubcommandTells subcommand text =
+    (name : Text) × (rows : List Row) × (subcommand ≡ Some (name, rows)) × TellsRefusal name rows text
+
+-- clap finds a request for help or for the version, or another fault in the arguments; or it finds none, and what is told is
+-- that the base is no URL or too long, an argument no pair, that there are no maps, or that two arguments exclude each other;
+-- or memory ran out
+abbrev pub IsRefusalOf : List Text → Usage → Type 0
+IsRefusalOf arguments (Help text) = (kind : ErrorKind) × IsAmong kind (fault_of smap arguments) × IsRequest kind
+IsRefusalOf arguments (Mistake text) =
+    ((kind : ErrorKind) × IsAmong kind (fault_of smap arguments) × (¬ (IsRequest kind)))
+    ⊎ ((fault_of smap arguments ≡ []) × SubcommandTells (subcommand_of smap arguments) (string_bytes text))
+IsRefusalOf arguments Memory = ⊤

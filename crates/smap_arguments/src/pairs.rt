@@ -1,0 +1,59 @@
+//! Arguments that are pairs, as `URL=FILE`.
+ghost use Rattle.std.specs.Prelude.{◌∷◌, [], IfErr, IfOk, map, string_bytes};
+ghost use Rattle.clap.specs.Words.{found_of, rows_of};
+ghost use Rattle.smap_arguments.specs.Arguments.{ArePairs, GivesPairs, IsPair};
+ghost use Rattle.smap_arguments.specs.Refusals.{IsNamedRefusal, TellsBadPair, TellsNoPair};
+
+use crate::mistakes::no_pair_line;
+use crate::usage::Usage;
+use clap::ArgMatches;
+use std::alloc::Global;
+
+/// The arguments of this form, cut into pairs. There may be none.
+pub fn pairs_in(
+    alloc: Global,
+    matches: &ArgMatches<'_>,
+    form: &str,
+) -> Result<Vec<(String, String)>, Usage>
+    ensures given { IfOk result (λ pairs. GivesPairs (rows_of (found_of matches.now)) form.now
+        pairs.items) }
+    ensures refused { IfErr result (IsNamedRefusal
+        (TellsBadPair (rows_of (found_of matches.now)) form.now)) }
+{
+    match matches.get_strs(form) {
+        Some(words) => pairs_of(alloc, form, words),
+        None => Ok(Vec::new(alloc)),
+    }
+}
+
+fn pairs_of(alloc: Global, form: &str, arguments: &[&str]) -> Result<Vec<(String, String)>, Usage>
+    ensures cut { IfOk result (λ pairs. ArePairs (map (λ argument. argument.now) arguments.now)
+        pairs.items) }
+    ensures refused { IfErr result (IsNamedRefusal
+        (TellsNoPair form.now (map (λ argument. argument.now) arguments.now))) }
+{
+    let mut pairs = Vec::new(alloc);
+    for argument in arguments {
+        let pair = pair_of(alloc, form, argument)?;
+        match pairs.push(pair) {
+            Ok(_) => {}
+            Err(_) => return Err(Usage::Memory),
+        }
+    }
+    Ok(pairs)
+}
+
+// The two parts of an argument, which is cut at its last `=`, since a URL or a name may have others.
+fn pair_of(alloc: Global, form: &str, argument: &str) -> Result<(String, String), Usage>
+    ensures cut { IfOk result (λ pair. IsPair argument.now (string_bytes pair.0)
+        (string_bytes pair.1)) }
+    ensures refused { IfErr result (IsNamedRefusal (TellsNoPair form.now (argument.now ∷ []))) }
+{
+    match argument.rsplit_once('=') {
+        Some((url, path)) => Ok((
+            String::from_str(alloc, url)?,
+            String::from_str(alloc, path)?,
+        )),
+        None => Err(Usage::Mistake(no_pair_line(alloc, form, argument)?)),
+    }
+}

@@ -1,0 +1,134 @@
+//! What `show` and `compose` are asked, which write a map.
+ghost use Rattle.std.specs.Prelude.{◌≡◌, IfErr, IfOk, codes, string_bytes};
+ghost use Rattle.clap.specs.Words.{found_of, rows_of};
+ghost use Rattle.smap_arguments.specs.CommandLine.{named, source_number};
+ghost use Rattle.smap_arguments.specs.Arguments.{GivesBase, GivesOptions, GivesText, HasArguments, HasNoInners, HasValueIfGiven};
+ghost use Rattle.smap_arguments.specs.Arguments.{IsInRange, NamedAsksFor, has_inner};
+ghost use Rattle.smap_arguments.specs.Refusals.{IsNamedRefusal, TellsCompose, TellsNoInner};
+ghost use Rattle.clap.specs.declared.builder.value_parser.ValueParser.TheVariants as parser;
+
+use crate::mistakes::{NO_INNER, NO_SOURCE, SOURCE_WITH_INNERS};
+use crate::pairs::pairs_in;
+use crate::usage::Usage;
+use crate::values::{flag_in, source_in, text_if_given, text_in};
+use clap::ArgMatches;
+use smap_command::{Command, WriteOptions};
+use std::alloc::{AllocError, Global};
+use url::Url;
+
+/// What `show` is asked: the map as it is, or without what is left out.
+pub fn show_in(
+    alloc: Global,
+    matches: &ArgMatches<'_>,
+    base: Option<Url>,
+) -> Result<Command, AllocError>
+    requires required { HasArguments (named (codes "show")) (rows_of (found_of matches.now)) }
+    requires given { GivesBase (rows_of (found_of matches.now)) base }
+    ensures asked { IfOk result (NamedAsksFor (codes "show") (rows_of (found_of matches.now))) }
+    ensures in_range { IfOk result IsInRange }
+{
+    let path = text_in(alloc, matches, "PATH")?;
+    let options = options_in(matches);
+    if options.prune || options.no_content {
+        return Ok(Command::ShowWith {
+            path,
+            base,
+            options,
+        });
+    }
+    Ok(Command::Show { path, base })
+}
+
+/// What `compose` is asked: over one inner map, or over those of sources by their names.
+pub fn compose_in(
+    alloc: Global,
+    matches: &ArgMatches<'_>,
+    base: Option<Url>,
+) -> Result<Command, Usage>
+    requires required { HasArguments (named (codes "compose")) (rows_of (found_of matches.now)) }
+    requires given { GivesBase (rows_of (found_of matches.now)) base }
+    ensures asked { IfOk result (NamedAsksFor (codes "compose") (rows_of (found_of matches.now))) }
+    ensures in_range { IfOk result IsInRange }
+    ensures refused { IfErr result (IsNamedRefusal
+        (TellsCompose (rows_of (found_of matches.now)))) }
+{
+    let outer = text_in(alloc, matches, "OUTER")?;
+    let inners = pairs_in(alloc, matches, "NAME=FILE")?;
+    let list = text_if_given(alloc, matches, "LIST")?;
+    if inners.is_empty() && list.is_none() {
+        return one_inner_in(alloc, matches, outer, base);
+    }
+    if has_inner(matches) {
+        return Err(Usage::Mistake(String::from_str(alloc, SOURCE_WITH_INNERS)?));
+    }
+    Ok(Command::ComposeAll {
+        outer,
+        inners,
+        list,
+        base,
+        options: options_in(matches),
+    })
+}
+
+// What `compose` is asked over one inner map, which has to be given with the number of its source.
+fn one_inner_in(
+    alloc: Global,
+    matches: &ArgMatches<'_>,
+    outer: String,
+    base: Option<Url>,
+) -> Result<Command, Usage>
+    requires required { HasArguments (named (codes "compose")) (rows_of (found_of matches.now)) }
+    requires outer { GivesText (rows_of (found_of matches.now)) (codes "OUTER")
+        (string_bytes outer) }
+    requires alone { HasNoInners (rows_of (found_of matches.now)) }
+    requires given { GivesBase (rows_of (found_of matches.now)) base }
+    ensures asked { IfOk result (NamedAsksFor (codes "compose") (rows_of (found_of matches.now))) }
+    ensures in_range { IfOk result IsInRange }
+    ensures refused { IfErr result (IsNamedRefusal
+        (TellsNoInner (rows_of (found_of matches.now)))) }
+{
+    let Some(source) = source_in(matches) else {
+        return Err(Usage::Mistake(String::from_str(alloc, NO_SOURCE)?));
+    };
+    let Some(inner) = text_if_given(alloc, matches, "INNER")? else {
+        return Err(Usage::Mistake(String::from_str(alloc, NO_INNER)?));
+    };
+    let options = options_in(matches);
+    if options.prune || options.no_content {
+        return Ok(Command::ComposeWith {
+            outer,
+            source,
+            inner,
+            base,
+            options,
+        });
+    }
+    Ok(Command::Compose {
+        outer,
+        source,
+        inner,
+        base,
+    })
+}
+
+// Whether SOURCE or INNER is given.
+fn has_inner(matches: &ArgMatches<'_>) -> bool
+    requires { HasValueIfGiven source_number (rows_of (found_of matches.now)) (codes "SOURCE") }
+    ensures { result ≡ has_inner (rows_of (found_of matches.now)) }
+{
+    source_in(matches).is_some() || matches.get_str("INNER").is_some()
+}
+
+// What is left out of the map.
+fn options_in(matches: &ArgMatches<'_>) -> WriteOptions
+    requires prune { HasValueIfGiven parser.Bool (rows_of (found_of matches.now))
+        (codes "prune") }
+    requires no_content { HasValueIfGiven parser.Bool (rows_of (found_of matches.now))
+        (codes "no-content") }
+    ensures { GivesOptions (rows_of (found_of matches.now)) result }
+{
+    WriteOptions {
+        prune: flag_in(matches, "prune"),
+        no_content: flag_in(matches, "no-content"),
+    }
+}
