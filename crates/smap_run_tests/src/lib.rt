@@ -9,11 +9,15 @@ mod checks;
 #[cfg(test)]
 mod compose;
 #[cfg(test)]
+mod compose_all;
+#[cfg(test)]
 mod files;
 #[cfg(test)]
 mod held;
 #[cfg(test)]
 mod hostile_files;
+#[cfg(test)]
+mod inners_named;
 #[cfg(test)]
 mod loaded_files;
 #[cfg(test)]

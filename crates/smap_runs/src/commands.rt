@@ -1,9 +1,11 @@
-//! The commands that take an interval, each made here alone.
+//! The commands that take an interval, or options of what is written, each made here alone.
 ghost use Rattle.std.specs.Prelude.{◌≡◌, true};
 ghost use Rattle.smap_index.specs.Faults.{is_interval};
 ghost use Rattle.smap_answers.specs.Run.{IsRunnable};
 
-use smap_answers::{Command, MOST_BYTES, USUAL_CACHE_BYTES, USUAL_INTERVAL, USUAL_LIMIT_BYTES};
+use smap_answers::{
+    Command, MOST_BYTES, USUAL_CACHE_BYTES, USUAL_INTERVAL, USUAL_LIMIT_BYTES, WriteOptions,
+};
 use smap_index::MOST_INTERVAL;
 use smap_record::Url;
 
@@ -97,6 +99,75 @@ pub fn positions(path: String, interval: u32, after: bool, json: bool) -> Comman
         json,
     }
 }
+
+/// `show` of the file at this path, without what the options leave out.
+pub fn show_with(path: String, base: Option<Url>, options: WriteOptions) -> Command
+    ensures { IsRunnable result }
+{
+    Command::ShowWith {
+        path,
+        base,
+        options,
+    }
+}
+
+/// `compose` of the files at these paths, the inner one being of the source of this number, from 0, without what the options
+/// leave out.
+pub fn compose_with(outer: String, source: u32, inner: String, options: WriteOptions) -> Command
+    ensures { IsRunnable result }
+{
+    Command::ComposeWith {
+        outer,
+        source,
+        inner,
+        base: None,
+        options,
+    }
+}
+
+/// `compose` of the file at this path with those of its sources: pairs of a name and a path, and a list; without what the
+/// options leave out.
+pub fn compose_all(
+    outer: String,
+    inners: Vec<(String, String)>,
+    list: Option<String>,
+    base: Option<Url>,
+    options: WriteOptions,
+) -> Command
+    ensures { IsRunnable result }
+{
+    Command::ComposeAll {
+        outer,
+        inners,
+        list,
+        base,
+        options,
+    }
+}
+
+/// Where nothing is left out of a map that is written.
+pub const WHOLE: WriteOptions = WriteOptions {
+    prune: false,
+    no_content: false,
+};
+
+/// Where it is pruned.
+pub const PRUNED: WriteOptions = WriteOptions {
+    prune: true,
+    no_content: false,
+};
+
+/// Where the contents are left out.
+pub const NO_CONTENT: WriteOptions = WriteOptions {
+    prune: false,
+    no_content: true,
+};
+
+/// Where it is pruned, and the contents are left out.
+pub const BOTH: WriteOptions = WriteOptions {
+    prune: true,
+    no_content: true,
+};
 
 /// `rewrite` over maps: pairs of a URL and a path; with the frames of ignored sources hidden or not.
 pub fn rewrite(

@@ -9,12 +9,14 @@
 
 mod broken;
 pub mod commands;
+mod composing;
 mod devices;
 mod reading;
 mod running;
 mod traces;
 
 pub use broken::{Break, run_broken};
+pub use composing::{AskedAll, run_compose_all, run_compose_with, run_composed, run_show_with};
 pub use devices::{ALL_SOUND, Device, Devices, MOST_TAKEN, SOUND};
 pub use reading::{Held, run_check_all, run_held_over, run_over_held, run_over_read};
 pub use running::{

@@ -13,11 +13,11 @@ use std::alloc::{AllocError, Global};
 /// Files in memory: the path of each, and its text.
 pub type Held = &'static [(&'static str, &'static str)];
 
-// The same as a reader. Of two with one path the first is read.
+// The same as a reader, however long they are held. Of two with one path the first is read.
 #[derive(Clone, Copy)]
-struct HeldFiles(Held);
+struct HeldFiles<'a>(&'a [(&'a str, &'a str)]);
 
-impl FileReader for HeldFiles {
+impl FileReader for HeldFiles<'_> {
     ghost gives = { λ files number path result. ⊤ };
 
     fn read_file(&self, alloc: Global, _number: usize, path: &str) -> Result<Vec<u8>, ReadFailure> {
@@ -37,7 +37,7 @@ impl FileReader for HeldFiles {
 pub fn run_over_held(
     alloc: Global,
     command: &Command,
-    held: Held,
+    held: &[(&str, &str)],
     devices: Devices,
 ) -> Result<String, AllocError>
     requires { IsRunnable command.now }
@@ -49,7 +49,7 @@ pub fn run_over_held(
 pub fn run_held_over(
     alloc: Global,
     command: &Command,
-    held: Held,
+    held: &[(&str, &str)],
     input: &[u8],
     devices: Devices,
 ) -> Result<String, AllocError>
