@@ -3,7 +3,7 @@
  * Lines, columns, sources, names, sections and bytes count from 0, columns in UTF-16 code units. Texts are UTF-8, as a
  * pointer and a length, without a byte 0 at the end.
  *
- * A handle holds a map, a table or bytes, or is empty. One set to {0}, or in C++ to {}, is empty. A call that fills a
+ * A handle holds a map, a table, inner maps or bytes, or is empty. One set to {0}, or in C++ to {}, is empty. A call that fills a
  * handle wants it empty: what it held before is not freed. A call that takes one from a handle wants it full, unless it says
  * so. The pointer in a handle does not show whether it is empty: after it was freed, or a call took from it, the old one
  * stays there. Each handle is used by one call at a time; two threads may use two handles, each its own.
@@ -34,9 +34,10 @@ extern "C" {
 #define SMAP_REFUSED 1
 #define SMAP_NO_MEMORY 3
 
-/* Handles, freed by smap_map_free, smap_table_free and smap_bytes_free. */
+/* Handles, freed by smap_map_free, smap_table_free, smap_inners_free and smap_bytes_free. */
 typedef struct smap_map { void *at; } smap_map;
 typedef struct smap_table { void *at; } smap_table;
+typedef struct smap_inners { void *at; } smap_inners;
 typedef struct smap_bytes { void *at; } smap_bytes;
 
 /* A text that is lent. It stays until the next call with the handle that lent it. */
@@ -83,6 +84,10 @@ typedef struct smap_source_text {
     uint32_t named, held, ignored;
 } smap_source_text;
 #define SMAP_SOURCE { SMAP_TEXT, SMAP_TEXT, 0, 0, 0 }
+
+/* What smap_compose_all leaves out of the map that it writes. With `prune`: sources and names that no mapping has, and of
+ * those that are equal all but the first that a mapping has. With `no_content`: the contents of the sources. */
+typedef struct smap_compose_options { bool prune, no_content; } smap_compose_options;
 
 /* What was in a trace: its lines, how many were frames, and how many of these were replaced and hidden. */
 typedef struct smap_trace_count { uint64_t lines, frames, mapped, hidden; } smap_trace_count;
@@ -131,8 +136,30 @@ uint32_t smap_map_write(smap_map *map, smap_bytes *bytes);
  * large. The bytes are freed by smap_bytes_free. */
 uint32_t smap_compose(smap_map *outer, uint32_t source, smap_map *inner, smap_bytes *bytes, uint32_t *refusal);
 
-/* Lends what the program prints on this refusal of smap_compose, "C1 SourceIndex" or "C2 TooLarge". Returns 1 where it has
- * none of this number. */
+/* Makes a place for the map of each source of `outer`, all without a map. */
+uint32_t smap_inners_new(smap_map *outer, smap_inners *inners);
+
+/* Puts the map of source `source` into its place, which takes it over: its handle is empty then. Returns 1 where there is no
+ * such source, or its place has a map. */
+uint32_t smap_inners_put(smap_inners *inners, uint32_t source, smap_map *map);
+
+/* Takes the map of source `source` out of its place, into the empty handle `map`. Returns 1 where there is none. */
+uint32_t smap_inners_take(smap_inners *inners, uint32_t source, smap_map *map);
+
+/* Composes a map with the maps of its sources, all at once, and writes the map that they come to: as smap_compose does with
+ * one after another, from the least source on. Sources keep their names, save one: where a source of `outer` is called by no
+ * URL, and one of its inner map by a relative path, this path goes on from the folder of that name. So "dist/a.js" and
+ * "../src/a.ts" give "src/a.ts". The maps stay in their places. Where it returns 1, `refusal` is 1 where there are more
+ * places than `outer` has sources, and 2 where the composed map would be too large. The bytes are freed by
+ * smap_bytes_free. */
+uint32_t smap_compose_all(smap_map *outer, smap_inners *inners, const smap_compose_options *options, smap_bytes *bytes,
+                          uint32_t *refusal);
+
+/* Frees the places with the maps in them, and leaves their handle empty. */
+void smap_inners_free(smap_inners *inners);
+
+/* Lends what the program prints on this refusal of smap_compose and smap_compose_all, "C1 SourceIndex" or "C2 TooLarge".
+ * Returns 1 where they have none of this number. */
 uint32_t smap_compose_refusal_text(uint32_t refusal, smap_text *text);
 
 /* Lends bytes that were handed out. Returns 0. */

@@ -5,8 +5,8 @@ export const LEAST_UPPER_BOUND: -1;
 
 /** What was given is refused. The numbers are the library's; all but the first are there where a map is refused. */
 export class Refused extends Error {
-  /** Of a map that of M1 to M17, or 0 where the base is no URL and 18 where it is too long; of others that of C1 and C2, A1
-   * and A2, or X3. */
+  /** Of a map that of M1 to M17, or 0 where the base is no URL and 18 where it is too long; of others that of C1, C2 and
+   * C4, A1 and A2, or X3. */
   number?: number;
   /** That of the fault of the mappings, F1 to F11, or 0. */
   fault?: number;
@@ -18,7 +18,7 @@ export class Refused extends Error {
   section?: number;
   /** Where the faulty segment begins in the mappings, from 0. */
   byte?: number;
-  /** The URL under which a table was to have the map. */
+  /** The URL under which a table was to have the map, or the name of the source that it was to be of. */
   url?: string;
 }
 
@@ -71,6 +71,27 @@ export function compose(outer: TraceMap, source: number, inner: TraceMap): Buffe
 
 type Given = string | Uint8Array | object | TraceMap;
 
+/** Maps, each under a name: an object or pairs. */
+type Named<Name> = readonly (readonly [Name, Given])[] | Iterable<readonly [Name, Given]> | Record<string, Given>;
+
+export interface ComposeAllOptions {
+  /** Gives the map of a source by its name, or none. It is asked once for each name, for the sources of the outer map that
+   * have no map among the inner ones, and for those of the maps that were found. */
+  load?: (source: string) => Given | null | undefined;
+  /** Leaves out sources and names that no mapping has, and of equal ones all but the first. */
+  prune?: boolean;
+  /** Leaves out the contents of the sources. */
+  noContent?: boolean;
+}
+
+/** The inner maps stand under the names of the sources that they are of; in a pair the number of a source may stand for its
+ * name, from 0. A TraceMap that is given stays open. */
+export function composeAll(
+  outer: TraceMap,
+  inners?: Named<string | number>,
+  options?: ComposeAllOptions,
+): Buffer;
+
 /** What was in a trace: of frames, or of places anywhere. */
 export type TraceCounts =
   | { lines: number; frames: number; mapped: number; hidden: number }
@@ -80,7 +101,7 @@ export type TraceCounts =
 export class Table {
   /** `load` gives the map of a URL that has none here. It is asked once for each, when a frame first names it. */
   constructor(
-    maps: Record<string, Given> | Iterable<[string, Given]>,
+    maps: Named<string>,
     options?: { load?: (url: string) => Given | null | undefined },
   );
   /** Those of the last trace that was rewritten. */

@@ -3,7 +3,9 @@
 // from 0, in UTF-16 code units. index.d.ts has the types.
 const addon = require('./smap.node');
 const given = require('./given.js');
-const { BAD_BASE, Refused, refusedComposition, refusedMap, refusedUrl } = require('./refused.js');
+const { compose, composeAll } = require('./composing.js');
+const { TraceMap, open, standingAt } = require('./map.js');
+const { Refused, refusedUrl } = require('./refused.js');
 
 const GREATEST_LOWER_BOUND = 1;
 const LEAST_UPPER_BOUND = -1;
@@ -11,80 +13,6 @@ const LEAST_UPPER_BOUND = -1;
 // What a look-up is asked and answers: the line, the column, whether in the other direction, and from the fourth on the seven
 // numbers of an answer.
 const { room } = addon;
-
-// The map of these bytes. `url` is that under which a table is to have it.
-function read(bytes, base, interval, url) {
-  const numbers = new Float64Array(6);
-  const map = addon.read(bytes, Buffer.from(base), interval, numbers);
-  if (map === null) throw refusedMap(numbers, base, url);
-  return map;
-}
-
-function open(map) {
-  if (!(map instanceof TraceMap)) throw new TypeError('a TraceMap is wanted');
-  if (!map.handle) throw new Error('the map is closed');
-  return map.handle;
-}
-
-// A source map that was read: of a text, a Uint8Array or a parsed map, which stands at the URL `mapUrl`, if there is one. It
-// is freed by `close`, or when nothing names it any more.
-class TraceMap {
-  constructor(map, mapUrl, interval = 64) {
-    if (map instanceof TraceMap) throw new TypeError('a TraceMap is read already');
-    this.handle = read(given.mapBytes(map), given.mapUrl(mapUrl), given.interval(interval));
-    this.sourceTexts = [];
-    this.nameTexts = [];
-  }
-
-  get counts() {
-    return addon.counts(open(this));
-  }
-
-  get file() {
-    return addon.file(open(this));
-  }
-
-  // All sources, each {name, content, ignored}.
-  get sourceEntries() {
-    const handle = open(this);
-    return this.sources.map((name, index) => ({
-      name,
-      content: addon.sourceContent(handle, index),
-      ignored: addon.isIgnored(handle, index),
-    }));
-  }
-
-  get sources() {
-    return Array.from({ length: this.counts.sources }, (_, index) => this.sourceAt(index));
-  }
-
-  // The name of a source: a text, or null. It is made once.
-  sourceAt(index) {
-    if (this.sourceTexts[index] === undefined) this.sourceTexts[index] = addon.sourceName(open(this), index);
-    return this.sourceTexts[index];
-  }
-
-  get names() {
-    return Array.from({ length: this.counts.names }, (_, index) => this.nameAt(index));
-  }
-
-  nameAt(index) {
-    if (this.nameTexts[index] === undefined) this.nameTexts[index] = addon.name(open(this), index);
-    return this.nameTexts[index];
-  }
-
-  // The text of one regular map that states the same, as a Buffer.
-  write() {
-    const text = addon.write(open(this));
-    if (text === null) throw new Refused('refused: O1 TextTooLong');
-    return text;
-  }
-
-  close() {
-    if (this.handle) addon.close(this.handle);
-    this.handle = undefined;
-  }
-}
 
 // Where the generated position comes from: {source, line, column, name}, all null where nothing answers or what answers
 // has no original. A column past the line's end, and Infinity, has the line's last mapping.
@@ -130,28 +58,6 @@ function isIgnored(map, source) {
   return index >= 0 && addon.isIgnored(open(map), index);
 }
 
-// The text of the map that two maps come to, the inner one being of this source of the outer one, from 0; as a Buffer.
-function compose(outer, source, inner) {
-  const [first, second, index] = [open(outer), open(inner), given.source(source)];
-  if (first === second) return composedWithItself(outer, index);
-  const told = addon.compose(first, index, second);
-  if (typeof told === 'number') throw refusedComposition(told);
-  return told;
-}
-
-// No call of the library takes one handle twice, so the map is written and read again.
-function composedWithItself(map, source) {
-  const text = addon.write(open(map));
-  // Where it is too large to be written, so is what it would come to, which has the same generated positions.
-  if (text === null) throw refusedComposition(source < map.counts.sources ? 2 : 1);
-  const copy = new TraceMap(text);
-  try {
-    return compose(map, source, copy);
-  } finally {
-    copy.close();
-  }
-}
-
 // Maps, each under the URL that frames name: an object or pairs of a URL and a map's text, Uint8Array or TraceMap. A
 // TraceMap that is given is closed: the table has it then. `load` is asked for the map of each URL that is not among them,
 // once, when a frame first names it, and gives null or undefined where there is none.
@@ -195,16 +101,6 @@ function ask(table, trace) {
   }
 }
 
-// The map of these bytes at its URL, or at none where that is no URL.
-function standingAt(bytes, url) {
-  try {
-    return read(bytes, url, 64, url);
-  } catch (refused) {
-    if (refused instanceof Refused && refused.number === BAD_BASE) return read(bytes, '', 64, url);
-    throw refused;
-  }
-}
-
 // The trace with each frame that has an original in its place, as a Buffer; with `anywhere` each place URL:line:column,
 // wherever it stands. `table.counts` then says how many lines, frames or places it had, and how many were mapped and hidden.
 function rewrite(table, trace, { hideIgnored = false, anywhere = false } = {}) {
@@ -228,6 +124,7 @@ module.exports = {
   Table,
   TraceMap,
   compose,
+  composeAll,
   isIgnored,
   lookUpMany,
   originalPositionFor,

@@ -34,9 +34,14 @@ function refusedComposition(number) {
   return new Refused(`refused: ${addon.composeRefusalText(number) || number}`, [number]);
 }
 
+// Why no source gets the map of this name.
+function refusedSource(name) {
+  return new Refused(`refused: C4 NoSource ${name}`, [4]);
+}
+
 // Why a table takes no map under this URL.
 function refusedUrl(number, url) {
   return new Refused(`usage: ${addon.tableRefusalText(number) || number}: ${shown(url)}`, [number], url);
 }
 
-module.exports = { BAD_BASE, Refused, refusedComposition, refusedMap, refusedUrl };
+module.exports = { BAD_BASE, Refused, refusedComposition, refusedMap, refusedSource, refusedUrl };

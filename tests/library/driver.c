@@ -4,6 +4,7 @@
  *   counts MAP                     the line of `smap check`
  *   show MAP                       what `smap show` writes, without its LF
  *   compose OUTER SOURCE INNER     what `smap compose` writes, without its LF
+ *   all OUTER LESS SOURCE INNER..  the map composed with all these inner ones, where LESS is prune, bare, both or none
  *   rewrite URL MAP                the trace on standard input, rewritten
  *   load URL MAP                   the same, where the map is read once a frame names it
  *   anywhere URL MAP               the text on standard input, with its places rewritten
@@ -152,6 +153,29 @@ static void composed(const char *outer, const char *source, const char *inner) {
     smap_map_free(&b);
 }
 
+static void composed_with_all(int count, char **words) {
+    smap_map outer = opened(words[0]), back = {0};
+    smap_inners inners = {0};
+    smap_bytes bytes = {0};
+    uint32_t refusal = 0;
+    bool both = !strcmp(words[1], "both");
+    smap_compose_options options = {.prune = both || !strcmp(words[1], "prune"), .no_content = both || !strcmp(words[1], "bare")};
+    if (smap_inners_new(&outer, &inners) != SMAP_DONE) fail("no places");
+    for (int i = 2; i < count; i += 2) {
+        smap_map inner = opened(words[i + 1]);
+        if (smap_inners_put(&inners, (uint32_t)atol(words[i]), &inner) != SMAP_DONE) fail("no place");
+    }
+    uint32_t status = smap_compose_all(&outer, &inners, &options, &bytes, &refusal);
+    if (status == SMAP_REFUSED)
+        printf("refused C%u\n", refusal);
+    else if (status == SMAP_DONE)
+        put_bytes(&bytes);
+    if (smap_inners_take(&inners, (uint32_t)atol(words[2]), &back) != SMAP_DONE) fail("no map is back");
+    smap_map_free(&back);
+    smap_inners_free(&inners);
+    smap_map_free(&outer);
+}
+
 static void add(smap_table *table, const char *url, const char *path) {
     smap_map map = {0};
     smap_refusal refusal = {0};
@@ -275,6 +299,24 @@ static void mistakes(const char *path) {
     smap_map other = opened(path);
     uint32_t why = 9;
     if (smap_compose(&map, 1000000, &other, &bytes, &why) != SMAP_REFUSED || why != 1) fail("C1");
+    smap_inners inners = {0}, more = {0};
+    smap_count held = {0};
+    const smap_compose_options options = {0};
+    smap_counts(&map, &held);
+    if (smap_inners_new(&map, &inners) != SMAP_DONE || smap_inners_new(&map, &more) != SMAP_DONE) fail("no places");
+    if (smap_inners_put(&inners, (uint32_t)held.sources, &other) != SMAP_REFUSED) fail("a place past the last");
+    if (smap_inners_put(&inners, UINT32_MAX, &other) != SMAP_REFUSED) fail("the last of all places");
+    if (smap_inners_take(&inners, UINT32_MAX, &map) != SMAP_REFUSED || smap_inners_take(&inners, 0, &map) != SMAP_REFUSED) fail("a map of no source");
+    if (smap_inners_put(&inners, 0, &other) != SMAP_DONE) fail("not put");
+    other = opened(path);
+    if (smap_inners_put(&inners, 0, &other) != SMAP_REFUSED) fail("a place with a map");
+    const char one[] = "{\"version\":3,\"sources\":[],\"names\":[],\"mappings\":\"\"}";
+    smap_map sourceless = {0};
+    if (smap_map_read((const uint8_t *)one, sizeof one - 1, (const uint8_t *)"", 0, 64, &sourceless, &refusal) != SMAP_DONE) fail("not read");
+    if (smap_compose_all(&sourceless, &more, &options, &bytes, &why) != SMAP_REFUSED || why != 1) fail("C1 of all");
+    smap_map_free(&sourceless);
+    smap_inners_free(&more);
+    smap_inners_free(&inners);
     smap_table table = {0};
     if (smap_table_new(&table) != SMAP_DONE) fail("no table");
     if (smap_table_add(&table, (const uint8_t *)"a\nb", 3, &map, &why) != SMAP_REFUSED || why != 1) fail("A1");
@@ -285,7 +327,7 @@ static void mistakes(const char *path) {
     if (smap_look_up(&other, 0, 0, &found) != SMAP_DONE) fail("a map that came back");
     smap_map_free(&other);
     smap_table_free(&table);
-    puts("mistakes 10");
+    puts("mistakes 16");
 }
 
 int main(int count, char **words) {
@@ -306,6 +348,8 @@ int main(int count, char **words) {
         show(words[2]);
     } else if (!strcmp(command, "compose")) {
         composed(words[2], words[3], words[4]);
+    } else if (!strcmp(command, "all")) {
+        composed_with_all(count - 2, words + 2);
     } else if (!strcmp(command, "rewrite") || !strcmp(command, "load") || !strcmp(command, "anywhere")) {
         rewritten(command, words[2], words[3]);
     } else if (!strcmp(command, "again")) {

@@ -1,5 +1,7 @@
 'use strict';
-// What tests/try-library asks of the library in node. driver.c says of each command what it prints.
+// What tests/try-library asks of the library in node. driver.c says of each command what it prints. And
+//   chain FOLDER OUTER LESS    the map composed with those NAME.map of the folder, by a loader; on standard error what that is asked
+//   unlike MAP OTHER CODE      how many mappings the first map has in the code, and how many of them the other answers otherwise
 const fs = require('node:fs');
 const smap = require('smap');
 
@@ -50,6 +52,24 @@ function again(path, count) {
   console.log(Math.round((process.memoryUsage().rss - before) / 1024));
 }
 
+const options = (less) => ({ prune: ['prune', 'both'].includes(less), noContent: ['bare', 'both'].includes(less) });
+
+// How many mappings of a map the other one does not answer alike: at each column of the code at which one of them begins.
+function unlike(path, otherPath, code) {
+  const [map, other] = [open(path), open(otherPath)];
+  let [count, unlike] = [0, 0];
+  fs.readFileSync(code, 'utf8').split('\n').forEach((text, line) => {
+    for (let column = 0; column <= text.length; column++) {
+      const [kind, begins] = smap.lookUpMany(map, Uint32Array.of(line, column));
+      if (kind !== 2 || begins !== column) continue;
+      const [wanted, got] = [map, other].map((from) => smap.originalPositionFor(from, { line: line + 1, column }));
+      count += 1;
+      if (JSON.stringify(wanted) !== JSON.stringify(got)) unlike += 1;
+    }
+  });
+  put([`mappings ${count} unlike ${unlike}`]);
+}
+
 const commands = {
   look: (path) => look(path),
   from: (path) => look(path, smap.LEAST_UPPER_BOUND),
@@ -68,6 +88,21 @@ const commands = {
   compose: (outer, source, inner) => {
     const first = open(outer);
     process.stdout.write(smap.compose(first, Number(source), inner === outer ? first : open(inner)));
+  },
+  all: (outer, less, ...words) => {
+    const inners = words.flatMap((word, i) => (i % 2 ? [[Number(words[i - 1]), fs.readFileSync(word)]] : []));
+    process.stdout.write(smap.composeAll(open(outer), inners, options(less)));
+  },
+  unlike,
+  chain: (folder, outer, less) => {
+    const asked = [];
+    const load = (name) => {
+      asked.push(name);
+      const path = `${folder}/${name}.map`;
+      return fs.existsSync(path) ? fs.readFileSync(path) : null;
+    };
+    process.stdout.write(smap.composeAll(open(outer), {}, { load, ...options(less) }));
+    console.error(asked.join(' '));
   },
   rewrite: (url, path) =>
     process.stdout.write(smap.rewrite(new smap.Table({ [url]: fs.readFileSync(path) }), fs.readFileSync(0))),

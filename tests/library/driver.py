@@ -1,11 +1,14 @@
-"""What tests/try-library asks of the library in Python. driver.c says of each command what it prints."""
+"""What tests/try-library asks of the library in Python. driver.c says of each command what it prints. And
+
+    chain FOLDER OUTER LESS    the map composed with those NAME.map of the folder, by a loader; on standard error what that is asked
+"""
 
 import re
 import sys
 from array import array
 from pathlib import Path
 
-from smap import Refused, Rewriter, SourceMap, compose
+from smap import Refused, Rewriter, SourceMap, compose, compose_all
 
 
 def opened(path, **words):
@@ -79,6 +82,29 @@ def composed(outer, source, inner):
         sys.stdout.buffer.write(compose(first, int(source), second))
 
 
+def options(less):
+    return {"prune": less in ("prune", "both"), "no_content": less in ("bare", "both")}
+
+
+def composed_with_all(outer, less, *words):
+    with opened(outer) as first:
+        inners = {int(source): Path(path) for source, path in zip(words[::2], words[1::2])}
+        sys.stdout.buffer.write(compose_all(first, inners, **options(less)))
+
+
+def chain(folder, outer, less):
+    asked = []
+
+    def load(name):
+        asked.append(name)
+        path = Path(folder, name + ".map")
+        return path if path.exists() else None
+
+    with opened(outer) as first:
+        sys.stdout.buffer.write(compose_all(first, load=load, **options(less)))
+    print(*asked, file=sys.stderr)
+
+
 def rewrite(url, path):
     with open(path, "rb") as file, Rewriter({url: file.read()}) as rewriter:
         sys.stdout.buffer.write(rewriter.rewrite(sys.stdin.buffer.read()))
@@ -111,5 +137,5 @@ def resident():
 
 if __name__ == "__main__":
     commands = {"look": look, "from": from_, "many": many, "refuse": refuse, "counts": counts, "show": show,
-                "compose": composed, "rewrite": rewrite, "load": load, "anywhere": anywhere, "again": again}
+                "compose": composed, "all": composed_with_all, "chain": chain, "rewrite": rewrite, "load": load, "anywhere": anywhere, "again": again}
     commands[sys.argv[1]](*sys.argv[2:])

@@ -79,6 +79,7 @@ static const uint8_t trace[] = "Error: x\n    at f (https://e.test/a.min.js:65:8
 /* What a call may write to, and what it is given. */
 static smap_map outer, inner, made;
 static smap_table table, made_table;
+static smap_inners inners, made_inners;
 static smap_bytes bytes;
 static smap_refusal refusal;
 static smap_trace_count count;
@@ -96,6 +97,11 @@ static uint32_t line_call(void) {
 }
 static uint32_t write_call(void) { return smap_map_write(&outer, &bytes); }
 static uint32_t compose_call(void) { return smap_compose(&outer, 0, &inner, &bytes, &why); }
+static uint32_t inners_call(void) { return smap_inners_new(&outer, &made_inners); }
+static uint32_t all_call(void) {
+    const smap_compose_options options = {.prune = true, .no_content = true};
+    return smap_compose_all(&outer, &inners, &options, &bytes, &why);
+}
 static uint32_t new_call(void) { return smap_table_new(&made_table); }
 static uint32_t add_call(void) { return smap_table_add(&table, url, sizeof url - 1, &made, &why); }
 static uint32_t twice_call(void) { return smap_table_add(&table, base, sizeof base - 1, &made, &why); }
@@ -103,7 +109,7 @@ static uint32_t rewrite_call(void) { return smap_rewrite(&table, trace, sizeof t
 static uint32_t anywhere_call(void) { return smap_rewrite_anywhere(&table, trace, sizeof trace - 1, &bytes, &count); }
 
 /* Which handle a call fills; or it takes the map from `made`, and gives it back where it refuses. */
-enum handle { FILLS_MAP, FILLS_TABLE, FILLS_BYTES, TAKES_MAP };
+enum handle { FILLS_MAP, FILLS_TABLE, FILLS_INNERS, FILLS_BYTES, TAKES_MAP };
 
 static const struct call {
     const char *name;
@@ -116,6 +122,8 @@ static const struct call {
     {"smap_refusal_text", line_call, SMAP_DONE, FILLS_BYTES},
     {"smap_map_write", write_call, SMAP_DONE, FILLS_BYTES},
     {"smap_compose", compose_call, SMAP_DONE, FILLS_BYTES},
+    {"smap_inners_new", inners_call, SMAP_DONE, FILLS_INNERS},
+    {"smap_compose_all", all_call, SMAP_DONE, FILLS_BYTES},
     {"smap_table_new", new_call, SMAP_DONE, FILLS_TABLE},
     {"smap_table_add", add_call, SMAP_DONE, TAKES_MAP},
     {"smap_table_add of what is refused", twice_call, SMAP_REFUSED, TAKES_MAP},
@@ -149,6 +157,14 @@ static void tell_table(smap_table *from, struct text *into) {
     tell(&rewritten, into);
 }
 
+/* What the outer map says with these inner ones, which are none. */
+static void tell_inners(smap_inners *from, struct text *into) {
+    smap_bytes written = {0};
+    const smap_compose_options options = {0};
+    if (smap_compose_all(&outer, from, &options, &written, &why) != SMAP_DONE) fail("inner maps", "are not composed");
+    tell(&written, into);
+}
+
 /* What the call has given, which is freed. A map that was refused is one that was given back. */
 static void tell_answer(const struct call *call, struct text *into) {
     into->length = 0;
@@ -157,6 +173,9 @@ static void tell_answer(const struct call *call, struct text *into) {
     } else if (call->handle == FILLS_TABLE) {
         tell_table(&made_table, into);
         smap_table_free(&made_table);
+    } else if (call->handle == FILLS_INNERS) {
+        tell_inners(&made_inners, into);
+        smap_inners_free(&made_inners);
     } else if ((call->handle == FILLS_MAP) == (call->wanted == SMAP_DONE)) {
         tell_map(&made, into);
     }
@@ -174,8 +193,10 @@ static bool made_without(const struct call *call, long number) {
     bool rewrites = call->make == rewrite_call || call->make == anywhere_call;
     if (rewrites && (read_map(&mapped, &outer_file) || smap_table_add(&table, url, sizeof url - 1, &mapped, &why)))
         fail(call->name, "has no map");
+    if (smap_inners_new(&outer, &inners) || read_map(&mapped, &inner_file) || smap_inners_put(&inners, 0, &mapped)) fail(call->name, "has no inner maps");
     made = (smap_map){0};
     made_table = (smap_table){0};
+    made_inners = (smap_inners){0};
     bytes = (smap_bytes){0};
     if (call->handle == TAKES_MAP && read_map(&made, &outer_file)) fail(call->name, "has no map");
     static struct text before, after;
@@ -191,7 +212,7 @@ static bool made_without(const struct call *call, long number) {
     tell_table(&table, &after);
     if (status == SMAP_NO_MEMORY) {
         if (!was_refused) fail(call->name, "is out of memory where none was refused");
-        if ((call->handle != TAKES_MAP && made.at) || made_table.at || bytes.at) fail(call->name, "has filled a handle");
+        if ((call->handle != TAKES_MAP && made.at) || made_table.at || made_inners.at || bytes.at) fail(call->name, "has filled a handle");
         if (why != 77 || refusal.number != 77) fail(call->name, "tells a refusal");
         if (!alike(&before, &after)) fail(call->name, "has changed the table");
     } else if (status != call->wanted) {
@@ -209,13 +230,14 @@ static bool made_without(const struct call *call, long number) {
     smap_map_free(&outer);
     smap_map_free(&inner);
     smap_table_free(&table);
+    smap_inners_free(&inners);
     if (live != 0) fail(call->name, "leaks");
     return was_refused;
 }
 
 /* The calls that take no memory, while every growth is refused. */
 static void free_calls(void) {
-    if (read_map(&outer, &outer_file) || smap_map_write(&outer, &bytes) || smap_table_new(&table)) fail("free calls", "not prepared");
+    if (read_map(&outer, &outer_file) || smap_map_write(&outer, &bytes) || smap_table_new(&table) || smap_inners_new(&outer, &inners) || read_map(&inner, &inner_file)) fail("free calls", "not prepared");
     const smap_position position = {0, 0};
     smap_found found = {0};
     smap_count counts = {0};
@@ -227,6 +249,8 @@ static void free_calls(void) {
                         smap_look_up_many(&outer, &position, 1, &found, 1) | smap_counts(&outer, &counts) |
                         smap_source(&outer, 0, &source) | smap_name(&outer, 0, &text) | smap_bytes_text(&bytes, &text);
     uint32_t file = smap_file(&outer, &text);
+    statuses |= smap_inners_put(&inners, 0, &inner) | smap_inners_take(&inners, 0, &inner) | smap_inners_put(&inners, 0, &inner);
+    smap_inners_free(&inners);
     smap_map_free(&outer);
     smap_table_free(&table);
     smap_bytes_free(&bytes);

@@ -160,6 +160,74 @@ function compositions(path) {
   }
 }
 
+function composingAll() {
+  // Its lines 1 and 2 come from two sources of one name, and line 3 from a third one.
+  const outer = '{"version":3,"sources":["x/a.js","x/a.js","https://e.test/y/b.js"],"names":[],"mappings":"AAAA;ACAA;ACAA"}';
+  const inner = '{"version":3,"sources":["../s.ts"],"names":[],"mappings":"AAAA"}';
+  const allOf = (...names) => ['x/a.js', 'x/a.js', 'https://e.test/y/b.js', ...names];
+  const sources = (text) => new smap.TraceMap(text).sources;
+  const [map, second] = [new smap.TraceMap(outer), new smap.TraceMap(inner)];
+  const isOpen = () => same(second.sources, ['../s.ts']);
+  same(sources(smap.composeAll(map)), allOf());
+  same(sources(smap.composeAll(map, [['x/a.js', inner], [2, inner]])), allOf('s.ts', 's.ts', 'https://e.test/s.ts'));
+  same(sources(smap.composeAll(map, { 'x/a.js': JSON.parse(inner) })), allOf('s.ts', 's.ts'));
+  // One map for two sources, which stays open, and a map that is its own inner one.
+  same(sources(smap.composeAll(map, new Map([['x/a.js', second]]))), allOf('s.ts', 's.ts'));
+  same(sources(smap.composeAll(map, [[0, map]])), allOf('x/x/a.js', 'x/x/a.js', 'https://e.test/y/b.js'));
+  isOpen();
+  same(sources(smap.composeAll(map, [[2, inner]], { prune: true })), ['x/a.js', 'https://e.test/s.ts']);
+  for (const source of [3, -1, -far, far - 1, far, 2 ** 53, Infinity]) {
+    for (const load of [undefined, () => null]) {
+      const call = (...inners) => smap.composeAll(map, inners, { load });
+      refuses('Refused', () => call([source, inner]), 'refused: C1 SourceIndex', { number: 1 });
+      refuses('Refused', () => call([0, second], [source, inner]), 'refused: C1 SourceIndex', { number: 1 });
+    }
+  }
+  isOpen();
+  refuses('Refused', () => smap.composeAll(map, { 'a.js': inner }), 'refused: C4 NoSource a.js', { number: 4 });
+  refuses('Refused', () => smap.composeAll(map, { 'x/a.js': '{}' }), 'refused: x/a.js: M4 Version', { number: 4, url: 'x/a.js' });
+  refuses('Error', () => smap.composeAll(map, [['x/a.js', inner], [1, inner]]), 'source 1 has two maps');
+  for (const source of [0.5, NaN, null, undefined, false, {}]) {
+    refuses('TypeError', () => smap.composeAll(map, [[source, inner]]), /`source` must be a whole number/);
+  }
+  for (const bad of [7, null, undefined]) refuses('TypeError', () => smap.composeAll(map, { 'x/a.js': bad }), /a map must be a text/);
+  for (const bad of [7, null, 'x/a.js']) refuses('TypeError', () => smap.composeAll(map, bad), /`inners` must be/);
+  for (const bad of [7, outer, null, undefined]) refuses('TypeError', () => smap.composeAll(bad), /a TraceMap is wanted/);
+  for (const bad of [7, null, 'a.js', {}]) refuses('TypeError', () => smap.composeAll(map, {}, { load: bad }), /`load` must be a function/);
+  for (const bad of [7, null, 'yes']) {
+    refuses('TypeError', () => smap.composeAll(map, {}, { prune: bad }), /`prune`/);
+    refuses('TypeError', () => smap.composeAll(map, {}, { noContent: bad }), /`noContent`/);
+  }
+  // Each name is asked for once, and no source for the map of one that leads to it.
+  const asked = [];
+  const maps = { 'x/a.js': inner, 's.ts': '{"version":3,"sources":["x/a.js"],"names":[],"mappings":"AAAA"}' };
+  const load = (name) => {
+    asked.push(name);
+    return maps[name];
+  };
+  same(sources(smap.composeAll(map, {}, { load })), allOf('s.ts', 's.ts', 'x/a.js', 'x/a.js'));
+  same(asked, ['x/a.js', 'https://e.test/y/b.js', 's.ts']);
+  same(sources(smap.composeAll(map, {}, { load: (name) => (name === 'x/a.js' ? second : null) })), allOf('s.ts', 's.ts'));
+  const only = { load: (name) => (name === 's.ts' ? inner : null) };
+  same(sources(smap.composeAll(map, { 'x/a.js': inner }, only)), allOf('s.ts', 's.ts', '../s.ts', '../s.ts'));
+  refuses('Refused', () => smap.composeAll(map, {}, { load: () => '[]' }), 'refused: x/a.js: M3 NotObject', { number: 3, url: 'x/a.js' });
+  refuses('RangeError', () => smap.composeAll(map, {}, { load: (name) => { throw new RangeError(name); } }), 'x/a.js');
+  refuses('TypeError', () => smap.composeAll(map, {}, { load: () => 7 }), /a map must be a text/);
+  isOpen();
+  refuses('TypeError', () => addon.composeAll(map.handle, Uint32Array.of(0), [7], false, false), /no map/);
+  for (const bad of [7, undefined, {}, [], [second.handle, second.handle]]) {
+    refuses('TypeError', () => addon.composeAll(map.handle, Uint32Array.of(0), bad, false, false), /array of as many maps/);
+  }
+  refuses('Error', () => addon.composeAll(map.handle, Uint32Array.of(0), [map.handle], false, false), 'the map is closed');
+  refuses('Error', () => addon.composeAll(map.handle, Uint32Array.of(0, 1), [second.handle, second.handle], false, false), 'the map is closed');
+  isOpen();
+  second.close();
+  refuses('Error', () => smap.composeAll(map, [[0, second]]), 'the map is closed');
+  same(sources(smap.composeAll(map)), allOf());
+  map.close();
+  refuses('Error', () => smap.composeAll(map), 'the map is closed');
+}
+
 function tables() {
   const url = 'https://e.test/a.min.js';
   const second = 'https://e.test/b.min.js';
@@ -258,6 +326,7 @@ maps();
 bases();
 intervals();
 compositions(process.argv[2]);
+composingAll();
 tables();
 loading();
 anywhere();

@@ -7,7 +7,7 @@ import tempfile
 from array import array
 from pathlib import Path
 
-from smap import Answer, Refused, Rewriter, SourceMap, compose
+from smap import Answer, Refused, Rewriter, SourceMap, compose, compose_all
 from smap._library import Refusal
 from smap._told import refused_map
 
@@ -163,6 +163,59 @@ def compositions(path):
             refuses(Refused, lambda: compose(source_map, 1, inner), "refused: C1 SourceIndex", number=1)
 
 
+def composing_all():
+    # Its lines 0 and 1 come from two sources of one name, and line 2 from a third one.
+    outer = b'{"version":3,"sources":["x/a.js","x/a.js","https://e.test/y/b.js"],"names":[],"mappings":"AAAA;ACAA;ACAA"}'
+    inner = b'{"version":3,"sources":["../s.ts"],"names":[],"mappings":"AAAA"}'
+    all_of = lambda *names: [*["x/a.js", "x/a.js", "https://e.test/y/b.js"], *names]
+
+    def sources(text):
+        with SourceMap(text) as made:
+            return [source.name for source in made.sources]
+
+    with SourceMap(outer) as first, SourceMap(inner) as second:
+        same(sources(compose_all(first)), all_of())
+        same(sources(compose_all(first, {"x/a.js": inner, 2: inner})), all_of("s.ts", "s.ts", "https://e.test/s.ts"))
+        # One map for two sources, which stays open, and a map that is its own inner one.
+        same(sources(compose_all(first, {"x/a.js": second})), all_of("s.ts", "s.ts"))
+        same(sources(compose_all(first, {0: first})), all_of("x/x/a.js", "x/x/a.js", "https://e.test/y/b.js"))
+        same(second.look_up(0, 0), Answer(0, 0, 0, 0, None))
+        same(sources(compose_all(first, {2: inner}, prune=True)), ["x/a.js", "https://e.test/s.ts"])
+        for source in (3, -1, -FAR, FAR - 1, FAR, 2**64):
+            for load in (None, lambda name: None):
+                refuses(Refused, lambda: compose_all(first, {source: inner}, load), "refused: C1 SourceIndex", number=1)
+                refuses(Refused, lambda: compose_all(first, {0: second, source: inner}, load), "refused: C1 SourceIndex", number=1)
+        same(second.look_up(0, 0), Answer(0, 0, 0, 0, None))
+        refuses(Refused, lambda: compose_all(first, {"a.js": inner}), "refused: C4 NoSource a.js", number=4)
+        refuses(Refused, lambda: compose_all(first, {"x/a.js": b"{}"}), "refused: x/a.js: M4 Version", number=4, url="x/a.js")
+        refuses(ValueError, lambda: compose_all(first, {"x/a.js": inner, 1: inner}), "source 1 has two maps")
+        for source in (False, 0.0, None, b"x/a.js"):
+            refuses(TypeError, lambda: compose_all(first, {source: inner}), "source", type(source).__name__)
+        for given in (7, None, []):
+            refuses(TypeError, lambda: compose_all(first, {0: given}), "bytes, a str or a Path", type(given).__name__)
+        for given in (7, SMALL, None):
+            refuses(TypeError, lambda: compose_all(given), "SourceMap", type(given).__name__)
+        for given in (7, "x/a.js", [inner]):
+            refuses(TypeError, lambda: compose_all(first, given), "dict", type(given).__name__)
+            refuses(TypeError, lambda: compose_all(first, {}, given), "function", type(given).__name__)
+        # Each name is asked for once, and no source for the map of one that leads to it.
+        asked = []
+        maps = {"x/a.js": inner, "s.ts": b'{"version":3,"sources":["x/a.js"],"names":[],"mappings":"AAAA"}', "https://e.test/y/b.js": None}
+        load = lambda name: asked.append(name) or maps[name]
+        same(sources(compose_all(first, load=load)), all_of("s.ts", "s.ts", "x/a.js", "x/a.js"))
+        same(asked, ["x/a.js", "https://e.test/y/b.js", "s.ts"])
+        same(sources(compose_all(first, load=lambda name: second if name == "x/a.js" else None)), all_of("s.ts", "s.ts"))
+        same(sources(compose_all(first, {"x/a.js": inner}, load=lambda name: inner if name == "s.ts" else None)), all_of("s.ts", "s.ts", "../s.ts", "../s.ts"))
+        refuses(Refused, lambda: compose_all(first, load=lambda name: b"[]"), "refused: x/a.js: M3 NotObject", number=3, url="x/a.js")
+        refuses(KeyError, lambda: compose_all(first, load=lambda name: maps["none"]), "none")
+        refuses(TypeError, lambda: compose_all(first, load=lambda name: 7), "bytes, a str or a Path", "int")
+        same(second.look_up(0, 0), Answer(0, 0, 0, 0, None))
+        second.close()
+        refuses(ValueError, lambda: compose_all(first, {0: second}), "closed")
+        same(sources(compose_all(first)), all_of())
+    refuses(ValueError, lambda: compose_all(first), "closed")
+
+
 def tables():
     url, second = "https://e.test/a.min.js", "https://e.test/b.min.js"
     for data, number, text in ((b"{}", 4, "M4 Version"), (b"no JSON", 2, "M2 NotJson"), ("[]", 3, "M3 NotObject")):
@@ -259,6 +312,7 @@ if __name__ == "__main__":
     bases()
     intervals()
     compositions(Path(sys.argv[1]))
+    composing_all()
     tables()
     loading()
     anywhere()

@@ -1,13 +1,16 @@
--- The three handles, as the walks take them.
+-- The handles, as the walks take them.
 use Rattle.std.proofs.Common.{refl}
 use Rattle.smap_record.specs.contracts.map_file.MapFile as map_file
 use Rattle.smap_trace.specs.contracts.table.Table as trace_table
 use Rattle.smap_c.specs.contracts.bytes.Bytes as handed
+use Rattle.smap_c.specs.contracts.inners.Inners as inner_maps
 use Rattle.smap_c.specs.declared.handles.MapHandle.{MapHandle}
 use Rattle.smap_c.specs.declared.handles.TableHandle.{TableHandle}
+use Rattle.smap_c.specs.declared.handles.InnersHandle.{InnersHandle}
 use Rattle.smap_c.specs.declared.handles.BytesHandle.{BytesHandle}
 use Rattle.smap_c.specs.contracts.handles.MapHandle as map_handle
 use Rattle.smap_c.specs.contracts.handles.TableHandle as table_handle
+use Rattle.smap_c.specs.contracts.handles.InnersHandle as inners_handle
 use Rattle.smap_c.specs.contracts.handles.BytesHandle as bytes_handle
 use Rattle.smap_c.proofs.Walks.{Kind}
 
@@ -37,6 +40,20 @@ table = record {
   at_made = λ p o. refl;
   held_made = λ p o. refl;
   codes = table_handle.the_codes;
+}
+
+abbrev pub inners : Kind
+inners = record {
+  R = inner_maps.the_row;
+  name = inners_handle.the_type.name;
+  D = InnersHandle;
+  at = λ h. h.at;
+  held = λ h. h.held;
+  make = λ p o. record { at = p; held = o };
+  eta = λ h. refl;
+  at_made = λ p o. refl;
+  held_made = λ p o. refl;
+  codes = inners_handle.the_codes;
 }
 
 abbrev pub bytes : Kind

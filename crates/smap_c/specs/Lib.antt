@@ -1,5 +1,7 @@
+pub mod Composing
 pub mod Counts
 pub mod Frames
+pub mod Inners
 pub mod Look
 pub mod Many
 pub mod Owned

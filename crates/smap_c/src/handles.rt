@@ -1,4 +1,4 @@
-//! What C holds: handles, each a pointer that owns a map, a table or bytes.
+//! What C holds: handles, each a pointer that owns a map, a table, inner maps or bytes.
 ghost use Rattle.std.specs.Prelude.{◌≡◌, List, ℕ, Option, Some, IfErr, IfOk};
 ghost use Rattle.std.specs.Coded.{coded_option};
 ghost use Rattle.smap_record.specs.MapFile.{Map};
@@ -6,12 +6,14 @@ ghost use Rattle.smap_record.specs.Record.{MapRecord};
 ghost use Rattle.smap_record.specs.contracts.map_file.MapFile as map_file;
 ghost use Rattle.smap_trace.specs.contracts.table.Table as trace_table;
 ghost use Rattle.smap_c.specs.contracts.bytes.Bytes as handed;
+ghost use Rattle.smap_c.specs.contracts.inners.Inners as inner_maps;
 ghost use Rattle.smap_c.specs.Owned.{owns_held};
 
 mod lending;
 mod making;
 
 use crate::bytes::Bytes;
+use crate::inners::Inners;
 use crate::loose::Loose;
 use smap_record::MapFile;
 use smap_trace::Table;
@@ -59,6 +61,28 @@ impl TableHandle {
     {
         let Loose { at, alloc: _ } = loose;
         TableHandle { at: at as *mut u8 }
+    }
+}
+
+/// A handle of inner maps, or an empty one.
+#[repr(C)]
+#[derive(Drop)]
+pub struct InnersHandle {
+    at: *mut u8,
+    pub ghost held: { Option (List (Option Map)) } by { coded_option inner_maps.the_row.coded },
+}
+
+impl Model for InnersHandle {
+    ghost also_owns = { λ handle. owns_held inner_maps.the_row handle.at handle.held };
+}
+
+impl InnersHandle {
+    // The handle of these maps.
+    fn of(loose: Loose<Inners, Global>) -> InnersHandle
+        ensures { result.held ≡ Some loose.value }
+    {
+        let Loose { at, alloc: _ } = loose;
+        InnersHandle { at: at as *mut u8 }
     }
 }
 

@@ -1,6 +1,6 @@
 //! Source maps for C, and for what calls C: maps are read, looked up, written and composed, and stack traces rewritten, by
-//! the calls of smap_record, smap_compose, smap_trace and smap_places. Nothing is decided here. A map, a table of maps and
-//! bytes that are handed out stand after handles, each a pointer that owns what it leads to.
+//! the calls of smap_record, smap_compose, smap_trace and smap_places. Nothing is decided here. A map, a table of maps, the
+//! inner maps of a map and bytes that are handed out stand after handles, each a pointer that owns what it leads to.
 //!
 //! ```text
 //! if smap_map_read(alloc, bytes, base, 64, &mut map, &mut refusal) == 0 {
@@ -14,9 +14,11 @@
 #![tactic(auto)]
 
 mod bytes;
+mod composing;
 mod counts;
 mod frames;
 mod handles;
+mod inners;
 mod look_up;
 mod loose;
 mod many;

@@ -1,6 +1,8 @@
 //! Each call once on its happy path, with ample memory, and that what is freed can be had again.
 ghost use Rattle.std.specs.Prelude.{IfOk, IsSome};
 
+mod composing;
+
 use crate::bytes::Bytes;
 use crate::counts::{Counts, smap_counts};
 use crate::frames::{FrameUrl, smap_next_frame_url};

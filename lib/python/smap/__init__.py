@@ -9,8 +9,10 @@ Lines, columns, sources and names count from 0, columns in UTF-16 code units. Th
 else the system's `libsmap.so.1`, or what the environment's `SMAP_LIBRARY` names.
 """
 
+from ._composing import compose_all
 from ._maps import SourceMap, compose
 from ._told import Answer, Counts, Refused, Source
 from ._traces import Rewriter
 
-__all__ = ["Answer", "Counts", "Refused", "Rewriter", "Source", "SourceMap", "compose"]
+__all__ = ["Answer", "Counts", "Refused", "Rewriter", "Source", "SourceMap", "compose",
+           "compose_all"]

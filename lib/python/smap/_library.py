@@ -42,6 +42,10 @@ class Source(ctypes.Structure):
                 ("ignored", ctypes.c_uint32)]
 
 
+class ComposeOptions(ctypes.Structure):
+    _fields_ = [("prune", ctypes.c_bool), ("no_content", ctypes.c_bool)]
+
+
 class TraceCounts(ctypes.Structure):
     _fields_ = [(name, ctypes.c_uint64) for name in TRACE_COUNT_NAMES]
 
@@ -74,6 +78,11 @@ def _loaded() -> ctypes.CDLL:
         ("smap_file", number, [handle, text]),
         ("smap_map_write", number, [handle, handle]),
         ("smap_compose", number, [handle, number, handle, handle, pointer(number)]),
+        ("smap_inners_new", number, [handle, handle]),
+        ("smap_inners_put", number, [handle, number, handle]),
+        ("smap_inners_take", number, [handle, number, handle]),
+        ("smap_inners_free", None, [handle]),
+        ("smap_compose_all", number, [handle, handle, pointer(ComposeOptions), handle, pointer(number)]),
         ("smap_compose_refusal_text", number, [number, text]),
         ("smap_bytes_text", number, [handle, text]),
         ("smap_bytes_free", None, [handle]),

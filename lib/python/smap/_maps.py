@@ -121,6 +121,12 @@ class SourceMap:
             content = copied(told.content).decode() if told.held else None
         return Source(name, content, bool(told.ignored))
 
+    def _source_name(self, index: int) -> Optional[str]:
+        told = SourceOut(room(), room())
+        with self._lock:
+            calls.smap_source(self._used(), index, told)
+            return copied(told.name).decode() if told.named else None
+
     def name(self, index: Optional[int]) -> Optional[str]:
         """This name, from 0, and None for None, as an answer without a name has it. Raises `IndexError` where there is
         none."""

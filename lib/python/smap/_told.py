@@ -41,9 +41,10 @@ class Refused(ValueError):
     """What was given is refused: its text says why, in the program's words.
 
     `number` is the library's: for a map 1 to 17, that of M1 to M17, or 0 where the base is no URL and 18 where it is too
-    long; and 1 or 2 for C1 and C2, A1 and A2. Where the refusal of a map has them, there are the `section`, the `fault`
-    of the mappings (1 to 11, that of F1 to F11) with its `line` and the `byte` where its segment begins, and `build` (1
-    to 5, that of B1 to B5). `url` is the one under which a `Rewriter` was to have the map. All else has None.
+    long; and 1, 2 or 4 for C1, C2 and C4, and 1 or 2 for A1 and A2. Where the refusal of a map has them, there are the
+    `section`, the `fault` of the mappings (1 to 11, that of F1 to F11) with its `line` and the `byte` where its segment
+    begins, and `build` (1 to 5, that of B1 to B5). `url` is the one under which a `Rewriter` was to have the map, or the
+    name of the source that it was to be of. All else has None.
     """
 
     def __init__(self, text: str, number: Optional[int] = None, section: Optional[int] = None,
@@ -89,6 +90,11 @@ def refused_base(number: int, base: str, url: Optional[str] = None) -> Refused:
 def refused_composition(number: int) -> Refused:
     """Why two maps are not composed."""
     return Refused(f"refused: {_lent(calls.smap_compose_refusal_text, number)}", number)
+
+
+def refused_source(name: str) -> Refused:
+    """Why no source gets this name's map."""
+    return Refused(f"refused: C4 NoSource {name}", 4)
 
 
 def refused_url(number: int, url: str) -> Refused:

@@ -1,15 +1,18 @@
 -- A handle while it lends what it holds: it ends with the last value that stood there.
-use Rattle.std.specs.Prelude.{List, ℕ, Some}
+use Rattle.std.specs.Prelude.{List, ℕ, Option, Some}
 use Rattle.std.specs.Borrow.{Lends, MutBor, Fml}
 use Rattle.smap_record.specs.MapFile.{Map}
 use Rattle.smap_record.specs.Record.{MapRecord}
 use Rattle.smap_record.specs.contracts.map_file.MapFile as map_file
 use Rattle.smap_trace.specs.contracts.table.Table as trace_table
 use Rattle.smap_c.specs.contracts.bytes.Bytes as handed
+use Rattle.smap_c.specs.contracts.inners.Inners as inner_maps
 use Rattle.smap_c.specs.declared.handles.MapHandle.{MapHandle}
 use Rattle.smap_c.specs.contracts.handles.MapHandle as map_handle
 use Rattle.smap_c.specs.declared.handles.TableHandle.{TableHandle}
 use Rattle.smap_c.specs.contracts.handles.TableHandle as table_handle
+use Rattle.smap_c.specs.declared.handles.InnersHandle.{InnersHandle}
+use Rattle.smap_c.specs.contracts.handles.InnersHandle as inners_handle
 use Rattle.smap_c.specs.declared.handles.BytesHandle.{BytesHandle}
 use Rattle.smap_c.specs.contracts.handles.BytesHandle as bytes_handle
 
@@ -24,6 +27,12 @@ with_table handle held = record handle { held = Some held }
 
 abbrev pub LendsTable : MutBor TableHandle → MutBor (List (List ℕ × MapRecord)) → Fml
 LendsTable handle lent = Lends table_handle.the_row trace_table.the_row handle lent (with_table handle.now)
+
+abbrev pub with_inners : InnersHandle → List (Option Map) → InnersHandle
+with_inners handle held = record handle { held = Some held }
+
+abbrev pub LendsInners : MutBor InnersHandle → MutBor (List (Option Map)) → Fml
+LendsInners handle lent = Lends inners_handle.the_row inner_maps.the_row handle lent (with_inners handle.now)
 
 abbrev pub with_bytes : BytesHandle → List ℕ → BytesHandle
 with_bytes handle held = record handle { held = Some held }

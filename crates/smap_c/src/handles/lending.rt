@@ -1,10 +1,11 @@
 //! A handle lends what it holds, and gives it up. All that follows a pointer of C's stands here.
 ghost use Rattle.std.specs.Prelude.{◌≡◌, None, Some, IsSome};
 ghost use Rattle.std.specs.Borrow.{sem};
-ghost use Rattle.smap_c.specs.Private.Lending.{LendsBytes, LendsMap, LendsTable};
+ghost use Rattle.smap_c.specs.Private.Lending.{LendsBytes, LendsInners, LendsMap, LendsTable};
 
-use super::{BytesHandle, MapHandle, TableHandle};
+use super::{BytesHandle, InnersHandle, MapHandle, TableHandle};
 use crate::bytes::Bytes;
+use crate::inners::Inners;
 use crate::loose::Loose;
 use smap_record::MapFile;
 use smap_trace::Table;
@@ -51,6 +52,29 @@ impl TableHandle {
     {
         Loose {
             at: self.at as *mut Table,
+            alloc,
+        }
+    }
+}
+
+impl InnersHandle {
+    /// What the handle holds, which is not empty.
+    pub(crate) fn lend(&mut self) -> &mut Inners
+        requires { IsSome self.old.held }
+        ensures* writes_back { sem 𝓛 (LendsInners self.entry result) }
+        ensures value { Some result.now ≡ self.old.held }
+    {
+        unsafe { &mut *(self.at as *mut Inners) }
+    }
+
+    // Takes out what the handle holds, and leaves it empty.
+    pub(super) fn take(&mut self, alloc: Global) -> Loose<Inners, Global>
+        requires { IsSome self.old.held }
+        ensures taken { Some result.value ≡ self.old.held }
+        ensures emptied { self.new.held ≡ None }
+    {
+        Loose {
+            at: self.at as *mut Inners,
             alloc,
         }
     }

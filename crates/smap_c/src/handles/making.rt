@@ -1,8 +1,9 @@
 //! Making handles, and emptying them.
 ghost use Rattle.std.specs.Prelude.{◌≡◌, None, Some, IsSome, IfErr, IfOk};
 
-use super::{BytesHandle, MapHandle, TableHandle};
+use super::{BytesHandle, InnersHandle, MapHandle, TableHandle};
 use crate::bytes::Bytes;
+use crate::inners::Inners;
 use crate::loose::Loose;
 use smap_record::MapFile;
 use smap_trace::Table;
@@ -13,7 +14,23 @@ impl MapHandle {
         ensures made { IfOk result (λ handle. handle.held ≡ Some map) }
         ensures back { IfErr result (λ failed. failed.value ≡ map) }
     {
-        Ok(MapHandle::of(Loose::of(Box::new(alloc, map)?)))
+        Ok(MapHandle::of_box(Box::new(alloc, map)?))
+    }
+
+    /// The handle of the map in this box. The call takes no memory.
+    pub(crate) fn of_box(map: Box<MapFile>) -> MapHandle
+        ensures { result.held ≡ Some map.value }
+    {
+        MapHandle::of(Loose::of(map))
+    }
+
+    /// Takes out what the handle holds, in its box.
+    pub(crate) fn take_box(&mut self, alloc: Global) -> Box<MapFile>
+        requires { IsSome self.old.held }
+        ensures taken { Some result.value ≡ self.old.held }
+        ensures emptied { self.new.held ≡ None }
+    {
+        self.take(alloc).into_box()
     }
 
     /// Takes out what the handle holds, and frees its room.
@@ -22,7 +39,7 @@ impl MapHandle {
         ensures taken { Some result ≡ self.old.held }
         ensures emptied { self.new.held ≡ None }
     {
-        Box::into_inner(self.take(alloc).into_box())
+        Box::into_inner(self.take_box(alloc))
     }
 }
 
@@ -36,6 +53,24 @@ impl TableHandle {
 
     /// Takes out what the handle holds, and frees its room.
     pub(crate) fn empty(&mut self, alloc: Global) -> Table
+        requires { IsSome self.old.held }
+        ensures taken { Some result ≡ self.old.held }
+        ensures emptied { self.new.held ≡ None }
+    {
+        Box::into_inner(self.take(alloc).into_box())
+    }
+}
+
+impl InnersHandle {
+    pub(crate) fn new(alloc: Global, inners: Inners) -> Result<InnersHandle, AllocFailed<Inners>>
+        ensures made { IfOk result (λ handle. handle.held ≡ Some inners) }
+        ensures back { IfErr result (λ failed. failed.value ≡ inners) }
+    {
+        Ok(InnersHandle::of(Loose::of(Box::new(alloc, inners)?)))
+    }
+
+    /// Takes out what the handle holds, and frees its room.
+    pub(crate) fn empty(&mut self, alloc: Global) -> Inners
         requires { IsSome self.old.held }
         ensures taken { Some result ≡ self.old.held }
         ensures emptied { self.new.held ≡ None }

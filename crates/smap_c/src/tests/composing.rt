@@ -1,0 +1,94 @@
+//! A map composed with the maps of its sources.
+ghost use Rattle.std.specs.Prelude.{◌≡◌, IsSome};
+
+use super::{no_bytes, no_map, read_map};
+use crate::composing::{
+    ComposeOptions, smap_compose_all, smap_inners_free, smap_inners_new, smap_inners_put,
+    smap_inners_take,
+};
+use crate::handles::{InnersHandle, MapHandle};
+use crate::inners::Inners;
+use crate::read::smap_map_free;
+use crate::status::{DONE, REFUSED};
+use crate::texts::Text;
+use crate::written::smap_bytes_text;
+use std::alloc::Global;
+use std::process::Abort;
+use std::test::Fail;
+
+// Its first mapping is of source 0, with a name, and its second one of source 1.
+const OUTER: &str =
+    r#"{"version":3,"file":"o.js","sources":["a.js","out/b.js"],"sourcesContent":["x","y"],"names":["f"],"mappings":"AAAAA,CCAA"}"#;
+
+const INNER: &str =
+    r#"{"version":3,"sources":["../src/c.ts"],"sourcesContent":["z"],"mappings":"AAEE"}"#;
+
+const ALL: &str =
+    r#"{"file":"o.js","mappings":"AAAAA,CEEE","names":["f"],"sources":["a.js","out/b.js","src/c.ts"],"sourcesContent":["x","y","z"],"version":3}"#;
+
+const LESS: &str =
+    r#"{"file":"o.js","mappings":"AAAAA,CCEE","names":["f"],"sources":["a.js","src/c.ts"],"version":3}"#;
+
+// A handle of places that were freed.
+fn no_inners(alloc: Global) -> Result<InnersHandle, Fail> {
+    match InnersHandle::new(alloc, Inners::new(alloc, 0)?) {
+        Ok(mut handle) => {
+            smap_inners_free(alloc, &mut handle);
+            Ok(handle)
+        }
+        Err(_failed) => Err(Fail::from("out of memory")),
+    }
+}
+
+// Composes these maps, which stay, and compares the text.
+fn compose_into(
+    rt: &impl Abort,
+    alloc: Global,
+    outer: &mut MapHandle,
+    inners: &mut InnersHandle,
+    options: ComposeOptions,
+    wanted: &str,
+) -> Result<(), Fail>
+    requires outer { IsSome outer.old.held }
+    requires inners { IsSome inners.old.held }
+    ensures outer { outer.new.held ≡ outer.old.held }
+    ensures inners { inners.new.held ≡ inners.old.held }
+{
+    let mut bytes = no_bytes(alloc)?;
+    let mut refusal = 9;
+    let status = smap_compose_all(alloc, outer, inners, &options, &mut bytes, &mut refusal);
+    assert!(rt; status == DONE && refusal == 9);
+    let mut text = Text { text: b"" };
+    assert_eq!(rt; smap_bytes_text(&mut bytes, &mut text), DONE);
+    assert_eq!(rt; text.text, wanted.as_bytes());
+    Ok(())
+}
+
+#[test]
+fn a_map_is_composed_with_all_maps_of_its_sources(rt: HostRuntime) -> Result<(), Fail> {
+    let alloc = rt.alloc();
+    let mut outer = read_map(&rt, alloc, OUTER, "")?;
+    let mut inner = read_map(&rt, alloc, INNER, "")?;
+    let mut inners = no_inners(alloc)?;
+    assert_eq!(&rt; smap_inners_new(alloc, &mut outer, &mut inners), DONE);
+    assert_eq!(&rt; smap_inners_put(alloc, &mut inners, 2, &mut inner), REFUSED);
+    assert_eq!(&rt; smap_inners_put(alloc, &mut inners, 1, &mut inner), DONE);
+    let whole = ComposeOptions {
+        prune: false,
+        no_content: false,
+    };
+    compose_into(&rt, alloc, &mut outer, &mut inners, whole, ALL)?;
+    let less = ComposeOptions {
+        prune: true,
+        no_content: true,
+    };
+    compose_into(&rt, alloc, &mut outer, &mut inners, less, LESS)?;
+    let mut back = no_map(alloc)?;
+    assert_eq!(&rt; smap_inners_take(&mut inners, 0, &mut back), REFUSED);
+    assert_eq!(&rt; smap_inners_take(&mut inners, 1, &mut back), DONE);
+    assert_eq!(&rt; smap_inners_take(&mut inners, 1, &mut inner), REFUSED);
+    smap_map_free(alloc, &mut back);
+    smap_inners_free(alloc, &mut inners);
+    smap_map_free(alloc, &mut outer);
+    Ok(())
+}
