@@ -31,16 +31,16 @@ pub struct TwoMaps<'a> {
     pub base: Option<&'a Url>,
 }
 
-/// Reads the maps that the files at the two paths are, the outer one first, and composes them, without what the options leave
-/// out. Where the outer map is refused, the other file is read all the same: one that can't be read is told before that.
+/// Reads the maps that the files at the two paths are, the outer one first, and composes them, without what the options
+/// leave out. Where the outer map is refused, the other file is read all the same: one that can't be read is told before that.
 pub fn answer_compose<F: FileReader>(
     alloc: Global,
     reader: &F,
     maps: &TwoMaps<'_>,
     options: WriteOptions,
 ) -> Result<Reply, Failure>
-    ensures { OrMemory (TellsComposed (F.gives reader.now) options maps.now.outer.now maps.now.source
-        maps.now.inner.now (option_copied maps.now.base))
+    ensures { OrMemory (TellsComposed (F.gives reader.now) options maps.now.outer.now
+        maps.now.source maps.now.inner.now (option_copied maps.now.base))
         (telling_of result) }
 {
     let bytes = file_bytes(alloc, reader, 0, maps.outer)?;

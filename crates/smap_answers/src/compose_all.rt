@@ -33,8 +33,8 @@ pub struct AllMaps<'a> {
     pub base: Option<&'a Url>,
 }
 
-/// Reads the map that the file of number 0 is, then the list of number 1, where there is one, then the maps of sources, which
-/// have the number 2, and composes them, without what the options leave out.
+/// Reads the map that the file of number 0 is, then the list of number 1, where there is one, then the maps of sources,
+/// which have the number 2, and composes them, without what the options leave out.
 pub fn answer_compose_all<F: FileReader>(
     alloc: Global,
     reader: &F,
@@ -62,8 +62,8 @@ fn composed_with<F: FileReader>(
     outer: &MapFile,
     options: WriteOptions,
 ) -> Result<Reply, Failure>
-    ensures { OrMemory (TellsInners (F.gives reader.now) options (map argument_of maps.now.words.now)
-        (option_copied maps.now.list) outer.now.stated) (telling_of result) }
+    ensures { OrMemory (TellsInners (F.gives reader.now) options
+        (map argument_of maps.now.words.now) (option_copied maps.now.list) outer.now.stated) (telling_of result) }
 {
     let Ok(count) = u32::try_from(outer.sources()) else {
         return Err(Failure::Memory);

@@ -38,8 +38,8 @@ pub enum PairFault {
     Memory,
 }
 
-/// The paths that the words and the lines of the list at a path name, each under the name of a source of the outer map, which
-/// has so many. The list is the file of number 1.
+/// The paths that the words and the lines of the list at a path name, each under the name of a source of the outer map,
+/// which has so many. The list is the file of number 1.
 pub fn named_inners<F: FileReader>(
     alloc: Global,
     reader: &F,
@@ -72,7 +72,8 @@ fn named_words(
     words: &[(String, String)],
 ) -> Result<NamedPaths, Failure>
     requires counted { outer.now.count ≡ length outer.now.map.now.stated.sources }
-    ensures { NamesWords outer.now.map.now.stated.sources (map argument_of words.now) [] (or_told result) }
+    ensures { NamesWords outer.now.map.now.stated.sources (map argument_of words.now) []
+        (or_told result) }
 {
     let mut named = NamedPaths::new(alloc);
     for (name, path) in words {
@@ -112,7 +113,8 @@ fn named_list<F: FileReader>(
     list: &str,
 ) -> Result<NamedPaths, Failure>
     requires counted { outer.now.count ≡ length outer.now.map.now.stated.sources }
-    ensures { NamesList (F.gives reader.now) outer.now.map.now.stated.sources (Some list.now) named (or_told result) }
+    ensures { NamesList (F.gives reader.now) outer.now.map.now.stated.sources
+        (Some list.now) named (or_told result) }
 {
     let bytes = file_bytes(alloc, reader, 1, list)?;
     named_bytes(alloc, outer, named, list, &bytes)
@@ -127,7 +129,8 @@ fn named_bytes(
     bytes: &[u8],
 ) -> Result<NamedPaths, Failure>
     requires counted { outer.now.count ≡ length outer.now.map.now.stated.sources }
-    ensures { NamesBytes outer.now.map.now.stated.sources list.now bytes.now named (or_told result) }
+    ensures { NamesBytes outer.now.map.now.stated.sources list.now bytes.now named
+        (or_told result) }
 {
     let text = list_text(alloc, list, bytes)?;
     named_lines(alloc, outer, named, list, text)
@@ -142,7 +145,8 @@ fn named_lines(
     text: &str,
 ) -> Result<NamedPaths, Failure>
     requires counted { outer.now.count ≡ length outer.now.map.now.stated.sources }
-    ensures { NamesLines outer.now.map.now.stated.sources list.now 1 (lines text.now) named (or_told result) }
+    ensures { NamesLines outer.now.map.now.stated.sources list.now 1 (lines text.now) named
+        (or_told result) }
 {
     let mut named = named;
     let mut number = 0;
@@ -163,7 +167,8 @@ fn with_line(
     line: &str,
 ) -> Result<NamedPaths, Failure>
     requires counted { outer.now.count ≡ length outer.now.map.now.stated.sources }
-    ensures { NamesEntry outer.now.map.now.stated.sources list.now number (line_entry line.now) named (or_told result) }
+    ensures { NamesEntry outer.now.map.now.stated.sources list.now number
+        (line_entry line.now) named (or_told result) }
 {
     match entry_of_line(line) {
         Ok(Some((name, path))) => match with_pair(alloc, outer, named, name, path) {
@@ -230,7 +235,8 @@ fn has_source_called(outer: &OuterMap<'_>, name: &str) -> bool
 
 // Whether source `i` has this name.
 fn is_source_called(map: &MapFile, i: u32, name: &str) -> bool
-    ensures { result ≡ option_map_or (is_called name.now) (slice_get map.now.stated.sources i) false }
+    ensures { result
+        ≡ option_map_or (is_called name.now) (slice_get map.now.stated.sources i) false }
 {
     match map.source(i) {
         Some(source) => is_called(source, name),
@@ -257,7 +263,8 @@ pub fn read_inners<F: FileReader>(
     requires counted { outer.now.count ≡ length outer.now.map.now.stated.sources }
     ensures reads { (inners_told result ≡ Err out_of_memory)
         ⊎ ReadsInners (F.gives reader.now) named.now outer.now.map.now.stated.sources [] (inners_told result) }
-    ensures counted { IfOk result (λ inners. length inners.items ≡ length outer.now.map.now.stated.sources) }
+    ensures counted { IfOk result (λ inners. length inners.items
+        ≡ length outer.now.map.now.stated.sources) }
 {
     let mut inners = Vec::with_capacity(alloc, outer.count as usize)?;
     for i in 0..outer.count {
@@ -279,7 +286,8 @@ fn read_source<F: FileReader>(
     named: &NamedPaths,
     source: &SourceEntry,
 ) -> Result<Option<MapFile>, Failure>
-    ensures { ReadsSource (F.gives reader.now) (pair_of named.now (source_of source.now)) (inner_told result) }
+    ensures { ReadsSource (F.gives reader.now) (pair_of named.now (source_of source.now))
+        (inner_told result) }
 {
     match pair_of(named, source) {
         Some((name, path)) => match read_inner(alloc, reader, name, path) {

@@ -49,7 +49,8 @@ pub struct AskedAll<'a> {
     pub options: WriteOptions,
 }
 
-/// What `compose` leaves of these files: the path of each, and its text. The outer map's sources are resolved against the base.
+/// What `compose` leaves of these files: the path of each, and its text. The outer map's sources are resolved against the
+/// base.
 pub fn run_compose_all(
     alloc: Global,
     held: &[(&str, &str)],
@@ -73,8 +74,8 @@ pub fn run_compose_all(
     run_over_held(alloc, &command, held, devices)
 }
 
-/// What `compose` leaves of a map at `o.map` and of the maps of its sources: pairs of a source's name and of the map, which is
-/// at that name.
+/// What `compose` leaves of a map at `o.map` and of the maps of its sources: pairs of a source's name and of the map, which
+/// is at that name.
 pub fn run_composed(
     alloc: Global,
     outer: &str,
