@@ -5,6 +5,8 @@
 #[cfg(test)]
 mod broken;
 #[cfg(test)]
+mod chains;
+#[cfg(test)]
 mod checks;
 #[cfg(test)]
 mod compose;
@@ -18,6 +20,8 @@ mod held;
 mod hostile_files;
 #[cfg(test)]
 mod inners_named;
+#[cfg(test)]
+mod left_out;
 #[cfg(test)]
 mod loaded_files;
 #[cfg(test)]
