@@ -76,10 +76,10 @@ pub fn run_compose_all(
 
 /// What `compose` leaves of a map at `o.map` and of the maps of its sources: pairs of a source's name and of the map, which
 /// is at that name.
-pub fn run_composed(
+pub fn run_composed<'a>(
     alloc: Global,
-    outer: &str,
-    inners: &[(&str, &str)],
+    outer: &'a str,
+    inners: &[(&'a str, &'a str)],
     options: WriteOptions,
     devices: Devices,
 ) -> Result<String, AllocError> {
