@@ -38,11 +38,11 @@ pub fn run_compose_with(
 
 /// How `compose` is asked over the maps of several sources.
 #[derive(Clone, Copy)]
-pub struct AskedAll<'a> {
+pub struct AskedAll<'a, 'w> {
     /// The path of the outer map.
     pub outer: &'a str,
     /// Pairs of a source's name and of the path of its map.
-    pub words: &'a [(&'a str, &'a str)],
+    pub words: &'w [(&'a str, &'a str)],
     /// The path of a list of more of them.
     pub list: Option<&'a str>,
     /// What is left out.
@@ -54,7 +54,7 @@ pub struct AskedAll<'a> {
 pub fn run_compose_all(
     alloc: Global,
     held: &[(&str, &str)],
-    asked: &AskedAll<'_>,
+    asked: &AskedAll<'_, '_>,
     base: Option<Url>,
     devices: Devices,
 ) -> Result<String, AllocError> {
