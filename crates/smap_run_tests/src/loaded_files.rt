@@ -56,11 +56,27 @@ fn rewrite_in(alloc: Global, folder: &str, first: &str, second: &str) -> Result<
     Ok(commands::rewrite(maps, None, 64, false))
 }
 
-// What a command leaves of this input over the files that it names.
-fn left_by(rt: &HostRuntime, command: &Command, input: &[u8]) -> Result<String, AllocError>
-    requires { IsRunnable command.now }
-{
-    run_over_read(rt.alloc(), rt, command, input, ALL_SOUND)
+// What `compose` leaves of two files in a folder.
+fn left_by_compose(
+    rt: &HostRuntime,
+    folder: &str,
+    outer: &str,
+    inner: &str,
+) -> Result<String, AllocError> {
+    let command = compose_in(rt.alloc(), folder, outer, inner)?;
+    run_over_read(rt.alloc(), rt, &command, b"", ALL_SOUND)
+}
+
+// What `rewrite` leaves of this trace over two files in a folder.
+fn left_by_rewrite(
+    rt: &HostRuntime,
+    folder: &str,
+    maps: (&str, &str),
+    trace: &[u8],
+) -> Result<String, AllocError> {
+    let (first, second) = maps;
+    let command = rewrite_in(rt.alloc(), folder, first, second)?;
+    run_over_read(rt.alloc(), rt, &command, trace, ALL_SOUND)
 }
 
 #[test]
@@ -70,10 +86,8 @@ fn written_files_are_composed(rt: HostRuntime) -> Result<(), Fail> {
         let path = path_in(rt.alloc(), &folder, name)?;
         fs::write(&rt, path.as_str(), text)?;
     }
-    let command = compose_in(rt.alloc(), &folder, "o.map", "i.map")?;
-    let one = left_by(&rt, &command, b"")?;
-    let command = compose_in(rt.alloc(), &folder, "i.map", "o.map")?;
-    let other = left_by(&rt, &command, b"")?;
+    let one = left_by_compose(&rt, &folder, "o.map", "i.map")?;
+    let other = left_by_compose(&rt, &folder, "i.map", "o.map")?;
     fs::remove_dir_all(&rt, folder.as_str())?;
     assert_same(
         &rt,
@@ -139,10 +153,8 @@ fn each_argument_of_rewrite_has_its_file(rt: HostRuntime) -> Result<(), Fail> {
         fs::write(&rt, path.as_str(), text)?;
     }
     let trace = b"    at u:1:1\n    at v:1:1\n";
-    let command = rewrite_in(rt.alloc(), &folder, "o.map", "i.map")?;
-    let one = left_by(&rt, &command, trace)?;
-    let command = rewrite_in(rt.alloc(), &folder, "i.map", "o.map")?;
-    let other = left_by(&rt, &command, trace)?;
+    let one = left_by_rewrite(&rt, &folder, ("o.map", "i.map"), trace)?;
+    let other = left_by_rewrite(&rt, &folder, ("i.map", "o.map"), trace)?;
     fs::remove_dir_all(&rt, folder.as_str())?;
     assert_same(&rt, "one", &one, "0|    at mid.js:1:1\n    at a.ts:1:1\n|");
     assert_same(
@@ -178,10 +190,10 @@ fn the_first_unreadable_file_is_told(rt: HostRuntime) -> Result<(), Fail> {
     }
     for (first, second, told) in UNREAD {
         let wanted = told_text(rt.alloc(), &folder, told)?;
-        let command = compose_in(rt.alloc(), &folder, first, second)?;
-        assert_same(&rt, told, &left_by(&rt, &command, b"")?, &wanted);
-        let command = rewrite_in(rt.alloc(), &folder, first, second)?;
-        assert_same(&rt, told, &left_by(&rt, &command, b"")?, &wanted);
+        let composed = left_by_compose(&rt, &folder, first, second)?;
+        assert_same(&rt, told, &composed, &wanted);
+        let rewritten = left_by_rewrite(&rt, &folder, (first, second), b"")?;
+        assert_same(&rt, told, &rewritten, &wanted);
     }
     fs::remove_dir_all(&rt, folder.as_str())?;
     Ok(())
