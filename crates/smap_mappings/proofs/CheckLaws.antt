@@ -4,16 +4,17 @@ use Rattle.std.proofs.Common.{Option, Some, None, refl, sym, ap, subst, ◌∙�
 use Rattle.std.specs.Prelude.{IfSome, unwrap_or}
 use Rattle.std.specs.Int.{from_bool}
 use Rattle.std.specs.List.{AllByRecursion, list_any}
+use Rattle.std.specs.Option.{option_map}
 use Rattle.std.proofs.lemmas.Bool.{and_from, and_parts, cond-true, cond-false, or_left, or_right, or_from, cases_eq}
 use Rattle.std.proofs.lemmas.List.{append-nil, append_assoc, length-map, drop_all, take_all}
 use Rattle.smap_mappings.specs.Limits.{most_indices}
 use Rattle.smap_mappings.specs.Segments.{TextSegment, segments_of}
 use Rattle.smap_mappings.specs.Mappings.{Delta, delta_of, deltas_of, values_on}
 use Rattle.smap_mappings.specs.Accepted.{are_accepted_after, is_accepted, IsAccepted}
-use Rattle.smap_mappings.specs.Faults.{spelling_fault, delta_fault, first_kind, segment_fault, fault_or, first_fault_after, first_fault}
+use Rattle.smap_mappings.specs.Faults.{spelling_fault, delta_fault, first_kind, segment_fault, FaultyPlace, fault_of, faulty_or, first_faulty_after, first_faulty, first_fault}
 use Rattle.smap_mappings.specs.Counts.{new_lines, used_lines_of, segment_count}
 use Rattle.smap_mappings.specs.State.{IsAfter}
-use Rattle.smap_mappings.specs.Private.Step.{fault_from, IsStep}
+use Rattle.smap_mappings.specs.Private.Step.{faulty_from, IsStep}
 use Rattle.smap_mappings.specs.Private.Walk.{ChecksUpTo, WalksUpTo}
 use Rattle.smap_mappings.specs.declared.cursor.Cursor.{Cursor}
 use Rattle.smap_mappings.specs.declared.cursor.TheConstants.Cursor.{START}
@@ -30,10 +31,10 @@ use Rattle.smap_mappings.proofs.OrderLaws.{any_last}
 
 -- ---- a text is accepted where it has no first fault, and only there
 
-fault_or_none : (first : Option FaultKind) (segment : TextSegment) (others : Option Fault)
-    → ◌≡◌ {A = Option Fault} (fault_or first segment others) None → (first ≡ None) × (others ≡ None)
-fault_or_none None segment others is = (refl, is)
-fault_or_none (Some kind) segment others is = absurd (cc)
+faulty_or_none : (first : Option FaultKind) (before : List Delta) (segment : TextSegment) (others : Option FaultyPlace)
+    → ◌≡◌ {A = Option FaultyPlace} (faulty_or first before segment others) None → (first ≡ None) × (others ≡ None)
+faulty_or_none None before segment others is = (refl, is)
+faulty_or_none (Some kind) before segment others is = absurd (cc)
 
 first_of_none : (a b : Option FaultKind) → first_kind a b ≡ None → (a ≡ None) × (b ≡ None)
 first_of_none None b is = (refl, is)
@@ -41,33 +42,33 @@ first_of_none (Some kind) b is = absurd (cc)
 
 module _ (sources names : ℕ) where
   accepted_no_fault : (before : List Delta) (segments : List TextSegment)
-      → are_accepted_after sources names before (map delta_of segments) ≡ true → first_fault_after sources names before segments ≡ None
+      → are_accepted_after sources names before (map delta_of segments) ≡ true → first_faulty_after sources names before segments ≡ None
   accepted_no_fault before [] all = refl
   accepted_no_fault before (segment ∷ segments) all =
       let parts = and_parts _ _ all in
       let delta = delta_of segment in
-      (λ i. fault_or (first_kind (known_spelled segment.bytes (accepts_known sources names before delta parts.0) i)
-      (accepts_none sources names before delta parts.0 i)) segment (first_fault_after sources names (before ++ delta ∷ []) segments))
+      (λ i. faulty_or (first_kind (known_spelled segment.bytes (accepts_known sources names before delta parts.0) i)
+      (accepts_none sources names before delta parts.0 i)) before segment (first_faulty_after sources names (before ++ delta ∷ []) segments))
       ∙ accepted_no_fault (before ++ delta ∷ []) segments parts.1
 
-  no_fault_accepted : (before : List Delta) (segments : List TextSegment) → first_fault_after sources names before segments ≡ None
+  no_fault_accepted : (before : List Delta) (segments : List TextSegment) → first_faulty_after sources names before segments ≡ None
       → are_accepted_after sources names before (map delta_of segments) ≡ true
   no_fault_accepted before [] none = refl
   no_fault_accepted before (segment ∷ segments) none =
       let delta = delta_of segment in
-      let parts = fault_or_none (segment_fault sources names before segment) segment _ none in
+      let parts = faulty_or_none (segment_fault sources names before segment) before segment _ none in
       let here = first_of_none (spelling_fault segment.bytes) (delta_fault sources names before delta) parts.0 in
       and_from _ _ (accepts_from sources names before delta (spelled_known segment.bytes here.0) here.1)
       (no_fault_accepted (before ++ delta ∷ []) segments parts.1)
 
   -- where there is none at all, there is none from any segment on
-  none_later : (before : List Delta) (segments : List TextSegment) (j : ℕ) → first_fault_after sources names before segments ≡ None
-      → first_fault_after sources names (before ++ take j (map delta_of segments)) (drop j segments) ≡ None
-  none_later before segments zero none = ap (λ front. first_fault_after sources names front segments) (append-nil before) ∙ none
+  none_later : (before : List Delta) (segments : List TextSegment) (j : ℕ) → first_faulty_after sources names before segments ≡ None
+      → first_faulty_after sources names (before ++ take j (map delta_of segments)) (drop j segments) ≡ None
+  none_later before segments zero none = ap (λ front. first_faulty_after sources names front segments) (append-nil before) ∙ none
   none_later before [] (suc j) none = refl
   none_later before (segment ∷ segments) (suc j) none =
-      let parts = fault_or_none (segment_fault sources names before segment) segment _ none in
-      ap (λ front. first_fault_after sources names front (drop j segments))
+      let parts = faulty_or_none (segment_fault sources names before segment) before segment _ none in
+      ap (λ front. first_faulty_after sources names front (drop j segments))
       (sym (append_assoc before (delta_of segment ∷ []) (take j (map delta_of segments)))) ∙ none_later (before ++ delta_of segment ∷ []) segments j parts.1
 
 widest_all : (sources names : ℕ) (before deltas : List Delta) → are_accepted_after sources names before deltas ≡ true
@@ -81,17 +82,26 @@ pub widest : (text : List ℕ) (sources names : ℕ) → IsAccepted text sources
 unfolding is_accepted
 widest text sources names accepted = widest_all sources names [] (deltas_of text) accepted
 
+-- a text has no fault where it has no faulty segment, and only there
+none_mapped : (o : Option FaultyPlace) → option_map fault_of o ≡ None → o ≡ None
+none_mapped None is = refl
+none_mapped (Some faulty) is = absurd (cc)
+
 pub no_fault_is_accepted : (text : List ℕ) (sources names : ℕ) → first_fault text sources names ≡ None → IsAccepted text sources names
-unfolding is_accepted first_fault deltas_of
-no_fault_is_accepted text sources names none = no_fault_accepted sources names [] (segments_of text) none
+unfolding is_accepted first_fault first_faulty deltas_of
+no_fault_is_accepted text sources names none = no_fault_accepted sources names [] (segments_of text) (none_mapped _ none)
+
+accepted_has_none_faulty : (text : List ℕ) (sources names : ℕ) → IsAccepted text sources names → first_faulty text sources names ≡ None
+unfolding is_accepted first_faulty deltas_of
+accepted_has_none_faulty text sources names accepted = accepted_no_fault sources names [] (segments_of text) accepted
 
 pub accepted_has_no_fault : (text : List ℕ) (sources names : ℕ) → IsAccepted text sources names → first_fault text sources names ≡ None
-unfolding is_accepted first_fault deltas_of
-accepted_has_no_fault text sources names accepted = accepted_no_fault sources names [] (segments_of text) accepted
+unfolding first_fault
+accepted_has_no_fault text sources names accepted = ap (option_map fault_of) (accepted_has_none_faulty text sources names accepted)
 
-pub no_fault_from : (text : List ℕ) (sources names j : ℕ) → IsAccepted text sources names → fault_from text sources names j ≡ None
-unfolding first_fault deltas_of
-no_fault_from text sources names j accepted = none_later sources names [] (segments_of text) j (accepted_has_no_fault text sources names accepted)
+pub no_fault_from : (text : List ℕ) (sources names j : ℕ) → IsAccepted text sources names → faulty_from text sources names j ≡ None
+unfolding first_faulty deltas_of
+no_fault_from text sources names j accepted = none_later sources names [] (segments_of text) j (accepted_has_none_faulty text sources names accepted)
 
 -- ---- from the start to the end of a text
 
@@ -111,7 +121,7 @@ unfolding deltas_of
 length-deltas_of text = length-map (segments_of text) delta_of
 
 pub checks_start : (text : List ℕ) (sources names : ℕ) → ChecksUpTo text sources names START 0 0
-unfolding first_fault
+unfolding first_faulty
 checks_start text sources names = record {
   after = after_none text;
   passed = refl;
@@ -122,10 +132,10 @@ checks_start text sources names = record {
 }
 
 pub none_at_end : (text : List ℕ) (sources names : ℕ) (cursor next : Cursor) (segments used_lines : ℕ)
-    → ChecksUpTo text sources names cursor segments used_lines → IsAfter text segments next → next.place ≡ length text → first_fault text sources names ≡ None
+    → ChecksUpTo text sources names cursor segments used_lines → IsAfter text segments next → next.place ≡ length text → first_faulty text sources names ≡ None
 none_at_end text sources names cursor next segments used_lines checks after at_end =
     let all = all_after text segments next after at_end in
-    checks.passed ∙ ap (λ rest. first_fault_after sources names (take segments (deltas_of text)) rest) (drop_all segments (segments_of text) (omega arith))
+    checks.passed ∙ ap (λ rest. first_faulty_after sources names (take segments (deltas_of text)) rest) (drop_all segments (segments_of text) (omega arith))
 
 pub lines_at_end : (text : List ℕ) (sources names : ℕ) (cursor next : Cursor) (segments used_lines : ℕ)
     → ChecksUpTo text sources names cursor segments used_lines → IsAfter text segments next → next.place ≡ length text → used_lines ≡ used_lines_of text

@@ -7,7 +7,7 @@ use Rattle.smap_mappings.specs.Segment.{fields_of}
 use Rattle.smap_mappings.specs.Segments.{segments_of, segments_from, segments_on}
 use Rattle.smap_mappings.specs.Mappings.{mappings_of, mapping_after, deltas_of, values_on}
 use Rattle.smap_mappings.specs.Accepted.{is_accepted, is_accepted_after}
-use Rattle.smap_mappings.specs.Faults.{first_fault, spelling_fault, delta_fault}
+use Rattle.smap_mappings.specs.Faults.{first_faulty, first_fault, spelling_fault, delta_fault}
 use Rattle.smap_mappings.specs.Private.Reading.{checked_number}
 use Rattle.smap_mappings.specs.declared.fault.Fault.{Fault}
 use Rattle.smap_mappings.specs.declared.fault.FaultKind.{FaultKind}
@@ -134,12 +134,12 @@ first_faults : faults (codes "B!AA" ∷ codes "gggggggAg" ∷ codes "ggggggEB" �
     ≡ at_byte 0 0 kinds.BadDigit ∷ at_byte 0 0 kinds.Unended ∷ at_byte 0 0 kinds.TooLarge ∷ at_byte 0 0 kinds.NegativeZero
     ∷ at_byte 5 0 kinds.Negative ∷ at_byte 0 0 kinds.SourceIndex ∷ at_byte 0 0 kinds.NameIndex ∷ at_byte 2 0 kinds.Negative
     ∷ at_byte 9 2 kinds.NegativeZero ∷ []
-unfolding first_fault spelling_fault delta_fault values_on segments_of segments_from segments_on fields_of number_of unsigned_of digit_of
+unfolding first_fault first_faulty spelling_fault delta_fault values_on segments_of segments_from segments_on fields_of number_of unsigned_of digit_of
 first_faults = refl
 
 more_faults : faults (codes "AA" ∷ codes "CAAA,DAAA" ∷ codes "+/////D,C" ∷ codes "gggggggA" ∷ codes "A,A,A" ∷ [])
     ≡ at_byte 0 0 kinds.FieldCount ∷ at_byte 5 0 kinds.ColumnFalls ∷ at_byte 8 0 kinds.PastLimit ∷ at_byte 0 0 kinds.TooLong ∷ None ∷ []
-unfolding first_fault spelling_fault delta_fault values_on segments_of segments_from segments_on fields_of number_of unsigned_of digit_of
+unfolding first_fault first_faulty spelling_fault delta_fault values_on segments_of segments_from segments_on fields_of number_of unsigned_of digit_of
 more_faults = refl
 
 -- ---- canonical texts

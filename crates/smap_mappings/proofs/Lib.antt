@@ -26,4 +26,5 @@ pub mod OrderLaws
 pub mod WithinLaws
 pub mod SpellingFaultLaws
 pub mod CleanNumbers
+pub mod CutLaws
 pub mod Examples

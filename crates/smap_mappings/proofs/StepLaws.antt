@@ -1,18 +1,20 @@
 -- From a state at a segment: the segment is the next of the text, and reading it leads to its mapping and the state
 -- after it.
 use Rattle.std.proofs.Common.{◌≡◌, ℕ, ◌+◌, ◌<◌, ◌≤◌, suc, zero, true, List, [], ◌∷◌, ◌++◌, length, get_or, take, drop, map, Option, Some, None, refl}
-use Rattle.std.proofs.Common.{sym, ap, subst, ◌∙◌, arith, add-one, unwrap_or}
+use Rattle.std.proofs.Common.{sym, ap, subst, ◌∙◌, arith, add-one, unwrap_or, false, is_some}
 use Rattle.std.specs.Prelude.{ℤ, pos}
 use Rattle.std.specs.List.{AllByRecursion, slice_get}
 use Rattle.std.proofs.lemmas.List.{drop-map, append-nil, append_assoc}
+use Rattle.std.proofs.lemmas.Bool.{cond-true, cond-false, both_ways}
 use Rattle.smap_mappings.specs.Segment.{has_known_length}
 use Rattle.smap_mappings.specs.Segments.{is_semicolon, is_comma, segment_on, segments_from, segments_of}
 use Rattle.smap_mappings.specs.Mappings.{Delta, RunningValues, delta_of, deltas_of, values_on, natural, origin_in, mapping_after, mappings_after, mappings_of}
-use Rattle.smap_mappings.specs.Faults.{spelling_fault, delta_fault, first_kind, segment_fault, fault_or, first_fault_after}
+use Rattle.smap_mappings.specs.Faults.{spelling_fault, delta_fault, first_kind, segment_fault, faulty_or, first_faulty_after}
 use Rattle.smap_mappings.specs.State.{values_at, IsAfter}
+use Rattle.smap_mappings.specs.Faulty.{known_values_past}
 use Rattle.smap_mappings.specs.Private.Reading.{is_inside, segment_at, known_fields, fields_in, origin_fields, name_fields, delta_in, IsSegmentAt}
 use Rattle.smap_mappings.specs.Private.Advance.{values_after, sums_fault, IsAdvanced}
-use Rattle.smap_mappings.specs.Private.Step.{fault_from, fault_at, IsStep, cursor_name, cursor_origin, mapping_in}
+use Rattle.smap_mappings.specs.Private.Step.{faulty_from, faulty_at, segment_at_cursor, IsStep, cursor_name, cursor_origin, mapping_in}
 use Rattle.smap_mappings.specs.declared.cursor.Cursor.{Cursor}
 use Rattle.smap_mappings.specs.declared.fault.FaultKind.{FaultKind}
 use Rattle.smap_mappings.specs.declared.mapping.Mapping.{Mapping}
@@ -49,16 +51,16 @@ at_segment text j cursor after within inside =
     record { count = next.3; segment = is; next = next_delta.2; taken = next_delta.0; left = next.1 }
 
 -- the first fault from segment j on is that of segment j, or else the first of those after it
-fault_from_here : (text : List ℕ) (j sources names : ℕ) (cursor : Cursor)
+faulty_from_here : (text : List ℕ) (j sources names : ℕ) (cursor : Cursor)
     → AtSegment text j cursor (record { line = cursor.line; fields = known_fields text cursor.place })
-    → fault_from text sources names j ≡ fault_or
-    (segment_fault sources names (take j (deltas_of text)) (segment_on cursor.line (cursor.place, segment_at text cursor.place)))
-    (segment_on cursor.line (cursor.place, segment_at text cursor.place)) (fault_from text sources names (suc j))
-fault_from_here text j sources names cursor seg =
+    → faulty_from text sources names j ≡ faulty_or
+    (segment_fault sources names (take j (deltas_of text)) (segment_at_cursor text cursor))
+    (take j (deltas_of text)) (segment_at_cursor text cursor) (faulty_from text sources names (suc j))
+faulty_from_here text j sources names cursor seg =
     let segment = segment_on cursor.line (cursor.place, segment_at text cursor.place) in
     let before = take j (deltas_of text) in
-    ap (first_fault_after sources names before) seg.segment
-    ∙ (λ i. fault_or (segment_fault sources names before segment) segment (first_fault_after sources names (sym seg.taken i) (sym seg.left i)))
+    ap (first_faulty_after sources names before) seg.segment
+    ∙ (λ i. faulty_or (segment_fault sources names before segment) before segment (first_faulty_after sources names (sym seg.taken i) (sym seg.left i)))
 
 -- ---- the segment as it was read
 
@@ -132,6 +134,15 @@ module _ (text : List ℕ) (j : ℕ) (cursor : Cursor) (segment : Segment) (end 
       ∙ delta_fault_is sources names cursor.line before segment
       ∙ ap (sums_fault sources names segment) values_after_read
 
+  -- and they are known, since its numbers are spelled right
+  pub known_values_read : (kind : FaultKind) (sums : RunningValues) → sums ≡ values_after (values_at cursor) (delta_in cursor.line segment)
+      → Some sums ≡ known_values_past (faulty_at text j cursor kind)
+  known_values_read kind sums is =
+      let known = ap (λ fields. has_known_length (unwrap_or fields [])) reads.fields ∙ known_count segment.column segment.origin in
+      sym (cond-false _ _ _ (ap is_some (known_spelled (segment_at text cursor.place) known))
+      ∙ ap (λ fields. Some (values_on cursor.line (take j (deltas_of text) ++ record { line = cursor.line; fields = unwrap_or fields [] } ∷ []))) reads.fields
+      ∙ ap Some (values_after_read ∙ sym is))
+
   -- a segment whose values have no fault leads to its mapping and to the state after it
   pub steps_to : (sources names : ℕ) (next : Cursor) → IsAdvanced cursor segment end sources names next
       → IsStep text j sources names (mapping_in segment next) next
@@ -144,8 +155,8 @@ module _ (text : List ℕ) (j : ℕ) (cursor : Cursor) (segment : Segment) (end 
       let place_is : next.place ≡ cursor.place + length (segment_at text cursor.place) = advances.place ∙ reads.ends in
       let none = read_fault sources names ∙ ap (sums_fault sources names segment) (sym advances.values) ∙ advances.allowed in
       record {
-        passes = rw add-one (fault_from_here text j sources names cursor (at_segment text j cursor after within inside)
-            ∙ ap (λ first. fault_or first (segment_on cursor.line (cursor.place, segment_at text cursor.place)) (fault_from text sources names (suc j))) none);
+        passes = rw add-one (faulty_from_here text j sources names cursor (at_segment text j cursor after within inside)
+            ∙ ap (λ first. faulty_or first before (segment_at_cursor text cursor) (faulty_from text sources names (suc j))) none);
         next = record {
           more = omega (arith, seg.count);
           mapping_is =
@@ -170,21 +181,31 @@ module _ (text : List ℕ) (j : ℕ) (cursor : Cursor) (segment : Segment) (end 
   -- and one whose values have a fault has that
   pub faulty_values : (sources names : ℕ) (kind : FaultKind)
       → sums_fault sources names segment (values_after (values_at cursor) (delta_in cursor.line segment)) ≡ Some kind
-      → fault_from text sources names j ≡ Some (fault_at cursor kind)
+      → faulty_from text sources names j ≡ Some (faulty_at text j cursor kind)
   faulty_values sources names kind is =
-      fault_from_here text j sources names cursor (at_segment text j cursor after within inside)
-      ∙ ap (λ first. fault_or first (segment_on cursor.line (cursor.place, segment_at text cursor.place))
-      (fault_from text sources names (suc j))) (read_fault sources names ∙ is)
+      faulty_from_here text j sources names cursor (at_segment text j cursor after within inside)
+      ∙ ap (λ first. faulty_or first (take j (deltas_of text)) (segment_at_cursor text cursor)
+      (faulty_from text sources names (suc j))) (read_fault sources names ∙ is)
 
 -- a segment that can't be read has the fault of its spelling
 pub faulty_spelling : (text : List ℕ) (j : ℕ) (cursor : Cursor) (sources names : ℕ) (kind : FaultKind) → IsAfter text j cursor
     → cursor.place < length text → is_inside (get_or text cursor.place 0) ≡ true → spelling_fault (segment_at text cursor.place) ≡ Some kind
-    → fault_from text sources names j ≡ Some (fault_at cursor kind)
+    → faulty_from text sources names j ≡ Some (faulty_at text j cursor kind)
 faulty_spelling text j cursor sources names kind after within inside is =
     let segment = segment_on cursor.line (cursor.place, segment_at text cursor.place) in
-    fault_from_here text j sources names cursor (at_segment text j cursor after within inside)
-    ∙ ap (λ first. fault_or (first_kind first (delta_fault sources names (take j (deltas_of text)) (delta_of segment))) segment
-    (fault_from text sources names (suc j))) is
+    faulty_from_here text j sources names cursor (at_segment text j cursor after within inside)
+    ∙ ap (λ first. faulty_or (first_kind first (delta_fault sources names (take j (deltas_of text)) (delta_of segment)))
+    (take j (deltas_of text)) segment (faulty_from text sources names (suc j))) is
+
+-- and no values after it are known
+pub no_values_unread : (text : List ℕ) (j : ℕ) (cursor : Cursor) (kind : FaultKind) → has_known_length (known_fields text cursor.place) ≡ false
+    → None ≡ known_values_past (faulty_at text j cursor kind)
+no_values_unread text j cursor kind unknown = sym (cond-true _ _ _ (some_unless (spelling_fault (segment_at text cursor.place))
+    (λ none. absurd (both_ways _ unknown (spelled_known (segment_at text cursor.place) none)))))
+  where
+    some_unless : (o : Option FaultKind) → (o ≡ None → ⊥) → is_some o ≡ true
+    some_unless None not_none = absurd (not_none refl)
+    some_unless (Some kind) not_none = refl
 
 -- ---- where no segment has a fault
 
@@ -192,7 +213,7 @@ none_unless : (o : Option FaultKind) → ((kind : FaultKind) → o ≡ Some kind
 none_unless None not_some = refl
 none_unless (Some kind) not_some = absurd (not_some kind refl)
 
-module _ (text : List ℕ) (j : ℕ) (cursor : Cursor) (sources names : ℕ) (none : fault_from text sources names j ≡ None)
+module _ (text : List ℕ) (j : ℕ) (cursor : Cursor) (sources names : ℕ) (none : faulty_from text sources names j ≡ None)
     (after : IsAfter text j cursor) (within : cursor.place < length text) (inside : is_inside (get_or text cursor.place 0) ≡ true) where
   -- the segment can be read
   pub can_be_read : has_known_length (known_fields text cursor.place) ≡ true

@@ -3,6 +3,7 @@
 -- faulty segment refuses the whole text. The rules for numbers stand in `Vlq`, the range of values in `Accepted`.
 use Rattle.std.specs.Prelude.{ℕ, List, [], ◌∷◌, ◌++◌, Option, Some, None, Bool, false, ◌&&◌, ◌||◌, not, if◌then◌else◌, ℤ, pos, int_lt}
 use Rattle.std.specs.List.{list_any}
+use Rattle.std.specs.Option.{option_map}
 use Rattle.smap_mappings.specs.Vlq.{is_digit, is_continuing, is_too_long, is_too_large, is_negative_zero}
 use Rattle.smap_mappings.specs.Segment.{cuts_of, has_known_length, has_origin, has_name}
 use Rattle.smap_mappings.specs.Segments.{TextSegment, segments_of}
@@ -83,17 +84,31 @@ first_kind (Some kind) other = Some kind
 abbrev pub segment_fault : ℕ → ℕ → List Delta → TextSegment → Option FaultKind
 segment_fault sources names before segment = first_kind (spelling_fault segment.bytes) (delta_fault sources names before (delta_of segment))
 
--- the segment with this kind of fault, and where it has none, the others' fault
-abbrev pub fault_or : Option FaultKind → TextSegment → Option Fault → Option Fault
-fault_or None segment others = others
-fault_or (Some kind) segment others = Some (record { byte = segment.place; line = segment.line; kind = kind })
+-- a faulty segment, the lines and fields of all segments before it, and the least kind that holds of it
+pub record FaultyPlace : Type 0 where
+  pub before : List Delta
+  pub segment : TextSegment
+  pub kind : FaultKind
+
+-- the segment after these with this kind of fault, and where it has none, the others' faulty one
+abbrev pub faulty_or : Option FaultKind → List Delta → TextSegment → Option FaultyPlace → Option FaultyPlace
+faulty_or None before segment others = others
+faulty_or (Some kind) before segment others = Some (record { before = before; segment = segment; kind = kind })
 
 -- the first faulty one of these segments, which stand after those before
-abbrev pub first_fault_after : ℕ → ℕ → List Delta → List TextSegment → Option Fault
-first_fault_after sources names before [] = None
-first_fault_after sources names before (segment ∷ segments) =
-    fault_or (segment_fault sources names before segment) segment (first_fault_after sources names (before ++ delta_of segment ∷ []) segments)
+abbrev pub first_faulty_after : ℕ → ℕ → List Delta → List TextSegment → Option FaultyPlace
+first_faulty_after sources names before [] = None
+first_faulty_after sources names before (segment ∷ segments) =
+    faulty_or (segment_fault sources names before segment) before segment (first_faulty_after sources names (before ++ delta_of segment ∷ []) segments)
 
 -- the first segment, in the order of the text, of which some kind holds, with the least that does
+unfoldable pub first_faulty : List ℕ → ℕ → ℕ → Option FaultyPlace
+first_faulty text sources names = first_faulty_after sources names [] (segments_of text)
+
+-- where a faulty segment begins, its line and its kind
+abbrev pub fault_of : FaultyPlace → Fault
+fault_of faulty = record { byte = faulty.segment.place; line = faulty.segment.line; kind = faulty.kind }
+
+-- the fault of the first faulty segment
 unfoldable pub first_fault : List ℕ → ℕ → ℕ → Option Fault
-first_fault text sources names = first_fault_after sources names [] (segments_of text)
+first_fault text sources names = option_map fault_of (first_faulty text sources names)

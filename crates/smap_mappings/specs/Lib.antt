@@ -16,6 +16,8 @@ pub mod Canonical
 pub mod Encode
 pub mod Writing
 pub mod State
+pub mod Faulty
+pub mod Measures
 pub mod PackedText
 pub mod Meter
 pub mod Private

@@ -5,4 +5,5 @@ pub mod Advance
 pub mod Step
 pub mod Straight
 pub mod Walk
+pub mod Found
 pub mod OneMore

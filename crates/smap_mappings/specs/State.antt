@@ -8,6 +8,7 @@ use Rattle.smap_mappings.specs.declared.kind.Kind.{Kind}
 use Rattle.smap_mappings.specs.declared.kind.Kind.TheVariants.{Unmapped, Mapped, Named}
 use Rattle.smap_mappings.specs.declared.mapping.Mapping.{Mapping}
 use Rattle.smap_mappings.specs.declared.mapping.Origin.{Origin}
+use Rattle.smap_mappings.specs.declared.sums.RunningSums.{RunningSums}
 
 -- the running values of a state
 abbrev pub values_at : Cursor → RunningValues
@@ -17,6 +18,16 @@ values_at cursor = record {
   original_line = pos cursor.original_line;
   original_column = pos cursor.original_column;
   name = pos cursor.name;
+}
+
+-- the sums as running values
+abbrev pub values_in : RunningSums → RunningValues
+values_in sums = record {
+  column = sums.column;
+  source = sums.source;
+  original_line = sums.original_line;
+  original_column = sums.original_column;
+  name = sums.name;
 }
 
 -- This state is the one after j segments of this text: what is left of the text from its place on, on its line, are

@@ -3,24 +3,15 @@ ghost use Rattle.std.specs.Prelude.{◌≡◌, IfOk, IfErr, None, Some, pos, ◌
 ghost use Rattle.smap_mappings.specs.Limits.{most_indices};
 ghost use Rattle.smap_mappings.specs.Accepted.{are_in_range};
 ghost use Rattle.smap_mappings.specs.Faults.{has_value_below_zero, has_value_past_limit};
-ghost use Rattle.smap_mappings.specs.State.{values_at};
+ghost use Rattle.smap_mappings.specs.State.{values_at, values_in};
 ghost use Rattle.smap_mappings.specs.Private.Reading.{delta_in};
-ghost use Rattle.smap_mappings.specs.Private.Advance.{values_after, values_in, sums_fault, IsAdvanced};
+ghost use Rattle.smap_mappings.specs.Private.Advance.{values_after, sums_fault, IsAdvanced};
 
 use crate::cursor::Cursor;
 use crate::fault::FaultKind;
 use crate::limits::LIMIT;
 use crate::segment::Segment;
-
-// The running values after a segment, before it is known that they are in range.
-#[derive(Clone, Copy)]
-struct Sums {
-    column: i64,
-    source: i64,
-    original_line: i64,
-    original_column: i64,
-    name: i64,
-}
+use crate::sums::RunningSums;
 
 // The state after a segment that ends before the place `end`, or the first kind of fault of the running values.
 #[inline(always)]
@@ -53,21 +44,22 @@ pub fn advance_checked(cursor: &Cursor, segment: &Segment, end: usize) -> Cursor
     sums_after(cursor, segment).cursor(cursor.line, end)
 }
 
+// The running values after a segment.
 #[inline(always)]
-fn sums_after(cursor: &Cursor, segment: &Segment) -> Sums
+pub fn sums_after(cursor: &Cursor, segment: &Segment) -> RunningSums
     ensures { values_in result
         ≡ values_after (values_at cursor.now) (delta_in cursor.now.line segment.now) }
 {
     let column = added(cursor.column, segment.column);
     match segment.origin {
-        None => Sums {
+        None => RunningSums {
             column,
             source: added(cursor.source, 0),
             original_line: added(cursor.original_line, 0),
             original_column: added(cursor.original_column, 0),
             name: added(cursor.name, 0),
         },
-        Some(origin) => Sums {
+        Some(origin) => RunningSums {
             column,
             source: added(cursor.source, origin.source),
             original_line: added(cursor.original_line, origin.line),
@@ -84,7 +76,7 @@ fn added(value: u32, difference: i32) -> i64
     i64::from(value) + i64::from(difference)
 }
 
-impl Sums {
+impl RunningSums {
     // The state with these values, each of which is in range.
     #[inline(always)]
     fn cursor(&self, line: u32, place: usize) -> Cursor

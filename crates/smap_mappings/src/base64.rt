@@ -22,7 +22,7 @@ const DIGITS: [u8; 256] = [
     64, 64, 64, 64, 64, 64, 64, 64, 64, 64, 64, 64, 64, 64,
 ];
 
-// The value of a Base64 digit, 0 to 63, and `None` for any other byte (ECMA-426, Base64 VLQ).
+/// The value of a Base64 digit, 0 to 63, and `None` for any other byte (ECMA-426, Base64 VLQ).
 #[inline(always)]
 pub fn digit(byte: u8) -> Option<u8>
     ensures { result ≡ digit_of byte }

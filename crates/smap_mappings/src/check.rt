@@ -1,10 +1,12 @@
 //! The pass over a whole text that finds its first fault, or counts it.
 ghost use Rattle.std.specs.Prelude.{◌≡◌, ◌≤◌, ◌==◌, ◌||◌, not, None, Some, length, IfOk, MatchResult};
 ghost use Rattle.smap_mappings.specs.Limits.{most_text_bytes};
-ghost use Rattle.smap_mappings.specs.Faults.{first_fault};
+ghost use Rattle.smap_mappings.specs.Faults.{first_fault, first_faulty};
+ghost use Rattle.smap_mappings.specs.Private.Found.{IsFoundIn, fault_at};
 ghost use Rattle.smap_mappings.specs.Counts.{segment_count, used_lines_of};
 
-use crate::fault::Fault;
+use crate::cursor::Cursor;
+use crate::fault::{Fault, FaultKind};
 use crate::step::{skip_separators, step};
 use crate::walk::{Walk, walk_straight};
 
@@ -15,12 +17,46 @@ pub struct TextCounts {
     pub used_lines: u64,
 }
 
+// Where a text is refused: the state before its first faulty segment, and the least kind of fault that holds of that.
+#[derive(Clone, Copy)]
+pub struct FoundFault {
+    pub at: Cursor,
+    pub kind: FaultKind,
+}
+
+impl FoundFault {
+    pub fn fault(&self) -> Fault
+        ensures { result ≡ fault_at self.now }
+    {
+        Fault {
+            byte: self.at.place as u64,
+            line: self.at.line,
+            kind: self.kind,
+        }
+    }
+}
+
 // The counts of a text, or its first faulty segment for this many sources and names.
 pub fn check_segments(bytes: &[u8], sources: u32, names: u32) -> Result<TextCounts, Fault>
     requires { length bytes.now ≤ most_text_bytes }
     ensures fault { MatchResult result
         (λ _. first_fault bytes.now sources names ≡ None)
         (λ fault. first_fault bytes.now sources names ≡ Some fault) }
+    ensures segments { IfOk result (λ counts. counts.segments ≡ segment_count bytes.now) }
+    ensures used_lines { IfOk result (λ counts. counts.used_lines ≡ used_lines_of bytes.now) }
+{
+    match count_segments(bytes, sources, names) {
+        Ok(counts) => Ok(counts),
+        Err(found) => Err(found.fault()),
+    }
+}
+
+// The counts of a text, or the state before its first faulty segment for this many sources and names.
+pub fn count_segments(bytes: &[u8], sources: u32, names: u32) -> Result<TextCounts, FoundFault>
+    requires { length bytes.now ≤ most_text_bytes }
+    ensures faulty { MatchResult result
+        (λ _. first_faulty bytes.now sources names ≡ None)
+        (IsFoundIn bytes.now sources names) }
     ensures segments { IfOk result (λ counts. counts.segments ≡ segment_count bytes.now) }
     ensures used_lines { IfOk result (λ counts. counts.used_lines ≡ used_lines_of bytes.now) }
 {
@@ -44,11 +80,7 @@ pub fn check_segments(bytes: &[u8], sources: u32, names: u32) -> Result<TextCoun
                 at = after;
             }
             Err(kind) => {
-                return Err(Fault {
-                    byte: next.place as u64,
-                    line: next.line,
-                    kind,
-                });
+                return Err(FoundFault { at: next, kind });
             }
         }
     }

@@ -7,7 +7,7 @@ ghost use Rattle.smap_mappings.specs.Faults.{spelling_fault};
 ghost use Rattle.smap_mappings.specs.State.{values_at, IsAfter, IsBetween};
 ghost use Rattle.smap_mappings.specs.PackedText.{IsPacked};
 ghost use Rattle.smap_mappings.specs.Private.Reading.{is_inside, segment_at, known_fields};
-ghost use Rattle.smap_mappings.specs.Private.Step.{IsStep, IsSteppedTo, fault_at, fault_from, mapping_in};
+ghost use Rattle.smap_mappings.specs.Private.Step.{IsStep, IsSteppedTo, faulty_at, faulty_from, mapping_in};
 ghost use Rattle.smap_mappings.specs.Private.Straight.{kind_with, most_segment_digits};
 
 use crate::advance::{advance, advance_checked};
@@ -70,7 +70,7 @@ pub fn step(
     ensures ok { IfOk result (λ r. (j : ℕ) → IsAfter bytes.now j cursor.now
         → IsStep bytes.now j sources names r.0 r.1) }
     ensures err { IfErr result (λ kind. (j : ℕ) → IsAfter bytes.now j cursor.now
-        → fault_from bytes.now sources names j ≡ Some (fault_at cursor.now kind)) }
+        → faulty_from bytes.now sources names j ≡ Some (faulty_at bytes.now j cursor.now kind)) }
 {
     let Some((segment, end)) = read_segment(bytes, cursor.place) else {
         return Err(unread_fault(bytes, cursor.place));
@@ -142,7 +142,8 @@ fn unread_fault(bytes: &[u8], place: usize) -> FaultKind
     }
 }
 
-fn segment_end(bytes: &[u8], place: usize) -> usize
+// The place after the segment that begins at a place.
+pub fn segment_end(bytes: &[u8], place: usize) -> usize
     requires { place ≤ length bytes.now }
     ensures within { result ≤ length bytes.now }
     ensures end { result ≡ place + length (segment_at bytes.now place) }

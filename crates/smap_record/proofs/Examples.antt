@@ -9,7 +9,7 @@ use Rattle.smap_mappings.specs.Vlq.{number_of, unsigned_of}
 use Rattle.smap_mappings.specs.Segment.{fields_of}
 use Rattle.smap_mappings.specs.Segments.{segments_of, segments_from, segments_on}
 use Rattle.smap_mappings.specs.Mappings.{mappings_of, mapping_after, deltas_of, values_on}
-use Rattle.smap_mappings.specs.Faults.{first_fault, spelling_fault, delta_fault}
+use Rattle.smap_mappings.specs.Faults.{first_fault, first_faulty, spelling_fault, delta_fault}
 use Rattle.smap_mappings.specs.declared.fault.FaultKind.TheVariants as kinds
 use Rattle.smap_index.specs.Answer.{answer_at_or_before}
 use Rattle.smap_index.specs.Faults.{build_fault, part_fault, order_fault, overlap_fault, range_fault}
@@ -44,7 +44,7 @@ called text = record { name = Some (kept text); content = None; ignored = false 
 unfoldable record_on_literals : ⊤
 unfolding record_of record_in outer_in entries_in sections_after section_in mappings_in source_name parse_url split_scheme scheme_len
     split_once strip_tabs_and_new_lines trim_c0_control_and_space is_utf8 chars serde_json_on_literals whole called build_fault part_fault
-    order_fault overlap_fault range_fault placed mappings_of mapping_after deltas_of first_fault spelling_fault delta_fault values_on
+    order_fault overlap_fault range_fault placed mappings_of mapping_after deltas_of first_fault first_faulty spelling_fault delta_fault values_on
     segments_of segments_from segments_on fields_of number_of unsigned_of digit_of
 record_on_literals = tt
 

@@ -3,6 +3,7 @@ pub mod Json
 pub mod FileText
 pub mod Fields
 pub mod Refusals
+pub mod Given
 pub mod Ignored
 pub mod Sources
 pub mod Section

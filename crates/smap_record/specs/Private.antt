@@ -1,4 +1,3 @@
 -- What contracts of private functions alone cite.
 pub mod PartWithin
-pub mod Given
 pub mod Seen

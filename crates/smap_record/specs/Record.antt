@@ -60,3 +60,14 @@ answer_of_map stated line column = answer_at_or_before (joined stated.parts) lin
 -- and in the other direction, at the position or after it
 abbrev pub answer_of_map_from : MapRecord → ℕ → ℕ → Answer
 answer_of_map_from stated line column = answer_at_or_after (joined stated.parts) line column
+
+-- the parts of the index of a map with these members, before it is asked whether an index is built of them
+abbrev pub parts_in : Members → Result (List Part) MapRefusal
+parts_in members = do
+  outer ← outer_in (object members)
+  sections ← sections_after no_sections outer.entries
+  Ok sections.parts
+
+-- those of the map in a file of these bytes
+unfoldable pub parts_of : List ℕ → Result (List Part) MapRefusal
+parts_of bytes = members_in bytes >>= parts_in

@@ -5,7 +5,7 @@ ghost use Rattle.serde_json.specs.Find.{get_member};
 ghost use Rattle.serde_json.specs.View.{members_view, view};
 ghost use Rattle.smap_record.specs.Fields.{ignored_field};
 ghost use Rattle.smap_record.specs.Json.{field, not_null};
-ghost use Rattle.smap_record.specs.Private.Given.{GivesRead};
+ghost use Rattle.smap_record.specs.Given.{GivesRead};
 ghost use Rattle.smap_record.specs.Section.{text_in};
 ghost use Rattle.smap_record.specs.Private.Seen.{fields_seen, taken_seen};
 

@@ -4,7 +4,7 @@ ghost use Rattle.serde_json.specs.View.{members_view, view};
 ghost use Rattle.smap_record.specs.FileText.{json_text, value_of_file, without_guard_line, without_mark};
 ghost use Rattle.smap_record.specs.Limits.{most_file_bytes};
 ghost use Rattle.smap_record.specs.Record.{members_in};
-ghost use Rattle.smap_record.specs.Private.Given.{GivesRead};
+ghost use Rattle.smap_record.specs.Given.{GivesRead};
 ghost use Rattle.smap_record.specs.declared.refusal.MapRefusal.TheVariants.{NotJson, TooLarge};
 
 use crate::MOST_FILE_BYTES;
@@ -39,8 +39,9 @@ fn file_value(alloc: Global, bytes: &[u8]) -> Result<Value, MapRefusal>
     }
 }
 
-// What stands after a byte order mark and a guard line.
-fn json_text(bytes: &[u8]) -> &[u8]
+/// What stands after a byte order mark of UTF-8 and a guard line that begins with the four characters `)]}'`: the part of
+/// a file that is to be JSON.
+pub fn json_text(bytes: &[u8]) -> &[u8]
     ensures { result.now ≡ json_text bytes.now }
 {
     without_guard_line(without_mark(bytes))

@@ -4,7 +4,7 @@ ghost use Rattle.std.specs.List.{list_any};
 ghost use Rattle.smap_mappings.specs.Range.{is_mapping_past_limit};
 ghost use Rattle.smap_index.specs.Parts.{joined, most_parts};
 ghost use Rattle.smap_record.specs.Record.{indexed};
-ghost use Rattle.smap_record.specs.Private.Given.{GivesRead};
+ghost use Rattle.smap_record.specs.Given.{GivesRead};
 
 use crate::refusal::MapRefusal;
 use smap_index::{BuildRefusal, Index, Part};

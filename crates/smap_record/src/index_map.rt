@@ -6,7 +6,7 @@ ghost use Rattle.smap_mappings.specs.Limits.{most_indices};
 ghost use Rattle.smap_index.specs.Parts.{most_parts};
 ghost use Rattle.smap_record.specs.IndexMap.{entries_in, entries_of, entry_in, has_no_offset, index_entries, is_index_map, offset_in, regular_entry};
 ghost use Rattle.smap_record.specs.Json.{list_of, number_below};
-ghost use Rattle.smap_record.specs.Private.Given.{GivesRead};
+ghost use Rattle.smap_record.specs.Given.{GivesRead};
 ghost use Rattle.smap_record.specs.Private.Seen.{entries_seen, entry_seen, fields_seen};
 
 use crate::MOST_SECTIONS;

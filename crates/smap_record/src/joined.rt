@@ -5,7 +5,7 @@ ghost use Rattle.smap_index.specs.Parts.{most_parts};
 ghost use Rattle.smap_record.specs.IndexMap.{no_sections, sections_after};
 ghost use Rattle.smap_record.specs.Limits.{most_listed};
 ghost use Rattle.smap_record.specs.Private.PartWithin.{IsPartWithin};
-ghost use Rattle.smap_record.specs.Private.Given.{GivesRead};
+ghost use Rattle.smap_record.specs.Given.{GivesRead};
 ghost use Rattle.smap_record.specs.Section.{part_at};
 ghost use Rattle.smap_record.specs.Private.Seen.{entries_seen, sections_seen};
 

@@ -20,6 +20,7 @@ mod joined;
 mod json;
 mod map_file;
 mod outer;
+mod parts;
 mod refusal;
 mod section;
 mod sources;
@@ -27,7 +28,9 @@ mod write;
 mod written;
 
 pub use entry::SourceEntry;
+pub use file_text::{file_members, json_text};
 pub use map_file::MapFile;
+pub use parts::file_parts;
 pub use refusal::MapRefusal;
 pub use smap_index::{Answer, BuildRefusal, JoinedMappings};
 pub use smap_mappings::{Fault, FaultKind, Mapping, Meter, Origin};

@@ -4,7 +4,7 @@ ghost use Rattle.serde_json.specs.Data.{object};
 ghost use Rattle.serde_json.specs.View.{members_view, view};
 ghost use Rattle.smap_index.specs.Parts.{most_parts};
 ghost use Rattle.smap_record.specs.Outer.{is_three, outer_in};
-ghost use Rattle.smap_record.specs.Private.Given.{GivesRead};
+ghost use Rattle.smap_record.specs.Given.{GivesRead};
 ghost use Rattle.smap_record.specs.Private.Seen.{outer_seen};
 
 use crate::fields::{read_text, take};

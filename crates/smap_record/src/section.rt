@@ -5,7 +5,7 @@ ghost use Rattle.serde_json.specs.View.{view};
 ghost use Rattle.smap_mappings.specs.Mappings.{mappings_of};
 ghost use Rattle.smap_mappings.specs.Within.{IsWithin};
 ghost use Rattle.smap_record.specs.Limits.{most_listed};
-ghost use Rattle.smap_record.specs.Private.Given.{GivesRead};
+ghost use Rattle.smap_record.specs.Given.{GivesRead};
 ghost use Rattle.smap_record.specs.Section.{contents_in, ignored_in, mappings_in, names_in, section_in, sources_in};
 ghost use Rattle.smap_record.specs.Private.Seen.{fields_seen, section_seen, texts_seen};
 

@@ -5,7 +5,6 @@ use Rattle.smap_mappings.specs.Accepted.{is_below_zero}
 use Rattle.smap_mappings.specs.Faults.{values_fault}
 use Rattle.smap_mappings.specs.State.{values_at}
 use Rattle.smap_mappings.specs.Private.Reading.{fields_in, delta_in}
-use Rattle.smap_mappings.specs.declared.advance.Sums.{Sums}
 use Rattle.smap_mappings.specs.declared.cursor.Cursor.{Cursor}
 use Rattle.smap_mappings.specs.declared.fault.FaultKind.{FaultKind}
 use Rattle.smap_mappings.specs.declared.segment.Segment.{Segment}
@@ -18,16 +17,6 @@ values_after values delta = record {
   original_line = values.original_line +ℤ difference 2 delta;
   original_column = values.original_column +ℤ difference 3 delta;
   name = values.name +ℤ difference 4 delta;
-}
-
--- the sums as running values
-abbrev pub values_in : Sums → RunningValues
-values_in sums = record {
-  column = sums.column;
-  source = sums.source;
-  original_line = sums.original_line;
-  original_column = sums.original_column;
-  name = sums.name;
 }
 
 -- the least kind that holds of the values that the segment leaves, where any negative first field falls

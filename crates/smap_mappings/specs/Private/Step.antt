@@ -1,11 +1,11 @@
 -- What a step from a state gives, one segment more.
 use Rattle.std.specs.Prelude.{◌≡◌, ℕ, ℤ, ◌+◌, ◌<◌, ◌≤◌, List, [], ◌∷◌, ◌++◌, Option, Some, None, length, take, drop}
-use Rattle.smap_mappings.specs.Segments.{segments_of}
+use Rattle.smap_mappings.specs.Segments.{TextSegment, segment_on, segments_of}
 use Rattle.smap_mappings.specs.Mappings.{deltas_of}
-use Rattle.smap_mappings.specs.Faults.{first_fault_after}
+use Rattle.smap_mappings.specs.Faults.{FaultyPlace, first_faulty_after}
 use Rattle.smap_mappings.specs.State.{IsAfter, IsNext, mapping_at}
+use Rattle.smap_mappings.specs.Private.Reading.{segment_at}
 use Rattle.smap_mappings.specs.declared.cursor.Cursor.{Cursor}
-use Rattle.smap_mappings.specs.declared.fault.Fault.{Fault}
 use Rattle.smap_mappings.specs.declared.fault.FaultKind.{FaultKind}
 use Rattle.smap_mappings.specs.declared.kind.Kind.{Kind}
 use Rattle.smap_mappings.specs.declared.mapping.Mapping.{Mapping}
@@ -14,16 +14,20 @@ use Rattle.smap_mappings.specs.declared.segment.Segment.{Segment}
 use Rattle.smap_mappings.specs.declared.segment.OriginFields.{OriginFields}
 
 -- the first faulty segment from number j on
-abbrev pub fault_from : List ℕ → ℕ → ℕ → ℕ → Option Fault
-fault_from text sources names j = first_fault_after sources names (take j (deltas_of text)) (drop j (segments_of text))
+abbrev pub faulty_from : List ℕ → ℕ → ℕ → ℕ → Option FaultyPlace
+faulty_from text sources names j = first_faulty_after sources names (take j (deltas_of text)) (drop j (segments_of text))
 
--- the segment at the state's place, with this kind of fault
-abbrev pub fault_at : Cursor → FaultKind → Fault
-fault_at cursor kind = record { byte = cursor.place; line = cursor.line; kind = kind }
+-- the bytes at the state's place up to the end of the segment, on the state's line
+abbrev pub segment_at_cursor : List ℕ → Cursor → TextSegment
+segment_at_cursor text cursor = segment_on cursor.line (cursor.place, segment_at text cursor.place)
+
+-- segment j, which stands at the state's place, with this kind of fault
+abbrev pub faulty_at : List ℕ → ℕ → Cursor → FaultKind → FaultyPlace
+faulty_at text j cursor kind = record { before = take j (deltas_of text); segment = segment_at_cursor text cursor; kind = kind }
 
 -- segment j has no fault, and stands on the line of the state after it
 pub record IsStep (text : List ℕ) (j sources names : ℕ) (mapping : Mapping) (after : Cursor) : Type 0 where
-  pub passes : fault_from text sources names j ≡ fault_from text sources names (j + 1)
+  pub passes : faulty_from text sources names j ≡ faulty_from text sources names (j + 1)
   pub next : IsNext text j mapping after
   pub fields : List ℤ
   pub taken : take (j + 1) (deltas_of text) ≡ take j (deltas_of text) ++ record { line = after.line; fields = fields } ∷ []

@@ -3,10 +3,10 @@ use Rattle.std.specs.Prelude.{◌≡◌, ℕ, ◌<◌, ◌≤◌, ◌==◌, List
 use Rattle.std.specs.List.{list_any}
 use Rattle.smap_mappings.specs.Mappings.{deltas_of}
 use Rattle.smap_mappings.specs.Accepted.{are_in_range}
-use Rattle.smap_mappings.specs.Faults.{first_fault}
+use Rattle.smap_mappings.specs.Faults.{first_faulty}
 use Rattle.smap_mappings.specs.Counts.{new_lines}
 use Rattle.smap_mappings.specs.State.{values_at, IsAfter}
-use Rattle.smap_mappings.specs.Private.Step.{fault_from, IsStep}
+use Rattle.smap_mappings.specs.Private.Step.{faulty_from, IsStep}
 use Rattle.smap_mappings.specs.declared.cursor.Cursor.{Cursor}
 use Rattle.smap_mappings.specs.declared.mapping.Mapping.{Mapping}
 use Rattle.smap_mappings.specs.declared.walk.Walk.{Walk}
@@ -23,7 +23,7 @@ pub record IsStraightStep (text : List ℕ) (sources names : ℕ) (cursor after 
 -- the state is after this many segments, none of which is faulty, on as many lines
 pub record ChecksUpTo (text : List ℕ) (sources names : ℕ) (cursor : Cursor) (segments used_lines : ℕ) : Type 0 where
   pub after : IsAfter text segments cursor
-  pub passed : first_fault text sources names ≡ fault_from text sources names segments
+  pub passed : first_faulty text sources names ≡ faulty_from text sources names segments
   pub on_line : 0 < segments → list_any (λ delta. delta.line == cursor.line) (take segments (deltas_of text)) ≡ true
   pub lines : used_lines ≡ new_lines [] (take segments (deltas_of text))
   pub few : segments ≤ cursor.place

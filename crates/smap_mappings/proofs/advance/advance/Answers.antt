@@ -1,5 +1,6 @@
 use Rattle.std.proofs.Common.{ap, sym, ◌∙◌}
-use Rattle.smap_mappings.specs.Private.Advance.{values_in, sums_fault}
+use Rattle.smap_mappings.specs.State.{values_in}
+use Rattle.smap_mappings.specs.Private.Advance.{sums_fault}
 use Rattle.smap_mappings.proofs.ValueFaultLaws.{sums_in_range}
 use Rattle.smap_mappings.proofs.advance.advance.Goals as goal
 

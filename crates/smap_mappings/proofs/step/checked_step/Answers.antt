@@ -1,7 +1,7 @@
 use Rattle.std.proofs.Common.{◌≡◌, None, length, ap, arith}
 use Rattle.std.proofs.lemmas.Bool.{both_ways}
 use Rattle.smap_mappings.specs.Limits.{most_indices}
-use Rattle.smap_mappings.specs.Private.Step.{fault_from}
+use Rattle.smap_mappings.specs.Private.Step.{faulty_from}
 use Rattle.smap_mappings.proofs.CheckLaws.{no_fault_from}
 use Rattle.smap_mappings.proofs.SegmentLaws.{segment_begins}
 use Rattle.smap_mappings.proofs.StepLaws.{steps_to, can_be_read, clean_values}
@@ -10,7 +10,7 @@ use Rattle.smap_mappings.proofs.step.checked_step.Goals as goal
 use Rattle.smap_mappings.proofs.step.checked_step.Goals.{Start}
 
 -- no segment of a checked text is faulty
-none : (c : Start) → fault_from c.args.bytes.now most_indices most_indices c.requires.state.0 ≡ None
+none : (c : Start) → faulty_from c.args.bytes.now most_indices most_indices c.requires.state.0 ≡ None
 none c = no_fault_from c.args.bytes.now most_indices most_indices c.requires.state.0 c.requires.packed.accepted
 
 pub unreachable-requires : goal.unreachable-requires
