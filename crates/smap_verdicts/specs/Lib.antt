@@ -1,5 +1,11 @@
 pub mod Texts
+pub mod Shown
 pub mod Named
 pub mod Counts
+pub mod Segment
+pub mod Explanation
+pub mod Keys
+pub mod Facts
+pub mod Nearest
 pub mod Refusal
 pub mod Private

@@ -7,6 +7,8 @@ use Rattle.smap_index.specs.declared.refusal.BuildRefusal.{BuildRefusal}
 use Rattle.smap_index.specs.declared.refusal.BuildRefusal.TheVariants.{SectionOrder, SectionOverlap, PositionRange}
 use Rattle.smap_record.specs.declared.refusal.MapRefusal.{MapRefusal}
 use Rattle.smap_record.specs.declared.refusal.MapRefusal.TheVariants.{SectionOffset, Nested, Text, Build}
+use Rattle.smap_explain.specs.declared.explanation.Explanation.{Explanation}
+use Rattle.smap_verdicts.specs.Facts.{with_explanation}
 use Rattle.smap_verdicts.specs.Named.{Named, build_named, kind_named, named_text, refusal_named}
 use Rattle.smap_verdicts.specs.Texts.{count, text_from}
 
@@ -71,11 +73,15 @@ build_section_member (PositionRange section) = section_member section
 build_section_member other = no_members
 
 -- the refusal of the map at a path
-abbrev pub refusal_value : (path : List ℕ) → MapRefusal → Data
-refusal_value path (SectionOffset section) = object (refused_members path (refusal_named (SectionOffset section)) (section_member section))
-refusal_value path (Nested section) = object (refused_members path (refusal_named (Nested section)) (section_member section))
-refusal_value path (Text section fault) =
-    object (fault_members fault (refused_members path (refusal_named (Text section fault)) (section_member section)))
-refusal_value path (Build refusal) =
-    object (index_members refusal (refused_members path (refusal_named (Build refusal)) (build_section_member refusal)))
-refusal_value path other = object (refused_members path (refusal_named other) no_members)
+abbrev pub refusal_members : (path : List ℕ) → MapRefusal → Members
+refusal_members path (SectionOffset section) = refused_members path (refusal_named (SectionOffset section)) (section_member section)
+refusal_members path (Nested section) = refused_members path (refusal_named (Nested section)) (section_member section)
+refusal_members path (Text section fault) =
+    fault_members fault (refused_members path (refusal_named (Text section fault)) (section_member section))
+refusal_members path (Build refusal) =
+    index_members refusal (refused_members path (refusal_named (Build refusal)) (build_section_member refusal))
+refusal_members path other = refused_members path (refusal_named other) no_members
+
+-- and what is known of why the map is refused
+abbrev pub refusal_value : (path : List ℕ) → MapRefusal → Explanation → Data
+refusal_value path refusal explanation = object (with_explanation explanation (refusal_members path refusal))

@@ -6,30 +6,57 @@ ghost use Rattle.serde_json.specs.Written.{compact_text};
 ghost use Rattle.smap_verdicts.specs.Named.{named};
 ghost use Rattle.smap_verdicts.specs.Private.Put.{part_members, put_all};
 ghost use Rattle.smap_verdicts.specs.Refusal.{build_section_member, fault_members, index_members};
-ghost use Rattle.smap_verdicts.specs.Refusal.{refusal_value, refused_members, section_member};
+ghost use Rattle.smap_verdicts.specs.Refusal.{refusal_members, refusal_value, refused_members, section_member};
 
+use crate::facts_json::put_explanation;
 use crate::label::{Label, build_label, kind_label, refusal_label};
 use serde_json::{Map, Value, put};
+use smap_explain::Explanation;
 use smap_record::{BuildRefusal, Fault, MapRefusal};
 use std::alloc::{AllocError, Global};
 
-/// The refusal of the map at a path as JSON, on one line, with no LF. The line of a fault counts from 1, its byte and a
-/// section from 0.
-pub fn refusal_json(alloc: Global, path: &str, refusal: MapRefusal) -> Result<String, AllocError>
+/// The refusal of the map at a path and what is known of why it is refused as JSON, on one line, with no LF. Lines and
+/// columns count from 1, bytes, sections, items and indices from 0.
+#[tactic(auto, using(crate::proofs::FactsLaws::no_float))]
+pub fn refusal_json(
+    alloc: Global,
+    path: &str,
+    refusal: MapRefusal,
+    explanation: &Explanation,
+) -> Result<String, AllocError>
     ensures { IfOk result (λ text. string_bytes text
-        ≡ compact_text (refusal_value path.now refusal)) }
+        ≡ compact_text (refusal_value path.now refusal explanation.now)) }
 {
-    let value = refusal_value(alloc, path, refusal)?;
+    let value = refusal_value(alloc, path, refusal, explanation)?;
     value.to_string(alloc)
 }
 
 // The same as a value.
-fn refusal_value(alloc: Global, path: &str, refusal: MapRefusal) -> Result<Value, AllocError>
-    ensures { IfOk result (λ value. view value ≡ refusal_value path.now refusal) }
+fn refusal_value(
+    alloc: Global,
+    path: &str,
+    refusal: MapRefusal,
+    explanation: &Explanation,
+) -> Result<Value, AllocError>
+    ensures { IfOk result (λ value. view value ≡ refusal_value path.now refusal explanation.now) }
+{
+    let mut members = refusal_members(alloc, path, refusal)?;
+    put_explanation(&mut members, alloc, explanation)?;
+    Ok(Value::Object(members))
+}
+
+// The members of the refusal itself.
+fn refusal_members(
+    alloc: Global,
+    path: &str,
+    refusal: MapRefusal,
+) -> Result<Map<String, Value>, AllocError>
+    ensures { IfOk result (λ members. members_view members.entries
+        ≡ refusal_members path.now refusal) }
 {
     let mut members = refused_members(alloc, path, refusal_label(refusal))?;
     put_parts(&mut members, alloc, refusal)?;
-    Ok(Value::Object(members))
+    Ok(members)
 }
 
 // How the refusal is called, and of which map it is.
@@ -124,8 +151,8 @@ fn put_section(
     put(members, alloc, "section", Value::from(section))
 }
 
-// Adds a text at a key.
-fn put_text(
+/// Adds a text at a key.
+pub fn put_text(
     members: &mut Map<String, Value>,
     alloc: Global,
     key: &str,

@@ -3,7 +3,7 @@
 //! ```text
 //! match MapFile::read(alloc, bytes, None, 64) {
 //!     Ok(map) => counts_json(alloc, path, map_counts(&map))?,
-//!     Err(refusal) => refusal_json(alloc, path, refusal)?,
+//!     Err(refusal) => refusal_json(alloc, path, refusal, &explain(alloc, bytes, refusal)?)?,
 //! }
 //! ```
 #![tactic(auto)]
@@ -11,8 +11,17 @@
 mod as_json;
 mod as_text;
 mod counts;
+mod explained;
+mod facts_json;
+mod facts_text;
 mod label;
+mod measure_text;
+mod nearest_lines;
+mod segment_lines;
+mod shown;
 
 pub use as_json::refusal_json;
 pub use as_text::{fault_text, refusal_text};
 pub use counts::{MapCounts, counts_json, counts_text, map_counts};
+pub use explained::explanation_text;
+pub use nearest_lines::nearest_text;

@@ -1,0 +1,3 @@
+pub mod BeginningLaws
+pub mod PositionLaws
+pub mod SectionLaws

@@ -1,0 +1,10 @@
+pub mod Beginning
+pub mod Build
+pub mod Nearest
+pub mod Sections
+pub mod Found
+pub mod Rule
+pub mod Segment
+pub mod KeyFacts
+pub mod Explain
+pub mod Private

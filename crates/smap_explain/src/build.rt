@@ -1,0 +1,110 @@
+//! Why the index of a map's sections is not built.
+ghost use Rattle.std.specs.Prelude.{◌≡◌, ◌+◌, option_map, slice_get, IfOk, IfSome};
+ghost use Rattle.smap_mappings.specs.Range.{at_position};
+ghost use Rattle.smap_index.specs.Position.{IsFarBelow};
+ghost use Rattle.smap_explain.specs.Build.{build_facts, order_facts, overlap_facts, range_facts, neighbours, offset_place, place_of};
+
+use crate::explanation::{BuildFacts, Place};
+use smap_index::{BuildRefusal, Part, first_after_offset, first_past_limit};
+use smap_mappings::Position;
+use std::alloc::{AllocError, Global};
+
+/// What is known of an index that is not built of these parts; nothing where the refusal is of none of them.
+pub fn build_facts(
+    alloc: Global,
+    parts: &[Part],
+    refusal: BuildRefusal,
+) -> Result<Option<BuildFacts>, AllocError>
+    ensures { IfOk result (λ facts. facts ≡ build_facts parts.now refusal) }
+{
+    match refusal {
+        BuildRefusal::SectionOrder(section) => Ok(order_facts(parts, section)),
+        BuildRefusal::SectionOverlap(section) => overlap_facts(alloc, parts, section),
+        BuildRefusal::PositionRange(section) => range_facts(alloc, parts, section),
+        BuildRefusal::Interval => Ok(None),
+        BuildRefusal::Memory => Ok(None),
+    }
+}
+
+// The part with this number, and the one before it.
+fn neighbours(parts: &[Part], section: u64) -> Option<(&Part, &Part)>
+    ensures { option_map (λ pair. (pair.0.now, pair.1.now)) result ≡ neighbours parts.now section }
+{
+    let part = parts.get(section as usize)?;
+    let before = parts.get(section.checked_sub(1)? as usize)?;
+    Some((before, part))
+}
+
+fn order_facts(parts: &[Part], section: u64) -> Option<BuildFacts>
+    ensures { result ≡ option_map (order_facts section) (neighbours parts.now section) }
+{
+    let (before, part) = neighbours(parts, section)?;
+    Some(BuildFacts {
+        section,
+        offset: offset_place(part),
+        offset_before: Some(offset_place(before)),
+        mapping: None,
+    })
+}
+
+fn overlap_facts(
+    alloc: Global,
+    parts: &[Part],
+    section: u64,
+) -> Result<Option<BuildFacts>, AllocError>
+    ensures { IfOk result (λ facts. facts
+        ≡ option_map (overlap_facts section) (neighbours parts.now section)) }
+{
+    let Some((before, part)) = neighbours(parts, section) else {
+        return Ok(None);
+    };
+    let mapping = first_after_offset(alloc, before, part)?;
+    Ok(Some(BuildFacts {
+        section,
+        offset: offset_place(part),
+        offset_before: None,
+        mapping: place_where(mapping),
+    }))
+}
+
+fn range_facts(
+    alloc: Global,
+    parts: &[Part],
+    section: u64,
+) -> Result<Option<BuildFacts>, AllocError>
+    ensures { IfOk result (λ facts. facts
+        ≡ option_map (range_facts section) (slice_get parts.now section)) }
+{
+    let Some(part) = parts.get(section as usize) else {
+        return Ok(None);
+    };
+    let mapping = first_past_limit(alloc, part)?;
+    Ok(Some(BuildFacts {
+        section,
+        offset: offset_place(part),
+        offset_before: None,
+        mapping: place_where(mapping),
+    }))
+}
+
+// Where a part begins.
+fn offset_place(part: &Part) -> Place
+    ensures { result ≡ offset_place part.now }
+{
+    Place {
+        line: part.line as u64 + 1,
+        column: part.column as u64 + 1,
+    }
+}
+
+// The place of a position, where there is one.
+fn place_where(position: Option<Position>) -> Option<Place>
+    requires { IfSome position IsFarBelow }
+    ensures { result ≡ option_map place_of (option_map at_position position) }
+{
+    let position = position?;
+    Some(Place {
+        line: position.line + 1,
+        column: position.column + 1,
+    })
+}

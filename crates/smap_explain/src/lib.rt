@@ -1,0 +1,24 @@
+//! Why a map file is refused, in facts: what stands where, and what may stand there. The sentences are made elsewhere.
+#![tactic(auto)]
+
+mod beginning;
+mod build;
+mod explaining;
+mod explanation;
+mod found;
+mod key_place;
+mod nearest_mappings;
+mod rule;
+mod sections;
+mod segment;
+mod stop;
+
+pub use beginning::begins_as;
+pub use build::build_facts;
+pub use explaining::explain;
+pub use explanation::{
+    Beginning, BuildFacts, Explanation, Found, Key, KeyFacts, Measure, NotJsonFacts, Place,
+    Quantity, SegmentFacts, Stop,
+};
+pub use nearest_mappings::{Nearest, mappings_about};
+pub use segment::segment_facts;

@@ -1,0 +1,2 @@
+mod ShownLaws
+pub mod FactsLaws
