@@ -1,4 +1,5 @@
 mod PutLaws
+mod PrintedLaws
 mod EscapeLaws
 mod PositionLaws
 mod CountLaws

@@ -2,7 +2,7 @@
 -- from 0.
 use Rattle.std.specs.Prelude.{ℕ, ◌+◌, Bool, List, [], ◌∷◌, ◌++◌, Option, codes, nat_eq, option_and_then, option_map, slice_get}
 use Rattle.std.specs.List.{after_first, before_first}
-use Rattle.serde_json.specs.Data.{Data, boolean, number, string, array, object, unsigned, no_items, item, no_members, member}
+use Rattle.serde_json.specs.Data.{Data, boolean, number, string, array, object, unsigned, no_items, item, Members, no_members, member}
 use Rattle.serde_json.specs.Written.{compact_text}
 use Rattle.smap_mappings.specs.declared.mapping.Origin.{Origin}
 use Rattle.smap_index.specs.declared.answer.Answer.{Answer}
@@ -43,6 +43,15 @@ excerpt_value excerpt = array (
     item (string (before_first (λ byte. nat_eq byte 10) excerpt))
     (item (string (after_first (λ byte. nat_eq byte 10) excerpt)) no_items))
 
+-- the members that tell where a mapping comes from
+abbrev pub origin_members : Origin → Option StatedSource → (name : Option (List ℕ)) → Members
+origin_members origin source name =
+    member (codes "name") (value_of_text name)
+    (member (codes "originalColumn") (count (origin.column + 1))
+    (member (codes "originalLine") (count (origin.line + 1))
+    (member (codes "source") (value_of_text (source_name source))
+    (member (codes "sourceIndex") (count origin.source) no_members))))
+
 -- where the mapping comes from that answers and stands at this column; and the excerpt that shows it, where there is one
 abbrev pub found_value : (excerpt : Option (List ℕ)) → PrintedPosition → (column : ℕ) → Origin → Option StatedSource → (name : Option (List ℕ)) → Data
 found_value excerpt position column origin source name = object (
@@ -51,12 +60,7 @@ found_value excerpt position column origin source name = object (
     (member_where (codes "excerpt") (option_map excerpt_value excerpt)
     (member (codes "generatedColumn") (count (column + 1))
     (member (codes "ignored") (boolean (is_ignored source))
-    (member (codes "line") (count position.line)
-    (member (codes "name") (value_of_text name)
-    (member (codes "originalColumn") (count (origin.column + 1))
-    (member (codes "originalLine") (count (origin.line + 1))
-    (member (codes "source") (value_of_text (source_name source))
-    (member (codes "sourceIndex") (count origin.source) no_members)))))))))))
+    (member (codes "line") (count position.line) (origin_members origin source name)))))))
 
 -- what a map answers for a position, with the excerpt that shows it, where there is one
 abbrev pub answer_value : (excerpt : Option (List ℕ)) → MapRecord → PrintedPosition → Answer → Data

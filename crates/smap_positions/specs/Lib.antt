@@ -5,4 +5,5 @@ pub mod Lookup
 pub mod Json
 pub mod Positions
 pub mod Answering
+pub mod Mappings
 pub mod Private

@@ -5,4 +5,5 @@ pub mod GrowingText
 pub mod ShortText
 pub mod GatheredLine
 pub mod Escapes
-pub mod ExcerptMember
+pub mod Members
+pub mod Past

@@ -1,16 +1,19 @@
 //! Answers as lines of JSON, each with its LF.
-ghost use Rattle.std.specs.Prelude.{◌≡◌, nat_eq, option_and_then, option_map, slice_get};
+ghost use Rattle.std.specs.Prelude.{◌≡◌, nat_eq, option_and_then, option_map, slice_get, true};
 ghost use Rattle.std.specs.List.{after_first, before_first};
 ghost use Rattle.serde_json.specs.Data.{boolean};
-ghost use Rattle.serde_json.specs.Written.{compact_text};
+ghost use Rattle.serde_json.specs.Written.{compact_text, members_text};
+ghost use Rattle.smap_record.specs.Sources.{source_of};
 ghost use Rattle.smap_positions.specs.Json.{answer_value, bad_position_value, excerpt_value, found_value, json_line};
-ghost use Rattle.smap_positions.specs.Json.{none_value, unmapped_value};
-ghost use Rattle.smap_positions.specs.Private.ExcerptMember.{excerpt_member};
+ghost use Rattle.smap_positions.specs.Json.{none_value, origin_members, unmapped_value};
+ghost use Rattle.smap_positions.specs.Lookup.{is_ignored};
+ghost use Rattle.smap_positions.specs.Mappings.{bare_value, mapped_value, mapping_value};
+ghost use Rattle.smap_positions.specs.Private.Members.{excerpt_member, ignored_member};
 
 use crate::answer::{from_one, is_ignored, name_at, source_name};
 use crate::map_text::put_json_text;
 use crate::output::{Output, put_number};
-use smap_record::{Answer, MapFile, Origin};
+use smap_record::{Answer, MapFile, Mapping, Origin, SourceEntry};
 
 /// The generated line and column that were asked for, both from 1.
 #[derive(Clone, Copy)]
@@ -96,17 +99,82 @@ fn put_found<O: Output>(
     put_number(b"{\"answer\":\"found\",\"column\":", asked.column, output);
     put_excerpt(excerpt, output);
     put_number(b",\"generatedColumn\":", from_one(generated_column), output);
+    put_ignored(entry, output);
+    put_number(b",\"line\":", asked.line, output);
+    put_origin_members(entry, name_at(map, origin.name), origin, output);
+}
+
+// Puts whether a source is ignored, behind other members.
+fn put_ignored<O: Output>(entry: Option<&SourceEntry>, output: &mut O)
+    ensures { O.Puts output.old output.new (ignored_member
+        (is_ignored (option_map (λ entry. source_of entry.now) entry.entry))) }
+{
     output.put(b",\"ignored\":");
     output.put(bool_text(is_ignored(entry)));
-    put_number(b",\"line\":", asked.line, output);
+}
+
+// Puts the members that tell where a mapping comes from, behind others, and the end of the object.
+fn put_origin_members<O: Output>(
+    entry: Option<&SourceEntry>,
+    name: Option<&str>,
+    origin: &Origin,
+    output: &mut O,
+)
+    ensures { O.Puts output.old output.new (members_text true
+        (origin_members origin.now (option_map (λ entry. source_of entry.now) entry.entry)
+        (option_map (λ name. name.now) name.entry))) }
+{
     output.put(b",\"name\":");
-    put_json_text(name_at(map, origin.name), output);
+    put_json_text(name, output);
     put_number(b",\"originalColumn\":", from_one(origin.column), output);
     put_number(b",\"originalLine\":", from_one(origin.line), output);
     output.put(b",\"source\":");
     put_json_text(source_name(entry), output);
     put_number(b",\"sourceIndex\":", u64::from(origin.source), output);
     output.put(b"}");
+}
+
+/// Puts the line for a mapping.
+pub fn put_mapping_object<O: Output>(map: &MapFile, mapping: &Mapping, output: &mut O)
+    ensures { O.Puts output.old output.new
+        (json_line (mapping_value map.now.stated mapping.now)) }
+{
+    match mapping.origin {
+        None => put_bare(mapping.line, mapping.column, output),
+        Some(origin) => put_mapped(map, mapping.line, mapping.column, &origin, output),
+    }
+    output.put(b"\n");
+}
+
+// Puts that a mapping of this line and column has no original.
+fn put_bare<O: Output>(line: u32, column: u32, output: &mut O)
+    ensures { O.Puts output.old output.new (compact_text (bare_value line column)) }
+{
+    put_number(
+        b"{\"answer\":\"unmapped\",\"generatedColumn\":",
+        from_one(column),
+        output,
+    );
+    put_number(b",\"generatedLine\":", from_one(line), output);
+    output.put(b"}");
+}
+
+// Puts where a mapping of this line and column comes from.
+fn put_mapped<O: Output>(map: &MapFile, line: u32, column: u32, origin: &Origin, output: &mut O)
+    ensures { O.Puts output.old output.new (compact_text
+        (mapped_value line column origin.now
+        (slice_get map.now.stated.sources origin.now.source)
+        (option_and_then (slice_get map.now.stated.names) origin.now.name))) }
+{
+    let entry = map.source(origin.source);
+    put_number(
+        b"{\"answer\":\"found\",\"generatedColumn\":",
+        from_one(column),
+        output,
+    );
+    put_number(b",\"generatedLine\":", from_one(line), output);
+    put_ignored(entry, output);
+    put_origin_members(entry, name_at(map, origin.name), origin, output);
 }
 
 // A truth value as JSON.

@@ -1,5 +1,5 @@
 //! What a map answers for positions, as the texts that are printed: for one position, or for a text of them, a line each,
-//! while it is read. Lines and columns count from 1 in these texts and in positions that are read, columns in UTF-16 code
+//! while it is read; and its mappings, a line each. Lines and columns count from 1 in these texts and in positions that are read, columns in UTF-16 code
 //! units.
 //!
 //! ```text
@@ -7,6 +7,7 @@
 //! let position = read_position(b"12:7")?;
 //! let options = AnswerOptions { after: false, json: true };
 //! let summary = answer_positions(alloc, &mut input, &mut output, &map, options)?;
+//! print_mappings(alloc, &map, Some(0), false, &mut output)?;
 //! ```
 #![tactic(auto)]
 
@@ -19,6 +20,7 @@ mod growing_text;
 mod json_form;
 mod lookup;
 mod map_text;
+mod mappings;
 mod output;
 mod printed_position;
 mod reading;
@@ -29,6 +31,7 @@ pub use answer::from_one;
 pub use answer_options::AnswerOptions;
 pub use answering::{PositionsSummary, answer_positions};
 pub use lookup::{lookup_as_json, lookup_text};
+pub use mappings::print_mappings;
 pub use printed_position::PrintedPosition;
 pub use reading::read_position;
 pub use smap_lines::LineFault;

@@ -27,8 +27,8 @@ pub fn put_answer_line<O: Output>(map: &MapFile, answer: &Answer, output: &mut O
     }
 }
 
-// Puts the line for a place in a source.
-fn put_origin_line<O: Output>(map: &MapFile, origin: &Origin, output: &mut O)
+/// Puts the line for a place in a source.
+pub fn put_origin_line<O: Output>(map: &MapFile, origin: &Origin, output: &mut O)
     ensures { O.Puts output.old output.new (origin_line map.now.stated origin.now) }
 {
     let entry = map.source(origin.source);

@@ -1,0 +1,14 @@
+-- Members of an answer as JSON, each with the comma before it.
+use Rattle.std.specs.Prelude.{ℕ, Bool, List, [], ◌++◌, Option, Some, None, codes}
+use Rattle.serde_json.specs.Data.{boolean}
+use Rattle.serde_json.specs.Written.{compact_text}
+use Rattle.smap_positions.specs.Json.{excerpt_value}
+
+-- the excerpt, where there is one
+abbrev pub excerpt_member : Option (List ℕ) → List ℕ
+excerpt_member None = []
+excerpt_member (Some excerpt) = codes ",\"excerpt\":" ++ compact_text (excerpt_value excerpt)
+
+-- whether the source is ignored
+abbrev pub ignored_member : Bool → List ℕ
+ignored_member ignored = codes ",\"ignored\":" ++ compact_text (boolean ignored)

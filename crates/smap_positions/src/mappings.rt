@@ -1,0 +1,183 @@
+//! Printing the mappings of a map.
+ghost use Rattle.std.specs.Prelude.{◌≡◌, ◌⊎◌, [], false, true, IfErr, OnErr, OnOk, if◌then◌else◌, nat_lt};
+ghost use Rattle.smap_io.specs.Device.{Takes, TakesFront};
+ghost use Rattle.smap_lines.specs.Editing.{is_write_fault};
+ghost use Rattle.smap_lines.specs.LineOutput.{IsPut};
+ghost use Rattle.smap_lines.specs.declared.fault.LineFault.TheVariants.{Memory, Write};
+ghost use Rattle.smap_positions.specs.Mappings.{is_on_line, mapping_line, mappings_text, printed_mapping};
+ghost use Rattle.smap_positions.specs.Private.Past.{is_past_line};
+
+use crate::answer::from_one;
+use crate::gathered_line::GatheredLine;
+use crate::json_form::put_mapping_object;
+use crate::output::{Output, put_number};
+use crate::short_text::ShortText;
+use crate::text_form::{UNMAPPED, put_origin_line};
+use smap_io::{ByteSink, DeviceFault};
+use smap_lines::{Gathered, LineFault, LineOutput};
+use smap_record::{MapFile, Mapping};
+use std::alloc::Global;
+
+/// Prints the mappings of a map, or those of this generated line, which counts from 0, a line each in their order, as JSON
+/// or as text. The caller gives an output that has not failed.
+///
+/// It walks through the map's mappings and holds none of them. A room of 65,536 bytes is made before the first write, lines
+/// are gathered in it and written when it is full, and at the end, and no line takes memory. The first failure ends it, and
+/// then a front of the lines was written; where memory ran out, the output was not asked.
+pub fn print_mappings<W: ByteSink>(
+    alloc: Global,
+    map: &MapFile,
+    line: Option<u32>,
+    json: bool,
+    output: &mut W,
+) -> Result<(), LineFault>
+    requires output_works { (W.seen output.old).failed ≡ false }
+    ensures printed { OnOk result (Takes (W.seen output.old).taken (W.seen output.new).taken
+        (mappings_text json line map.now.stated)) }
+    ensures flushed { OnOk result ((W.seen output.new).flushed ≡ true) }
+    ensures front { OnErr result (TakesFront (W.seen output.old).taken (W.seen output.new).taken
+        (mappings_text json line map.now.stated)) }
+    ensures faults { IfErr result (λ fault. (fault ≡ Write) ⊎ (fault ≡ Memory)) }
+    ensures output_failure { (W.seen output.new).failed ≡ is_write_fault result }
+    ensures memory_output { IfErr result (λ fault. fault ≡ Memory → output.new ≡ output.old) }
+{
+    let Ok(mut gathered) = Gathered::new(alloc) else {
+        return Err(LineFault::Memory);
+    };
+    let Ok(()) = write_mappings(alloc, map, line, json, &mut gathered, output) else {
+        return Err(LineFault::Write);
+    };
+    match output.flush() {
+        Ok(()) => Ok(()),
+        Err(DeviceFault) => Err(LineFault::Write),
+    }
+}
+
+// Writes the lines through a room in which none waits.
+fn write_mappings<W: ByteSink>(
+    alloc: Global,
+    map: &MapFile,
+    line: Option<u32>,
+    json: bool,
+    gathered: &mut Gathered,
+    output: &mut W,
+) -> Result<(), DeviceFault>
+    requires none { gathered.old ≡ [] }
+    ensures written { OnOk result (Takes (W.seen output.old).taken (W.seen output.new).taken
+        (mappings_text json line map.now.stated)) }
+    ensures no_failure { OnOk result ((W.seen output.new).failed ≡ (W.seen output.old).failed) }
+    ensures front { OnErr result (TakesFront (W.seen output.old).taken (W.seen output.new).taken
+        (mappings_text json line map.now.stated)) }
+    ensures failure { OnErr result ((W.seen output.new).failed ≡ true) }
+{
+    let mut lent = LineOutput {
+        gathered,
+        sink: output,
+    };
+    put_mappings(alloc, map, line, json, &mut lent)?;
+    lent.write()
+}
+
+// Puts the lines after the bytes that wait. The mappings stand in order, so none is sought past the line that is asked for.
+#[tactic(auto, unfolding(crate::specs::Mappings::mappings_text))]
+fn put_mappings<W: ByteSink>(
+    alloc: Global,
+    map: &MapFile,
+    line: Option<u32>,
+    json: bool,
+    output: &mut LineOutput<'_, W>,
+) -> Result<(), DeviceFault>
+    ensures { IsPut W.seen output.old output.new (mappings_text json line map.now.stated) result }
+{
+    for mapping in map.mappings(alloc) {
+        if is_past_line(line, &mapping) {
+            return Ok(());
+        }
+        put_asked(map, line, &mapping, json, output)?;
+    }
+    Ok(())
+}
+
+// Whether a mapping stands past this line, where one is given.
+fn is_past_line(line: Option<u32>, mapping: &Mapping) -> bool
+    ensures { result ≡ is_past_line line mapping.now }
+{
+    match line {
+        Some(line) => line < mapping.line,
+        None => false,
+    }
+}
+
+// Puts the line for a mapping after the bytes that wait, if it is asked for.
+fn put_asked<W: ByteSink>(
+    map: &MapFile,
+    line: Option<u32>,
+    mapping: &Mapping,
+    json: bool,
+    output: &mut LineOutput<'_, W>,
+) -> Result<(), DeviceFault>
+    ensures { IsPut W.seen output.old output.new
+        (if is_on_line line mapping.now then printed_mapping json map.now.stated mapping.now else [])
+        result }
+{
+    if is_on_line(line, mapping) {
+        put_gathered(map, mapping, json, output)
+    } else {
+        Ok(())
+    }
+}
+
+// Whether a mapping stands on this line, where one is given.
+fn is_on_line(line: Option<u32>, mapping: &Mapping) -> bool
+    ensures { result ≡ is_on_line line mapping.now }
+{
+    match line {
+        Some(line) => mapping.line == line,
+        None => true,
+    }
+}
+
+// Puts the line for a mapping after the bytes that wait.
+fn put_gathered<W: ByteSink>(
+    map: &MapFile,
+    mapping: &Mapping,
+    json: bool,
+    output: &mut LineOutput<'_, W>,
+) -> Result<(), DeviceFault>
+    ensures { IsPut W.seen output.old output.new
+        (printed_mapping json map.now.stated mapping.now) result }
+{
+    let mut line = GatheredLine {
+        output,
+        text: ShortText::new(),
+        done: Ok(()),
+    };
+    put_mapping(map, mapping, json, &mut line);
+    line.hand_on();
+    line.done
+}
+
+// Puts the line for a mapping.
+fn put_mapping<O: Output>(map: &MapFile, mapping: &Mapping, json: bool, output: &mut O)
+    ensures { O.Puts output.old output.new
+        (printed_mapping json map.now.stated mapping.now) }
+{
+    if json {
+        put_mapping_object(map, mapping, output)
+    } else {
+        put_mapping_line(map, mapping, output)
+    }
+}
+
+// Puts the line for a mapping as text.
+fn put_mapping_line<O: Output>(map: &MapFile, mapping: &Mapping, output: &mut O)
+    ensures { O.Puts output.old output.new (mapping_line map.now.stated mapping.now) }
+{
+    output.put_decimal(from_one(mapping.line));
+    put_number(b":", from_one(mapping.column), output);
+    output.put(b" ");
+    match mapping.origin {
+        None => output.put(UNMAPPED.as_bytes()),
+        Some(origin) => put_origin_line(map, &origin, output),
+    }
+}
