@@ -1,5 +1,5 @@
 -- What the words, the list and the sources of inner maps come to, one after another.
-use Rattle.std.proofs.Common.{◌≡◌, ℕ, zero, suc, ◌+◌, ◌<◌, ◌≤◌, ◌⊎◌, List, [], ◌∷◌, ◌++◌, add-one, arith, drop, drop-cons, get_or, length, refl, sym, ap, subst, ◌∙◌, inl, inr, map}
+use Rattle.std.proofs.Common.{◌≡◌, ℕ, zero, suc, ◌+◌, ◌<◌, ◌≤◌, ◌⊎◌, List, [], ◌∷◌, ◌++◌, add-one, arith, drop, drop-cons, get_or, length, refl, sym, ap, subst, ◌∙◌, inl, inr}
 use Rattle.std.specs.Option.{option_map_or}
 use Rattle.std.specs.Result.{is_err, is_ok}
 use Rattle.std.specs.Prelude.{Bool, ◌||◌, if◌then◌else◌, slice_get, true, false, Option, Some, None, Result, Ok, Err, MatchBool, MatchOption, is_some, option_map}
@@ -13,13 +13,13 @@ use Rattle.smap_record.specs.Record.{MapRecord, record_of}
 use Rattle.smap_record.specs.Sources.{StatedSource}
 use Rattle.smap_record.specs.declared.refusal.MapRefusal.{MapRefusal}
 use Rattle.smap_store.specs.MapList.{line_entry}
-use Rattle.smap_answers.specs.ComposeAll.{GivesFound, NamesBytes, NamesEntry, NamesInners, NamesLines, NamesPair, NamesWords, OrRefused, ReadsInner, ReadsInners, ReadsSource}
+use Rattle.smap_answers.specs.ComposeAll.{GivesFound, NamesBytes, NamesEntry, NamesInners, NamesLines, NamesPair, NamesWords, ReadsInner, ReadsInners, ReadsSource}
 use Rattle.smap_answers.specs.ComposeAll.{TellsInners, is_called, pair_of}
 use Rattle.smap_answers.specs.Compose.{compose_refusal_result}
 use Rattle.smap_answers.specs.Written.{telling_or, written_of}
 use Rattle.smap_command.specs.declared.command.WriteOptions.{WriteOptions}
 use Rattle.smap_compose.specs.Composition.{all_composed}
-use Rattle.smap_answers.specs.Files.{IsUnread, MayRead}
+use Rattle.smap_answers.specs.Files.{MayRead}
 use Rattle.smap_answers.specs.Lines.{map_refused_line, no_source_named_line, twice_line}
 use Rattle.smap_answers.specs.Map.{Never, TellsFound, refusal_result}
 use Rattle.smap_answers.specs.Outcome.{OrMemory, Telling, misuse, out_of_memory, refusal}
@@ -27,7 +27,6 @@ use Rattle.smap_answers.specs.Private.Gathering.{IsReadAs, IsReadRefusal}
 use Rattle.smap_answers.specs.Private.Inners.{IsNamed, inners_stated}
 use Rattle.smap_answers.specs.Sources.{list_bytes_refusal}
 use Rattle.smap_answers.specs.Trace.{argument_text}
-use Rattle.url.specs.Parts.{Parts}
 
 -- ---- a pair
 

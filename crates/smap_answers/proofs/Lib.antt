@@ -1,6 +1,7 @@
 mod CheckLaws
 mod ComposeLaws
 mod Examples
+mod MappingsLaws
 mod NextLaws
 mod PositionsLaws
 mod RawLaws

@@ -87,7 +87,7 @@ no_map_found path (Err refused) telling told done = untold _ _ telling told done
 no_map_found path (Ok stated) telling (inl told) done = untold _ _ telling told done
 no_map_found path (Ok stated) telling (inr never) done = never
 
-no_map : (Reads : MayRead) (path : List ℕ) (base : Option Parts) (k : ℕ) (telling : Telling)
+pub no_map : (Reads : MayRead) (path : List ℕ) (base : Option Parts) (k : ℕ) (telling : Telling)
     → OrMemory (TellsMap Reads 0 path base k Never) telling → telling.is_answer ≡ true → ⊥
 no_map Reads path base k telling (inl told) done = untold _ _ telling told done
 no_map Reads path base k telling (inr (inl unread)) done = untold _ _ telling unread.1 done

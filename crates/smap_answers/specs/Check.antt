@@ -1,18 +1,24 @@
 -- What `check` tells: of one file, or of each of several, in their order.
-use Rattle.std.specs.Prelude.{◌≡◌, ℕ, ◌⊎◌, Bool, true, false, List, [], ◌∷◌, Option, if◌then◌else◌, max, suc}
+use Rattle.std.specs.Prelude.{◌≡◌, ℕ, ◌⊎◌, ◌++◌, Bool, true, false, List, [], ◌∷◌, Option, Ok, Err, codes, if◌then◌else◌, max, suc}
+use Rattle.smap_explain.specs.Explain.{IsExplained}
+use Rattle.smap_explain.specs.declared.explanation.Explanation.{Explanation}
+use Rattle.smap_io.specs.declared.transfer.ReadFailure.TheVariants.{Device}
 use Rattle.smap_positions.specs.Json.{json_line}
 use Rattle.smap_record.specs.Record.{record_of}
 use Rattle.smap_record.specs.declared.refusal.MapRefusal.{MapRefusal}
 use Rattle.smap_verdicts.specs.Counts.{counts_value, map_counts}
-use Rattle.smap_verdicts.specs.Refusal.{refusal_value}
+use Rattle.smap_verdicts.specs.Keys.{explanation_text}
+use Rattle.smap_verdicts.specs.Refusal.{refusal_text, refusal_value}
 use Rattle.smap_verdicts.specs.declared.counts.MapCounts.{MapCounts}
-use Rattle.smap_answers.specs.Files.{MayRead, OfFile}
-use Rattle.smap_answers.specs.Lines.{counts_line, map_counts_line}
-use Rattle.smap_answers.specs.Map.{IsLine, TellsFound, refusal_result}
-use Rattle.smap_answers.specs.Outcome.{OrMemory, Telling, refused_answer}
+use Rattle.smap_answers.specs.Files.{MayRead}
+use Rattle.smap_answers.specs.Lines.{counts_line, file_failed_line, map_counts_line, map_refused_line}
+use Rattle.smap_answers.specs.Map.{IsLine, TellsRead, refusal_result}
+use Rattle.smap_answers.specs.Outcome.{OrMemory, Telling, failure, refusal, refused_answer}
 use Rattle.smap_answers.specs.Streams.{Ends, Sinks}
 use Rattle.smap_answers.specs.declared.check.Form.{Form}
 use Rattle.smap_answers.specs.declared.check.Form.TheVariants.{Counts, Named, Object}
+use Rattle.smap_answers.specs.declared.files.UnreadCause.{UnreadCause}
+use Rattle.smap_answers.specs.declared.files.UnreadCause.TheVariants as causes
 use Rattle.url.specs.Parts.{Parts}
 
 -- ---- a file
@@ -23,17 +29,56 @@ accepted_line path Counts counts = counts_line counts
 accepted_line path Named counts = map_counts_line path counts
 accepted_line path Object counts = json_line (counts_value path counts)
 
--- the map at a path is refused: an answer in JSON, and else a line for standard error
-abbrev pub refused_telling : (path : List ℕ) → Form → MapRefusal → Telling
-refused_telling path Object refused = refused_answer (json_line (refusal_value path refused))
-refused_telling path Counts refused = refusal_result path refused
-refused_telling path Named refused = refusal_result path refused
+-- the line of a refusal, and then why the map is refused
+pub record IsWhyLine (bytes path : List ℕ) (refused : MapRefusal) (line : List ℕ) : Type 0 where
+  pub explanation : Explanation
+  pub known : IsExplained bytes refused explanation
+  pub text : line ≡ map_refused_line path (refusal_text refused) ++ explanation_text explanation
 
--- the file of a path is told of, with checkpoints at the interval k
-abbrev pub ChecksFile : MayRead → Option Parts → (k : ℕ) → Form → (number : ℕ) (path : List ℕ) → Telling → Type 0
-ChecksFile Reads base k form number path =
-    OfFile Reads number path (λ bytes. TellsFound (refused_telling path form) (record_of bytes base k)
-    (IsLine (λ stated. accepted_line path form (map_counts stated k))))
+-- a refusal is told on standard error, and why, where that is asked
+abbrev pub IsLineTold : (bytes path : List ℕ) → (explain : Bool) → MapRefusal → Telling → Type 0
+IsLineTold bytes path false refused telling = telling ≡ refusal_result path refused
+IsLineTold bytes path true refused telling = (line : List ℕ) × IsWhyLine bytes path refused line × (telling ≡ refusal line)
+
+-- the line of an object that tells of a refusal, and why the map is refused
+pub record IsWhyObject (bytes path : List ℕ) (refused : MapRefusal) (line : List ℕ) : Type 0 where
+  pub explanation : Explanation
+  pub known : IsExplained bytes refused explanation
+  pub text : line ≡ json_line (refusal_value path refused explanation)
+
+-- a refusal is told by such a line
+abbrev pub IsObjectTold : (bytes path : List ℕ) → MapRefusal → Telling → Type 0
+IsObjectTold bytes path refused telling = (line : List ℕ) × IsWhyObject bytes path refused line × (telling ≡ refused_answer line)
+
+-- the map of these bytes at a path is refused: an answer in JSON, and else a line for standard error
+abbrev pub IsRefusedTold : (bytes path : List ℕ) → Form → (explain : Bool) → MapRefusal → Telling → Type 0
+IsRefusedTold bytes path Object explain refused telling = IsObjectTold bytes path refused telling
+IsRefusedTold bytes path Counts explain refused telling = IsLineTold bytes path explain refused telling
+IsRefusedTold bytes path Named explain refused telling = IsLineTold bytes path explain refused telling
+
+-- the file of these bytes is told of, with checkpoints at the interval k
+abbrev pub ChecksBytes : Option Parts → (k : ℕ) → Form → (explain : Bool) → (path bytes : List ℕ) → Telling → Type 0
+ChecksBytes base k form explain path bytes =
+    TellsRead (IsRefusedTold bytes path form explain) (record_of bytes base k)
+    (IsLine (λ stated. accepted_line path form (map_counts stated k)))
+
+-- why a file can't be read
+abbrev pub cause_text : UnreadCause → List ℕ
+cause_text causes.Missing = codes "  there is no such file\n"
+cause_text causes.Folder = codes "  the path is that of a folder\n"
+cause_text causes.NoPermission = codes "  the file may not be read: permission is denied\n"
+cause_text causes.Other = codes "  the file is there, and reading it failed\n"
+
+-- the file at a path can't be read, and that is told, and why, where that is asked: the machine tells the cause
+abbrev pub IsUnreadTold : (path : List ℕ) → (explain : Bool) → Telling → Type 0
+IsUnreadTold path false telling = telling ≡ failure (file_failed_line path)
+IsUnreadTold path true telling = (cause : UnreadCause) × (telling ≡ failure (file_failed_line path ++ cause_text cause))
+
+-- the file of a path is told of: it can't be read, or its bytes decide
+abbrev pub ChecksFile : MayRead → Option Parts → (k : ℕ) → Form → (explain : Bool) → (number : ℕ) (path : List ℕ) → Telling → Type 0
+ChecksFile Reads base k form explain number path telling =
+    (Reads number path (Err Device) × IsUnreadTold path explain telling)
+    ⊎ ((bytes : List ℕ) × Reads number path (Ok bytes) × ChecksBytes base k form explain path bytes telling)
 
 -- ---- several files
 
@@ -49,8 +94,10 @@ ChecksOn first between rest status after =
     ⊎ ((between.output.failed ≡ false) × ((others : ℕ) × rest others after × (status ≡ max first others)))
 
 -- the files at these paths, of which the first has this number, one after another
-abbrev pub ChecksAll : MayRead → Option Parts → (k : ℕ) → Form → (number : ℕ) (paths : List (List ℕ)) → (status : ℕ) → (before after : Sinks) → Type 0
-ChecksAll Reads base k form number [] status before after = (status ≡ 0) × (after ≡ before)
-ChecksAll Reads base k form number (path ∷ paths) status before after =
-    (telling : Telling) × (first : ℕ) × (between : Sinks) × OrMemory (ChecksFile Reads base k form number path) telling × Ends telling first before between
-    × ChecksOn first between (λ others after. ChecksAll Reads base k form (suc number) paths others between after) status after
+abbrev pub ChecksAll : MayRead → Option Parts → (k : ℕ) → Form → (explain : Bool) → (number : ℕ) (paths : List (List ℕ)) → (status : ℕ)
+    → (before after : Sinks) → Type 0
+ChecksAll Reads base k form explain number [] status before after = (status ≡ 0) × (after ≡ before)
+ChecksAll Reads base k form explain number (path ∷ paths) status before after =
+    (telling : Telling) × (first : ℕ) × (between : Sinks) × OrMemory (ChecksFile Reads base k form explain number path) telling
+    × Ends telling first before between
+    × ChecksOn first between (λ others after. ChecksAll Reads base k form explain (suc number) paths others between after) status after

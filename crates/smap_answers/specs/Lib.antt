@@ -6,8 +6,10 @@ pub mod Files
 pub mod Map
 pub mod Check
 pub mod Show
+pub mod Explain
 pub mod Lookup
 pub mod Positions
+pub mod Mappings
 pub mod Written
 pub mod Compose
 pub mod ComposeAll

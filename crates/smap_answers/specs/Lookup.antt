@@ -1,9 +1,22 @@
 -- What `lookup` prints: as text or as JSON.
-use Rattle.std.specs.Prelude.{ℕ, Bool, List, if◌then◌else◌}
+use Rattle.std.specs.Prelude.{ℕ, ◌++◌, Bool, false, true, List, if◌then◌else◌}
+use Rattle.smap_explain.specs.Nearest.{nearest}
+use Rattle.smap_index.specs.Parts.{joined}
 use Rattle.smap_record.specs.Record.{MapRecord}
 use Rattle.smap_positions.specs.Json.{lookup_json}
 use Rattle.smap_positions.specs.Lookup.{lookup_text}
+use Rattle.smap_verdicts.specs.Nearest.{nearest_text}
+
+-- which mappings stand nearest to the position
+abbrev pub about_text : (line column : ℕ) → MapRecord → List ℕ
+about_text line column stated = nearest_text line (nearest line column (joined stated.parts))
+
+-- the answer as text and, where that is asked, the mappings nearest to the position
+abbrev pub lookup_lines : (after explain : Bool) (line column : ℕ) → MapRecord → List ℕ
+lookup_lines after false line column stated = lookup_text after line column stated
+lookup_lines after true line column stated = lookup_text after line column stated ++ about_text line column stated
 
 -- for a generated line and column, from 0: at the position or before it or, where that is asked, at it or after it
-abbrev pub lookup_print : (after json : Bool) (line column : ℕ) → MapRecord → List ℕ
-lookup_print after json line column stated = if json then lookup_json after line column stated else lookup_text after line column stated
+abbrev pub lookup_print : (after json explain : Bool) (line column : ℕ) → MapRecord → List ℕ
+lookup_print after json explain line column stated =
+    if json then lookup_json after line column stated else lookup_lines after explain line column stated

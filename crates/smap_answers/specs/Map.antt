@@ -15,9 +15,13 @@ refusal_result path refused = refusal (map_refused_line path (refusal_text refus
 
 -- a map that is found decides what is told, and so does its refusal; one that is not refused may yet be refused since
 -- resolving a source gave a URL that is too long: when that is so, `url` decides
+abbrev pub TellsRead : (MapRefusal → Telling → Type 0) → Result MapRecord MapRefusal → (MapRecord → Telling → Type 0) → Telling → Type 0
+TellsRead Refuses (Err refused) Tells telling = Refuses refused telling
+TellsRead Refuses (Ok stated) Tells telling = Refuses Url telling ⊎ Tells stated telling
+
+-- the same, where its refusal alone decides what is told of it
 abbrev pub TellsFound : (MapRefusal → Telling) → Result MapRecord MapRefusal → (MapRecord → Telling → Type 0) → Telling → Type 0
-TellsFound refusal_of (Err refused) Tells telling = telling ≡ refusal_of refused
-TellsFound refusal_of (Ok stated) Tells telling = (telling ≡ refusal_of Url) ⊎ Tells stated telling
+TellsFound refusal_of = TellsRead (λ refused telling. telling ≡ refusal_of refused)
 
 -- the same of what the bytes of a file give, with its sources resolved against the base and checkpoints at the interval k
 abbrev pub TellsMap : MayRead → (number : ℕ) (path : List ℕ) → Option Parts → (k : ℕ) → (MapRecord → Telling → Type 0) → Telling → Type 0

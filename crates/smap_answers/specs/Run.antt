@@ -6,10 +6,12 @@ use Rattle.smap_command.specs.Limits.{usual_interval}
 use Rattle.smap_answers.specs.Check.{ChecksAll, ChecksFile, form_of}
 use Rattle.smap_answers.specs.Compose.{TellsComposed}
 use Rattle.smap_answers.specs.ComposeAll.{TellsAllComposed}
+use Rattle.smap_answers.specs.Explain.{TellsCode}
 use Rattle.smap_answers.specs.Files.{MayRead}
 use Rattle.smap_answers.specs.Lines.{input_failed_line}
 use Rattle.smap_answers.specs.Lookup.{lookup_print}
 use Rattle.smap_answers.specs.Map.{IsLine, IsResult, TellsMap}
+use Rattle.smap_answers.specs.Mappings.{MappingsTells}
 use Rattle.smap_answers.specs.Outcome.{OrMemory, Telling, failure}
 use Rattle.smap_answers.specs.Positions.{PositionsTells}
 use Rattle.smap_answers.specs.Raw.{raw_result}
@@ -21,8 +23,8 @@ use Rattle.smap_answers.specs.Written.{all_written}
 use Rattle.smap_lines.specs.Editing.{DevicesSeen, devices_seen}
 use Rattle.smap_answers.specs.Trace.{IsTraceRewritten, RewriteTells, argument_of}
 use Rattle.smap_command.specs.declared.command.Command.{Command}
-use Rattle.smap_command.specs.declared.command.Command.TheVariants.{Raw, Check, CheckAll, Show, ShowWith, Lookup, Positions}
-use Rattle.smap_command.specs.declared.command.Command.TheVariants.{Rewrite, RewriteFrom, Compose, ComposeWith, ComposeAll}
+use Rattle.smap_command.specs.declared.command.Command.TheVariants.{Raw, Check, CheckAll, Show, ShowWith, Lookup, Positions, Mappings}
+use Rattle.smap_command.specs.declared.command.Command.TheVariants.{Rewrite, RewriteFrom, Compose, ComposeWith, ComposeAll, Explain}
 use Rattle.smap_answers.specs.declared.check.Form.TheVariants.{Counts}
 
 -- ---- `raw`
@@ -46,6 +48,10 @@ pub record RawTells (line column : ℕ) (before after : DevicesSeen) (telling : 
 abbrev pub TellsAside : (Telling → Type 0) → (before after : DevicesSeen) → Telling → Type 0
 TellsAside IsTelling before after telling = (after ≡ before) × OrMemory IsTelling telling
 
+-- a command leaves standard input alone, and does this with standard output
+abbrev pub TellsUnread : ((before after : SinkSeen) → Telling → Type 0) → (before after : DevicesSeen) → Telling → Type 0
+TellsUnread Tells before after telling = (after.input ≡ before.input) × Tells before.output after.output telling
+
 -- a run tells one thing, as this says with what it does to standard input and output before, and ends with this status
 pub record RunsOne (Tells : (before after : DevicesSeen) → Telling → Type 0) (status : ℕ) (before after : Streams) : Type 0 where
   pub telling : Telling
@@ -61,15 +67,16 @@ IsRunnable command = HasInterval command × HasBytes command
 -- a run of a command over files of which reading gives this, and the status with which it ends
 abbrev pub Runs : MayRead → Command → (status : ℕ) → (before after : Streams) → Type 0
 Runs Reads (Raw line column interval) = RunsOne (RawTells line column)
-Runs Reads (Check path base interval) = RunsOne (TellsAside (ChecksFile Reads base interval Counts 0 (string_bytes path)))
-Runs Reads (CheckAll paths base interval json) = λ status before after. (after.input ≡ before.input)
-    × ChecksAll Reads base interval (form_of json) 0 (map string_bytes paths.items) status before.sinks after.sinks
+Runs Reads (Check path base interval explain) = RunsOne (TellsAside (ChecksFile Reads base interval Counts explain 0 (string_bytes path)))
+Runs Reads (CheckAll paths base interval json explain) = λ status before after. (after.input ≡ before.input)
+    × ChecksAll Reads base interval (form_of json) explain 0 (map string_bytes paths.items) status before.sinks after.sinks
 Runs Reads (Show path base) = RunsOne (TellsAside (TellsMap Reads 0 (string_bytes path) base usual_interval (IsResult show_result)))
 Runs Reads (ShowWith path base options) =
     RunsOne (TellsAside (TellsMap Reads 0 (string_bytes path) base usual_interval (IsResult (show_with_result options))))
-Runs Reads (Lookup path line column base interval after json) =
-    RunsOne (TellsAside (TellsMap Reads 0 (string_bytes path) base interval (IsLine (lookup_print after json line column))))
+Runs Reads (Lookup path line column base interval after json explain) =
+    RunsOne (TellsAside (TellsMap Reads 0 (string_bytes path) base interval (IsLine (lookup_print after json explain line column))))
 Runs Reads (Positions path base interval after json) = RunsOne (PositionsTells Reads (string_bytes path) base interval after json)
+Runs Reads (Mappings path base line json) = RunsOne (TellsUnread (MappingsTells Reads (string_bytes path) base usual_interval line json))
 Runs Reads (Rewrite maps base interval hide_ignored) =
     RunsOne (RewriteTells Reads base interval (IsTraceRewritten hide_ignored) (map argument_of maps.items))
 Runs Reads (RewriteFrom maps list base interval hide_ignored anywhere cache_bytes limit_bytes summary) =
@@ -88,3 +95,4 @@ Runs Reads (ComposeWith outer source inner base options) =
     RunsOne (TellsAside (TellsComposed Reads options (string_bytes outer) source (string_bytes inner) base))
 Runs Reads (ComposeAll outer inners list base options) =
     RunsOne (TellsAside (TellsAllComposed Reads options (string_bytes outer) (map argument_of inners.items) (option_map string_bytes list) base))
+Runs Reads (Explain code) = RunsOne (TellsAside (TellsCode (option_map string_bytes code)))

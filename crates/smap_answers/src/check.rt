@@ -1,19 +1,21 @@
 //! Checking map files: how much each holds.
-ghost use Rattle.std.specs.Prelude.{◌≡◌, ◌≢◌, false, map, option_copied, string_bytes, IfOk};
-ghost use Rattle.smap_answers.specs.Check.{ChecksAll, ChecksFile, accepted_line, form_of, refused_telling};
-ghost use Rattle.smap_answers.specs.Outcome.{OrMemory, telling_of};
+ghost use Rattle.std.specs.Prelude.{◌≡◌, ◌≢◌, ◌++◌, false, map, option_copied, string_bytes, IfOk};
+ghost use Rattle.smap_answers.specs.Check.{ChecksAll, ChecksBytes, ChecksFile, IsLineTold, IsObjectTold, IsRefusedTold, IsUnreadTold, IsWhyLine, IsWhyObject, accepted_line, cause_text, form_of};
+ghost use Rattle.smap_answers.specs.Lines.{file_failed_line};
+ghost use Rattle.smap_answers.specs.Outcome.{OrMemory, failure_telling, telling_of};
 ghost use Rattle.smap_answers.specs.Streams.{sinks_seen};
 ghost use Rattle.smap_record.specs.declared.refusal.MapRefusal.TheVariants.{Memory};
 
-use crate::files::FileReader;
+use crate::files::{FileReader, UnreadCause};
 use crate::lines;
-use crate::map::{MapReader, file_bytes};
+use crate::map::MapReader;
 use crate::outcome::{DONE, Failure, Reply};
-use crate::refusal::refusal_of;
+use crate::refusal::refusal_line;
 use crate::telling::tell;
-use smap_io::ByteSink;
+use smap_explain::explain;
+use smap_io::{ByteSink, ReadFailure};
 use smap_record::{MapFile, MapRefusal};
-use smap_verdicts::{MapCounts, counts_json, map_counts, refusal_json};
+use smap_verdicts::{MapCounts, counts_json, explanation_text, map_counts, refusal_json};
 use std::alloc::{AllocError, Global};
 
 /// How a file is told of.
@@ -27,6 +29,15 @@ pub enum Form {
     Object,
 }
 
+/// How files are told of.
+#[derive(Clone, Copy)]
+pub struct CheckOptions {
+    /// Whether each map is told by a JSON object.
+    pub json: bool,
+    /// Whether a refusal that is told by a line is followed by why the map is refused.
+    pub explain: bool,
+}
+
 /// What is told of the file of this number and path.
 pub fn answer_check<F: FileReader>(
     alloc: Global,
@@ -34,14 +45,15 @@ pub fn answer_check<F: FileReader>(
     number: usize,
     path: &str,
     form: Form,
+    explain: bool,
 ) -> Result<Reply, Failure>
     ensures { OrMemory (ChecksFile (F.gives maps.now.files.now) (option_copied maps.now.base)
-        maps.now.interval form number path.now) (telling_of result) }
+        maps.now.interval form explain number path.now) (telling_of result) }
 {
-    let bytes = file_bytes(alloc, maps.files, number, path)?;
-    match MapFile::read_owned(alloc, bytes, maps.base, maps.interval) {
-        Ok(map) => Ok(Reply::Text(accepted_line(alloc, path, map_counts(&map), form)?)),
-        Err(refused) => refused_reply(alloc, path, refused, form),
+    match maps.files.read_file(alloc, number, path) {
+        Ok(bytes) => answer_bytes(alloc, maps, &bytes, path, form, explain),
+        Err(ReadFailure::Device) => Err(unread(alloc, maps.files, path, explain)),
+        Err(ReadFailure::Memory) => Err(Failure::Memory),
     }
 }
 
@@ -53,20 +65,20 @@ pub fn check_all<F: FileReader, W: ByteSink, E: ByteSink>(
     alloc: Global,
     maps: &MapReader<'_, F>,
     paths: &[String],
-    json: bool,
+    options: CheckOptions,
     output: &mut W,
     errors: &mut E,
 ) -> u8
     requires output_works { (W.seen output.old).failed ≡ false }
     ensures { ChecksAll (F.gives maps.now.files.now) (option_copied maps.now.base) maps.now.interval
-        (form_of json) 0 (map string_bytes paths.now) result
+        (form_of options.json) options.explain 0 (map string_bytes paths.now) result
         (sinks_seen (W.seen output.old) (E.seen errors.old))
         (sinks_seen (W.seen output.new) (E.seen errors.new)) }
 {
-    let form = form_of(json);
+    let form = form_of(options.json);
     let mut status = DONE;
     for (number, path) in paths.iter().enumerate() {
-        let outcome = answer_check(alloc, maps, number, path, form);
+        let outcome = answer_check(alloc, maps, number, path, form, options.explain);
         status = status.max(tell(&outcome, output, errors));
         if output.failed() {
             break;
@@ -80,6 +92,24 @@ fn form_of(json: bool) -> Form
     ensures { result ≡ form_of json }
 {
     if json { Form::Object } else { Form::Named }
+}
+
+// What is told of the file of these bytes at a path.
+fn answer_bytes<F: FileReader>(
+    alloc: Global,
+    maps: &MapReader<'_, F>,
+    bytes: &[u8],
+    path: &str,
+    form: Form,
+    explain: bool,
+) -> Result<Reply, Failure>
+    ensures { OrMemory (ChecksBytes (option_copied maps.now.base) maps.now.interval form explain
+        path.now bytes.now) (telling_of result) }
+{
+    match MapFile::read(alloc, bytes, maps.base, maps.interval) {
+        Ok(map) => Ok(Reply::Text(accepted_line(alloc, path, map_counts(&map), form)?)),
+        Err(refused) => refused_reply(alloc, path, bytes, refused, form, explain),
+    }
 }
 
 // The line for a map that holds so much.
@@ -98,23 +128,120 @@ fn accepted_line(
     }
 }
 
-// Why a map is refused. Want of memory is no refusal of the map.
+// Why the map of these bytes is refused. Want of memory is no refusal of the map.
 fn refused_reply(
     alloc: Global,
     path: &str,
+    bytes: &[u8],
     refused: MapRefusal,
     form: Form,
+    explain: bool,
 ) -> Result<Reply, Failure>
     ensures { OrMemory (λ telling. (refused ≢ Memory)
-        × (telling ≡ refused_telling path.now form refused))
-        (telling_of result) }
+        × IsRefusedTold bytes.now path.now form explain refused telling) (telling_of result) }
 {
-    let Form::Object = form else {
-        return Err(refusal_of(alloc, path, refused));
-    };
+    match form {
+        Form::Object => object_reply(alloc, path, bytes, refused),
+        Form::Counts | Form::Named => Err(line_failure(alloc, path, bytes, refused, explain)),
+    }
+}
+
+fn object_reply(
+    alloc: Global,
+    path: &str,
+    bytes: &[u8],
+    refused: MapRefusal,
+) -> Result<Reply, Failure>
+    ensures { OrMemory (λ telling. (refused ≢ Memory)
+        × IsObjectTold bytes.now path.now refused telling) (telling_of result) }
+{
     if let MapRefusal::Memory = refused {
         return Err(Failure::Memory);
     }
-    let line = lines::object_line(refusal_json(alloc, path, refused)?)?;
-    Ok(Reply::Refused(line))
+    Ok(Reply::Refused(why_object(alloc, path, bytes, refused)?))
+}
+
+// The object that tells of a refusal, and says why, as a line.
+fn why_object(
+    alloc: Global,
+    path: &str,
+    bytes: &[u8],
+    refused: MapRefusal,
+) -> Result<String, AllocError>
+    ensures { IfOk result (λ line. IsWhyObject bytes.now path.now refused (string_bytes line)) }
+{
+    let explanation = explain(alloc, bytes, refused)?;
+    lines::object_line(refusal_json(alloc, path, refused, &explanation)?)
+}
+
+fn line_failure(
+    alloc: Global,
+    path: &str,
+    bytes: &[u8],
+    refused: MapRefusal,
+    explain: bool,
+) -> Failure
+    ensures { OrMemory (λ telling. (refused ≢ Memory)
+        × IsLineTold bytes.now path.now explain refused telling) (failure_telling result) }
+{
+    let line = if explain {
+        why_line(alloc, path, bytes, refused)
+    } else {
+        refusal_line(alloc, path, refused)
+    };
+    match line {
+        Ok(line) => Failure::Refusal(line),
+        Err(_) => Failure::Memory,
+    }
+}
+
+// The line that tells of a refusal, and the lines that say why.
+fn why_line(
+    alloc: Global,
+    path: &str,
+    bytes: &[u8],
+    refused: MapRefusal,
+) -> Result<String, AllocError>
+    ensures told { IfOk result (λ line. IsWhyLine bytes.now path.now refused (string_bytes line)) }
+    ensures not_memory { IfOk result (λ _. refused ≢ Memory) }
+{
+    let line = refusal_line(alloc, path, refused)?;
+    let explanation = explain(alloc, bytes, refused)?;
+    let why = explanation_text(alloc, &explanation)?;
+    format!(in alloc; "{line}{why}")
+}
+
+// That the file at a path can't be read and, where that is asked, why not.
+fn unread<F: FileReader>(alloc: Global, reader: &F, path: &str, explain: bool) -> Failure
+    ensures { OrMemory (IsUnreadTold path.now explain) (failure_telling result) }
+{
+    let line = if explain {
+        cause_line(alloc, path, reader.unread_cause(path))
+    } else {
+        lines::file_failed_line(alloc, path)
+    };
+    match line {
+        Ok(line) => Failure::Unreadable(line),
+        Err(_) => Failure::Memory,
+    }
+}
+
+fn cause_line(alloc: Global, path: &str, cause: UnreadCause) -> Result<String, AllocError>
+    ensures { IfOk result (λ line. string_bytes line
+        ≡ file_failed_line path.now ++ cause_text cause) }
+{
+    let (line, cause) = (lines::file_failed_line(alloc, path)?, cause_text(cause));
+    format!(in alloc; "{line}{cause}")
+}
+
+// Why a file can't be read, in a sentence.
+fn cause_text(cause: UnreadCause) -> &'static str
+    ensures { result.now ≡ cause_text cause }
+{
+    match cause {
+        UnreadCause::Missing => "  there is no such file\n",
+        UnreadCause::Folder => "  the path is that of a folder\n",
+        UnreadCause::NoPermission => "  the file may not be read: permission is denied\n",
+        UnreadCause::Other => "  the file is there, and reading it failed\n",
+    }
 }

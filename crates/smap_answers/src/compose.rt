@@ -32,7 +32,8 @@ pub struct TwoMaps<'a> {
 }
 
 /// Reads the maps that the files at the two paths are, the outer one first, and composes them, without what the options
-/// leave out. Where the outer map is refused, the other file is read all the same: one that can't be read is told before that.
+/// leave out. Where the outer map is refused, the other file is read all the same: one that can't be read is told before
+/// that.
 pub fn answer_compose<F: FileReader>(
     alloc: Global,
     reader: &F,

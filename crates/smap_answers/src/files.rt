@@ -5,7 +5,7 @@ ghost use Rattle.smap_answers.specs.Files.{MayRead, gives_loaded};
 use smap_io::{FromStd, ReadFailure, read_all};
 use smap_record::MOST_FILE_BYTES;
 use std::alloc::Global;
-use std::fs::File;
+use std::fs::{File, metadata};
 use std::io;
 
 /// A reader of the files that a command names.
@@ -18,6 +18,22 @@ pub trait FileReader {
     fn read_file(&self, alloc: Global, number: usize, path: &str) -> Result<Vec<u8>, ReadFailure>
         ensures read { IfOk result (λ bytes. gives self.now number path.now (Ok bytes.items)) }
         ensures failure { IfErr result (λ failure. gives self.now number path.now (Err failure)) };
+
+    /// Why the file at this path, which could not be read, can't be.
+    fn unread_cause(&self, path: &str) -> UnreadCause;
+}
+
+/// Why a file can't be read.
+#[derive(Clone, Copy)]
+pub enum UnreadCause {
+    /// There is no file at the path.
+    Missing,
+    /// The path is that of a folder.
+    Folder,
+    /// The file may not be read.
+    NoPermission,
+    /// None of these is known.
+    Other,
 }
 
 /// The files of the machine, of whose bytes nothing is told.
@@ -31,6 +47,29 @@ impl FileReader for HostRuntime {
             Err(error) if error.kind() == io::ErrorKind::OutOfMemory => Err(ReadFailure::Memory),
             Err(_) => Err(ReadFailure::Device),
         }
+    }
+
+    // The file is asked about anew.
+    fn unread_cause(&self, path: &str) -> UnreadCause {
+        if let Ok(found) = metadata(self, path)
+            && found.is_dir()
+        {
+            return UnreadCause::Folder;
+        }
+        match File::open(self, path) {
+            Ok(_) => UnreadCause::Other,
+            Err(error) => cause_of(error.kind()),
+        }
+    }
+}
+
+// Why a file can't be opened.
+fn cause_of(kind: io::ErrorKind) -> UnreadCause {
+    match kind {
+        io::ErrorKind::NotFound | io::ErrorKind::NotADirectory => UnreadCause::Missing,
+        io::ErrorKind::IsADirectory => UnreadCause::Folder,
+        io::ErrorKind::PermissionDenied => UnreadCause::NoPermission,
+        _ => UnreadCause::Other,
     }
 }
 
@@ -62,5 +101,9 @@ impl FileReader for LoadedFiles<'_> {
             };
         }
         Err(ReadFailure::Device)
+    }
+
+    fn unread_cause(&self, _path: &str) -> UnreadCause {
+        UnreadCause::Missing
     }
 }

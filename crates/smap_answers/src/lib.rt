@@ -3,7 +3,8 @@
 //!
 //! ```text
 //! let interval = USUAL_INTERVAL;
-//! let command = Command::Lookup { path, line: 0, column: 5, base: None, interval, after: false, json: false };
+//! let (base, after, json, explain) = (None, false, false, false);
+//! let command = Command::Lookup { path, line: 0, column: 5, base, interval, after, json, explain };
 //! let status = run_reading(rt.alloc(), &rt, &command, &mut input, &mut output, &mut errors);
 //! ```
 #![tactic(auto)]
@@ -11,6 +12,7 @@
 mod check;
 mod compose;
 mod compose_all;
+mod explain;
 mod files;
 mod inners;
 mod limits;
@@ -18,6 +20,7 @@ mod lines;
 mod loader;
 mod lookup;
 mod map;
+mod mappings;
 mod outcome;
 mod positions;
 mod raw;
@@ -30,7 +33,7 @@ mod telling;
 mod trace;
 mod written;
 
-pub use files::{FileReader, Loaded};
+pub use files::{FileReader, Loaded, UnreadCause};
 pub use outcome::{Failure, Reply};
 pub use refusal::refusal_line;
 pub use running::{run, run_reading};

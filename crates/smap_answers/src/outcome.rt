@@ -26,7 +26,8 @@ pub enum Reply {
     /// Why a map is refused, where the answer was asked for in JSON: whole, with its last LF. Its status is 1, and that of
     /// all others 0.
     Refused(String),
-    /// The trace is rewritten or the positions are answered, and standard output has that already: nothing is added.
+    /// The trace is rewritten, the positions are answered or the mappings are printed, and standard output has that already:
+    /// nothing is added.
     Rewritten,
 }
 
@@ -43,8 +44,8 @@ pub enum Failure {
     Unreadable(String),
     /// Standard input failed: status 3.
     InputFailure,
-    /// The trace is rewritten or the positions are answered up to this fault: status 1 for an input that is too long, and 3
-    /// for the others.
+    /// The trace is rewritten, the positions are answered or the mappings are printed up to this fault: status 1 for an input
+    /// that is too long, and 3 for the others.
     Fault(RewriteFault),
     /// Memory ran out: status 3.
     Memory,

@@ -4,12 +4,14 @@ ghost use Rattle.smap_answers.specs.Files.{gives_loaded};
 ghost use Rattle.smap_answers.specs.Run.{IsRunnable, Runs};
 ghost use Rattle.smap_answers.specs.Streams.{streams_seen};
 
-use crate::check::{Form, answer_check, check_all};
+use crate::check::{CheckOptions, Form, answer_check, check_all};
 use crate::compose::{TwoMaps, answer_compose};
 use crate::compose_all::{AllMaps, answer_compose_all};
+use crate::explain::answer_explain;
 use crate::files::{FileReader, Loaded, LoadedFiles};
-use crate::lookup::answer_lookup;
+use crate::lookup::{LookupOptions, answer_lookup};
 use crate::map::MapReader;
+use crate::mappings::answer_mappings;
 use crate::positions::answer_positions;
 use crate::raw::answer_raw;
 use crate::rewrite_from::{RewriteRequest, rewrite_from};
@@ -17,7 +19,7 @@ use crate::show::{answer_show, answer_show_with};
 use crate::telling::tell;
 use crate::trace::answer_rewrite;
 use crate::written::ALL_WRITTEN;
-use smap_command::Command;
+use smap_command::{Command, USUAL_INTERVAL};
 use smap_io::{ByteSink, ByteSource};
 use smap_positions::AnswerOptions;
 use std::alloc::Global;
@@ -73,26 +75,30 @@ pub fn run_reading<F: FileReader, R: ByteSource, W: ByteSink, E: ByteSink>(
             path,
             base,
             interval,
+            explain,
         } => {
             let maps = MapReader {
                 files: reader,
                 base: base.as_ref(),
                 interval: *interval,
             };
-            answer_check(alloc, &maps, 0, path, Form::Counts)
+            answer_check(alloc, &maps, 0, path, Form::Counts, *explain)
         }
         Command::CheckAll {
             paths,
             base,
             interval,
             json,
+            explain,
         } => {
             let maps = MapReader {
                 files: reader,
                 base: base.as_ref(),
                 interval: *interval,
             };
-            return check_all(alloc, &maps, paths, *json, output, errors);
+            let (json, explain) = (*json, *explain);
+            let options = CheckOptions { json, explain };
+            return check_all(alloc, &maps, paths, options, output, errors);
         }
         Command::Show { path, base } => answer_show(alloc, reader, path, base.as_ref()),
         Command::ShowWith {
@@ -108,14 +114,19 @@ pub fn run_reading<F: FileReader, R: ByteSource, W: ByteSink, E: ByteSink>(
             interval,
             after,
             json,
+            explain,
         } => {
             let maps = MapReader {
                 files: reader,
                 base: base.as_ref(),
                 interval: *interval,
             };
-            let (after, json) = (*after, *json);
-            let options = AnswerOptions { after, json };
+            let (after, json, explain) = (*after, *json, *explain);
+            let options = LookupOptions {
+                after,
+                json,
+                explain,
+            };
             answer_lookup(alloc, &maps, path, *line, *column, options)
         }
         Command::Positions {
@@ -133,6 +144,19 @@ pub fn run_reading<F: FileReader, R: ByteSource, W: ByteSink, E: ByteSink>(
             let (after, json) = (*after, *json);
             let options = AnswerOptions { after, json };
             answer_positions(alloc, &maps, path, options, input, output)
+        }
+        Command::Mappings {
+            path,
+            base,
+            line,
+            json,
+        } => {
+            let maps = MapReader {
+                files: reader,
+                base: base.as_ref(),
+                interval: USUAL_INTERVAL,
+            };
+            answer_mappings(alloc, &maps, path, *line, *json, output)
         }
         Command::Rewrite {
             maps: arguments,
@@ -219,6 +243,7 @@ pub fn run_reading<F: FileReader, R: ByteSource, W: ByteSink, E: ByteSink>(
             };
             answer_compose_all(alloc, reader, &maps, *options)
         }
+        Command::Explain { code } => answer_explain(alloc, code.as_deref()),
     };
     tell(&outcome, output, errors)
 }

@@ -22,7 +22,7 @@ use Rattle.clap.specs.declared.builder.value_parser.ValueParser.TheVariants as p
 use Rattle.clap.specs.declared.error.Error.{Error}
 use Rattle.clap.specs.declared.error.kind.ErrorKind.TheVariants.{DisplayHelp, DisplayVersion, OutOfMemory}
 use Rattle.smap_arguments.specs.CommandLine.{base_rule, bytes_number, bytes_rule, check, compose, flag_rule, interval_number, interval_rule}
-use Rattle.smap_arguments.specs.CommandLine.{list_rule, lookup, named, number, pairs_rule, positions, raw, rewrite, show, smap, source_number}
+use Rattle.smap_arguments.specs.CommandLine.{explain, list_rule, lookup, mappings, named, number, pairs_rule, positions, raw, rewrite, show, smap, source_number}
 use Rattle.smap_arguments.specs.declared.usage.Usage.{Usage}
 use Rattle.smap_arguments.specs.declared.usage.Usage.TheVariants.{Help, Mistake, Memory}
 use Rattle.smap_arguments.specs.Arguments.{HasArguments, HasCommand, HasValue, HasValues}
@@ -146,11 +146,12 @@ at_argument id = cond (bytes_eq id (codes "SOURCE")) source_number
     (cond (bytes_eq id (codes "after")) parser.Bool
     (cond (bytes_eq id (codes "anywhere")) parser.Bool
     (cond (bytes_eq id (codes "json")) parser.Bool
+    (cond (bytes_eq id (codes "explain")) parser.Bool
     (cond (bytes_eq id (codes "summary")) parser.Bool
     (cond (bytes_eq id (codes "hide-ignored")) parser.Bool
     (cond (bytes_eq id (codes "prune")) parser.Bool
     (cond (bytes_eq id (codes "no-content")) parser.Bool
-    (cond (bytes_eq id (codes "LINE") || bytes_eq id (codes "COLUMN")) number parser.String)))))))))))
+    (cond (bytes_eq id (codes "LINE") || bytes_eq id (codes "COLUMN")) number parser.String))))))))))))
 
 base_plain : (i : ℕ) → IsPlain at_argument (with_index i (filled base_rule))
 base_plain i = option at_argument i (codes "URL") (codes "base")
@@ -185,7 +186,13 @@ lookup_plain = (
     value at_argument 2 (codes "LINE") true,
     (
       value at_argument 3 (codes "COLUMN") true,
-      (base_plain 4, (interval_plain 4, (flag_plain 4 (codes "after") refl, (flag_plain 4 (codes "json") refl, (help_plain, tt))))),
+      (
+        base_plain 4,
+        (
+          interval_plain 4,
+          (flag_plain 4 (codes "after") refl, (flag_plain 4 (codes "json") refl, (flag_plain 4 (codes "explain") refl, (help_plain, tt)))),
+        ),
+      ),
     ),
   ),
 )
@@ -194,6 +201,12 @@ positions_plain : Each (IsPlain at_argument) (built_leaf positions.top).rules
 positions_plain = (
   value at_argument 1 (codes "MAP") true,
   (base_plain 2, (interval_plain 2, (flag_plain 2 (codes "after") refl, (flag_plain 2 (codes "json") refl, (help_plain, tt))))),
+)
+
+mappings_plain : Each (IsPlain at_argument) (built_leaf mappings.top).rules
+mappings_plain = (
+  value at_argument 1 (codes "MAP") true,
+  (value at_argument 2 (codes "LINE") false, (base_plain 3, (flag_plain 3 (codes "json") refl, (help_plain, tt)))),
 )
 
 rewrite_plain : Each (IsPlain at_argument) (built_leaf rewrite.top).rules
@@ -220,7 +233,7 @@ rewrite_plain = (
 check_plain : Each (IsPlain at_argument) (built_leaf check.top).rules
 check_plain = (
   more_values at_argument 1 (codes "PATH") true,
-  (base_plain 2, (interval_plain 2, (flag_plain 2 (codes "json") refl, (help_plain, tt)))),
+  (base_plain 2, (interval_plain 2, (flag_plain 2 (codes "json") refl, (flag_plain 2 (codes "explain") refl, (help_plain, tt))))),
 )
 
 show_plain : Each (IsPlain at_argument) (built_leaf show.top).rules
@@ -247,6 +260,9 @@ compose_plain = (
   ),
 )
 
+explain_plain : Each (IsPlain at_argument) (built_leaf explain.top).rules
+explain_plain = (value at_argument 1 (codes "CODE") false, (help_plain, tt))
+
 raw_plain : Each (IsPlain at_argument) (built_leaf raw.top).rules
 raw_plain = (
   value at_argument 1 (codes "LINE") true,
@@ -263,16 +279,22 @@ each_gives word no_help = (
   (
     λ answers. level_gives at_argument (built_leaf positions.top) positions_plain,
     (
-      λ answers. level_gives at_argument (built_leaf rewrite.top) rewrite_plain,
+      λ answers. level_gives at_argument (built_leaf mappings.top) mappings_plain,
       (
-        λ answers. level_gives at_argument (built_leaf check.top) check_plain,
+        λ answers. level_gives at_argument (built_leaf rewrite.top) rewrite_plain,
         (
-          λ answers. level_gives at_argument (built_leaf show.top) show_plain,
+          λ answers. level_gives at_argument (built_leaf check.top) check_plain,
           (
-            λ answers. level_gives at_argument (built_leaf compose.top) compose_plain,
+            λ answers. level_gives at_argument (built_leaf show.top) show_plain,
             (
-              λ answers. level_gives at_argument (built_leaf raw.top) raw_plain,
-              (λ answers. absurd (is_no_help (bytes_eq (codes "help") word) refl answers), tt),
+              λ answers. level_gives at_argument (built_leaf compose.top) compose_plain,
+              (
+                λ answers. level_gives at_argument (built_leaf explain.top) explain_plain,
+                (
+                  λ answers. level_gives at_argument (built_leaf raw.top) raw_plain,
+                  (λ answers. absurd (is_no_help (bytes_eq (codes "help") word) refl answers), tt),
+                ),
+              ),
             ),
           ),
         ),

@@ -1,5 +1,5 @@
 -- A number that clap reads for an argument.
-use Rattle.std.proofs.Common.{◌≡◌, ◌∙◌, ◌≤◌, ◌<◌, ◌^◌, ℕ, Option, Some, None, sym, subst, pos, codes, List, refl, leb, arith, true, false, ap, is_some}
+use Rattle.std.proofs.Common.{◌≡◌, ◌∙◌, ◌≤◌, ◌<◌, ◌^◌, ◌+◌, ℕ, Option, Some, None, sym, subst, pos, codes, List, refl, leb, arith, true, false, ap, is_some}
 use Rattle.std.proofs.Common.{Result}
 use Rattle.std.specs.Option.{IsSome}
 use Rattle.std.specs.Prelude.{IfSome, option_map}
@@ -13,8 +13,8 @@ use Rattle.clap.specs.declared.parser.matches.Found.{Found}
 use Rattle.clap.proofs.WalkLemmas.{one_text-rows}
 use Rattle.clap.proofs.CallerReads.{signed_reads}
 use Rattle.clap.specs.Words.{Row, one_of}
-use Rattle.smap_command.specs.Limits.{is_interval, most_bytes, most_interval, usual_interval}
-use Rattle.smap_arguments.specs.CommandLine.{bytes_number, interval_number}
+use Rattle.smap_command.specs.Limits.{is_interval, limit, most_bytes, most_interval, usual_interval}
+use Rattle.smap_arguments.specs.CommandLine.{bytes_number, interval_number, number}
 use Rattle.smap_arguments.specs.Arguments.{GivesInterval, GivesNumber, GivesNumberIfGiven, HasValue, HasValueIfGiven, IsIntervalOf, bytes_given}
 
 -- how a `u32` is read from a text
@@ -50,6 +50,24 @@ pub number_given : (rows : List Row) (name : Text) (result : Option ℕ) → Giv
     → is_some (one_of name rows) ≡ is_some result
 number_given rows name None given = ap is_some given
 number_given rows name (Some n) given = ap is_some given.1
+
+-- ---- a line or column
+
+-- it is none, or one that there may be
+abbrev pub IsReadPosition : List Row → (name : Text) → Option ℕ → Type 0
+IsReadPosition rows name None = one_of name rows ≡ None
+IsReadPosition rows name (Some n) = (1 ≤ n) × (n ≤ limit + 1) × GivesNumber rows name n
+
+pub position_read : (found : Found) (name : Text) (result : Option ℕ) → HasValueIfGiven number (rows_of found) name
+    → (one_text found name ≡ None → result ≡ None) → ((t : Text) → one_text found name ≡ Some t → ReadsOne ReadsU32 t result)
+    → IsReadPosition (rows_of found) name result
+position_read found name result has none reads = go (one_of name (rows_of found)) refl
+  where
+    go : (o : Option Text) → one_of name (rows_of found) ≡ o → IsReadPosition (rows_of found) name result
+    go None is = subst (IsReadPosition (rows_of found) name) (sym (none (one_text-rows found name ∙ is))) is
+    go (Some text) is =
+        let read = number_read 1 (limit + 1) (omega arith) found name result (has (subst IsSome (sym is) refl)) reads in
+        subst (IsReadPosition (rows_of found) name) (sym read.1) (read.2, read.3, read.4)
 
 -- ---- a number of bytes
 

@@ -1,6 +1,6 @@
 -- What the arguments of the command line ask for.
 use Rattle.std.specs.Prelude.{◌≡◌, ◌≢◌, ◌≤◌, ◌+◌, ◌++◌, ◌==◌, ◌||◌, ◌&&◌, ◌⊎◌, ◌∷◌, ℕ, Bool, false, true, codes, length, List, []}
-use Rattle.std.specs.Prelude.{None, Ok, Option, Some, String, if◌then◌else◌, is_some, map, option_map, unwrap_or, ⊤}
+use Rattle.std.specs.Prelude.{IfSome, None, Ok, Option, Some, String, if◌then◌else◌, is_some, map, option_map, unwrap_or, ⊤}
 use Rattle.std.specs.Bool.{nat_eq}
 use Rattle.std.specs.List.{AllZip, ends_with, list_any}
 use Rattle.std.specs.Option.{IsSome}
@@ -17,25 +17,27 @@ use Rattle.clap.specs.Words.{Accepts, Row, Rule, Shape, Text, all_of, first_of, 
 use Rattle.clap.specs.declared.builder.value_parser.ValueParser.{ValueParser}
 use Rattle.clap.specs.declared.builder.value_parser.ValueParser.TheVariants as parser
 use Rattle.smap_command.specs.declared.command.Command.{Command}
-use Rattle.smap_command.specs.declared.command.Command.TheVariants.{Raw, Check, CheckAll, Show, ShowWith, Lookup, Positions}
-use Rattle.smap_command.specs.declared.command.Command.TheVariants.{Rewrite, RewriteFrom, Compose, ComposeWith, ComposeAll}
+use Rattle.smap_command.specs.declared.command.Command.TheVariants.{Raw, Check, CheckAll, Show, ShowWith, Lookup, Positions, Mappings}
+use Rattle.smap_command.specs.declared.command.Command.TheVariants.{Rewrite, RewriteFrom, Compose, ComposeWith, ComposeAll, Explain}
 use Rattle.smap_command.specs.declared.command.WriteOptions.{WriteOptions}
 use Rattle.smap_arguments.specs.CommandLine.{named, smap}
 
 -- the lines and columns are ones that there can be, counted from 0
 abbrev pub HasPosition : Command → Type 0
 HasPosition (Raw line column interval) = (line ≤ limit) × (column ≤ limit)
-HasPosition (Check path base interval) = ⊤
-HasPosition (CheckAll paths base interval json) = ⊤
+HasPosition (Check path base interval explain) = ⊤
+HasPosition (CheckAll paths base interval json explain) = ⊤
 HasPosition (Show path base) = ⊤
 HasPosition (ShowWith path base options) = ⊤
-HasPosition (Lookup path line column base interval after json) = (line ≤ limit) × (column ≤ limit)
+HasPosition (Lookup path line column base interval after json explain) = (line ≤ limit) × (column ≤ limit)
 HasPosition (Positions path base interval after json) = ⊤
+HasPosition (Mappings path base line json) = IfSome line (λ line. line ≤ limit)
 HasPosition (Rewrite maps base interval hide_ignored) = ⊤
 HasPosition (RewriteFrom maps list base interval hide_ignored anywhere cache_bytes limit_bytes summary) = ⊤
 HasPosition (Compose outer source inner base) = ⊤
 HasPosition (ComposeWith outer source inner base options) = ⊤
 HasPosition (ComposeAll outer inners list base options) = ⊤
+HasPosition (Explain code) = ⊤
 
 -- the same, checkpoints may stand at its interval, and there may be as many bytes as it says
 abbrev pub IsInRange : Command → Type 0
@@ -204,35 +206,42 @@ GivesInners rows inners list = GivesPairs rows (codes "NAME=FILE") inners × Giv
 -- how the command is called
 abbrev pub name_of : Command → Text
 name_of (Raw line column interval) = codes "raw"
-name_of (Check path base interval) = codes "check"
-name_of (CheckAll paths base interval json) = codes "check"
+name_of (Check path base interval explain) = codes "check"
+name_of (CheckAll paths base interval json explain) = codes "check"
 name_of (Show path base) = codes "show"
 name_of (ShowWith path base options) = codes "show"
-name_of (Lookup path line column base interval after json) = codes "lookup"
+name_of (Lookup path line column base interval after json explain) = codes "lookup"
 name_of (Positions path base interval after json) = codes "positions"
+name_of (Mappings path base line json) = codes "mappings"
 name_of (Rewrite maps base interval hide_ignored) = codes "rewrite"
 name_of (RewriteFrom maps list base interval hide_ignored anywhere cache_bytes limit_bytes summary) = codes "rewrite"
 name_of (Compose outer source inner base) = codes "compose"
 name_of (ComposeWith outer source inner base options) = codes "compose"
 name_of (ComposeAll outer inners list base options) = codes "compose"
+name_of (Explain code) = codes "explain"
 
 -- what clap reads for the arguments of a command asks for it, with lines and columns counted from 1
 abbrev pub RowsAskFor : List Row → Command → Type 0
 RowsAskFor rows (Raw line column interval) = GivesNumber rows (codes "LINE") (line + 1)
     × GivesNumber rows (codes "COLUMN") (column + 1) × GivesInterval rows interval
-RowsAskFor rows (Check path base interval) = GivesTexts rows (codes "PATH") (string_bytes path ∷ []) × GivesBase rows base
-    × GivesInterval rows interval × GivesFlag rows (codes "json") false
-RowsAskFor rows (CheckAll paths base interval json) = GivesTexts rows (codes "PATH") (texts paths.items) × GivesBase rows base
-    × GivesInterval rows interval × GivesFlag rows (codes "json") json × TellsEachFile paths.items json
+RowsAskFor rows (Check path base interval explain) = GivesTexts rows (codes "PATH") (string_bytes path ∷ []) × GivesBase rows base
+    × GivesInterval rows interval × GivesFlag rows (codes "json") false × GivesFlag rows (codes "explain") explain
+RowsAskFor rows (CheckAll paths base interval json explain) = GivesTexts rows (codes "PATH") (texts paths.items) × GivesBase rows base
+    × GivesInterval rows interval × GivesFlag rows (codes "json") json × GivesFlag rows (codes "explain") explain
+    × TellsEachFile paths.items json
 RowsAskFor rows (Show path base) = GivesText rows (codes "PATH") (string_bytes path) × GivesBase rows base
     × GivesFlag rows (codes "prune") false × GivesFlag rows (codes "no-content") false
 RowsAskFor rows (ShowWith path base options) = GivesText rows (codes "PATH") (string_bytes path) × GivesBase rows base
     × GivesOptions rows options × (leaves_out options ≡ true)
-RowsAskFor rows (Lookup path line column base interval after json) = GivesText rows (codes "PATH") (string_bytes path)
+RowsAskFor rows (Lookup path line column base interval after json explain) = GivesText rows (codes "PATH") (string_bytes path)
     × GivesNumber rows (codes "LINE") (line + 1) × GivesNumber rows (codes "COLUMN") (column + 1) × GivesBase rows base
     × GivesInterval rows interval × GivesFlag rows (codes "after") after × GivesFlag rows (codes "json") json
+    × GivesFlag rows (codes "explain") explain
 RowsAskFor rows (Positions path base interval after json) = GivesText rows (codes "MAP") (string_bytes path) × GivesBase rows base
     × GivesInterval rows interval × GivesFlag rows (codes "after") after × GivesFlag rows (codes "json") json
+RowsAskFor rows (Mappings path base line json) = GivesText rows (codes "MAP") (string_bytes path)
+    × GivesNumberIfGiven rows (codes "LINE") (option_map (λ line. line + 1) line) × GivesBase rows base
+    × GivesFlag rows (codes "json") json
 RowsAskFor rows (Rewrite maps base interval hide_ignored) = GivesPairs rows (codes "URL=FILE") maps.items × GivesBase rows base
     × GivesInterval rows interval × GivesFlag rows (codes "hide-ignored") hide_ignored × AsksPlainly rows maps.items
 RowsAskFor rows (RewriteFrom maps list base interval hide_ignored anywhere cache_bytes limit_bytes summary) =
@@ -248,6 +257,7 @@ RowsAskFor rows (ComposeWith outer source inner base options) = GivesText rows (
     × GivesInner rows source inner × GivesBase rows base × GivesOptions rows options × (leaves_out options ≡ true)
 RowsAskFor rows (ComposeAll outer inners list base options) = GivesText rows (codes "OUTER") (string_bytes outer)
     × GivesInners rows inners.items list × GivesBase rows base × GivesOptions rows options
+RowsAskFor rows (Explain code) = GivesTextIfGiven rows (codes "CODE") code
 
 -- the same, where the arguments name the command so
 abbrev pub NamedAsksFor : (name : Text) → List Row → Command → Type 0

@@ -42,6 +42,10 @@ optional_rule name = new_rule name
 abbrev pub number_rule : ValueParser → Text → Rule
 number_rule parser name = record (new_rule name) { required = true; parser = Some parser }
 
+-- one that this parser reads and that may be missing
+abbrev pub optional_number_rule : ValueParser → Text → Rule
+optional_number_rule parser name = record (new_rule name) { parser = Some parser }
+
 -- an argument that is one or more arguments, of any text
 abbrev pub texts_rule : (required : Bool) → Text → Rule
 texts_rule required name = record (new_rule name) { required = required; action = Some Append }
@@ -56,7 +60,7 @@ interval_rule = record (new_rule (codes "K")) { long = Some (codes "interval"); 
 
 -- the argument that is the number of a source, which may be missing
 abbrev pub source_rule : Rule
-source_rule = record (new_rule (codes "SOURCE")) { parser = Some source_number }
+source_rule = optional_number_rule source_number (codes "SOURCE")
 
 -- a flag, which its name stands for
 abbrev pub flag_rule : Text → Rule
@@ -87,10 +91,15 @@ with_rules name rules = fold with_rule (new_app name) rules
 
 abbrev pub lookup : App
 lookup = with_rules (codes "lookup") (text_rule (codes "PATH") ∷ number_rule number (codes "LINE")
-    ∷ number_rule number (codes "COLUMN") ∷ base_rule ∷ interval_rule ∷ flag_rule (codes "after") ∷ flag_rule (codes "json") ∷ [])
+    ∷ number_rule number (codes "COLUMN") ∷ base_rule ∷ interval_rule ∷ flag_rule (codes "after") ∷ flag_rule (codes "json")
+    ∷ flag_rule (codes "explain") ∷ [])
 
 abbrev pub positions : App
 positions = with_rules (codes "positions") (text_rule (codes "MAP") ∷ base_rule ∷ interval_rule ∷ flag_rule (codes "after")
+    ∷ flag_rule (codes "json") ∷ [])
+
+abbrev pub mappings : App
+mappings = with_rules (codes "mappings") (text_rule (codes "MAP") ∷ optional_number_rule number (codes "LINE") ∷ base_rule
     ∷ flag_rule (codes "json") ∷ [])
 
 abbrev pub rewrite : App
@@ -99,7 +108,8 @@ rewrite = with_rules (codes "rewrite") (texts_rule false (codes "URL=FILE") ∷ 
     ∷ flag_rule (codes "summary") ∷ [])
 
 abbrev pub check : App
-check = with_rules (codes "check") (texts_rule true (codes "PATH") ∷ base_rule ∷ interval_rule ∷ flag_rule (codes "json") ∷ [])
+check = with_rules (codes "check") (texts_rule true (codes "PATH") ∷ base_rule ∷ interval_rule ∷ flag_rule (codes "json")
+    ∷ flag_rule (codes "explain") ∷ [])
 
 abbrev pub show : App
 show = with_rules (codes "show") (text_rule (codes "PATH") ∷ base_rule ∷ flag_rule (codes "prune") ∷ flag_rule (codes "no-content") ∷ [])
@@ -108,6 +118,9 @@ abbrev pub compose : App
 compose = with_rules (codes "compose") (text_rule (codes "OUTER") ∷ source_rule ∷ optional_rule (codes "INNER") ∷ pairs_rule
     ∷ list_rule (codes "inners") ∷ base_rule ∷ flag_rule (codes "prune") ∷ flag_rule (codes "no-content") ∷ [])
 
+abbrev pub explain : App
+explain = with_rules (codes "explain") (optional_rule (codes "CODE") ∷ [])
+
 abbrev pub raw : App
 raw = with_rules (codes "raw") (number_rule number (codes "LINE") ∷ number_rule number (codes "COLUMN") ∷ interval_rule ∷ [])
 
@@ -115,7 +128,7 @@ raw = with_rules (codes "raw") (number_rule number (codes "LINE") ∷ number_rul
 abbrev pub smap : App
 smap = fold (λ above command. with_subcommand above command.top)
     (on_top (λ shape. record shape { subcommand_required = true; has_version = true }) (new_app (codes "smap")))
-    (lookup ∷ positions ∷ rewrite ∷ check ∷ show ∷ compose ∷ raw ∷ [])
+    (lookup ∷ positions ∷ mappings ∷ rewrite ∷ check ∷ show ∷ compose ∷ explain ∷ raw ∷ [])
 
 -- clap's command is the one described, and no argument of it holds in subcommands too
 abbrev pub IsLocalCommand : App → ClapCommand → Type 0

@@ -10,7 +10,8 @@ ghost use Rattle.clap.specs.declared.builder.value_parser.ValueParser.TheVariant
 use crate::rewrite::rewrite_in;
 use crate::usage::Usage;
 use crate::values::{
-    after_in, base_in, interval_in, json_in, position_number_in, text_in, texts_in,
+    after_in, base_in, flag_in, interval_in, json_in, position_number_if_given, position_number_in,
+    text_if_given, text_in, texts_in,
 };
 use crate::written::{compose_in, show_in};
 use clap::ArgMatches;
@@ -54,6 +55,7 @@ fn named_command(
             interval: interval_in(matches),
             after: after_in(matches),
             json: json_in(matches),
+            explain: flag_in(matches, "explain"),
         }),
         "positions" => Ok(Command::Positions {
             path: text_in(alloc, matches, "MAP")?,
@@ -62,10 +64,19 @@ fn named_command(
             after: after_in(matches),
             json: json_in(matches),
         }),
+        "mappings" => Ok(Command::Mappings {
+            path: text_in(alloc, matches, "MAP")?,
+            base,
+            line: position_number_if_given(matches, "LINE"),
+            json: json_in(matches),
+        }),
         "rewrite" => rewrite_in(alloc, matches, base),
         "check" => Ok(check_in(alloc, matches, base)?),
         "show" => Ok(show_in(alloc, matches, base)?),
         "compose" => compose_in(alloc, matches, base),
+        "explain" => Ok(Command::Explain {
+            code: text_if_given(alloc, matches, "CODE")?,
+        }),
         _ => {
             let (line, column) = (
                 position_number_in(matches, "LINE"),
@@ -90,22 +101,26 @@ fn check_in(
     requires interval { HasValueIfGiven interval_number (rows_of (found_of matches.now))
         (codes "K") }
     requires json { HasValueIfGiven parser.Bool (rows_of (found_of matches.now)) (codes "json") }
+    requires explain { HasValueIfGiven parser.Bool (rows_of (found_of matches.now))
+        (codes "explain") }
     requires given { GivesBase (rows_of (found_of matches.now)) base }
     ensures asked { IfOk result (NamedAsksFor (codes "check") (rows_of (found_of matches.now))) }
     ensures in_range { IfOk result IsInRange }
 {
-    let interval = interval_in(matches);
+    let (interval, explain) = (interval_in(matches), flag_in(matches, "explain"));
     match (texts_in(matches, "PATH"), json_in(matches)) {
         ([path], false) => Ok(Command::Check {
             path: String::from_str(alloc, path)?,
             base,
             interval,
+            explain,
         }),
         (paths, json) => Ok(Command::CheckAll {
             paths: copied_texts(alloc, paths)?,
             base,
             interval,
             json,
+            explain,
         }),
     }
 }

@@ -18,6 +18,7 @@ Answers:
   none                no mapping stands at the position or before it on its line
 
 The last mapping at the position or before it answers or, with --after, the first at it or after it.
+With --explain the answer is followed by which mappings stand nearest before and after the position.
 
 Where the map holds the text of the source, its line follows, and a caret under the position.
 
@@ -41,6 +42,17 @@ The last mapping at a position or before it answers or, with --after, the first 
 Status 1 where a line was no position; standard error then names the first.
 
 Example: printf '65:80\\n66 1\\n' | smap positions examples/preset-react.js.map";
+
+pub const MAPPINGS_ABOUT: &str = "Prints the mappings of a source map file, one a line";
+
+pub const MAPPINGS_NOTES: &str = "\
+Answer: for each mapping one line, in their order: LINE:COLUMN of the generated file, from 1, and behind it the
+original position, as `smap lookup` prints it, or `unmapped`. With LINE only the mappings on that line; nothing
+where it has none. With --json each is a JSON object.
+
+The lines are written while the map is gone through, so `head` may follow.
+
+Example: smap mappings examples/preset-react.js.map 65";
 
 pub const REWRITE_ABOUT: &str = "Rewrites the stack trace on standard input over source map files";
 
@@ -77,8 +89,12 @@ one that is refused or can't be read stops no other. The status is the greatest 
 With --json each map is one JSON object, on one line of standard output, with its path: also one that is
 refused. A file that can't be read has none, but its line on standard error.
 
+With --explain indented lines after a refusal say which value is wrong, where it stands and what may stand
+there, and after a file that can't be read why not.
+
 Examples:
   smap check examples/preset-react.js.map
+  smap check --explain examples/preset-react.js.map
   find . -name '*.map' -print0 | xargs -0r smap check --json";
 
 pub const SHOW_ABOUT: &str = "Writes a source map file as one regular map";
@@ -118,6 +134,18 @@ Examples:
   smap compose examples/preset-react.min.js.map 0 examples/preset-react.js.map > whole.js.map
   smap compose --inner preset-react.js=examples/preset-react.js.map examples/preset-react.min.js.map > all.map";
 
+pub const EXPLAIN_ABOUT: &str = "Tells what a code of a refusal means, and what to do about it";
+
+pub const EXPLAIN_NOTES: &str = "\
+CODE is a code as `M14`, the name behind it as `Text`, or a word that is printed without a code, as `memory`; in
+capital or small letters.
+
+Answer: what the code means, what usually causes it, and what to do. Without CODE all codes and names, one a line.
+
+Status 1 where there is no such code; standard error then has all that there are.
+
+Example: smap explain M14";
+
 pub const RAW_ABOUT: &str =
     "Looks a generated position up in the bare mappings text on standard input";
 
@@ -138,12 +166,16 @@ pub const PATHS_HELP: &str = "Path of a source map file";
 
 pub const LINE_HELP: &str = "Line of the generated file, from 1";
 
+pub const ONE_LINE_HELP: &str = "Line of the generated file, from 1; without it all lines";
+
 pub const COLUMN_HELP: &str = "Column of the generated file, from 1, in UTF-16 code units";
 
 pub const PAIRS_HELP: &str =
     "URL of a generated file, `=` and the path of its source map file; or PREFIX=FOLDER/";
 
 pub const LIST_HELP: &str = "Path of a list of more maps: on each line URL, TAB and FILE";
+
+pub const CODE_HELP: &str = "Code of a refusal, as M14, or its name";
 
 pub const OUTER_HELP: &str = "Path of the source map file of the last step";
 
@@ -169,6 +201,10 @@ pub const AFTER_HELP: &str =
     "Answer by the first mapping on the line at the position or after it, not the last before";
 
 pub const JSON_HELP: &str = "Answer in JSON: one compact object a line";
+
+pub const WHY_HELP: &str = "Say after a refusal why the map is refused";
+
+pub const NEAREST_HELP: &str = "Say which mappings stand nearest to the position (not with --json)";
 
 pub const HIDE_HELP: &str =
     "Leave out the frames from sources that a map says to pass over (its `ignoreList`)";

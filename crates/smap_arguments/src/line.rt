@@ -1,17 +1,19 @@
 //! The command line as clap gets it.
 ghost use Rattle.std.specs.Prelude.{◌≡◌, All, IfOk, codes, false, map};
 ghost use Rattle.clap.specs.Words.{app_of, rule_of};
-ghost use Rattle.smap_arguments.specs.CommandLine.{IsLocalArgument, IsLocalCommand, base_rule, bytes_rule, check, compose, flag_rule};
-ghost use Rattle.smap_arguments.specs.CommandLine.{interval_rule, list_rule, lookup, number, number_rule, optional_rule, pairs_rule, positions};
+ghost use Rattle.smap_arguments.specs.CommandLine.{IsLocalArgument, IsLocalCommand, base_rule, bytes_rule, check, compose, explain, flag_rule};
+ghost use Rattle.smap_arguments.specs.CommandLine.{interval_rule, list_rule, lookup, mappings, number, number_rule, optional_number_rule, optional_rule};
+ghost use Rattle.smap_arguments.specs.CommandLine.{pairs_rule, positions};
 ghost use Rattle.smap_arguments.specs.CommandLine.{raw, rewrite, show, smap, source_rule, text_rule, texts_rule, with_rules};
 
 use crate::help::{
-    AFTER_HELP, ANYWHERE_HELP, CACHE_HELP, CHECK_ABOUT, CHECK_NOTES, COLUMN_HELP, COMPOSE_ABOUT,
-    COMPOSE_NOTES, HIDE_HELP, INNER_HELP, INNER_LIST_HELP, INNER_PAIRS_HELP, INTERVAL_HELP,
-    JSON_HELP, LIMIT_HELP, LINE_HELP, LIST_HELP, LOOKUP_ABOUT, LOOKUP_NOTES, NO_CONTENT_HELP,
-    OUTER_HELP, PAIRS_HELP, PATH_HELP, PATHS_HELP, POSITIONS_ABOUT, POSITIONS_NOTES, PRUNE_HELP,
-    RAW_ABOUT, RAW_NOTES, REWRITE_ABOUT, REWRITE_NOTES, SHOW_ABOUT, SHOW_NOTES, SOURCE_HELP,
-    STATUSES, SUMMARY_HELP,
+    AFTER_HELP, ANYWHERE_HELP, CACHE_HELP, CHECK_ABOUT, CHECK_NOTES, CODE_HELP, COLUMN_HELP,
+    COMPOSE_ABOUT, COMPOSE_NOTES, EXPLAIN_ABOUT, EXPLAIN_NOTES, HIDE_HELP, INNER_HELP,
+    INNER_LIST_HELP, INNER_PAIRS_HELP, INTERVAL_HELP, JSON_HELP, LIMIT_HELP, LINE_HELP, LIST_HELP,
+    LOOKUP_ABOUT, LOOKUP_NOTES, MAPPINGS_ABOUT, MAPPINGS_NOTES, NEAREST_HELP, NO_CONTENT_HELP,
+    ONE_LINE_HELP, OUTER_HELP, PAIRS_HELP, PATH_HELP, PATHS_HELP, POSITIONS_ABOUT, POSITIONS_NOTES,
+    PRUNE_HELP, RAW_ABOUT, RAW_NOTES, REWRITE_ABOUT, REWRITE_NOTES, SHOW_ABOUT, SHOW_NOTES,
+    SOURCE_HELP, STATUSES, SUMMARY_HELP, WHY_HELP,
 };
 use clap::builder::ValueParser;
 use clap::{Arg, ArgAction, Command, value_parser};
@@ -27,10 +29,12 @@ pub fn command_line<'a>(alloc: Global) -> Result<Command<'a>, AllocError>
     let commands = vec![in alloc;
         lookup_command(alloc)?,
         positions_command(alloc)?,
+        mappings_command(alloc)?,
         rewrite_command(alloc)?,
         check_command(alloc)?,
         show_command(alloc)?,
         compose_command(alloc)?,
+        explain_command(alloc)?,
         raw_command(alloc)?,
     ]?;
     Command::new(alloc, "smap")
@@ -53,6 +57,7 @@ fn lookup_command<'a>(alloc: Global) -> Result<Command<'a>, AllocError>
         interval(alloc),
         flag(alloc, "after", AFTER_HELP),
         flag(alloc, "json", JSON_HELP),
+        flag(alloc, "explain", NEAREST_HELP),
     ]?;
     described(alloc, "lookup", LOOKUP_ABOUT, LOOKUP_NOTES, arguments)
 }
@@ -74,6 +79,18 @@ fn positions_command<'a>(alloc: Global) -> Result<Command<'a>, AllocError>
         POSITIONS_NOTES,
         arguments,
     )
+}
+
+fn mappings_command<'a>(alloc: Global) -> Result<Command<'a>, AllocError>
+    ensures { IfOk result (IsLocalCommand mappings) }
+{
+    let arguments = vec![in alloc;
+        text(alloc, "MAP", PATH_HELP),
+        optional_position_number(alloc, "LINE", ONE_LINE_HELP),
+        base_url(alloc),
+        flag(alloc, "json", JSON_HELP),
+    ]?;
+    described(alloc, "mappings", MAPPINGS_ABOUT, MAPPINGS_NOTES, arguments)
 }
 
 fn rewrite_command<'a>(alloc: Global) -> Result<Command<'a>, AllocError>
@@ -101,6 +118,7 @@ fn check_command<'a>(alloc: Global) -> Result<Command<'a>, AllocError>
         base_url(alloc),
         interval(alloc),
         flag(alloc, "json", JSON_HELP),
+        flag(alloc, "explain", WHY_HELP),
     ]?;
     described(alloc, "check", CHECK_ABOUT, CHECK_NOTES, arguments)
 }
@@ -131,6 +149,13 @@ fn compose_command<'a>(alloc: Global) -> Result<Command<'a>, AllocError>
         flag(alloc, "no-content", NO_CONTENT_HELP),
     ]?;
     described(alloc, "compose", COMPOSE_ABOUT, COMPOSE_NOTES, arguments)
+}
+
+fn explain_command<'a>(alloc: Global) -> Result<Command<'a>, AllocError>
+    ensures { IfOk result (IsLocalCommand explain) }
+{
+    let arguments = vec![in alloc; optional(alloc, "CODE", CODE_HELP)]?;
+    described(alloc, "explain", EXPLAIN_ABOUT, EXPLAIN_NOTES, arguments)
 }
 
 fn raw_command<'a>(alloc: Global) -> Result<Command<'a>, AllocError>
@@ -192,6 +217,15 @@ fn position_number<'a>(alloc: Global, name: &'a str, help: &'a str) -> Arg<'a>
 {
     Arg::new(alloc, name)
         .required(true)
+        .value_parser(value_parser!(u32).range(1..=i64::from(LIMIT) + 1))
+        .help(help)
+}
+
+// The same, where it may be missing.
+fn optional_position_number<'a>(alloc: Global, name: &'a str, help: &'a str) -> Arg<'a>
+    ensures { IsLocalArgument (optional_number_rule number name.entry.now) result }
+{
+    Arg::new(alloc, name)
         .value_parser(value_parser!(u32).range(1..=i64::from(LIMIT) + 1))
         .help(help)
 }

@@ -1,5 +1,5 @@
 //! What clap found for the arguments.
-ghost use Rattle.std.specs.Prelude.{◌≡◌, ◌≤◌, ◌+◌, IfErr, IfOk, IfSome, codes, map, string_bytes, true};
+ghost use Rattle.std.specs.Prelude.{◌≡◌, ◌≤◌, ◌+◌, IfErr, IfOk, IfSome, codes, map, option_map, string_bytes, true};
 ghost use Rattle.clap.specs.Words.{found_of, rows_of};
 ghost use Rattle.smap_command.specs.Limits.{is_interval, limit, most_bytes};
 ghost use Rattle.smap_arguments.specs.CommandLine.{bytes_number, interval_number, number, source_number};
@@ -39,6 +39,19 @@ pub fn position_number_in(matches: &ArgMatches<'_>, name: &str) -> u32
     ensures in_range { result ≤ limit }
 {
     matches.get_one::<u32>(name).unwrap() - 1
+}
+
+/// The same, where it is given.
+pub fn position_number_if_given(matches: &ArgMatches<'_>, name: &str) -> Option<u32>
+    requires { HasValueIfGiven number (rows_of (found_of matches.now)) name.now }
+    ensures given { GivesNumberIfGiven (rows_of (found_of matches.now)) name.now
+        (option_map (λ number. number + 1) result) }
+    ensures in_range { IfSome result (λ number. number ≤ limit) }
+{
+    match matches.get_one::<u32>(name) {
+        Some(number) => Some(number - 1),
+        None => None,
+    }
 }
 
 /// The number of a source, where it is given.

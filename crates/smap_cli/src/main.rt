@@ -5,23 +5,27 @@
 //! composes two map files, and `smap raw 1 6` looks a position up in the bare mappings text on its standard input.
 #![tactic(auto)]
 
+mod hint;
 mod usage;
 
 ghost use Rattle.std.specs.Prelude.{IfOk};
 ghost use Rattle.smap_answers.specs.Run.{IsRunnable};
 
+use hint::KeepingSink;
 use smap_answers::{Failure, Reply, run_reading, tell};
 pub use smap_arguments::{Usage, parse};
 pub use smap_command::Command;
 use smap_io::FromStd;
-use std::io;
+use std::io::{self, IsTerminal};
 use std::process::ExitCode;
 use usage::outcome_of;
 
 fn main(rt: HostRuntime) -> ExitCode {
     let mut input = FromStd::new(rt.stdin());
     let mut output = FromStd::new(rt.stdout());
-    let mut errors = FromStd::new(rt.stderr());
+    let errors = rt.stderr();
+    let is_terminal = errors.is_terminal();
+    let mut errors = KeepingSink::new(rt.alloc(), FromStd::new(errors));
     let status = match command_of(&rt) {
         Ok(command) => run_reading(
             rt.alloc(),
@@ -33,6 +37,9 @@ fn main(rt: HostRuntime) -> ExitCode {
         ),
         Err(outcome) => tell(&outcome, &mut output, &mut errors),
     };
+    if is_terminal {
+        errors.tell_more(rt.alloc());
+    }
     ExitCode::from(status)
 }
 

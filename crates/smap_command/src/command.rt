@@ -21,19 +21,23 @@ pub enum Command {
         column: u32,
         interval: u32,
     },
-    /// Checks the source map in the file at this path. Its sources are resolved against the base.
+    /// Checks the source map in the file at this path. Its sources are resolved against the base. With `explain` the
+    /// refusal is followed by why the map is refused.
     Check {
         path: String,
         base: Option<Url>,
         interval: u32,
+        explain: bool,
     },
     /// Checks the source maps in the files at these paths, one after another, each told by itself, with its path: by a line
-    /// or, with `json`, by a JSON object. Their sources are resolved against the base.
+    /// or, with `json`, by a JSON object. Their sources are resolved against the base. With `explain` each refusal is
+    /// followed by why the map is refused; an object tells that always.
     CheckAll {
         paths: Vec<String>,
         base: Option<Url>,
         interval: u32,
         json: bool,
+        explain: bool,
     },
     /// Writes the source map in the file at this path as one regular map. Its sources are resolved against the base.
     Show {
@@ -48,7 +52,8 @@ pub enum Command {
     },
     /// Looks up a generated line and column in the source map in the file at this path: the last mapping at the
     /// position or before it answers or, with `after`, the first at it or after it. Its sources are resolved against
-    /// the base. With `json` the answer is a JSON object.
+    /// the base. With `json` the answer is a JSON object; else, with `explain`, it is followed by which mappings are nearest
+    /// to the position.
     Lookup {
         path: String,
         line: u32,
@@ -57,6 +62,7 @@ pub enum Command {
         interval: u32,
         after: bool,
         json: bool,
+        explain: bool,
     },
     /// Answers the positions on the lines of standard input from the source map in the file at this path, each by a line,
     /// as a look-up does. With `json` each line is a JSON object.
@@ -65,6 +71,14 @@ pub enum Command {
         base: Option<Url>,
         interval: u32,
         after: bool,
+        json: bool,
+    },
+    /// Prints the mappings of the source map in the file at this path, or those of this generated line, a line each. Its
+    /// sources are resolved against the base. With `json` each line is a JSON object.
+    Mappings {
+        path: String,
+        base: Option<Url>,
+        line: Option<u32>,
         json: bool,
     },
     /// Rewrites the stack trace on standard input over maps: pairs of the URL that frames name and of the path of the
@@ -121,5 +135,10 @@ pub enum Command {
         list: Option<String>,
         base: Option<Url>,
         options: WriteOptions,
+    },
+    /// Tells what a code of a refusal means, what usually causes it and what to do about it; without one, how all codes are
+    /// called.
+    Explain {
+        code: Option<String>,
     },
 }

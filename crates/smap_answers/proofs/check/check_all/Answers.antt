@@ -16,7 +16,7 @@ loop-number-preserved g c =
     let between = sinks_seen (g.W.ByteSink.seen c.tell.new.output) (g.E.ByteSink.seen c.tell.new.errors) in
     rw c.max-status.ensures (
       works,
-      goes_on (g.F.FileReader.gives c.args.maps.now.files.now) (option_copied c.args.maps.now.base) c.args.maps.now.interval (form_of c.args.json) _ _ _ _
+      goes_on (g.F.FileReader.gives c.args.maps.now.files.now) (option_copied c.args.maps.now.base) c.args.maps.now.interval (form_of c.args.options.json) c.args.options.explain _ _ _ _
           c.loop-number.number c.loop-number.status c.tell.result before now between _ is c.loop-number.invariant.1
           (rw (c.deref.ensures, c.form_of-form.ensures) at c.answer_check-outcome.ensures) c.tell.ensures works,
     )
@@ -25,7 +25,7 @@ pub returns-after-loop-number : goal.returns-after-loop-number
 returns-after-loop-number g c =
     let before = sinks_seen (g.W.ByteSink.seen c.args.output.now) (g.E.ByteSink.seen c.args.errors.now) in
     let now = sinks_seen (g.W.ByteSink.seen c.loop-number.output) (g.E.ByteSink.seen c.loop-number.errors) in
-    all_told (g.F.FileReader.gives c.args.maps.now.files.now) (option_copied c.args.maps.now.base) c.args.maps.now.interval (form_of c.args.json)
+    all_told (g.F.FileReader.gives c.args.maps.now.files.now) (option_copied c.args.maps.now.base) c.args.maps.now.interval (form_of c.args.options.json) c.args.options.explain
     c.args.paths.now c.loop-number.number c.loop-number.status before now (omega (arith, c.loop-number-test.false)) c.loop-number.invariant.1
 
 pub returns-then-failed : goal.returns-then-failed
@@ -37,5 +37,5 @@ returns-then-failed g c =
     let now = sinks_seen (g.W.ByteSink.seen c.loop-number.output) (g.E.ByteSink.seen c.loop-number.errors) in
     let between = sinks_seen (g.W.ByteSink.seen c.tell.new.output) (g.E.ByteSink.seen c.tell.new.errors) in
     rw c.max-status.ensures (stops (g.F.FileReader.gives c.args.maps.now.files.now) (option_copied c.args.maps.now.base) c.args.maps.now.interval
-    (form_of c.args.json) _ _ _ _ c.loop-number.number c.loop-number.status c.tell.result before now between _ is
+    (form_of c.args.options.json) c.args.options.explain _ _ _ _ c.loop-number.number c.loop-number.status c.tell.result before now between _ is
     c.loop-number.invariant.1 (rw (c.deref.ensures, c.form_of-form.ensures) at c.answer_check-outcome.ensures) c.tell.ensures failed)

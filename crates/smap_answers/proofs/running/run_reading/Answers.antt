@@ -1,6 +1,6 @@
 use Rattle.std.proofs.Common.{refl}
 use Rattle.smap_answers.proofs.RunLaws.{runs_one}
-use Rattle.smap_answers.proofs.running.run_reading.Goals.{in-Raw, in-Check, in-Show, in-ShowWith, in-Lookup, in-Positions, in-Rewrite, in-Compose, in-ComposeWith, in-ComposeAll}
+use Rattle.smap_answers.proofs.running.run_reading.Goals.{in-Raw, in-Check, in-Show, in-ShowWith, in-Lookup, in-Positions, in-Mappings, in-Rewrite, in-Compose, in-ComposeWith, in-ComposeAll, in-Explain}
 use Rattle.smap_answers.proofs.running.run_reading.Goals as goal
 
 pub returns : goal.returns
@@ -17,6 +17,9 @@ returns g c = elim c.match-command.branch [
       (rw (w.output-is, w.outcome-is) at c.tell.ensures))
   | in-Positions w ↦ rw (w.in-Positions.is, w.input-is)
       (runs_one _ _ _ _ _ _ (rw (w.deref-in-Positions.ensures, w.as_ref-in-Positions.ensures.value) at w.answer_positions-outcome.ensures)
+      (rw (w.output-is, w.outcome-is) at c.tell.ensures))
+  | in-Mappings w ↦ rw (w.in-Mappings.is, w.input-is)
+      (runs_one _ _ _ _ _ _ (refl, (rw (w.deref-in-Mappings.ensures, w.as_ref-in-Mappings.ensures.value) at w.answer_mappings-outcome.ensures))
       (rw (w.output-is, w.outcome-is) at c.tell.ensures))
   | in-Rewrite w ↦ rw (w.in-Rewrite.is, w.input-is)
       (runs_one _ _ _ _ _ _ (rw (w.deref-in-Rewrite.ensures.value, w.as_ref-in-Rewrite.ensures.value) at w.answer_rewrite-outcome.ensures)
@@ -42,4 +45,7 @@ returns g c = elim c.match-command.branch [
         (rw (w.deref-in-ComposeAll.ensures, w.deref-in-ComposeAll-2.ensures.value, w.as_deref-in-ComposeAll.ensures.value, w.as_ref-in-ComposeAll.ensures.value) at
             w.answer_compose_all-outcome.ensures),
       ) (rw (w.output-is, w.outcome-is) at c.tell.ensures))
+  | in-Explain w ↦ rw (w.in-Explain.is, w.input-is)
+      (runs_one _ _ _ _ _ _ (refl, (rw w.as_deref-in-Explain.ensures.value at w.answer_explain-outcome.ensures))
+      (rw (w.output-is, w.outcome-is) at c.tell.ensures))
 ]
