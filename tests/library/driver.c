@@ -1,6 +1,7 @@
 /* What tests/try-library asks of the library in C: driver COMMAND ARGUMENT.., in the program's words where it has some.
  *   look MAP, from MAP, many MAP   the first line of `smap lookup` for each LINE COLUMN of standard input, from 0
- *   refuse FILE..                  the line of `smap check` on each file
+ *   refuse FILE..                  what `smap check --explain` prints on each file
+ *   why FILE                       why the file is refused: the value, its limit and the column, or -, and the sentences
  *   counts MAP                     the line of `smap check`
  *   show MAP                       what `smap show` writes, without its LF
  *   compose OUTER SOURCE INNER     what `smap compose` writes, without its LF
@@ -35,12 +36,17 @@ static uint8_t *whole(FILE *file, size_t *length) {
     return bytes;
 }
 
-static uint32_t read_file(const char *path, const char *base, uint32_t interval, smap_map *map, smap_refusal *refusal) {
+static uint8_t *bytes_in(const char *path, size_t *length) {
     FILE *file = fopen(path, "rb");
     if (!file) fail(path);
-    size_t length;
-    uint8_t *bytes = whole(file, &length);
+    uint8_t *bytes = whole(file, length);
     fclose(file);
+    return bytes;
+}
+
+static uint32_t read_file(const char *path, const char *base, uint32_t interval, smap_map *map, smap_refusal *refusal) {
+    size_t length;
+    uint8_t *bytes = bytes_in(path, &length);
     uint32_t status = smap_map_read(bytes, length, (const uint8_t *)base, strlen(base), interval, map, refusal);
     free(bytes);
     return status;
@@ -115,11 +121,42 @@ static void tell_refusal(const smap_refusal *refusal, const char *path) {
     putchar('\n');
 }
 
-static void refuse(const char *path) {
+/* Reads a file that is refused, and asks why. */
+static smap_reason refused(const char *path, smap_refusal *refusal, smap_bytes *text) {
+    size_t length;
+    uint8_t *bytes = bytes_in(path, &length);
     smap_map map = {0};
+    smap_reason reason = {0};
+    if (smap_map_read(bytes, length, bytes, 0, 64, &map, refusal) != SMAP_REFUSED) fail("a map is not refused");
+    if (smap_refusal_explain(bytes, length, refusal, &reason, text) != SMAP_DONE) fail("not explained");
+    free(bytes);
+    return reason;
+}
+
+static void refuse(const char *path) {
     smap_refusal refusal = {0};
-    if (read_file(path, "", 64, &map, &refusal) != SMAP_REFUSED) fail("a map is not refused");
+    smap_bytes text = {0};
+    refused(path, &refusal, &text);
     tell_refusal(&refusal, path);
+    put_bytes(&text);
+}
+
+static void put_number(uint32_t has, int64_t number, char end) {
+    if (has)
+        printf("%lld%c", (long long)number, end);
+    else
+        printf("-%c", end);
+}
+
+static void why(const char *path) {
+    smap_refusal refusal = {0};
+    smap_bytes text = {0};
+    smap_reason reason = refused(path, &refusal, &text);
+    bool below = reason.has_value && reason.has_least && reason.value < reason.least;
+    put_number(reason.has_value, reason.value, ' ');
+    put_number(below ? reason.has_least : reason.has_most, below ? reason.least : reason.most, ' ');
+    put_number(reason.has_column, (int64_t)reason.generated_column, '\n');
+    put_bytes(&text);
 }
 
 static void counts(const char *path) {
@@ -216,10 +253,8 @@ static void rewritten(const char *command, const char *url, const char *path) {
 }
 
 static void again(const char *path, long count) {
-    FILE *file = fopen(path, "rb");
     size_t length;
-    uint8_t *bytes = whole(file, &length);
-    fclose(file);
+    uint8_t *bytes = bytes_in(path, &length);
     size_t before = 0;
     for (long i = 0; i < count; i++) {
         smap_map map = {0};
@@ -291,6 +326,8 @@ static void mistakes(const char *path) {
     smap_refusal none = {0};
     smap_bytes bytes = {0};
     if (smap_refusal_text(&none, &bytes) != SMAP_REFUSED) fail("a text of no refusal");
+    smap_reason reason = {.value = 77};
+    if (smap_refusal_explain((const uint8_t *)"{}", 2, &none, &reason, &bytes) != SMAP_REFUSED || reason.value != 77) fail("a reason of no refusal");
     map = opened(path);
     smap_source_text source = SMAP_SOURCE;
     smap_text text = SMAP_TEXT;
@@ -327,7 +364,7 @@ static void mistakes(const char *path) {
     if (smap_look_up(&other, 0, 0, &found) != SMAP_DONE) fail("a map that came back");
     smap_map_free(&other);
     smap_table_free(&table);
-    puts("mistakes 16");
+    puts("mistakes 17");
 }
 
 int main(int count, char **words) {
@@ -342,6 +379,8 @@ int main(int count, char **words) {
         smap_map_free(&map);
     } else if (!strcmp(command, "refuse")) {
         for (int i = 2; i < count; i++) refuse(words[i]);
+    } else if (!strcmp(command, "why")) {
+        why(words[2]);
     } else if (!strcmp(command, "counts")) {
         counts(words[2]);
     } else if (!strcmp(command, "show")) {

@@ -83,6 +83,13 @@ const commands = {
       }
       return 'not refused';
     })),
+  why: (path) => {
+    try {
+      open(path);
+    } catch ({ value = '-', limit = '-', column = '-', explanation = '' }) {
+      process.stdout.write(`${value} ${limit} ${column}\n${explanation}`);
+    }
+  },
   counts: (path) => put([`ok ${Object.entries(open(path).counts).map((pair) => pair.join(' ')).join(' ')}`]),
   show: (path) => process.stdout.write(open(path).write()),
   compose: (outer, source, inner) => {

@@ -67,6 +67,14 @@ def refuse(*paths):
             print(re.sub("^refused:", "refused: " + path + ":", str(refused)))
 
 
+def why(path):
+    try:
+        opened(path)
+    except Refused as refused:
+        print(*("-" if number is None else number for number in (refused.value, refused.limit, refused.column)))
+        print(refused.explanation, end="")
+
+
 def counts(path):
     with opened(path) as source_map:
         print("ok " + " ".join(f"{name} {value}" for name, value in source_map.counts._asdict().items()))
@@ -136,6 +144,6 @@ def resident():
 
 
 if __name__ == "__main__":
-    commands = {"look": look, "from": from_, "many": many, "refuse": refuse, "counts": counts, "show": show,
+    commands = {"look": look, "from": from_, "many": many, "refuse": refuse, "why": why, "counts": counts, "show": show,
                 "compose": composed, "all": composed_with_all, "chain": chain, "rewrite": rewrite, "load": load, "anywhere": anywhere, "again": again}
     commands[sys.argv[1]](*sys.argv[2:])

@@ -97,7 +97,34 @@ static void reading(void) {
         smap_refusal other = {.number = others[i]};
         smap_bytes bytes = {0};
         insist(smap_refusal_text(&other, &bytes) == SMAP_REFUSED && !bytes.at, "a line of no refusal");
+        smap_reason reason = {9, 9, 9, 9, 9, 9, 9, 9};
+        insist(smap_refusal_explain((const uint8_t *)"", 0, &other, &reason, &bytes) == SMAP_REFUSED && !bytes.at, "why no refusal");
+        insist(reason.value == 9 && reason.generated_column == 9 && reason.has_column == 9, "nothing is written");
     }
+}
+
+/* A map whose first segment is at fault: the value, its limits and the column. */
+static void is_reason(const char *mappings, uint32_t fault, int64_t value, int64_t least, int64_t most, uint64_t column, uint32_t has_column) {
+    char file[200];
+    const int length = snprintf(file, sizeof file, "{\"version\":3,\"sources\":[\"a.js\"],\"names\":[],\"mappings\":\"%s\"}", mappings);
+    smap_map map = {0};
+    smap_refusal refusal = {0};
+    smap_reason reason = {0};
+    smap_bytes text = {0};
+    insist(smap_map_read((const uint8_t *)file, (size_t)length, (const uint8_t *)"", 0, 64, &map, &refusal) == SMAP_REFUSED, "a refused map");
+    insist(refusal.fault == fault, "its fault");
+    insist(smap_refusal_explain((const uint8_t *)file, (size_t)length, &refusal, &reason, &text) == SMAP_DONE, "why it is refused");
+    smap_bytes_free(&text);
+    insist(reason.has_value == 1 && reason.has_least == 1 && reason.has_most == 1 && reason.has_column == has_column, "what is known");
+    insist(reason.value == value && reason.least == least && reason.most == most && reason.generated_column == column, "the numbers");
+}
+
+static void reasons(void) {
+    is_reason("D", 7, -1, 0, 2147483647, 0, 0);
+    is_reason("+/////D,C", 8, 2147483648, 0, 2147483647, 2147483648, 1);
+    is_reason("C,D", 9, 0, 1, 2147483647, 0, 1);
+    is_reason("ECAA", 10, 1, 0, 0, 2, 1);
+    is_reason("EAAAA", 11, 0, 0, -1, 2, 1);
 }
 
 /* A place stands behind so many bytes of its line. */
@@ -161,6 +188,7 @@ int main(void) {
     look_ups();
     texts();
     reading();
+    reasons();
     traces();
     printf("limits %d\n", told);
     return 0;

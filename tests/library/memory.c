@@ -82,6 +82,7 @@ static smap_table table, made_table;
 static smap_inners inners, made_inners;
 static smap_bytes bytes;
 static smap_refusal refusal;
+static smap_reason reason;
 static smap_trace_count count;
 static uint32_t why;
 
@@ -94,6 +95,11 @@ static uint32_t refuse_call(void) { return smap_map_read((const uint8_t *)"{}", 
 static uint32_t line_call(void) {
     const smap_refusal fault = {14, 9, 3, 0, 2, 7};
     return smap_refusal_text(&fault, &bytes);
+}
+static uint32_t explain_call(void) {
+    static const char file[] = "{\"version\":3,\"sources\":[],\"mappings\":\"EACA\"}";
+    const smap_refusal fault = {14, 10, 0, 0, 0, 0};
+    return smap_refusal_explain((const uint8_t *)file, sizeof file - 1, &fault, &reason, &bytes);
 }
 static uint32_t write_call(void) { return smap_map_write(&outer, &bytes); }
 static uint32_t compose_call(void) { return smap_compose(&outer, 0, &inner, &bytes, &why); }
@@ -120,6 +126,7 @@ static const struct call {
     {"smap_map_read", read_call, SMAP_DONE, FILLS_MAP},
     {"smap_map_read of what is refused", refuse_call, SMAP_REFUSED, FILLS_MAP},
     {"smap_refusal_text", line_call, SMAP_DONE, FILLS_BYTES},
+    {"smap_refusal_explain", explain_call, SMAP_DONE, FILLS_BYTES},
     {"smap_map_write", write_call, SMAP_DONE, FILLS_BYTES},
     {"smap_compose", compose_call, SMAP_DONE, FILLS_BYTES},
     {"smap_inners_new", inners_call, SMAP_DONE, FILLS_INNERS},
@@ -203,6 +210,7 @@ static bool made_without(const struct call *call, long number) {
     tell_table(&table, &before);
     why = 77;
     refusal = (smap_refusal){77, 77, 77, 77, 77, 77};
+    reason = (smap_reason){77, 77, 77, 77, 77, 77, 77, 77};
     count = (smap_trace_count){77, 77, 77, 77};
     refused = number;
     asked = 0;
@@ -213,7 +221,7 @@ static bool made_without(const struct call *call, long number) {
     if (status == SMAP_NO_MEMORY) {
         if (!was_refused) fail(call->name, "is out of memory where none was refused");
         if ((call->handle != TAKES_MAP && made.at) || made_table.at || made_inners.at || bytes.at) fail(call->name, "has filled a handle");
-        if (why != 77 || refusal.number != 77) fail(call->name, "tells a refusal");
+        if (why != 77 || refusal.number != 77 || reason.value != 77 || reason.has_column != 77) fail(call->name, "tells a refusal");
         if (!alike(&before, &after)) fail(call->name, "has changed the table");
     } else if (status != call->wanted) {
         fail(call->name, "has another status");
@@ -223,6 +231,7 @@ static bool made_without(const struct call *call, long number) {
         if (number >= 0 && !alike(&ample, &now)) fail(call->name, "has another answer");
         if (alike(&before, &after) != (call->make != add_call)) fail(call->name, "has another table");
         if (call->make == refuse_call && refusal.number != 4) fail(call->name, "has another refusal");
+        if (call->make == explain_call && (reason.most != -1 || reason.generated_column != 2)) fail(call->name, "has other numbers");
         uint64_t frames = call->make == rewrite_call ? 2 : 1; /* of a URL in the table, where places are counted */
         if (rewrites && (count.lines != 4 || count.frames != frames || count.mapped != 1)) fail(call->name, "has other counts");
         if (call->make == twice_call && why != 2) fail(call->name, "has another refusal");

@@ -12,6 +12,9 @@ const first = { source: 'a.js', line: 1, column: 0, name: null };
 const last = { source: 'a.js', line: 2, column: 4, name: 'n' };
 const nothing = { source: null, line: null, column: null, name: null };
 const far = 2 ** 32;
+// Why `{}` and `[]` are refused.
+const noVersion = '`version` is missing, and the key must hold the number 3';
+const noObject = 'the JSON value is a list, of which the length is 0, and must be an object';
 
 let told = 0;
 const same = (got, wanted) => {
@@ -99,8 +102,31 @@ function maps() {
   const others = [7, true, null, undefined, 7n, Symbol('map'), () => small, buffer, new DataView(buffer), new Uint16Array(8)];
   for (const other of others) refuses('TypeError', () => new smap.TraceMap(other), /a map must be a text/);
   refuses('TypeError', () => new smap.TraceMap(new smap.TraceMap(small)), /read already/);
-  refuses('Refused', () => new smap.TraceMap('no JSON'), /^refused: M2 NotJson$/, { number: 2, url: undefined });
+  refuses('Refused', () => new smap.TraceMap('no JSON'), /^refused: M2 NotJson\n  the file is no JSON text/, { number: 2, url: undefined });
   refuses('Refused', () => new smap.TraceMap([]), /M3 NotObject/, { number: 3 });
+}
+
+function reasons() {
+  const refusing = (mappings, sources, lines, members) =>
+    refuses('Refused', () => new smap.TraceMap({ version: 3, sources, mappings }), `refused: M14 Text 0 ${lines}`, {
+      explanation: `${lines.slice(lines.indexOf('\n') + 1)}\n`,
+      ...members,
+    });
+  refusing('AACA,ECAA', ['a.js'], `F10 SourceIndex line 1 byte 5
+  segment "ECAA" at line 1, column 3, numbers 2, 1, 0, 0
+  source index 1, and the map has 1 source`, { fault: 10, line: 0, value: 1, limit: 0, column: 2 });
+  refusing(';D', [], `F7 Negative line 2 byte 1
+  segment "D" at line 2, numbers -1
+  column 0, and the least is 1`, { fault: 7, line: 1, value: -1, limit: 0, column: undefined });
+  const known = { value: undefined, limit: undefined, column: undefined };
+  const sources = '  `sources` is the number 7, and the key must hold a list of texts and nulls, at most 33,554,432 in the file';
+  refuses('Refused', () => new smap.TraceMap('{"version":3,"sources":7,"mappings":""}'), `refused: M8 Sources\n${sources}`, { ...known, explanation: `${sources}\n` });
+  refuses('Refused', () => new smap.TraceMap(Uint8Array.of(31, 139, 8)), /^refused: M2 NotJson\n  the file is packed with gzip/, known);
+  refuses('Refused', () => new smap.TraceMap(small, null, 0), 'refused: M15 Build B1 Interval', { ...known, explanation: undefined });
+  const numbers = new Float64Array(6);
+  for (const bad of [7, null, 'x']) refuses('TypeError', () => addon.refusalExplain(bad, numbers, new Float64Array(4)), /no Uint8Array/);
+  refuses('TypeError', () => addon.refusalExplain(Buffer.from('{}'), numbers, new Float64Array(3)), /no Float64Array/);
+  same(addon.refusalExplain(Buffer.from('{}'), numbers, new Float64Array(4)), null);
 }
 
 function bases() {
@@ -117,9 +143,9 @@ function bases() {
     refuses('TypeError', () => new smap.TraceMap(small, url), /`mapUrl` must be a text/);
   }
   // No base of a test is so long.
-  const long = refusedMap(Float64Array.of(18, 0, 0, 0, 0, 0), 'https://e.test/');
+  const long = refusedMap(Buffer.alloc(0), Float64Array.of(18, 0, 0, 0, 0, 0), 'https://e.test/');
   same([long.number, long.message], [18, 'the base is too long: "https://e.test/"']);
-  same(refusedMap(Float64Array.of(99, 0, 0, 0, 0, 0), '').message, 'refused: 99');
+  same(refusedMap(Buffer.alloc(0), Float64Array.of(99, 0, 0, 0, 0, 0), '').message, 'refused: 99');
 }
 
 function intervals() {
@@ -185,7 +211,7 @@ function composingAll() {
   }
   isOpen();
   refuses('Refused', () => smap.composeAll(map, { 'a.js': inner }), 'refused: C4 NoSource a.js', { number: 4 });
-  refuses('Refused', () => smap.composeAll(map, { 'x/a.js': '{}' }), 'refused: x/a.js: M4 Version', { number: 4, url: 'x/a.js' });
+  refuses('Refused', () => smap.composeAll(map, { 'x/a.js': '{}' }), `refused: x/a.js: M4 Version\n  ${noVersion}`, { number: 4, url: 'x/a.js' });
   refuses('Error', () => smap.composeAll(map, [['x/a.js', inner], [1, inner]]), 'source 1 has two maps');
   for (const source of [0.5, NaN, null, undefined, false, {}]) {
     refuses('TypeError', () => smap.composeAll(map, [[source, inner]]), /`source` must be a whole number/);
@@ -210,7 +236,7 @@ function composingAll() {
   same(sources(smap.composeAll(map, {}, { load: (name) => (name === 'x/a.js' ? second : null) })), allOf('s.ts', 's.ts'));
   const only = { load: (name) => (name === 's.ts' ? inner : null) };
   same(sources(smap.composeAll(map, { 'x/a.js': inner }, only)), allOf('s.ts', 's.ts', '../s.ts', '../s.ts'));
-  refuses('Refused', () => smap.composeAll(map, {}, { load: () => '[]' }), 'refused: x/a.js: M3 NotObject', { number: 3, url: 'x/a.js' });
+  refuses('Refused', () => smap.composeAll(map, {}, { load: () => '[]' }), `refused: x/a.js: M3 NotObject\n  ${noObject}`, { number: 3, url: 'x/a.js' });
   refuses('RangeError', () => smap.composeAll(map, {}, { load: (name) => { throw new RangeError(name); } }), 'x/a.js');
   refuses('TypeError', () => smap.composeAll(map, {}, { load: () => 7 }), /a map must be a text/);
   isOpen();
@@ -231,9 +257,10 @@ function composingAll() {
 function tables() {
   const url = 'https://e.test/a.min.js';
   const second = 'https://e.test/b.min.js';
-  for (const [data, number, text] of [['{}', 4, 'M4 Version'], ['no JSON', 2, 'M2 NotJson'], ['[]', 3, 'M3 NotObject']]) {
-    refuses('Refused', () => new smap.Table({ [url]: small, [second]: data }), `refused: ${second}: ${text}`, { number, url: second });
-    refuses('Refused', () => new smap.Table([['b.js', data], [url, small]]), `refused: b.js: ${text}`, { number, url: 'b.js' });
+  for (const [data, number, text, why] of [['{}', 4, 'M4 Version', noVersion], ['[]', 3, 'M3 NotObject', noObject]]) {
+    const explanation = `  ${why}\n`;
+    refuses('Refused', () => new smap.Table({ [url]: small, [second]: data }), `refused: ${second}: ${text}\n  ${why}`, { number, url: second, explanation });
+    refuses('Refused', () => new smap.Table([['b.js', data], [url, small]]), `refused: b.js: ${text}\n  ${why}`, { number, url: 'b.js', explanation });
   }
   const fault = { number: 14, fault: 1, line: 0, byte: 0, section: 0, url: second };
   refuses('Refused', () => new smap.Table({ [second]: small.replace('AAAA', 'AA!A') }), /b\.min\.js: M14/, fault);
@@ -285,7 +312,7 @@ function loading() {
   same(smap.rewrite(table, odd), odd);
   same(asked, [url, 'c.js', 'async x', 'eval at x']);
   for (let round = 0; round < 2; round++) {
-    refuses('Refused', () => smap.rewrite(table, 'f@odd.js:1:1\n'), 'refused: odd.js: M4 Version', { number: 4, url: 'odd.js' });
+    refuses('Refused', () => smap.rewrite(table, 'f@odd.js:1:1\n'), `refused: odd.js: M4 Version\n  ${noVersion}`, { number: 4, url: 'odd.js' });
     refuses('RangeError', () => smap.rewrite(table, 'f@stop.js:1:1\n'), /stop\.js/);
   }
   same(asked.slice(4), ['odd.js', 'stop.js', 'odd.js', 'stop.js']);
@@ -323,6 +350,7 @@ places();
 many();
 beneath();
 maps();
+reasons();
 bases();
 intervals();
 compositions(process.argv[2]);

@@ -113,6 +113,33 @@ def maps(folder):
     refuses(Refused, lambda: SourceMap(unnamed), "\ufffd.map: M3 NotObject", number=3)
 
 
+def reasons(folder):
+    def refusing(mappings, sources, lines, **members):
+        text = f'{{"version":3,"sources":{sources},"mappings":"{mappings}"}}'
+        refuses(Refused, lambda: SourceMap(text), args=(f"refused: M14 Text 0 {lines}",),
+                explanation=lines.split("\n", 1)[1] + "\n", **members)
+    refusing("AACA,ECAA", '["a.js"]', """F10 SourceIndex line 1 byte 5
+  segment "ECAA" at line 1, column 3, numbers 2, 1, 0, 0
+  source index 1, and the map has 1 source""", fault=10, line=0, value=1, limit=0, column=2)
+    refusing("AACA", "[]", """F10 SourceIndex line 1 byte 0
+  segment "AACA" at line 1, column 1, numbers 0, 0, 1, 0
+  source index 0, and the map has 0 sources""", fault=10, line=0, value=0, limit=-1, column=0)
+    refusing(";D", "[]", """F7 Negative line 2 byte 1
+  segment "D" at line 2, numbers -1
+  column 0, and the least is 1""", fault=7, line=1, value=-1, limit=0, column=None)
+    known = {"value": None, "limit": None, "column": None}
+    why = "  `sources` is the number 7, and the key must hold a list of texts and nulls, at most 33,554,432 in the file"
+    refuses(Refused, lambda: SourceMap('{"version":3,"sources":7,"mappings":""}'), args=(f"refused: M8 Sources\n{why}",),
+            explanation=f"{why}\n", **known)
+    packed = folder / "packed.map"
+    packed.write_bytes(b"\x1f\x8b\x08")
+    refuses(Refused, lambda: SourceMap(packed), f"refused: {packed}: M2 NotJson\n  the file is packed with gzip", **known)
+    refuses(Refused, lambda: SourceMap(SMALL, interval=0), args=("refused: M15 Build B1 Interval",), explanation="", **known)
+    refuses(Refused, lambda: SourceMap(SMALL, base="a.js"), args=("the base is no URL: 'a.js'",), explanation="", **known)
+    with SourceMap(SMALL) as small:
+        refuses(Refused, lambda: compose(small, 1, small), args=("refused: C1 SourceIndex",), explanation="", **known)
+
+
 def bases():
     with SourceMap(SMALL, base="https://e.test/x/b.js") as small:
         same(small.source(0).name, "https://e.test/x/a.js")
@@ -124,9 +151,9 @@ def bases():
     for base in (7, b"https://e.test/", Path("a")):
         refuses(TypeError, lambda: SourceMap(SMALL, base=base), "base is a str", type(base).__name__)
     # No base of a test is so long.
-    long = refused_map(Refusal(number=18), None, "https://e.test/")
+    long = refused_map(b"", Refusal(number=18), None, "https://e.test/")
     same((long.number, str(long)), (18, "the base is too long: 'https://e.test/'"))
-    same(str(refused_map(Refusal(number=99), None, "")), "refused: 99")
+    same(str(refused_map(b"", Refusal(number=99), None, "")), "refused: 99")
 
 
 def intervals():
@@ -309,6 +336,7 @@ if __name__ == "__main__":
     texts()
     with tempfile.TemporaryDirectory() as made:
         maps(Path(made))
+        reasons(Path(made))
     bases()
     intervals()
     compositions(Path(sys.argv[1]))

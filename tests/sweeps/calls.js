@@ -16,7 +16,7 @@ const REFUSAL = 'refused: m.map: M14 Text 0 F10 SourceIndex line 1 byte 0';
 const COUNTS_JSON =
   '{"checkpoints":2,"lines":2,"names":0,"ok":true,"path":"a.map","sections":2,"segments":2,"sources":2}';
 const REFUSAL_JSON =
-  '{"byte":0,"fault":"F10","faultName":"SourceIndex","line":1,"name":"Text","ok":false,"path":"m.map","refusal":"M14","section":0}';
+  '{"byte":0,"fault":"F10","faultName":"SourceIndex","generatedColumn":1,"least":0,"line":1,"most":0,"name":"Text","numbers":[0,1,0,0],"ok":false,"path":"m.map","quantity":"source index","refusal":"M14","section":0,"segment":"ACAA","value":1}';
 
 // What stays where a map is not put into a table: what comes back, and the line over the table as it was.
 const KEPT = `Memory https://ex.test/app.js 2 1 1 0|${LINE}`;

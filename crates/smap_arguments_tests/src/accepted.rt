@@ -3,7 +3,11 @@ use crate::reading::read;
 use std::test::Fail;
 
 // Arguments, and the command that they give, with lines and columns from 0.
-const COMMANDS: [(&[&str], &str); 49] = [
+const COMMANDS: [(&[&str], &str); 57] = [
+    (&["smap", "explain"], "explain all"),
+    (&["smap", "explain", "M14"], "explain M14"),
+    (&["smap", "explain", ""], "explain "),
+    (&["smap", "explain", "--", "-x"], "explain -x"),
     (&["smap", "raw", "1", "6"], "raw 0 5 every 64"),
     (&["smap", "raw", "1", "1"], "raw 0 0 every 64"),
     (&["./smap", "raw", "007", "+2"], "raw 6 1 every 64"),
@@ -170,6 +174,21 @@ const COMMANDS: [(&[&str], &str); 49] = [
         ],
         "positions r.mapfile:///x every 2 after in JSON",
     ),
+    (&["smap", "mappings", "r.map"], "mappings r.map"),
+    (&["smap", "mappings", "r.map", "1"], "mappings r.map 0"),
+    (
+        &[
+            "smap",
+            "mappings",
+            "--json",
+            "r.map",
+            "--base",
+            "file:///x",
+            "2147483648",
+        ],
+        "mappings r.map 2147483647file:///x in JSON",
+    ),
+    (&["smap", "mappings", "--", "-x"], "mappings -x"),
     (
         &["smap", "lookup", "--", "--after", "3", "4"],
         "lookup --after 2 3 every 64",

@@ -1,5 +1,5 @@
 //! Requests for help and for the version. Each help text stands here whole.
-use crate::reading::read;
+use crate::reading::{assert_shown, read};
 use std::test::Fail;
 
 const SMAP: &str = "\
@@ -10,10 +10,12 @@ Usage: smap <COMMAND>
 Commands:
   lookup     Looks a generated position up in a source map file
   positions  Answers the positions on standard input from a source map file
+  mappings   Prints the mappings of a source map file, one a line
   rewrite    Rewrites the stack trace on standard input over source map files
   check      Checks source map files and prints their counts
   show       Writes a source map file as one regular map
   compose    Composes source map files into one regular map
+  explain    Tells what a code of a refusal means, and what to do about it
   raw        Looks a generated position up in the bare mappings text on standard input
   help       Print this message or the help of the given subcommand(s)
 
@@ -44,6 +46,7 @@ Options:
                       smaller K answers look-ups faster and takes more memory; their answers are the same
       --after         Answer by the first mapping on the line at the position or after it, not the last before
       --json          Answer in JSON: one compact object a line
+      --explain       Say which mappings stand nearest to the position (not with --json)
   -h, --help          Print help
 
 Answers:
@@ -53,6 +56,7 @@ Answers:
   none                no mapping stands at the position or before it on its line
 
 The last mapping at the position or before it answers or, with --after, the first at it or after it.
+With --explain the answer is followed by which mappings stand nearest before and after the position.
 
 Where the map holds the text of the source, its line follows, and a caret under the position.
 
@@ -90,6 +94,29 @@ The last mapping at a position or before it answers or, with --after, the first 
 Status 1 where a line was no position; standard error then names the first.
 
 Example: printf '65:80\\n66 1\\n' | smap positions examples/preset-react.js.map
+";
+
+const MAPPINGS: &str = "\
+Prints the mappings of a source map file, one a line
+
+Usage: smap mappings [OPTIONS] <MAP> [LINE]
+
+Arguments:
+  <MAP>   Path of the source map file
+  [LINE]  Line of the generated file, from 1; without it all lines
+
+Options:
+      --base <URL>  URL against which the names of sources are resolved
+      --json        Answer in JSON: one compact object a line
+  -h, --help        Print help
+
+Answer: for each mapping one line, in their order: LINE:COLUMN of the generated file, from 1, and behind it the
+original position, as `smap lookup` prints it, or `unmapped`. With LINE only the mappings on that line; nothing
+where it has none. With --json each is a JSON object.
+
+The lines are written while the map is gone through, so `head` may follow.
+
+Example: smap mappings examples/preset-react.js.map 65
 ";
 
 const REWRITE: &str = "\
@@ -146,6 +173,7 @@ Options:
       --interval <K>  Checkpoints in the index stand at every K-th segment of a line, 1 to 4096, else 64. A
                       smaller K answers look-ups faster and takes more memory; their answers are the same
       --json          Answer in JSON: one compact object a line
+      --explain       Say after a refusal why the map is refused
   -h, --help          Print help
 
 Answer: how many sections, sources, names and segments the map has, how many generated lines hold a segment,
@@ -158,8 +186,12 @@ one that is refused or can't be read stops no other. The status is the greatest 
 With --json each map is one JSON object, on one line of standard output, with its path: also one that is
 refused. A file that can't be read has none, but its line on standard error.
 
+With --explain indented lines after a refusal say which value is wrong, where it stands and what may stand
+there, and after a file that can't be read why not.
+
 Examples:
   smap check examples/preset-react.js.map
+  smap check --explain examples/preset-react.js.map
   find . -name '*.map' -print0 | xargs -0r smap check --json
 ";
 
@@ -253,8 +285,29 @@ Columns are UTF-16 code units. LINE and COLUMN count from 1, as V8 prints them i
 Example: printf 'AAAA,CAAC;AACA' | smap raw 1 6
 ";
 
-// Requests for help, and the text that they show.
-const REQUESTS: [(&[&str], &str); 27] = [
+const EXPLAIN: &str = "\
+Tells what a code of a refusal means, and what to do about it
+
+Usage: smap explain [CODE]
+
+Arguments:
+  [CODE]  Code of a refusal, as M14, or its name
+
+Options:
+  -h, --help  Print help
+
+CODE is a code as `M14`, the name behind it as `Text`, or a word that is printed without a code, as `memory`; in
+capital or small letters.
+
+Answer: what the code means, what usually causes it, and what to do. Without CODE all codes and names, one a line.
+
+Status 1 where there is no such code; standard error then has all that there are.
+
+Example: smap explain M14
+";
+
+// Requests for help, and the text that they show. The checker takes so many a table and no more.
+const REQUESTS: [(&[&str], &str); 12] = [
     (&["out/program", "--help"], SMAP),
     (&["smap", "-h"], SMAP),
     (&["smap", "help"], SMAP),
@@ -264,6 +317,12 @@ const REQUESTS: [(&[&str], &str); 27] = [
     (&["smap", "help", "positions"], POSITIONS),
     (&["smap", "positions", "--help"], POSITIONS),
     (&["smap", "positions", "a.map", "--help"], POSITIONS),
+    (&["smap", "help", "mappings"], MAPPINGS),
+    (&["smap", "mappings", "--help"], MAPPINGS),
+    (&["smap", "mappings", "a.map", "1", "-h"], MAPPINGS),
+];
+
+const MORE_REQUESTS: [(&[&str], &str); 21] = [
     (&["smap", "help", "rewrite"], REWRITE),
     (&["smap", "rewrite", "--help"], REWRITE),
     (&["smap", "rewrite", "u=a.map", "--help"], REWRITE),
@@ -278,6 +337,9 @@ const REQUESTS: [(&[&str], &str); 27] = [
     (&["smap", "compose", "--help"], COMPOSE),
     (&["smap", "compose", "-h"], COMPOSE),
     (&["smap", "compose", "--inner", "a=b", "-h"], COMPOSE),
+    (&["smap", "help", "explain"], EXPLAIN),
+    (&["smap", "explain", "--help"], EXPLAIN),
+    (&["smap", "explain", "M14", "-h"], EXPLAIN),
     (&["smap", "help", "raw"], RAW),
     (&["smap", "raw", "--help"], RAW),
     (&["smap", "raw", "-h"], RAW),
@@ -287,9 +349,15 @@ const REQUESTS: [(&[&str], &str); 27] = [
 #[test]
 fn shows_help(rt: HostRuntime) -> Result<(), Fail> {
     for (arguments, text) in REQUESTS.as_slice() {
-        let told = read(rt.alloc(), arguments)?;
-        let wanted = format!(in rt.alloc(); "help: {text}")?;
-        assert_eq!(rt; told.as_str(), wanted.as_str(), "{arguments:?}");
+        assert_shown(&rt, rt.alloc(), arguments, text)?;
+    }
+    Ok(())
+}
+
+#[test]
+fn shows_more_help(rt: HostRuntime) -> Result<(), Fail> {
+    for (arguments, text) in MORE_REQUESTS.as_slice() {
+        assert_shown(&rt, rt.alloc(), arguments, text)?;
     }
     Ok(())
 }

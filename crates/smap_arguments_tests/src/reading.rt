@@ -24,10 +24,11 @@ pub fn read(alloc: Global, arguments: &[&str]) -> Result<String, AllocError> {
                 path,
                 base,
                 interval,
+                explain,
             },
         ) => {
-            let base = base_text(&base);
-            format!(in alloc; "check {path}{base} every {interval}")
+            let (base, explain) = (base_text(&base), explain_text(explain));
+            format!(in alloc; "check {path}{base} every {interval}{explain}")
         }
         Ok(
             Command::CheckAll {
@@ -35,16 +36,19 @@ pub fn read(alloc: Global, arguments: &[&str]) -> Result<String, AllocError> {
                 base,
                 interval,
                 json,
+                explain,
             },
         ) => {
             let base = base_text(&base);
-            let flags = flags_text(false, json);
-            let mut told = format!(in alloc; "check all{base} every {interval}{flags}")?;
+            let (flags, explain) = (flags_text(false, json), explain_text(explain));
+            let mut told = format!(in alloc; "check all{base} every {interval}{flags}{explain}")?;
             for path in paths {
                 told = format!(in alloc; "{told} [{path}]")?;
             }
             Ok(told)
         }
+        Ok(Command::Explain { code: Some(code) }) => format!(in alloc; "explain {code}"),
+        Ok(Command::Explain { code: None }) => String::from_str(alloc, "explain all"),
         Ok(Command::Show { path, base }) => {
             let base = base_text(&base);
             format!(in alloc; "show {path}{base}")
@@ -69,11 +73,14 @@ pub fn read(alloc: Global, arguments: &[&str]) -> Result<String, AllocError> {
                 interval,
                 after,
                 json,
+                explain,
             },
         ) => {
             let base = base_text(&base);
-            let flags = flags_text(after, json);
-            format!(in alloc; "lookup {path} {line} {column}{base} every {interval}{flags}")
+            let (flags, explain) = (flags_text(after, json), explain_text(explain));
+            format!(in alloc;
+                "lookup {path} {line} {column}{base} every {interval}{flags}{explain}"
+            )
         }
         Ok(
             Command::Positions {
@@ -87,6 +94,21 @@ pub fn read(alloc: Global, arguments: &[&str]) -> Result<String, AllocError> {
             let base = base_text(&base);
             let flags = flags_text(after, json);
             format!(in alloc; "positions {path}{base} every {interval}{flags}")
+        }
+        Ok(
+            Command::Mappings {
+                path,
+                base,
+                line,
+                json,
+            },
+        ) => {
+            let base = base_text(&base);
+            let flags = flags_text(false, json);
+            match line {
+                Some(line) => format!(in alloc; "mappings {path} {line}{base}{flags}"),
+                None => format!(in alloc; "mappings {path}{base}{flags}"),
+            }
         }
         Ok(
             Command::Rewrite {
@@ -177,6 +199,10 @@ pub fn read(alloc: Global, arguments: &[&str]) -> Result<String, AllocError> {
     }
 }
 
+fn explain_text(explain: bool) -> &'static str {
+    if explain { " explained" } else { "" }
+}
+
 // The flags of a look-up.
 fn flags_text(after: bool, json: bool) -> &'static str {
     match (after, json) {
@@ -224,6 +250,19 @@ fn read_usage(alloc: Global, usage: &Usage) -> Result<String, AllocError> {
         Usage::Mistake(text) => format!(in alloc; "mistake: {text}"),
         Usage::Memory => String::from_str(alloc, "memory"),
     }
+}
+
+/// The arguments ask for help, and this text is shown.
+pub fn assert_shown(
+    rt: &impl Abort,
+    alloc: Global,
+    arguments: &[&str],
+    text: &str,
+) -> Result<(), Fail> {
+    let told = read(alloc, arguments)?;
+    let wanted = format!(in alloc; "help: {text}")?;
+    assert_eq!(rt; told.as_str(), wanted.as_str(), "{arguments:?}");
+    Ok(())
 }
 
 /// The arguments are no command, and the text for them begins so and ends in one LF.

@@ -3,7 +3,7 @@ use crate::reading::assert_refused;
 use std::test::Fail;
 
 // Each with the beginning of the text that is told.
-const MISTAKES: [(&[&str], &str); 26] = [
+const MISTAKES: [(&[&str], &str); 30] = [
     (
         &["smap", "lookup", "--hide-ignored", "r.map", "1", "1"],
         "error: unexpected argument '--hide-ignored' found\n",
@@ -100,6 +100,22 @@ const MISTAKES: [(&[&str], &str); 26] = [
     (
         &["smap", "positions", "a.map", "1", "1"],
         "error: unexpected argument '1' found\n",
+    ),
+    (
+        &["smap", "mappings"],
+        "error: the following required arguments were not provided:\n  <MAP>\n",
+    ),
+    (
+        &["smap", "mappings", "r.map", "0"],
+        "error: invalid value '0' for '[LINE]': 0 is not in 1..=2147483648\n",
+    ),
+    (
+        &["smap", "mappings", "r.map", "1", "2"],
+        "error: unexpected argument '2' found\n",
+    ),
+    (
+        &["smap", "mappings", "--base", "nope", "r.map", "1"],
+        "usage: bad base URL\n",
     ),
     (
         &["smap", "positions", "--base", "nope", "r.map"],

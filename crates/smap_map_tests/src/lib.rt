@@ -9,6 +9,8 @@ mod devices;
 #[cfg(test)]
 mod encoding;
 #[cfg(test)]
+mod facts;
+#[cfg(test)]
 mod index_maps;
 #[cfg(test)]
 mod indexes;

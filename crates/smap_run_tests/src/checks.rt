@@ -72,15 +72,15 @@ const CHECKED_AS_JSON: &[(&[&str], &str)] = &[
     ),
     (
         &["a.map", "b.map"],
-        "1|{\"checkpoints\":1,\"lines\":1,\"names\":0,\"ok\":true,\"path\":\"a.map\",\"sections\":1,\"segments\":1,\"sources\":1}\n{\"name\":\"NotJson\",\"ok\":false,\"path\":\"b.map\",\"refusal\":\"M2\"}\n|",
+        "1|{\"checkpoints\":1,\"lines\":1,\"names\":0,\"ok\":true,\"path\":\"a.map\",\"sections\":1,\"segments\":1,\"sources\":1}\n{\"beginsAs\":\"json\",\"name\":\"NotJson\",\"ok\":false,\"path\":\"b.map\",\"refusal\":\"M2\",\"stoppedAt\":1}\n|",
     ),
     (
         &["b.map", "none.map", "\tc.map"],
-        "3|{\"name\":\"NotJson\",\"ok\":false,\"path\":\"b.map\",\"refusal\":\"M2\"}\n{\"checkpoints\":1,\"lines\":1,\"names\":0,\"ok\":true,\"path\":\"\\tc.map\",\"sections\":1,\"segments\":1,\"sources\":1}\n|device: read none.map\n",
+        "3|{\"beginsAs\":\"json\",\"name\":\"NotJson\",\"ok\":false,\"path\":\"b.map\",\"refusal\":\"M2\",\"stoppedAt\":1}\n{\"checkpoints\":1,\"lines\":1,\"names\":0,\"ok\":true,\"path\":\"\\tc.map\",\"sections\":1,\"segments\":1,\"sources\":1}\n|device: read none.map\n",
     ),
     (
         &["a\nb.map"],
-        "1|{\"name\":\"NotObject\",\"ok\":false,\"path\":\"a\\nb.map\",\"refusal\":\"M3\"}\n|",
+        "1|{\"found\":\"a list, of which the length is 0\",\"name\":\"NotObject\",\"ok\":false,\"path\":\"a\\nb.map\",\"refusal\":\"M3\"}\n|",
     ),
 ];
 
@@ -125,27 +125,27 @@ const REFUSED: Held = &[
 const REFUSALS: &[(&str, &str)] = &[
     (
         "offset",
-        "1|{\"name\":\"SectionOffset\",\"ok\":false,\"path\":\"offset\",\"refusal\":\"M6\",\"section\":0}\n|",
+        "1|{\"found\":\"missing\",\"key\":\"column\",\"most\":2147483647,\"name\":\"SectionOffset\",\"ok\":false,\"path\":\"offset\",\"refusal\":\"M6\",\"section\":0}\n|",
     ),
     (
         "nested",
-        "1|{\"name\":\"Nested\",\"ok\":false,\"path\":\"nested\",\"refusal\":\"M7\",\"section\":0}\n|",
+        "1|{\"found\":\"a list, of which the length is 0\",\"key\":\"sections\",\"name\":\"Nested\",\"ok\":false,\"path\":\"nested\",\"refusal\":\"M7\",\"section\":0}\n|",
     ),
     (
         "text",
-        "1|{\"byte\":7,\"fault\":\"F9\",\"faultName\":\"ColumnFalls\",\"line\":3,\"name\":\"Text\",\"ok\":false,\"path\":\"text\",\"refusal\":\"M14\",\"section\":1}\n|",
+        "1|{\"byte\":7,\"fault\":\"F9\",\"faultName\":\"ColumnFalls\",\"generatedColumn\":1,\"least\":2,\"line\":3,\"most\":2147483648,\"name\":\"Text\",\"numbers\":[-1,0,0,0],\"ok\":false,\"path\":\"text\",\"quantity\":\"column\",\"refusal\":\"M14\",\"section\":1,\"segment\":\"DAAA\",\"value\":1}\n|",
     ),
     (
         "order",
-        "1|{\"index\":\"B2\",\"indexName\":\"SectionOrder\",\"name\":\"Build\",\"ok\":false,\"path\":\"order\",\"refusal\":\"M15\",\"section\":1}\n|",
+        "1|{\"index\":\"B2\",\"indexName\":\"SectionOrder\",\"name\":\"Build\",\"offset\":{\"column\":6,\"line\":1},\"offsetBefore\":{\"column\":1,\"line\":2},\"ok\":false,\"path\":\"order\",\"refusal\":\"M15\",\"section\":1}\n|",
     ),
     (
         "overlap",
-        "1|{\"index\":\"B3\",\"indexName\":\"SectionOverlap\",\"name\":\"Build\",\"ok\":false,\"path\":\"overlap\",\"refusal\":\"M15\",\"section\":1}\n|",
+        "1|{\"index\":\"B3\",\"indexName\":\"SectionOverlap\",\"mapping\":{\"column\":12,\"line\":1},\"name\":\"Build\",\"offset\":{\"column\":11,\"line\":1},\"ok\":false,\"path\":\"overlap\",\"refusal\":\"M15\",\"section\":1}\n|",
     ),
     (
         "range",
-        "1|{\"index\":\"B4\",\"indexName\":\"PositionRange\",\"name\":\"Build\",\"ok\":false,\"path\":\"range\",\"refusal\":\"M15\",\"section\":0}\n|",
+        "1|{\"index\":\"B4\",\"indexName\":\"PositionRange\",\"mapping\":{\"column\":2147483649,\"line\":1},\"name\":\"Build\",\"offset\":{\"column\":2147483648,\"line\":1},\"ok\":false,\"path\":\"range\",\"refusal\":\"M15\",\"section\":0}\n|",
     ),
 ];
 

@@ -13,6 +13,10 @@ mod compose;
 #[cfg(test)]
 mod compose_all;
 #[cfg(test)]
+mod explain;
+#[cfg(test)]
+mod explained;
+#[cfg(test)]
 mod files;
 #[cfg(test)]
 mod held;
@@ -26,6 +30,8 @@ mod left_out;
 mod loaded_files;
 #[cfg(test)]
 mod loading;
+#[cfg(test)]
+mod mappings;
 #[cfg(test)]
 mod raw;
 #[cfg(test)]

@@ -35,6 +35,48 @@ pub fn check(path: String, base: Option<Url>, interval: u32) -> Command
         path,
         base,
         interval: in_range(interval),
+        explain: false,
+    }
+}
+
+/// `check --explain` of the file at this path.
+pub fn check_explained(path: String) -> Command
+    ensures { IsRunnable result }
+{
+    Command::Check {
+        path,
+        base: None,
+        interval: USUAL_INTERVAL,
+        explain: true,
+    }
+}
+
+/// `check --explain` of the files at these paths.
+pub fn check_all_explained(paths: Vec<String>) -> Command
+    ensures { IsRunnable result }
+{
+    Command::CheckAll {
+        paths,
+        base: None,
+        interval: USUAL_INTERVAL,
+        json: false,
+        explain: true,
+    }
+}
+
+/// `lookup --explain` in the file at this path, at a line and a column that count from 1.
+pub fn lookup_explained(path: String, line: u32, column: u32) -> Command
+    ensures { IsRunnable result }
+{
+    Command::Lookup {
+        path,
+        line: line.saturating_sub(1),
+        column: column.saturating_sub(1),
+        base: None,
+        interval: USUAL_INTERVAL,
+        after: false,
+        json: false,
+        explain: true,
     }
 }
 
@@ -47,6 +89,7 @@ pub fn check_all(paths: Vec<String>, base: Option<Url>, interval: u32, json: boo
         base,
         interval: in_range(interval),
         json,
+        explain: false,
     }
 }
 
@@ -69,6 +112,7 @@ pub fn lookup(
         interval: in_range(interval),
         after,
         json: false,
+        explain: false,
     }
 }
 
@@ -84,6 +128,7 @@ pub fn lookup_as_json(path: String, line: u32, column: u32) -> Command
         interval: USUAL_INTERVAL,
         after: false,
         json: true,
+        explain: false,
     }
 }
 
@@ -96,6 +141,22 @@ pub fn positions(path: String, interval: u32, after: bool, json: bool) -> Comman
         base: None,
         interval: in_range(interval),
         after,
+        json,
+    }
+}
+
+/// `mappings` of the file at this path, or of one line of it, which counts from 1.
+pub fn mappings(path: String, base: Option<Url>, line: Option<u32>, json: bool) -> Command
+    ensures { IsRunnable result }
+{
+    let line = match line {
+        Some(line) => Some(line.saturating_sub(1)),
+        None => None,
+    };
+    Command::Mappings {
+        path,
+        base,
+        line,
         json,
     }
 }
@@ -143,6 +204,13 @@ pub fn compose_all(
         base,
         options,
     }
+}
+
+/// `explain` of this code, or of all.
+pub fn explain(code: Option<String>) -> Command
+    ensures { IsRunnable result }
+{
+    Command::Explain { code }
 }
 
 /// Where nothing is left out of a map that is written.

@@ -5,7 +5,7 @@ ghost use Rattle.smap_answers.specs.Run.{IsRunnable};
 use crate::commands;
 use crate::devices::{Device, Devices, MOST_TAKEN};
 use crate::running::left_text;
-use smap_answers::{Command, FileReader, run_reading};
+use smap_answers::{Command, FileReader, UnreadCause, run_reading};
 use smap_io::{MemorySink, MemorySource, ReadFailure};
 use smap_record::Url;
 use std::alloc::{AllocError, Global};
@@ -30,6 +30,16 @@ impl FileReader for HeldFiles<'_> {
             }
         }
         Err(ReadFailure::Device)
+    }
+
+    // The path tells why, where it is one of these words.
+    fn unread_cause(&self, path: &str) -> UnreadCause {
+        match path {
+            "folder" => UnreadCause::Folder,
+            "shut" => UnreadCause::NoPermission,
+            "broken" => UnreadCause::Other,
+            _ => UnreadCause::Missing,
+        }
     }
 }
 

@@ -55,6 +55,20 @@ pub fn run_raw(
     run_over(alloc, &command, &[], text, devices)
 }
 
+/// What `explain` leaves of this code, or of none.
+pub fn run_explain(
+    alloc: Global,
+    code: Option<&str>,
+    devices: Devices,
+) -> Result<String, AllocError> {
+    let code = match code {
+        Some(code) => Some(String::from_str(alloc, code)?),
+        None => None,
+    };
+    let command = commands::explain(code);
+    run_over(alloc, &command, &[], b"", devices)
+}
+
 // What a command leaves that names this one file.
 fn run_on_file(
     alloc: Global,
@@ -171,6 +185,30 @@ pub fn run_positions(
     let command = commands::positions(path, interval, after, json);
     let file = loaded(alloc, "m.map", map.as_bytes())?;
     run_over(alloc, &command, &[file], input, devices)
+}
+
+/// What `mappings` leaves of a map at `m.map`, or of one line of it, which counts from 1.
+pub fn run_mappings(
+    alloc: Global,
+    map: &str,
+    line: Option<u32>,
+    json: bool,
+    devices: Devices,
+) -> Result<String, AllocError> {
+    run_mappings_at(alloc, None, map, line, json, devices)
+}
+
+/// The same of a map whose sources are resolved against the base.
+pub fn run_mappings_at(
+    alloc: Global,
+    base: Option<Url>,
+    map: &str,
+    line: Option<u32>,
+    json: bool,
+    devices: Devices,
+) -> Result<String, AllocError> {
+    let command = commands::mappings(String::from_str(alloc, "m.map")?, base, line, json);
+    run_on_file(alloc, &command, "m.map", map.as_bytes(), devices)
 }
 
 /// What `show` leaves of a map at `m.map`.
