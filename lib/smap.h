@@ -58,6 +58,15 @@ typedef struct smap_refusal {
     uint64_t byte;    /* where the faulty segment begins in the mappings */
 } smap_refusal;
 
+/* What is known of a value for which a segment of the mappings is refused, and of what it may be: lines, columns and indices as
+ * the map has them, from 0, and for other faults a byte, a number of digits, a magnitude or a count of numbers. The last four
+ * are 1 for yes. What there is not is 0. */
+typedef struct smap_reason {
+    int64_t value, least, most;
+    uint64_t generated_column; /* of the faulty segment */
+    uint32_t has_value, has_least, has_most, has_column;
+} smap_reason;
+
 /* What a look-up answers: no mapping (0), one without an original (1), or one with an original (2). What the kind has
  * not is 0. */
 typedef struct smap_found {
@@ -108,6 +117,13 @@ void smap_map_free(smap_map *map);
 /* Writes what the program prints on this refusal of a map file behind the file's path, as "M2 NotJson", with no line end.
  * Returns 1 where no refusal of a map has these numbers, as those of a base. The bytes are freed by smap_bytes_free. */
 uint32_t smap_refusal_text(const smap_refusal *refusal, smap_bytes *bytes);
+
+/* Says why the map file of these bytes is refused, which smap_map_read has refused so: in sentences, each in a line that begins
+ * with two blanks and ends with LF, and none where nothing more is known, and by the value of a faulty segment. In the
+ * sentences lines and columns count from 1. The file is read again, which takes as long and as much memory as the first time.
+ * Returns 1 where no refusal of a map has these numbers, as those of a base. The bytes `text` are freed by smap_bytes_free. */
+uint32_t smap_refusal_explain(const uint8_t *bytes, size_t length, const smap_refusal *refusal, smap_reason *reason,
+                              smap_bytes *text);
 
 /* Looks a generated position up: the last mapping on the line at the position or before it answers. Returns 0. */
 uint32_t smap_look_up(smap_map *map, uint32_t line, uint32_t column, smap_found *found);

@@ -3,7 +3,8 @@
 export const GREATEST_LOWER_BOUND: 1;
 export const LEAST_UPPER_BOUND: -1;
 
-/** What was given is refused. The numbers are the library's; all but the first are there where a map is refused. */
+/** What was given is refused. The numbers are the library's; all but the first are there where a map is refused. The message is
+ * the program's line and, of a map that is refused, the lines of the explanation. */
 export class Refused extends Error {
   /** Of a map that of M1 to M17, or 0 where the base is no URL and 18 where it is too long; of others that of C1, C2 and
    * C4, A1 and A2, or X3. */
@@ -20,6 +21,15 @@ export class Refused extends Error {
   byte?: number;
   /** The URL under which a table was to have the map, or the name of the source that it was to be of. */
   url?: string;
+  /** The value for which a segment of the mappings is refused, as the map has it: lines, columns and indices from 0. */
+  value?: number;
+  /** The least that the value may be where it is below that, and else the most; -1 is the most of an index into an empty list. */
+  limit?: number;
+  /** The generated column of the faulty segment, from 0. */
+  column?: number;
+  /** What is known of why a map is refused: sentences in lines that begin with two blanks and end with LF. In them lines and
+   * columns count from 1. */
+  explanation?: string;
 }
 
 export interface SourceEntry {

@@ -8,7 +8,7 @@ const { BAD_BASE, Refused, refusedMap } = require('./refused.js');
 function read(bytes, base, interval, url) {
   const numbers = new Float64Array(6);
   const map = addon.read(bytes, Buffer.from(base), interval, numbers);
-  if (map === null) throw refusedMap(numbers, base, url);
+  if (map === null) throw refusedMap(bytes, numbers, base, url);
   return map;
 }
 

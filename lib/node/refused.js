@@ -2,14 +2,15 @@
 // Why something is refused.
 const addon = require('./smap.node');
 
-// What was given is refused. `message` is the program's line; the numbers are those of the library, where it has them, and
-// `url` is that under which a table was to have the map.
+// What was given is refused. `message` is the program's line, and after it what is known of why a map is refused; the numbers
+// are those of the library, where it has them, and `url` is that under which a table was to have the map.
 class Refused extends Error {
-  constructor(message, numbers = [], url = undefined) {
-    super(message);
+  constructor(message, numbers = [], url = undefined, { value, limit, column, explanation } = {}) {
+    super(explanation ? `${message}\n${explanation.slice(0, -1)}` : message);
     this.name = 'Refused';
     [this.number, this.fault, this.line, this.build, this.section, this.byte] = numbers;
     this.url = url;
+    [this.value, this.limit, this.column, this.explanation] = [value, limit, column, explanation];
   }
 }
 
@@ -19,14 +20,25 @@ const LONG_BASE = 18;
 const shown = (url) =>
   url.length <= 200 ? JSON.stringify(url) : `${JSON.stringify(url.slice(0, 200))} and ${url.length - 200} characters more`;
 
-// Why a map at this base is refused, by the numbers of the library.
-function refusedMap(numbers, base, url) {
+// What is known of why the map of these bytes is refused: the value of the faulty segment, its limit, which is the least where
+// it is below that and else the most, the segment's column, and sentences.
+function why(bytes, numbers) {
+  const told = new Float64Array(4);
+  const sentences = addon.refusalExplain(bytes, numbers, told);
+  if (sentences === null) return {};
+  const [value, least, most, column] = Array.from(told, (n) => (Number.isNaN(n) ? undefined : n));
+  return { value, limit: value < least ? least : most, column, explanation: sentences.toString() || undefined };
+}
+
+// Why the map of these bytes is refused at this base, by the numbers of the library.
+function refusedMap(bytes, numbers, base, url) {
   const [number] = numbers;
   if (number === BAD_BASE || number === LONG_BASE) {
     return new Refused(`the base is ${number === LONG_BASE ? 'too long' : 'no URL'}: ${shown(base)}`, [...numbers], url);
   }
   const text = addon.refusalText(numbers);
-  return new Refused(`refused: ${url === undefined ? '' : `${url}: `}${text ? text.toString() : number}`, [...numbers], url);
+  const line = `refused: ${url === undefined ? '' : `${url}: `}${text ? text.toString() : number}`;
+  return new Refused(line, [...numbers], url, why(bytes, numbers));
 }
 
 // Why two maps are not composed.

@@ -1,4 +1,5 @@
 /* The library libsmap inside node, over Node-API. index.js is what people call. */
+#include <math.h>
 #include <node_api.h>
 #include <smap.h>
 #include <stdlib.h>
@@ -191,16 +192,44 @@ static napi_value read_map(napi_env env, napi_callback_info info) {
     return map;
 }
 
+/* The refusal of these six numbers. */
+static smap_refusal refusal_of(const double *n) {
+    return (smap_refusal){(uint32_t)n[0], (uint32_t)n[1], (uint32_t)n[2], (uint32_t)n[3], (uint64_t)n[4], (uint64_t)n[5]};
+}
+
 /* refusalText(numbers): what the program tells of a refusal, as a Buffer, or null. */
 static napi_value refusal_text(napi_env env, napi_callback_info info) {
     napi_value words[WORDS];
     const double *n;
     if (!words_of(env, info, 1, words) || !(n = doubles_of(env, words[0], 6))) return NULL;
-    smap_refusal refusal = {(uint32_t)n[0], (uint32_t)n[1], (uint32_t)n[2], (uint32_t)n[3], (uint64_t)n[4], (uint64_t)n[5]};
+    smap_refusal refusal = refusal_of(n);
     smap_bytes bytes = {0};
     uint32_t status = smap_refusal_text(&refusal, &bytes);
     if (status == SMAP_DONE) return buffer(env, &bytes);
     return status == SMAP_REFUSED ? null(env) : refuse(env, "out of memory");
+}
+
+/* refusalExplain(bytes, numbers, reason): the sentences on why these bytes are so refused, as a Buffer, or null, with the value,
+ * the least, the most and the column in a Float64Array of 4: NaN for what there is not. */
+static napi_value refusal_explain(napi_env env, napi_callback_info info) {
+    napi_value words[WORDS];
+    const uint8_t *bytes;
+    size_t length;
+    const double *n;
+    double *numbers;
+    if (!words_of(env, info, 3, words) || !bytes_of(env, words[0], &bytes, &length) || !(n = doubles_of(env, words[1], 6)) ||
+        !(numbers = doubles_of(env, words[2], 4)))
+        return NULL;
+    smap_refusal refusal = refusal_of(n);
+    smap_reason reason = {0};
+    smap_bytes text = {0};
+    uint32_t status = smap_refusal_explain(bytes, length, &refusal, &reason, &text);
+    if (status != SMAP_DONE) return status == SMAP_REFUSED ? null(env) : refuse(env, "out of memory");
+    numbers[0] = reason.has_value ? (double)reason.value : NAN;
+    numbers[1] = reason.has_least ? (double)reason.least : NAN;
+    numbers[2] = reason.has_most ? (double)reason.most : NAN;
+    numbers[3] = reason.has_column ? (double)reason.generated_column : NAN;
+    return buffer(env, &text);
 }
 
 typedef uint32_t lend_text(uint32_t, smap_text *);
@@ -476,7 +505,7 @@ static napi_value next_frame_url(napi_env env, napi_callback_info info) {
 
 NAPI_MODULE_INIT() {
     const struct { const char *name; napi_callback call; } calls[] = {
-        {"read", read_map}, {"refusalText", refusal_text}, {"close", close_map}, {"lookUpMany", look_up_many},
+        {"read", read_map}, {"refusalText", refusal_text}, {"refusalExplain", refusal_explain}, {"close", close_map}, {"lookUpMany", look_up_many},
         {"counts", counts}, {"sourceName", source_name}, {"sourceContent", source_content}, {"isIgnored", is_ignored},
         {"name", name}, {"file", file}, {"write", write_map}, {"compose", compose}, {"composeAll", compose_all}, {"newTable", new_table}, {"add", add},
         {"rewrite", rewrite}, {"nextFrameUrl", next_frame_url}, {"composeRefusalText", compose_refusal_text}, {"tableRefusalText", table_refusal_text},

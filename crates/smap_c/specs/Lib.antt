@@ -7,6 +7,7 @@ pub mod Many
 pub mod Owned
 pub mod Private
 pub mod Read
+pub mod Reason
 pub mod Refusal
 pub mod Tables
 pub mod Telling

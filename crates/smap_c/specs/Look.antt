@@ -4,11 +4,12 @@ use Rattle.smap_index.specs.declared.answer.Answer.{Answer}
 use Rattle.smap_index.specs.declared.answer.Answer.TheVariants as answers
 use Rattle.smap_c.specs.declared.look_up.Found.{Found}
 
--- whether there is a number, and the number
-abbrev pub flag_of : Option ℕ → ℕ
+-- whether there is one: 1 for yes
+abbrev pub flag_of : {A : Type 0} → Option A → ℕ
 flag_of None = 0
-flag_of (Some number) = 1
+flag_of (Some value) = 1
 
+-- a number that there may be
 abbrev pub number_or_0 : Option ℕ → ℕ
 number_or_0 None = 0
 number_or_0 (Some number) = number

@@ -23,6 +23,7 @@ mod look_up;
 mod loose;
 mod many;
 mod read;
+mod reason;
 mod refusal;
 mod status;
 mod tables;

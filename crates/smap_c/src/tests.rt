@@ -2,6 +2,7 @@
 ghost use Rattle.std.specs.Prelude.{IfOk, IsSome};
 
 mod composing;
+mod explaining;
 
 use crate::bytes::Bytes;
 use crate::counts::{Counts, smap_counts};

@@ -28,6 +28,12 @@ class Refusal(ctypes.Structure):
                 ("build", ctypes.c_uint32), ("section", ctypes.c_uint64), ("byte", ctypes.c_uint64)]
 
 
+class Reason(ctypes.Structure):
+    _fields_ = [("value", ctypes.c_int64), ("least", ctypes.c_int64), ("most", ctypes.c_int64),
+                ("generated_column", ctypes.c_uint64), ("has_value", ctypes.c_uint32), ("has_least", ctypes.c_uint32),
+                ("has_most", ctypes.c_uint32), ("has_column", ctypes.c_uint32)]
+
+
 class Found(ctypes.Structure):
     _fields_ = [(name, ctypes.c_uint32) for name in
                 ("kind", "generated_column", "source", "line", "column", "named", "name")]
@@ -69,6 +75,7 @@ def _loaded() -> ctypes.CDLL:
         ("smap_map_read", number, [bytes_in, size, bytes_in, size, number, handle, pointer(Refusal)]),
         ("smap_map_free", None, [handle]),
         ("smap_refusal_text", number, [pointer(Refusal), handle]),
+        ("smap_refusal_explain", number, [bytes_in, size, pointer(Refusal), pointer(Reason), handle]),
         ("smap_look_up", number, [handle, number, number, pointer(Found)]),
         ("smap_look_up_from", number, [handle, number, number, pointer(Found)]),
         ("smap_look_up_many", number, [handle, ctypes.c_void_p, size, ctypes.c_void_p, size]),

@@ -50,7 +50,7 @@ class SourceMap:
                 raise refused_base(BAD_BASE, base, url)
         status = calls.smap_map_read(held, len(held), base_bytes, len(base_bytes), interval, self._handle, refusal)
         if status == REFUSED:
-            raise refused_map(refusal, name, base or "", url)
+            raise refused_map(held, refusal, name, base or "", url)
         if status != DONE:
             raise MemoryError
         self._open = True

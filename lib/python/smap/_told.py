@@ -2,7 +2,7 @@
 
 from typing import Callable, NamedTuple, Optional
 
-from ._library import COUNT_NAMES, DONE, REFUSED, Found, Handle, Refusal, calls, copied, room, taken
+from ._library import COUNT_NAMES, DONE, REFUSED, Found, Handle, Reason, Refusal, calls, copied, room, taken
 
 
 class Answer(NamedTuple):
@@ -38,21 +38,40 @@ assert Counts._fields == COUNT_NAMES
 
 
 class Refused(ValueError):
-    """What was given is refused: its text says why, in the program's words.
+    """What was given is refused: its text says why, in the program's words. Of a map that is refused its first line names the
+    refusal, and the lines after it, if there are any, are the `explanation`.
 
     `number` is the library's: for a map 1 to 17, that of M1 to M17, or 0 where the base is no URL and 18 where it is too
     long; and 1, 2 or 4 for C1, C2 and C4, and 1 or 2 for A1 and A2. Where the refusal of a map has them, there are the
     `section`, the `fault` of the mappings (1 to 11, that of F1 to F11) with its `line` and the `byte` where its segment
     begins, and `build` (1 to 5, that of B1 to B5). `url` is the one under which a `Rewriter` was to have the map, or the
-    name of the source that it was to be of. All else has None.
+    name of the source that it was to be of.
+
+    Where a segment of the mappings is refused for a value, `value` is that, as the map has it, and `limit` the least that it
+    may be where it is below that, and else the most: a most of -1 is that of an index into an empty list. `column` is the
+    segment's generated column, from 0, as `line` counts. `explanation` is what is known of why the map is refused, as
+    sentences in indented lines, in which lines and columns count from 1; it is empty where nothing more is known. All else
+    has None.
     """
 
     def __init__(self, text: str, number: Optional[int] = None, section: Optional[int] = None,
                  fault: Optional[int] = None, line: Optional[int] = None, byte: Optional[int] = None,
-                 build: Optional[int] = None, url: Optional[str] = None) -> None:
-        super().__init__(text)
+                 build: Optional[int] = None, url: Optional[str] = None, why: Optional["Why"] = None) -> None:
+        explanation = why.sentences if why else ""
+        super().__init__(f"{text}\n{explanation[:-1]}" if explanation else text)
         self.number, self.section, self.fault = number, section, fault
         self.line, self.byte, self.build, self.url = line, byte, build, url
+        self.value, self.limit, self.column = (why.value, why.limit, why.column) if why else (None, None, None)
+        self.explanation = explanation
+
+
+class Why(NamedTuple):
+    """What is known of why a map is refused: the value that is wrong, its limit, the segment's column, and sentences."""
+
+    value: Optional[int]
+    limit: Optional[int]
+    column: Optional[int]
+    sentences: str
 
 
 BAD_BASE, LONG_BASE = 0, 18
@@ -68,17 +87,18 @@ def answer(found: Found) -> Optional[Answer]:
     return Answer(found.generated_column, found.source, found.line, found.column, name)
 
 
-def refused_map(refusal: Refusal, name: Optional[str], base: str, url: Optional[str] = None) -> Refused:
-    """Why the map of this name, if it has one, is refused at this base."""
+def refused_map(held: bytes, refusal: Refusal, name: Optional[str], base: str, url: Optional[str] = None) -> Refused:
+    """Why the map of these bytes and of this name, if it has one, is refused at this base."""
     number = refusal.number
     if number in (BAD_BASE, LONG_BASE):
         return refused_base(number, base, url)
     placed = number in (6, 7, 14) or refusal.build in (2, 3, 4)
     section = refusal.section if placed else None
     text = f"refused: {name}: {_text(refusal)}" if name else f"refused: {_text(refusal)}"
+    why = _why(held, refusal)
     if number == 14:
-        return Refused(text, number, section, refusal.fault, refusal.line, refusal.byte, url=url)
-    return Refused(text, number, section, build=refusal.build or None, url=url)
+        return Refused(text, number, section, refusal.fault, refusal.line, refusal.byte, url=url, why=why)
+    return Refused(text, number, section, build=refusal.build or None, url=url, why=why)
 
 
 def refused_base(number: int, base: str, url: Optional[str] = None) -> Refused:
@@ -110,6 +130,21 @@ def _shown(url: str) -> str:
 def _lent(call: Callable[..., int], number: int) -> str:
     text = room()
     return copied(text).decode() if call(number, text) == DONE else str(number)
+
+
+def _why(held: bytes, refusal: Refusal) -> Optional[Why]:
+    reason, text = Reason(), Handle()
+    status = calls.smap_refusal_explain(held, len(held), refusal, reason, text)
+    if status == REFUSED:
+        return None
+    if status != DONE:
+        raise MemoryError
+    sentences = taken(text).decode()
+    value = reason.value if reason.has_value else None
+    least = reason.least if reason.has_least else None
+    most = reason.most if reason.has_most else None
+    limit = least if value is not None and least is not None and value < least else most
+    return Why(value, limit, reason.generated_column if reason.has_column else None, sentences)
 
 
 def _text(refusal: Refusal) -> str:
