@@ -1,0 +1,5 @@
+mod OwnerLaws
+mod TextLaws
+mod CountLaws
+mod ByteLaws
+mod SegmentLaws
