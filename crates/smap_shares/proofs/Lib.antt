@@ -3,3 +3,4 @@ mod TextLaws
 mod CountLaws
 mod ByteLaws
 mod SegmentLaws
+mod RowLaws

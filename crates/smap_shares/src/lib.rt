@@ -11,8 +11,10 @@
 mod counts;
 mod line_ends;
 mod owners;
+mod rows;
 mod segments;
 mod shares;
 
+pub use rows::{SourceRow, SourceTable, source_table};
 pub use segments::segments_by_source;
 pub use shares::{BytesBySource, bytes_by_source};
