@@ -3,3 +3,4 @@ mod PrintedLaws
 mod EscapeLaws
 mod PositionLaws
 mod CountLaws
+mod SourceLaws

@@ -1,8 +1,8 @@
 -- What `sources` prints of a map: each of its sources, and how much of the generated text it makes. Indices count from 0.
-use Rattle.std.specs.Prelude.{◌≡◌, ℕ, Bool, true, false, List, [], ◌∷◌, ◌++◌, Option, Some, None, codes, if◌then◌else◌, length, option_map, slice_get}
+use Rattle.std.specs.Prelude.{◌≡◌, ℕ, Bool, false, List, [], ◌∷◌, ◌++◌, Option, Some, None, codes, if◌then◌else◌, is_some, length, option_map, slice_get}
 use Rattle.std.specs.Fmt.{decimal}
 use Rattle.std.specs.List.{flat_map}
-use Rattle.serde_json.specs.Data.{Data, boolean, object, no_members, member}
+use Rattle.serde_json.specs.Data.{Data, Members, boolean, object, no_members, member}
 use Rattle.smap_index.specs.Parts.{joined}
 use Rattle.smap_record.specs.Record.{MapRecord}
 use Rattle.smap_record.specs.Sources.{StatedSource}
@@ -16,11 +16,7 @@ use Rattle.smap_positions.specs.Lookup.{is_ignored, source_name, source_text}
 -- the map has the source's content
 abbrev pub has_content : Option StatedSource → Bool
 has_content None = false
-has_content (Some source) = has_text source.content
-  where
-    abbrev has_text : Option (List ℕ) → Bool
-    has_text None = false
-    has_text (Some text) = true
+has_content (Some source) = is_some source.content
 
 -- ---- as text
 
@@ -44,14 +40,18 @@ totals_lines unmapped total =
 
 -- ---- as JSON
 
-abbrev pub row_value : SourceRow → Option StatedSource → Data
-row_value row source = object (
-    member_where (codes "bytes") (option_map count row.bytes)
-    (member (codes "content") (boolean (has_content source))
+-- what is told of each source
+abbrev pub row_members : SourceRow → Option StatedSource → Members
+row_members row source =
+    member (codes "content") (boolean (has_content source))
     (member (codes "ignored") (boolean (is_ignored source))
     (member (codes "segments") (count row.segments)
     (member (codes "source") (value_of_text (source_name source))
-    (member (codes "sourceIndex") (count row.source) no_members))))))
+    (member (codes "sourceIndex") (count row.source) no_members))))
+
+-- and the bytes, where they are known
+abbrev pub row_value : SourceRow → Option StatedSource → Data
+row_value row source = object (member_where (codes "bytes") (option_map count row.bytes) (row_members row source))
 
 abbrev pub totals_value : (unmapped total : ℕ) → Data
 totals_value unmapped total = object (member (codes "total") (count total) (member (codes "unmapped") (count unmapped) no_members))

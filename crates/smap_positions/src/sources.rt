@@ -1,11 +1,14 @@
 //! What is printed of the sources of a map.
-ghost use Rattle.std.specs.Prelude.{◌≡◌, ◌++◌, option_copied, option_map, slice_get, true, IfOk};
+ghost use Rattle.std.specs.Prelude.{◌≡◌, ◌++◌, option_copied, option_map, slice_get, false, IfOk};
 ghost use Rattle.std.specs.List.{flat_map};
-ghost use Rattle.serde_json.specs.Written.{compact_text};
+ghost use Rattle.serde_json.specs.Written.{members_text};
 ghost use Rattle.smap_record.specs.Sources.{source_of};
 ghost use Rattle.smap_positions.specs.Json.{json_line};
+ghost use Rattle.smap_positions.specs.Lines.{ignored_text};
+ghost use Rattle.smap_positions.specs.Private.Members.{row_front};
 ghost use Rattle.smap_positions.specs.Sources.{IsSourcesText, bytes_text, has_content, no_content_text};
-ghost use Rattle.smap_positions.specs.Sources.{printed_row, printed_totals, row_line, row_value, totals_lines, totals_value};
+ghost use Rattle.smap_positions.specs.Sources.{printed_row, printed_totals, row_line, row_members, row_value};
+ghost use Rattle.smap_positions.specs.Sources.{totals_lines, totals_value};
 
 use crate::answer::{is_ignored, source_name};
 use crate::growing_text::GrowingText;
@@ -109,20 +112,37 @@ fn put_row_object<O: Output>(entry: Option<&SourceEntry>, row: &SourceRow, outpu
     ensures { O.Puts output.old output.new (json_line
         (row_value row.now (option_map (λ entry. source_of entry.now) entry.entry))) }
 {
-    match row.bytes {
+    put_front(row.bytes, output);
+    put_members(entry, row, output);
+    output.put(b"\n");
+}
+
+// Puts the beginning of the object of a source.
+fn put_front<O: Output>(bytes: Option<u64>, output: &mut O)
+    ensures { O.Puts output.old output.new (row_front bytes) }
+{
+    match bytes {
         Some(bytes) => {
             put_number(b"{\"bytes\":", bytes, output);
-            output.put(b",\"content\":");
+            output.put(b",");
         }
-        None => output.put(b"{\"content\":"),
+        None => output.put(b"{"),
     }
+}
+
+// Puts what is told of each source, and the end of its object.
+fn put_members<O: Output>(entry: Option<&SourceEntry>, row: &SourceRow, output: &mut O)
+    ensures { O.Puts output.old output.new (members_text false
+        (row_members row.now (option_map (λ entry. source_of entry.now) entry.entry))) }
+{
+    output.put(b"\"content\":");
     output.put(bool_text(has_content(entry)));
     put_ignored(entry, output);
     put_number(b",\"segments\":", row.segments, output);
     output.put(b",\"source\":");
     put_json_text(source_name(entry), output);
     put_number(b",\"sourceIndex\":", u64::from(row.source), output);
-    output.put(b"}\n");
+    output.put(b"}");
 }
 
 // Puts how many bytes come from no source, and how many there are, where the generated text is given.
@@ -153,5 +173,6 @@ fn put_totals_object<O: Output>(unmapped: u64, total: u64, output: &mut O)
 {
     put_number(b"{\"total\":", total, output);
     put_number(b",\"unmapped\":", unmapped, output);
-    output.put(b"}\n");
+    output.put(b"}");
+    output.put(b"\n");
 }

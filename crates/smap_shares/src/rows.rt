@@ -60,20 +60,16 @@ fn table_by_index(
 {
     let segments = segments_by_source(alloc, map)?;
     match generated {
-        None => Ok(
-            SourceTable {
-                rows: counted_rows(alloc, &segments, None)?,
-                unmapped: 0,
-            },
-        ),
+        None => Ok(SourceTable {
+            rows: counted_rows(alloc, &segments, None)?,
+            unmapped: 0,
+        }),
         Some(text) => {
             let bytes = bytes_by_source(alloc, map, text)?;
-            Ok(
-                SourceTable {
-                    rows: counted_rows(alloc, &segments, Some(&bytes.sources))?,
-                    unmapped: bytes.unmapped,
-                },
-            )
+            Ok(SourceTable {
+                rows: counted_rows(alloc, &segments, Some(&bytes.sources))?,
+                unmapped: bytes.unmapped,
+            })
         }
     }
 }

@@ -1,5 +1,6 @@
 -- Members of an answer as JSON, each with the comma before it.
 use Rattle.std.specs.Prelude.{ℕ, Bool, List, [], ◌++◌, Option, Some, None, codes}
+use Rattle.std.specs.Fmt.{decimal}
 use Rattle.serde_json.specs.Data.{boolean}
 use Rattle.serde_json.specs.Written.{compact_text}
 use Rattle.smap_positions.specs.Json.{excerpt_value}
@@ -12,3 +13,8 @@ excerpt_member (Some excerpt) = codes ",\"excerpt\":" ++ compact_text (excerpt_v
 -- whether the source is ignored
 abbrev pub ignored_member : Bool → List ℕ
 ignored_member ignored = codes ",\"ignored\":" ++ compact_text (boolean ignored)
+
+-- the beginning of the object of a source: its bytes, where they are known
+abbrev pub row_front : Option ℕ → List ℕ
+row_front None = codes "{"
+row_front (Some bytes) = codes "{\"bytes\":" ++ decimal bytes ++ codes ","

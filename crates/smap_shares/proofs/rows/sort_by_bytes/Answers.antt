@@ -1,4 +1,4 @@
-use Rattle.std.proofs.Common.{rules, ◌≡◌}
+use Rattle.std.proofs.Common.{rules}
 use Rattle.std.proofs.lemmas.List.Sorted.{IsNonDecreasingBy-from_sort, answers_always}
 use Rattle.smap_shares.specs.Rows.{rest_of}
 use Rattle.smap_shares.proofs.rows.sort_by_bytes.Goals as goal

@@ -1,4 +1,4 @@
-use Rattle.std.proofs.Common.{◌≡◌, List, ℕ, length, map, ap, sym, ◌∙◌, option_copied, None}
+use Rattle.std.proofs.Common.{List, ℕ, length, map, ap, sym, ◌∙◌, option_copied, None}
 use Rattle.std.specs.List.{range_with_len}
 use Rattle.smap_index.specs.Parts.{joined}
 use Rattle.smap_shares.specs.Private.Counted.{counted_row}
