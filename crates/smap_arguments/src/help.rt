@@ -58,15 +58,15 @@ pub const SOURCES_ABOUT: &str =
     "Prints the sources of a source map file, and how much of the generated file each makes";
 
 pub const SOURCES_NOTES: &str = "\
-Answer: for each source one line, INDEX SEGMENTS SOURCE: its number in the map, from 0, how many mappings lead
-to it, and its name. With GENERATED it is INDEX SEGMENTS BYTES SOURCE, and at the end stand `unmapped BYTES`
-and `total BYTES`. Behind a source ` ignored` says that the map passes over it, and ` no content` that the map
-does not hold its text. With --json each is a JSON object.
+Answer: for each source one line: INDEX SEGMENTS SOURCE or, with GENERATED, INDEX SEGMENTS BYTES SOURCE. INDEX is
+its number in the map, from 0; SEGMENTS says how many mappings lead to it, and BYTES how much of the generated
+file it makes. Behind it stand ` ignored` where the map says to pass over the source, and ` no content` where it
+does not hold its text. With GENERATED `unmapped BYTES` and `total BYTES` follow at the end. With --json each
+line is a JSON object.
 
-A mapping owns the text of the generated file up to the next one on its line. What no source owns is unmapped,
-line ends too.
+A mapping owns the text up to the next one on its line. Line ends are unmapped, and so is what no source owns.
 
-With --content the answer is the text of one source, byte for byte. Status 1 where the map does not hold it.
+With --content the answer is the text of one source; status 1 where the map does not hold it.
 
 Examples:
   smap sources examples/receipt.min.js.map examples/receipt.min.js
