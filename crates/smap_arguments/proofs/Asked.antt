@@ -21,8 +21,8 @@ use Rattle.clap.specs.declared.builder.value_parser.ValueParser.{ValueParser}
 use Rattle.clap.specs.declared.builder.value_parser.ValueParser.TheVariants as parser
 use Rattle.clap.specs.declared.error.Error.{Error}
 use Rattle.clap.specs.declared.error.kind.ErrorKind.TheVariants.{DisplayHelp, DisplayVersion, OutOfMemory}
-use Rattle.smap_arguments.specs.CommandLine.{base_rule, bytes_number, bytes_rule, check, compose, flag_rule, interval_number, interval_rule}
-use Rattle.smap_arguments.specs.CommandLine.{explain, list_rule, lookup, mappings, named, number, pairs_rule, positions, raw, rewrite, show, smap, source_number}
+use Rattle.smap_arguments.specs.CommandLine.{base_rule, bytes_number, bytes_rule, check, compose, content_rule, flag_rule, interval_number, interval_rule}
+use Rattle.smap_arguments.specs.CommandLine.{explain, list_rule, lookup, mappings, named, number, order_rule, pairs_rule, positions, raw, rewrite, show, smap, source_number, sources}
 use Rattle.smap_arguments.specs.declared.usage.Usage.{Usage}
 use Rattle.smap_arguments.specs.declared.usage.Usage.TheVariants.{Help, Mistake, Memory}
 use Rattle.smap_arguments.specs.Arguments.{HasArguments, HasCommand, HasValue, HasValues}
@@ -139,7 +139,7 @@ module _ (parser_at : Text → ValueParser) where
 
 -- lines, columns, sources, intervals and bytes are numbers, flags are true or false, and the other arguments are any text
 abbrev at_argument : Text → ValueParser
-at_argument id = cond (bytes_eq id (codes "SOURCE")) source_number
+at_argument id = cond (bytes_eq id (codes "SOURCE") || bytes_eq id (codes "INDEX")) source_number
     (cond (bytes_eq id (codes "K")) interval_number
     (cond (bytes_eq id (codes "cache")) (bytes_number 0)
     (cond (bytes_eq id (codes "limit")) (bytes_number 1)
@@ -155,6 +155,12 @@ at_argument id = cond (bytes_eq id (codes "SOURCE")) source_number
 
 base_plain : (i : ℕ) → IsPlain at_argument (with_index i (filled base_rule))
 base_plain i = option at_argument i (codes "URL") (codes "base")
+
+order_plain : (i : ℕ) → IsPlain at_argument (with_index i (filled order_rule))
+order_plain i = option at_argument i (codes "BY") (codes "sort")
+
+content_plain : (i : ℕ) → IsPlain at_argument (with_index i (filled content_rule))
+content_plain i = option at_argument i (codes "INDEX") (codes "content")
 
 interval_plain : (i : ℕ) → IsPlain at_argument (with_index i (filled interval_rule))
 interval_plain i = option at_argument i (codes "K") (codes "interval")
@@ -207,6 +213,15 @@ mappings_plain : Each (IsPlain at_argument) (built_leaf mappings.top).rules
 mappings_plain = (
   value at_argument 1 (codes "MAP") true,
   (value at_argument 2 (codes "LINE") false, (base_plain 3, (flag_plain 3 (codes "json") refl, (help_plain, tt)))),
+)
+
+sources_plain : Each (IsPlain at_argument) (built_leaf sources.top).rules
+sources_plain = (
+  value at_argument 1 (codes "MAP") true,
+  (
+    value at_argument 2 (codes "GENERATED") false,
+    (base_plain 3, (order_plain 3, (flag_plain 3 (codes "json") refl, (content_plain 3, (help_plain, tt))))),
+  ),
 )
 
 rewrite_plain : Each (IsPlain at_argument) (built_leaf rewrite.top).rules
@@ -281,18 +296,21 @@ each_gives word no_help = (
     (
       λ answers. level_gives at_argument (built_leaf mappings.top) mappings_plain,
       (
-        λ answers. level_gives at_argument (built_leaf rewrite.top) rewrite_plain,
+        λ answers. level_gives at_argument (built_leaf sources.top) sources_plain,
         (
-          λ answers. level_gives at_argument (built_leaf check.top) check_plain,
+          λ answers. level_gives at_argument (built_leaf rewrite.top) rewrite_plain,
           (
-            λ answers. level_gives at_argument (built_leaf show.top) show_plain,
+            λ answers. level_gives at_argument (built_leaf check.top) check_plain,
             (
-              λ answers. level_gives at_argument (built_leaf compose.top) compose_plain,
+              λ answers. level_gives at_argument (built_leaf show.top) show_plain,
               (
-                λ answers. level_gives at_argument (built_leaf explain.top) explain_plain,
+                λ answers. level_gives at_argument (built_leaf compose.top) compose_plain,
                 (
-                  λ answers. level_gives at_argument (built_leaf raw.top) raw_plain,
-                  (λ answers. absurd (is_no_help (bytes_eq (codes "help") word) refl answers), tt),
+                  λ answers. level_gives at_argument (built_leaf explain.top) explain_plain,
+                  (
+                    λ answers. level_gives at_argument (built_leaf raw.top) raw_plain,
+                    (λ answers. absurd (is_no_help (bytes_eq (codes "help") word) refl answers), tt),
+                  ),
                 ),
               ),
             ),

@@ -62,6 +62,14 @@ interval_rule = record (new_rule (codes "K")) { long = Some (codes "interval"); 
 abbrev pub source_rule : Rule
 source_rule = optional_number_rule source_number (codes "SOURCE")
 
+-- the option that is what sources are put in order by, of any text
+abbrev pub order_rule : Rule
+order_rule = record (new_rule (codes "BY")) { long = Some (codes "sort") }
+
+-- the option that is the number of the source whose content is written
+abbrev pub content_rule : Rule
+content_rule = record (new_rule (codes "INDEX")) { long = Some (codes "content"); parser = Some source_number }
+
 -- a flag, which its name stands for
 abbrev pub flag_rule : Text → Rule
 flag_rule name = record (new_rule name) { long = Some name; action = Some SetTrue }
@@ -102,6 +110,10 @@ abbrev pub mappings : App
 mappings = with_rules (codes "mappings") (text_rule (codes "MAP") ∷ optional_number_rule number (codes "LINE") ∷ base_rule
     ∷ flag_rule (codes "json") ∷ [])
 
+abbrev pub sources : App
+sources = with_rules (codes "sources") (text_rule (codes "MAP") ∷ optional_rule (codes "GENERATED") ∷ base_rule ∷ order_rule
+    ∷ flag_rule (codes "json") ∷ content_rule ∷ [])
+
 abbrev pub rewrite : App
 rewrite = with_rules (codes "rewrite") (texts_rule false (codes "URL=FILE") ∷ list_rule (codes "maps") ∷ base_rule ∷ interval_rule
     ∷ flag_rule (codes "hide-ignored") ∷ flag_rule (codes "anywhere") ∷ bytes_rule 0 (codes "cache") ∷ bytes_rule 1 (codes "limit")
@@ -128,7 +140,7 @@ raw = with_rules (codes "raw") (number_rule number (codes "LINE") ∷ number_rul
 abbrev pub smap : App
 smap = fold (λ above command. with_subcommand above command.top)
     (on_top (λ shape. record shape { subcommand_required = true; has_version = true }) (new_app (codes "smap")))
-    (lookup ∷ positions ∷ mappings ∷ rewrite ∷ check ∷ show ∷ compose ∷ explain ∷ raw ∷ [])
+    (lookup ∷ positions ∷ mappings ∷ sources ∷ rewrite ∷ check ∷ show ∷ compose ∷ explain ∷ raw ∷ [])
 
 -- clap's command is the one described, and no argument of it holds in subcommands too
 abbrev pub IsLocalCommand : App → ClapCommand → Type 0

@@ -13,8 +13,8 @@ use Rattle.clap.specs.Words.{Row, Text, first_of, one_of, subcommand_of}
 use Rattle.clap.specs.declared.error.kind.ErrorKind.{ErrorKind}
 use Rattle.clap.specs.declared.error.kind.ErrorKind.TheVariants.{DisplayHelp, DisplayVersion, OutOfMemory}
 use Rattle.smap_arguments.specs.CommandLine.{smap}
-use Rattle.smap_arguments.specs.Arguments.{GivesBase, GivesFlag, GivesPairs, GivesText, HasMaps, HasNoInners, has_equals_sign, has_inner}
-use Rattle.smap_arguments.specs.Arguments.{words_of}
+use Rattle.smap_arguments.specs.Arguments.{GivesBase, GivesFlag, GivesOrder, GivesPairs, GivesText, HasMaps, HasNoInners, has_equals_sign, has_inner}
+use Rattle.smap_arguments.specs.Arguments.{has_listing, words_of}
 use Rattle.smap_arguments.specs.declared.usage.Usage.{Usage}
 use Rattle.smap_arguments.specs.declared.usage.Usage.TheVariants.{Help, Mistake, Memory}
 
@@ -122,12 +122,44 @@ TellsNoInner rows text = HasNoInners rows
 abbrev pub TellsCompose : List Row → Text → Type 0
 TellsCompose rows text = TellsBadPair rows (codes "NAME=FILE") text ⊎ TellsSourceWithInners rows text ⊎ TellsNoInner rows text
 
+-- `sources` is to write the content of a source and to do something else
+abbrev pub content_with_more_line : Text
+content_with_more_line = codes "usage: --content with GENERATED, --base, --json or --sort" ++ 10 ∷ []
+
+-- it has an order that there is none of
+abbrev pub bad_order_line : Text
+bad_order_line = codes "usage: --sort takes bytes alone" ++ 10 ∷ []
+
+-- it has an order, and no generated file
+abbrev pub sort_alone_line : Text
+sort_alone_line = codes "usage: --sort without GENERATED" ++ 10 ∷ []
+
+-- it is told that the content of a source is not written with anything else
+abbrev pub TellsContentWithMore : List Row → Text → Type 0
+TellsContentWithMore rows text = (text ≡ content_with_more_line) × IsSome (one_of (codes "INDEX") rows)
+    × (GivesFlag rows (codes "json") true ⊎ (has_listing rows ≡ true))
+
+-- it is told that there is no such order
+abbrev pub TellsBadOrder : List Row → Text → Type 0
+TellsBadOrder rows text =
+    (text ≡ bad_order_line) × ((order : Text) × GivesText rows (codes "BY") order × (order ≢ codes "bytes"))
+
+-- it is told that the generated file is missing
+abbrev pub TellsSortAlone : List Row → Text → Type 0
+TellsSortAlone rows text =
+    (text ≡ sort_alone_line) × GivesOrder rows true × (first_of (codes "GENERATED") rows ≡ None)
+
+-- what `sources` refuses after its base: what is asked beside a content, and then its order
+abbrev pub TellsSources : List Row → Text → Type 0
+TellsSources rows text = TellsContentWithMore rows text ⊎ TellsBadOrder rows text ⊎ TellsSortAlone rows text
+
 -- the arguments are told that clap takes, but the command of this name does not: its base or, where that is not refused,
--- what else `rewrite` and `compose` refuse
+-- what else `rewrite`, `compose` and `sources` refuse
 abbrev pub TellsRefusal : (name : Text) → List Row → Text → Type 0
 TellsRefusal name rows text = TellsOfBase rows text
     ⊎ ((base : Option Parts) × (name ≡ codes "rewrite") × GivesBase rows base × TellsRewrite rows text)
     ⊎ ((base : Option Parts) × (name ≡ codes "compose") × GivesBase rows base × TellsCompose rows text)
+    ⊎ ((base : Option Parts) × (name ≡ codes "sources") × GivesBase rows base × TellsSources rows text)
 
 -- where clap finds no fault, this alone may be told, or memory ran out
 abbrev pub IsNamedRefusal : (Text → Type 0) → Usage → Type 0

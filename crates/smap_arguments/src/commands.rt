@@ -8,6 +8,7 @@ ghost use Rattle.smap_arguments.specs.Refusals.{IsNamedRefusal, SubcommandTells,
 ghost use Rattle.clap.specs.declared.builder.value_parser.ValueParser.TheVariants as parser;
 
 use crate::rewrite::rewrite_in;
+use crate::sources::sources_in;
 use crate::usage::Usage;
 use crate::values::{
     after_in, base_in, flag_in, interval_in, json_in, position_number_if_given, position_number_in,
@@ -70,6 +71,7 @@ fn named_command(
             line: position_number_if_given(matches, "LINE"),
             json: json_in(matches),
         }),
+        "sources" => sources_in(alloc, matches, base),
         "rewrite" => rewrite_in(alloc, matches, base),
         "check" => Ok(check_in(alloc, matches, base)?),
         "show" => Ok(show_in(alloc, matches, base)?),

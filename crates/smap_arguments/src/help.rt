@@ -54,6 +54,24 @@ The lines are written while the map is gone through, so `head` may follow.
 
 Example: smap mappings examples/preset-react.js.map 65";
 
+pub const SOURCES_ABOUT: &str =
+    "Prints the sources of a source map file, and how much of the generated file each makes";
+
+pub const SOURCES_NOTES: &str = "\
+Answer: for each source one line: INDEX SEGMENTS SOURCE or, with GENERATED, INDEX SEGMENTS BYTES SOURCE. INDEX is
+its number in the map, from 0; SEGMENTS says how many mappings lead to it, and BYTES how much of the generated
+file it makes. Behind it stand ` ignored` where the map says to pass over the source, and ` no content` where it
+does not hold its text. With GENERATED `unmapped BYTES` and `total BYTES` follow at the end. With --json each
+line is a JSON object.
+
+A mapping owns the text up to the next one on its line. Line ends are unmapped, and so is what no source owns.
+
+With --content the answer is the text of one source; status 1 where the map does not hold it.
+
+Examples:
+  smap sources examples/receipt.min.js.map examples/receipt.min.js
+  smap sources --content 0 examples/receipt.min.js.map";
+
 pub const REWRITE_ABOUT: &str = "Rewrites the stack trace on standard input over source map files";
 
 pub const REWRITE_NOTES: &str = "\
@@ -167,6 +185,13 @@ pub const PATHS_HELP: &str = "Path of a source map file";
 pub const LINE_HELP: &str = "Line of the generated file, from 1";
 
 pub const ONE_LINE_HELP: &str = "Line of the generated file, from 1; without it all lines";
+
+pub const GENERATED_HELP: &str =
+    "Path of the generated file, to tell how many of its bytes each source makes";
+
+pub const ORDER_HELP: &str = "Print those that make most first: `bytes`";
+
+pub const CONTENT_HELP: &str = "Write the content of this source, from 0, and nothing else";
 
 pub const COLUMN_HELP: &str = "Column of the generated file, from 1, in UTF-16 code units";
 

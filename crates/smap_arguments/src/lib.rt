@@ -13,6 +13,7 @@ mod mistakes;
 mod pairs;
 mod parsing;
 mod rewrite;
+mod sources;
 mod usage;
 mod values;
 mod written;

@@ -1,19 +1,20 @@
 //! The command line as clap gets it.
 ghost use Rattle.std.specs.Prelude.{◌≡◌, All, IfOk, codes, false, map};
 ghost use Rattle.clap.specs.Words.{app_of, rule_of};
-ghost use Rattle.smap_arguments.specs.CommandLine.{IsLocalArgument, IsLocalCommand, base_rule, bytes_rule, check, compose, explain, flag_rule};
-ghost use Rattle.smap_arguments.specs.CommandLine.{interval_rule, list_rule, lookup, mappings, number, number_rule, optional_number_rule, optional_rule};
-ghost use Rattle.smap_arguments.specs.CommandLine.{pairs_rule, positions};
-ghost use Rattle.smap_arguments.specs.CommandLine.{raw, rewrite, show, smap, source_rule, text_rule, texts_rule, with_rules};
+ghost use Rattle.smap_arguments.specs.CommandLine.{IsLocalArgument, IsLocalCommand, base_rule, bytes_rule, check, compose, content_rule, explain};
+ghost use Rattle.smap_arguments.specs.CommandLine.{flag_rule, interval_rule, list_rule, lookup, mappings, number, number_rule, optional_number_rule};
+ghost use Rattle.smap_arguments.specs.CommandLine.{optional_rule, order_rule, pairs_rule, positions};
+ghost use Rattle.smap_arguments.specs.CommandLine.{raw, rewrite, show, smap, source_rule, sources, text_rule, texts_rule, with_rules};
 
 use crate::help::{
     AFTER_HELP, ANYWHERE_HELP, CACHE_HELP, CHECK_ABOUT, CHECK_NOTES, CODE_HELP, COLUMN_HELP,
-    COMPOSE_ABOUT, COMPOSE_NOTES, EXPLAIN_ABOUT, EXPLAIN_NOTES, HIDE_HELP, INNER_HELP,
-    INNER_LIST_HELP, INNER_PAIRS_HELP, INTERVAL_HELP, JSON_HELP, LIMIT_HELP, LINE_HELP, LIST_HELP,
-    LOOKUP_ABOUT, LOOKUP_NOTES, MAPPINGS_ABOUT, MAPPINGS_NOTES, NEAREST_HELP, NO_CONTENT_HELP,
-    ONE_LINE_HELP, OUTER_HELP, PAIRS_HELP, PATH_HELP, PATHS_HELP, POSITIONS_ABOUT, POSITIONS_NOTES,
-    PRUNE_HELP, RAW_ABOUT, RAW_NOTES, REWRITE_ABOUT, REWRITE_NOTES, SHOW_ABOUT, SHOW_NOTES,
-    SOURCE_HELP, STATUSES, SUMMARY_HELP, WHY_HELP,
+    COMPOSE_ABOUT, COMPOSE_NOTES, CONTENT_HELP, EXPLAIN_ABOUT, EXPLAIN_NOTES, GENERATED_HELP,
+    HIDE_HELP, INNER_HELP, INNER_LIST_HELP, INNER_PAIRS_HELP, INTERVAL_HELP, JSON_HELP, LIMIT_HELP,
+    LINE_HELP, LIST_HELP, LOOKUP_ABOUT, LOOKUP_NOTES, MAPPINGS_ABOUT, MAPPINGS_NOTES, NEAREST_HELP,
+    NO_CONTENT_HELP, ONE_LINE_HELP, ORDER_HELP, OUTER_HELP, PAIRS_HELP, PATH_HELP, PATHS_HELP,
+    POSITIONS_ABOUT, POSITIONS_NOTES, PRUNE_HELP, RAW_ABOUT, RAW_NOTES, REWRITE_ABOUT,
+    REWRITE_NOTES, SHOW_ABOUT, SHOW_NOTES, SOURCE_HELP, SOURCES_ABOUT, SOURCES_NOTES, STATUSES,
+    SUMMARY_HELP, WHY_HELP,
 };
 use clap::builder::ValueParser;
 use clap::{Arg, ArgAction, Command, value_parser};
@@ -30,6 +31,7 @@ pub fn command_line<'a>(alloc: Global) -> Result<Command<'a>, AllocError>
         lookup_command(alloc)?,
         positions_command(alloc)?,
         mappings_command(alloc)?,
+        sources_command(alloc)?,
         rewrite_command(alloc)?,
         check_command(alloc)?,
         show_command(alloc)?,
@@ -91,6 +93,20 @@ fn mappings_command<'a>(alloc: Global) -> Result<Command<'a>, AllocError>
         flag(alloc, "json", JSON_HELP),
     ]?;
     described(alloc, "mappings", MAPPINGS_ABOUT, MAPPINGS_NOTES, arguments)
+}
+
+fn sources_command<'a>(alloc: Global) -> Result<Command<'a>, AllocError>
+    ensures { IfOk result (IsLocalCommand sources) }
+{
+    let arguments = vec![in alloc;
+        text(alloc, "MAP", PATH_HELP),
+        optional(alloc, "GENERATED", GENERATED_HELP),
+        base_url(alloc),
+        order(alloc),
+        flag(alloc, "json", JSON_HELP),
+        content(alloc),
+    ]?;
+    described(alloc, "sources", SOURCES_ABOUT, SOURCES_NOTES, arguments)
 }
 
 fn rewrite_command<'a>(alloc: Global) -> Result<Command<'a>, AllocError>
@@ -246,6 +262,23 @@ fn base_url<'a>(alloc: Global) -> Arg<'a>
     Arg::new(alloc, "URL")
         .long("base")
         .help("URL against which the names of sources are resolved")
+}
+
+// The option that is what sources are put in order by.
+fn order<'a>(alloc: Global) -> Arg<'a>
+    ensures { IsLocalArgument order_rule result }
+{
+    Arg::new(alloc, "BY").long("sort").help(ORDER_HELP)
+}
+
+// The option that is the number of the source whose content is written.
+fn content<'a>(alloc: Global) -> Arg<'a>
+    ensures { IsLocalArgument content_rule result }
+{
+    Arg::new(alloc, "INDEX")
+        .long("content")
+        .value_parser(value_parser!(u32))
+        .help(CONTENT_HELP)
 }
 
 // The option that is the interval of the checkpoints.

@@ -46,6 +46,15 @@ Usage: smap compose <OUTER> <SOURCE> <INNER>
 For more information, try '--help'.
 ";
 
+/// Standard error: `sources` is to write the content of a source and to do something else.
+pub const CONTENT_WITH_MORE: &str = "usage: --content with GENERATED, --base, --json or --sort\n";
+
+/// Standard error: `sources` has an order that there is none of.
+pub const BAD_ORDER: &str = "usage: --sort takes bytes alone\n";
+
+/// Standard error: `sources` has an order, and no generated file.
+pub const SORT_ALONE: &str = "usage: --sort without GENERATED\n";
+
 /// Standard error: an argument without `=`, which is to have this form.
 pub fn no_pair_line(alloc: Global, form: &str, argument: &str) -> Result<String, AllocError>
     ensures { IfOk result (λ text. string_bytes text ≡ no_pair_line form.now argument.now) }

@@ -1,6 +1,6 @@
 //! What clap found for the arguments.
-ghost use Rattle.std.specs.Prelude.{◌≡◌, ◌≤◌, ◌+◌, IfErr, IfOk, IfSome, codes, map, option_map, string_bytes, true};
-ghost use Rattle.clap.specs.Words.{found_of, rows_of};
+ghost use Rattle.std.specs.Prelude.{◌≡◌, ◌≤◌, ◌+◌, IfErr, IfOk, IfSome, codes, is_some, map, option_map, string_bytes, true};
+ghost use Rattle.clap.specs.Words.{first_of, found_of, rows_of};
 ghost use Rattle.smap_command.specs.Limits.{is_interval, limit, most_bytes};
 ghost use Rattle.smap_arguments.specs.CommandLine.{bytes_number, interval_number, number, source_number};
 ghost use Rattle.smap_arguments.specs.Arguments.{GivesBase, GivesFlag, GivesInterval, GivesNumber, GivesNumberIfGiven, GivesText};
@@ -55,11 +55,11 @@ pub fn position_number_if_given(matches: &ArgMatches<'_>, name: &str) -> Option<
 }
 
 /// The number of a source, where it is given.
-pub fn source_in(matches: &ArgMatches<'_>) -> Option<u32>
-    requires { HasValueIfGiven source_number (rows_of (found_of matches.now)) (codes "SOURCE") }
-    ensures { GivesNumberIfGiven (rows_of (found_of matches.now)) (codes "SOURCE") result }
+pub fn source_in(matches: &ArgMatches<'_>, name: &str) -> Option<u32>
+    requires { HasValueIfGiven source_number (rows_of (found_of matches.now)) name.now }
+    ensures { GivesNumberIfGiven (rows_of (found_of matches.now)) name.now result }
 {
-    matches.get_one::<u32>("SOURCE")
+    matches.get_one::<u32>(name)
 }
 
 /// The interval of the option `--interval`, or the usual one where it is not given.
@@ -121,6 +121,13 @@ pub fn bytes_in(matches: &ArgMatches<'_>, name: &str, least: u64) -> Option<u64>
     ensures in_range { IfSome result (λ bytes. (least ≤ bytes) × (bytes ≤ most_bytes)) }
 {
     matches.get_one::<u64>(name)
+}
+
+/// Whether the argument is given.
+pub fn has_text_in(matches: &ArgMatches<'_>, name: &str) -> bool
+    ensures { result ≡ is_some (first_of name.now (rows_of (found_of matches.now))) }
+{
+    matches.get_str(name).is_some()
 }
 
 /// None where the argument is not given.

@@ -10,7 +10,7 @@ ghost use Rattle.clap.specs.declared.builder.value_parser.ValueParser.TheVariant
 use crate::mistakes::{NO_INNER, NO_SOURCE, SOURCE_WITH_INNERS};
 use crate::pairs::pairs_in;
 use crate::usage::Usage;
-use crate::values::{flag_in, source_in, text_if_given, text_in};
+use crate::values::{flag_in, has_text_in, source_in, text_if_given, text_in};
 use clap::ArgMatches;
 use smap_command::{Command, WriteOptions};
 use std::alloc::{AllocError, Global};
@@ -87,7 +87,7 @@ fn one_inner_in(
     ensures refused { IfErr result (IsNamedRefusal
         (TellsNoInner (rows_of (found_of matches.now)))) }
 {
-    let Some(source) = source_in(matches) else {
+    let Some(source) = source_in(matches, "SOURCE") else {
         return Err(Usage::Mistake(String::from_str(alloc, NO_SOURCE)?));
     };
     let Some(inner) = text_if_given(alloc, matches, "INNER")? else {
@@ -116,7 +116,7 @@ fn has_inner(matches: &ArgMatches<'_>) -> bool
     requires { HasValueIfGiven source_number (rows_of (found_of matches.now)) (codes "SOURCE") }
     ensures { result ≡ has_inner (rows_of (found_of matches.now)) }
 {
-    source_in(matches).is_some() || matches.get_str("INNER").is_some()
+    source_in(matches, "SOURCE").is_some() || has_text_in(matches, "INNER")
 }
 
 // What is left out of the map.

@@ -1,6 +1,11 @@
 //! Requests for help and for the version. Each help text stands here whole.
+mod answers;
+mod written;
+
 use crate::reading::{assert_shown, read};
+use answers::{LOOKUP, MAPPINGS, POSITIONS, RAW, SOURCES};
 use std::test::Fail;
+use written::{COMPOSE, REWRITE, SHOW};
 
 const SMAP: &str = "\
 Answers questions about source maps
@@ -11,6 +16,7 @@ Commands:
   lookup     Looks a generated position up in a source map file
   positions  Answers the positions on standard input from a source map file
   mappings   Prints the mappings of a source map file, one a line
+  sources    Prints the sources of a source map file, and how much of the generated file each makes
   rewrite    Rewrites the stack trace on standard input over source map files
   check      Checks source map files and prints their counts
   show       Writes a source map file as one regular map
@@ -28,136 +34,6 @@ Columns are UTF-16 code units. LINE and COLUMN count from 1, as V8 prints them i
 Status: 0 answered, 1 a map, a text or a trace is refused, 2 wrong arguments, 3 an I/O error or out of memory.
 
 Example: smap lookup examples/preset-react.js.map 65 80
-";
-
-const LOOKUP: &str = "\
-Looks a generated position up in a source map file
-
-Usage: smap lookup [OPTIONS] <PATH> <LINE> <COLUMN>
-
-Arguments:
-  <PATH>    Path of the source map file
-  <LINE>    Line of the generated file, from 1
-  <COLUMN>  Column of the generated file, from 1, in UTF-16 code units
-
-Options:
-      --base <URL>    URL against which the names of sources are resolved
-      --interval <K>  Checkpoints in the index stand at every K-th segment of a line, 1 to 4096, else 64. A
-                      smaller K answers look-ups faster and takes more memory; their answers are the same
-      --after         Answer by the first mapping on the line at the position or after it, not the last before
-      --json          Answer in JSON: one compact object a line
-      --explain       Say which mappings stand nearest to the position (not with --json)
-  -h, --help          Print help
-
-Answers:
-  SOURCE:LINE:COLUMN  the original position, from 1; behind it ` name NAME` where the mapping names the
-                      identifier there, and ` ignored` where the map says to pass over the source
-  unmapped            the mapping is of generated code without an original
-  none                no mapping stands at the position or before it on its line
-
-The last mapping at the position or before it answers or, with --after, the first at it or after it.
-With --explain the answer is followed by which mappings stand nearest before and after the position.
-
-Where the map holds the text of the source, its line follows, and a caret under the position.
-
-With --json the answer is one JSON object, on one line.
-
-Columns are UTF-16 code units. LINE and COLUMN count from 1, as V8 prints them in a stack trace.
-
-Example: smap lookup examples/preset-react.js.map 65 80
-";
-
-const POSITIONS: &str = "\
-Answers the positions on standard input from a source map file
-
-Usage: smap positions [OPTIONS] <MAP>
-
-Arguments:
-  <MAP>  Path of the source map file
-
-Options:
-      --base <URL>    URL against which the names of sources are resolved
-      --interval <K>  Checkpoints in the index stand at every K-th segment of a line, 1 to 4096, else 64. A
-                      smaller K answers look-ups faster and takes more memory; their answers are the same
-      --after         Answer by the first mapping on the line at the position or after it, not the last before
-      --json          Answer in JSON: one compact object a line
-  -h, --help          Print help
-
-Each line of standard input is a position: LINE and COLUMN of the generated file, from 1, without signs or
-leading zeros, and between them blanks or one `:` alone.
-
-Answer: for each line one line, in their order, while they come: the first that `smap lookup` prints for it,
-or `bad position`. With --json each is a JSON object.
-
-The last mapping at a position or before it answers or, with --after, the first at it or after it.
-
-Status 1 where a line was no position; standard error then names the first.
-
-Example: printf '65:80\\n66 1\\n' | smap positions examples/preset-react.js.map
-";
-
-const MAPPINGS: &str = "\
-Prints the mappings of a source map file, one a line
-
-Usage: smap mappings [OPTIONS] <MAP> [LINE]
-
-Arguments:
-  <MAP>   Path of the source map file
-  [LINE]  Line of the generated file, from 1; without it all lines
-
-Options:
-      --base <URL>  URL against which the names of sources are resolved
-      --json        Answer in JSON: one compact object a line
-  -h, --help        Print help
-
-Answer: for each mapping one line, in their order: LINE:COLUMN of the generated file, from 1, and behind it the
-original position, as `smap lookup` prints it, or `unmapped`. With LINE only the mappings on that line; nothing
-where it has none. With --json each is a JSON object.
-
-The lines are written while the map is gone through, so `head` may follow.
-
-Example: smap mappings examples/preset-react.js.map 65
-";
-
-const REWRITE: &str = "\
-Rewrites the stack trace on standard input over source map files
-
-Usage: smap rewrite [OPTIONS] [URL=FILE]...
-
-Arguments:
-  [URL=FILE]...  URL of a generated file, `=` and the path of its source map file; or PREFIX=FOLDER/
-
-Options:
-      --maps <LIST>    Path of a list of more maps: on each line URL, TAB and FILE
-      --base <URL>     URL against which the names of sources are resolved
-      --interval <K>   Checkpoints in the index stand at every K-th segment of a line, 1 to 4096, else 64. A
-                       smaller K answers look-ups faster and takes more memory; their answers are the same
-      --hide-ignored   Leave out the frames from sources that a map says to pass over (its `ignoreList`)
-      --anywhere       Rewrite every URL:LINE:COLUMN anywhere in a line, not frames alone
-      --cache <BYTES>  Keep maps of folders and lists up to this many bytes of their files, else 1073741824; the
-                       output is the same
-      --limit <BYTES>  Refuse a text of more bytes than this, 1 to 9223372036854775807, else 1073741824
-      --summary        Tell counts on standard error at the end
-  -h, --help           Print help
-
-Each URL=FILE is the URL of a generated file, as frames of the trace name it, and the path of that file's
-map; the last `=` of the argument stands between them. Sources are resolved against the URL of --base or, where
-there is none, against the map's own.
-
-What ends in `/` behind the `=` is a folder: PREFIX=FOLDER/, where PREFIX ends in `/`, too. The map of a URL that
-begins with PREFIX is the file FOLDER/REST.map, REST being what the URL has behind PREFIX, without its query and
-fragment. Each line of the file of --maps is a URL and a file, or a prefix and a folder, with one TAB between
-them; empty lines and those that begin with `#` are passed over. Maps of folders and lists are read when the text
-first names them. One that cannot be read is told on standard error, and the rest goes on.
-
-Answer: the trace, line by line. In a frame of V8, Firefox or Safari whose URL has a map, the place becomes
-the original one; the rest of the line stays, and so does each other line, byte for byte. With --hide-ignored
-the lines of frames from sources that a map says to pass over are left out. With --anywhere each place
-URL:LINE:COLUMN whose URL has a map becomes the original one, wherever it stands in a line.
-
-Examples:
-  smap rewrite https://example.test/receipt.min.js=examples/receipt.min.js.map < examples/receipt.trace
-  smap rewrite https://example.test/=examples/ < examples/receipt.trace
 ";
 
 const CHECK: &str = "\
@@ -195,96 +71,6 @@ Examples:
   find . -name '*.map' -print0 | xargs -0r smap check --json
 ";
 
-const SHOW: &str = "\
-Writes a source map file as one regular map
-
-Usage: smap show [OPTIONS] <PATH>
-
-Arguments:
-  <PATH>  Path of the source map file
-
-Options:
-      --base <URL>  URL against which the names of sources are resolved
-      --prune       Leave out sources and names that no mapping has, and all but the first of equal ones
-      --no-content  Leave out the texts of the sources (`sourcesContent`)
-  -h, --help        Print help
-
-Answer: the map as one regular map, in compact JSON on one line. An index map is joined, each source stands
-under its resolved name, and `mappings` in its shortest spelling. Keys that smap does not read are dropped,
-and so is `sourceRoot`, which the names then have.
-
-With --prune sources and names that no mapping has are left out. Of sources with one name, content and mark, and
-of equal names, the first stands for all. Mappings keep their places.
-
-Examples:
-  smap show examples/bundle.js.map > joined.js.map
-  smap show --prune --no-content examples/bundle.js.map > small.js.map
-";
-
-const COMPOSE: &str = "\
-Composes source map files into one regular map
-
-Usage: smap compose [OPTIONS] <OUTER> [SOURCE] [INNER]
-
-Arguments:
-  <OUTER>   Path of the source map file of the last step
-  [SOURCE]  Number of the source of OUTER that INNER is the map of, from 0
-  [INNER]   Path of the source map file of the step before
-
-Options:
-      --inner <NAME=FILE>  Name of a source of OUTER, `=` and the path of its map; may be given more than once
-      --inners <LIST>      Path of a list of more: on each line NAME, TAB and FILE
-      --base <URL>         URL against which the names of sources are resolved
-      --prune              Leave out sources and names that no mapping has, and all but the first of equal ones
-      --no-content         Leave out the texts of the sources (`sourcesContent`)
-  -h, --help               Print help
-
-OUTER is the map of a file that was made of others, and INNER the map of one of these: of the source of
-OUTER with the number SOURCE, from 0.
-
-In place of SOURCE and INNER, the maps of several sources of OUTER are given by --inner and --inners, and composed
-at once. Each NAME=FILE is the name of a source, as `smap show` writes it, and the path of its map; the last `=`
-of the argument stands between them. Each line of the file of --inners is a name and a file, with one TAB between
-them.
-
-Answer: one regular map, in compact JSON on one line. Its sources are those of OUTER and then those of INNER.
-A mapping into source SOURCE leads to the place to which INNER maps that one, or nowhere, where INNER maps it
-to no place; the other mappings stay. So it is for each source that has a map; the sources of these maps come in
-the order of OUTER's sources.
-
-With --prune sources and names that no mapping has are left out. Of sources with one name, content and mark, and
-of equal names, the first stands for all. Mappings keep their places.
-
-Examples:
-  smap compose examples/preset-react.min.js.map 0 examples/preset-react.js.map > whole.js.map
-  smap compose --inner preset-react.js=examples/preset-react.js.map examples/preset-react.min.js.map > all.map
-";
-
-const RAW: &str = "\
-Looks a generated position up in the bare mappings text on standard input
-
-Usage: smap raw [OPTIONS] <LINE> <COLUMN>
-
-Arguments:
-  <LINE>    Line of the generated file, from 1
-  <COLUMN>  Column of the generated file, from 1, in UTF-16 code units
-
-Options:
-      --interval <K>  Checkpoints in the index stand at every K-th segment of a line, 1 to 4096, else 64. A
-                      smaller K answers look-ups faster and takes more memory; their answers are the same
-  -h, --help          Print help
-
-Answers:
-  source S line L column C  the original position, L and C from 1; S is a place in `sources`, from 0; behind
-                            it ` name N` where the mapping has a name, N being a place in `names`, from 0
-  unmapped                  the mapping is of generated code without an original
-  none                      no mapping stands at the position or before it on its line
-
-Columns are UTF-16 code units. LINE and COLUMN count from 1, as V8 prints them in a stack trace.
-
-Example: printf 'AAAA,CAAC;AACA' | smap raw 1 6
-";
-
 const EXPLAIN: &str = "\
 Tells what a code of a refusal means, and what to do about it
 
@@ -307,7 +93,7 @@ Example: smap explain M14
 ";
 
 // Requests for help, and the text that they show. The checker takes so many a table and no more.
-const REQUESTS: [(&[&str], &str); 12] = [
+const REQUESTS: [(&[&str], &str); 15] = [
     (&["out/program", "--help"], SMAP),
     (&["smap", "-h"], SMAP),
     (&["smap", "help"], SMAP),
@@ -320,6 +106,9 @@ const REQUESTS: [(&[&str], &str); 12] = [
     (&["smap", "help", "mappings"], MAPPINGS),
     (&["smap", "mappings", "--help"], MAPPINGS),
     (&["smap", "mappings", "a.map", "1", "-h"], MAPPINGS),
+    (&["smap", "help", "sources"], SOURCES),
+    (&["smap", "sources", "--help"], SOURCES),
+    (&["smap", "sources", "--content", "0", "-h"], SOURCES),
 ];
 
 const MORE_REQUESTS: [(&[&str], &str); 21] = [

@@ -14,4 +14,6 @@ mod refused;
 #[cfg(test)]
 mod rewrite;
 #[cfg(test)]
+mod sources;
+#[cfg(test)]
 mod written;

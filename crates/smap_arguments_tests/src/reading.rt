@@ -111,6 +111,26 @@ pub fn read(alloc: Global, arguments: &[&str]) -> Result<String, AllocError> {
             }
         }
         Ok(
+            Command::Sources {
+                path,
+                base,
+                generated,
+                by_bytes,
+                json,
+            },
+        ) => {
+            let base = base_text(&base);
+            let flags = flags_text(false, json);
+            let order = if by_bytes { " by bytes" } else { "" };
+            match generated {
+                Some(file) => format!(in alloc; "sources {path} of {file}{base}{order}{flags}"),
+                None => format!(in alloc; "sources {path}{base}{order}{flags}"),
+            }
+        }
+        Ok(Command::SourceContent { path, source }) => {
+            format!(in alloc; "content {source} of {path}")
+        }
+        Ok(
             Command::Rewrite {
                 maps,
                 base,

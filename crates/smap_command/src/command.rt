@@ -81,6 +81,22 @@ pub enum Command {
         line: Option<u32>,
         json: bool,
     },
+    /// Prints the sources of the source map in the file at this path, a line each, with how many segments each has. Where
+    /// the path of its generated file is given, each is told with how many of that file's bytes it makes; with `by_bytes`
+    /// those that make most come first. The sources are resolved against the base. With `json` each line is a JSON object.
+    Sources {
+        path: String,
+        base: Option<Url>,
+        generated: Option<String>,
+        by_bytes: bool,
+        json: bool,
+    },
+    /// Writes the content of the source of this number, from 0, of the source map in the file at this path, and nothing
+    /// else.
+    SourceContent {
+        path: String,
+        source: u32,
+    },
     /// Rewrites the stack trace on standard input over maps: pairs of the URL that frames name and of the path of the
     /// map's file. A map's sources are resolved against the base or, where there is none, against the map's URL, where
     /// that is one. With `hide_ignored` the lines of frames from sources that a map says to pass over are dropped.

@@ -5,7 +5,7 @@ use Rattle.clap.specs.Words.{App, app_of, new_app, shape_of, with_subcommand}
 use Rattle.clap.specs.Simple.{app_of_fields, on_top}
 use Rattle.clap.specs.declared.builder.command.Command.TheViews.{out-Command}
 use Rattle.smap_arguments.proofs.Growth.{with_commands}
-use Rattle.smap_arguments.specs.CommandLine.{check, compose, explain, lookup, mappings, positions, raw, rewrite, show}
+use Rattle.smap_arguments.specs.CommandLine.{check, compose, explain, lookup, mappings, positions, raw, rewrite, show, sources}
 use Rattle.smap_arguments.proofs.line.command_line.Goals as goal
 
 pub returns : goal.returns
@@ -18,7 +18,7 @@ returns c =
     let top : app_of c.subcommand_required.result ≡ bare =
     ap app_of_fields c.subcommand_required.ensures
     ∙ ap (on_top (λ s. record s { subcommand_required = true })) (ap app_of_fields c.after_help.ensures ∙ (ap app_of_fields c.about.ensures ∙ versioned)) in
-    let are : subs ≡ c.in_ok-lookup_command.field-0 ∷ c.in_ok-positions_command.field-0 ∷ c.in_ok-mappings_command.field-0 ∷ c.in_ok-rewrite_command.field-0
+    let are : subs ≡ c.in_ok-lookup_command.field-0 ∷ c.in_ok-positions_command.field-0 ∷ c.in_ok-mappings_command.field-0 ∷ c.in_ok-sources_command.field-0 ∷ c.in_ok-rewrite_command.field-0
     ∷ c.in_ok-check_command.field-0 ∷ c.in_ok-show_command.field-0
     ∷ c.in_ok-compose_command.field-0 ∷ c.in_ok-explain_command.field-0 ∷ c.in_ok-raw_command.field-0 ∷ [] = search rules in
     let local : AllByRecursion (λ s. (out-Command s).has_globals ≡ false) subs = subst (AllByRecursion (λ s. (out-Command s).has_globals ≡ false)) (sym are) (
@@ -28,16 +28,17 @@ returns c =
         (
           c.in_ok-mappings_command.ensures.1,
           (
-            c.in_ok-rewrite_command.ensures.1,
-            (c.in_ok-check_command.ensures.1, (c.in_ok-show_command.ensures.1, (c.in_ok-compose_command.ensures.1, (c.in_ok-explain_command.ensures.1, (c.in_ok-raw_command.ensures.1, tt))))),
+            c.in_ok-sources_command.ensures.1,
+            (c.in_ok-rewrite_command.ensures.1, (c.in_ok-check_command.ensures.1, (c.in_ok-show_command.ensures.1, (c.in_ok-compose_command.ensures.1, (c.in_ok-explain_command.ensures.1, (c.in_ok-raw_command.ensures.1, tt)))))),
           ),
         ),
       ),
     ) in
-    let shapes : map shape_of subs ≡ lookup.top ∷ positions.top ∷ mappings.top ∷ rewrite.top ∷ check.top ∷ show.top ∷ compose.top ∷ explain.top ∷ raw.top ∷ [] =
+    let shapes : map shape_of subs ≡ lookup.top ∷ positions.top ∷ mappings.top ∷ sources.top ∷ rewrite.top ∷ check.top ∷ show.top ∷ compose.top ∷ explain.top ∷ raw.top ∷ [] =
     ap (map shape_of) are
     ∙ (λ i. ap (λ (a : App). a.top) c.in_ok-lookup_command.ensures.0 i ∷ ap (λ (a : App). a.top) c.in_ok-positions_command.ensures.0 i
-    ∷ ap (λ (a : App). a.top) c.in_ok-mappings_command.ensures.0 i ∷ ap (λ (a : App). a.top) c.in_ok-rewrite_command.ensures.0 i
+    ∷ ap (λ (a : App). a.top) c.in_ok-mappings_command.ensures.0 i ∷ ap (λ (a : App). a.top) c.in_ok-sources_command.ensures.0 i
+    ∷ ap (λ (a : App). a.top) c.in_ok-rewrite_command.ensures.0 i
     ∷ ap (λ (a : App). a.top) c.in_ok-check_command.ensures.0 i ∷ ap (λ (a : App). a.top) c.in_ok-show_command.ensures.0 i
     ∷ ap (λ (a : App). a.top) c.in_ok-compose_command.ensures.0 i
     ∷ ap (λ (a : App). a.top) c.in_ok-explain_command.ensures.0 i ∷ ap (λ (a : App). a.top) c.in_ok-raw_command.ensures.0 i ∷ []) in

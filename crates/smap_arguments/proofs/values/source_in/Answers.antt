@@ -1,8 +1,8 @@
-use Rattle.std.proofs.Common.{arith, codes}
+use Rattle.std.proofs.Common.{arith}
 use Rattle.clap.specs.Words.{found_of}
 use Rattle.smap_arguments.proofs.Numbers.{number_if_given}
 use Rattle.smap_arguments.proofs.values.source_in.Goals as goal
 
 pub returns : goal.returns
-returns c = number_if_given 0 4294967295 (omega arith) (found_of c.args.matches.now) (codes "SOURCE") c.get_one.result c.requires
+returns c = number_if_given 0 4294967295 (omega arith) (found_of c.args.matches.now) c.args.name.now c.get_one.result c.requires
     c.get_one.ensures.none c.get_one.ensures.value
