@@ -11,3 +11,4 @@ mod SourcesLaws
 mod StoreLaws
 mod TraceLaws
 mod InnersLaws
+mod SourceListLaws

@@ -10,6 +10,7 @@ pub mod Explain
 pub mod Lookup
 pub mod Positions
 pub mod Mappings
+pub mod SourceList
 pub mod Written
 pub mod Compose
 pub mod ComposeAll

@@ -9,9 +9,13 @@ use Rattle.smap_answers.specs.Outcome.{Telling, answer, refusal}
 use Rattle.smap_verdicts.specs.Refusal.{refusal_text}
 use Rattle.url.specs.Parts.{Parts}
 
+-- the file at this path is refused, in these words
+abbrev pub refused_file : (path words : List ℕ) → Telling
+refused_file path words = refusal (map_refused_line path words)
+
 -- the map of the file at this path is refused
 abbrev pub refusal_result : (path : List ℕ) → MapRefusal → Telling
-refusal_result path refused = refusal (map_refused_line path (refusal_text refused))
+refusal_result path refused = refused_file path (refusal_text refused)
 
 -- a map that is found decides what is told, and so does its refusal; one that is not refused may yet be refused since
 -- resolving a source gave a URL that is too long: when that is so, `url` decides

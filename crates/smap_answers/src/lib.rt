@@ -28,6 +28,7 @@ mod refusal;
 mod rewrite_from;
 mod running;
 mod show;
+mod source_list;
 mod sources;
 mod telling;
 mod trace;

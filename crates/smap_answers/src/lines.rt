@@ -47,6 +47,9 @@ pub const BAD_POSITION: &str = "refused: P1 BadPosition ";
 /// Standard error: a line of standard input is longer than a position is.
 pub const LONG_POSITION: &str = "refused: P2 LongLine\n";
 
+/// Standard error: the map has no source of this index, or not its content.
+pub const NO_CONTENT: &str = "refused: no content\n";
+
 /// Standard error: standard input failed.
 pub const INPUT_FAILED: &str = "device: read standard input\n";
 

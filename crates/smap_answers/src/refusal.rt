@@ -1,7 +1,7 @@
 //! Telling why a map file is refused.
 ghost use Rattle.std.specs.Prelude.{◌≡◌, ◌≢◌, string_bytes, IfOk};
 ghost use Rattle.smap_answers.specs.Lines.{map_refused_line};
-ghost use Rattle.smap_answers.specs.Map.{refusal_result};
+ghost use Rattle.smap_answers.specs.Map.{refusal_result, refused_file};
 ghost use Rattle.smap_answers.specs.Outcome.{OrMemory, failure_telling, refusal};
 ghost use Rattle.smap_verdicts.specs.Refusal.{refusal_text};
 ghost use Rattle.smap_record.specs.declared.refusal.MapRefusal.TheVariants.{Memory};
@@ -41,6 +41,16 @@ pub fn refused(alloc: Global, line: &str) -> Failure
     ensures { OrMemory (λ telling. telling ≡ refusal line.now) (failure_telling result) }
 {
     match String::from_str(alloc, line) {
+        Ok(line) => Failure::Refusal(line),
+        Err(_) => Failure::Memory,
+    }
+}
+
+/// The file at this path is refused, in these words.
+pub fn refused_file(alloc: Global, path: &str, words: &str) -> Failure
+    ensures { OrMemory (λ telling. telling ≡ refused_file path.now words.now) (failure_telling result) }
+{
+    match lines::map_refused_line(alloc, path, words) {
         Ok(line) => Failure::Refusal(line),
         Err(_) => Failure::Memory,
     }

@@ -16,6 +16,7 @@ use crate::positions::answer_positions;
 use crate::raw::answer_raw;
 use crate::rewrite_from::{RewriteRequest, rewrite_from};
 use crate::show::{answer_show, answer_show_with};
+use crate::source_list::{SourceOptions, answer_content, answer_sources};
 use crate::telling::tell;
 use crate::trace::answer_rewrite;
 use crate::written::ALL_WRITTEN;
@@ -158,6 +159,23 @@ pub fn run_reading<F: FileReader, R: ByteSource, W: ByteSink, E: ByteSink>(
             };
             answer_mappings(alloc, &maps, path, *line, *json, output)
         }
+        Command::Sources {
+            path,
+            base,
+            generated,
+            by_bytes,
+            json,
+        } => {
+            let maps = MapReader {
+                files: reader,
+                base: base.as_ref(),
+                interval: USUAL_INTERVAL,
+            };
+            let (by_bytes, json) = (*by_bytes, *json);
+            let options = SourceOptions { by_bytes, json };
+            answer_sources(alloc, &maps, path, generated.as_deref(), options)
+        }
+        Command::SourceContent { path, source } => answer_content(alloc, reader, path, *source),
         Command::Rewrite {
             maps: arguments,
             base,

@@ -1,6 +1,6 @@
 use Rattle.std.proofs.Common.{refl}
 use Rattle.smap_answers.proofs.RunLaws.{runs_one}
-use Rattle.smap_answers.proofs.running.run_reading.Goals.{in-Raw, in-Check, in-Show, in-ShowWith, in-Lookup, in-Positions, in-Mappings, in-Rewrite, in-Compose, in-ComposeWith, in-ComposeAll, in-Explain}
+use Rattle.smap_answers.proofs.running.run_reading.Goals.{in-Raw, in-Check, in-Show, in-ShowWith, in-Lookup, in-Positions, in-Mappings, in-Sources, in-SourceContent, in-Rewrite, in-Compose, in-ComposeWith, in-ComposeAll, in-Explain}
 use Rattle.smap_answers.proofs.running.run_reading.Goals as goal
 
 pub returns : goal.returns
@@ -20,6 +20,14 @@ returns g c = elim c.match-command.branch [
       (rw (w.output-is, w.outcome-is) at c.tell.ensures))
   | in-Mappings w ↦ rw (w.in-Mappings.is, w.input-is)
       (runs_one _ _ _ _ _ _ (refl, (rw (w.deref-in-Mappings.ensures, w.as_ref-in-Mappings.ensures.value) at w.answer_mappings-outcome.ensures))
+      (rw (w.output-is, w.outcome-is) at c.tell.ensures))
+  | in-Sources w ↦ rw (w.in-Sources.is, w.input-is)
+      (runs_one _ _ _ _ _ _ (
+        refl,
+        (rw (w.deref-in-Sources.ensures, w.as_deref.ensures.value, w.as_ref-in-Sources.ensures.value) at w.answer_sources-outcome.ensures),
+      ) (rw (w.output-is, w.outcome-is) at c.tell.ensures))
+  | in-SourceContent w ↦ rw (w.in-SourceContent.is, w.input-is)
+      (runs_one _ _ _ _ _ _ (refl, (rw w.deref-in-SourceContent.ensures at w.answer_content-outcome.ensures))
       (rw (w.output-is, w.outcome-is) at c.tell.ensures))
   | in-Rewrite w ↦ rw (w.in-Rewrite.is, w.input-is)
       (runs_one _ _ _ _ _ _ (rw (w.deref-in-Rewrite.ensures.value, w.as_ref-in-Rewrite.ensures.value) at w.answer_rewrite-outcome.ensures)
