@@ -38,3 +38,5 @@ mod raw;
 mod same;
 #[cfg(test)]
 mod show;
+#[cfg(test)]
+mod sources;

@@ -161,6 +161,26 @@ pub fn mappings(path: String, base: Option<Url>, line: Option<u32>, json: bool) 
     }
 }
 
+/// `sources` of the file at this path and, where it is given, of its generated file at that path.
+pub fn sources(path: String, generated: Option<String>, by_bytes: bool, json: bool) -> Command
+    ensures { IsRunnable result }
+{
+    Command::Sources {
+        path,
+        base: None,
+        generated,
+        by_bytes,
+        json,
+    }
+}
+
+/// `sources --content` of the file at this path. The source counts from 0.
+pub fn source_content(path: String, source: u32) -> Command
+    ensures { IsRunnable result }
+{
+    Command::SourceContent { path, source }
+}
+
 /// `show` of the file at this path, without what the options leave out.
 pub fn show_with(path: String, base: Option<Url>, options: WriteOptions) -> Command
     ensures { IsRunnable result }

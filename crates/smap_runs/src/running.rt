@@ -211,6 +211,57 @@ pub fn run_mappings_at(
     run_on_file(alloc, &command, "m.map", map.as_bytes(), devices)
 }
 
+/// How `sources` is asked to print.
+#[derive(Clone, Copy)]
+pub enum Listed {
+    /// As text, by index.
+    Text,
+    /// As text, with `--sort bytes`.
+    ByBytes,
+    /// With `--json`.
+    Json,
+}
+
+/// What `sources` leaves of a map at `m.map` and, where it is given, of its generated file at `g.js`.
+pub fn run_sources(
+    alloc: Global,
+    map: &str,
+    generated: Option<&[u8]>,
+    listed: Listed,
+    devices: Devices,
+) -> Result<String, AllocError> {
+    let (by_bytes, json) = match listed {
+        Listed::Text => (false, false),
+        Listed::ByBytes => (true, false),
+        Listed::Json => (false, true),
+    };
+    let path = String::from_str(alloc, "m.map")?;
+    let file = loaded(alloc, "m.map", map.as_bytes())?;
+    match generated {
+        None => {
+            let command = commands::sources(path, None, by_bytes, json);
+            run_over(alloc, &command, &[file], b"", devices)
+        }
+        Some(bytes) => {
+            let generated = String::from_str(alloc, "g.js")?;
+            let command = commands::sources(path, Some(generated), by_bytes, json);
+            let files = [file, loaded(alloc, "g.js", bytes)?];
+            run_over(alloc, &command, &files, b"", devices)
+        }
+    }
+}
+
+/// What `sources --content` leaves of a map at `m.map`. The source counts from 0.
+pub fn run_content(
+    alloc: Global,
+    map: &str,
+    source: u32,
+    devices: Devices,
+) -> Result<String, AllocError> {
+    let command = commands::source_content(String::from_str(alloc, "m.map")?, source);
+    run_on_file(alloc, &command, "m.map", map.as_bytes(), devices)
+}
+
 /// What `show` leaves of a map at `m.map`.
 pub fn run_show(alloc: Global, map: &str, devices: Devices) -> Result<String, AllocError> {
     run_show_at(alloc, None, map, devices)
