@@ -5,7 +5,7 @@ use crate::status::DONE;
 use crate::tests::{no_bytes, read_map};
 use crate::texts::Text;
 use crate::version::smap_version;
-use crate::written::{smap_bytes_free, smap_bytes_text};
+use crate::written::smap_bytes_text;
 use std::test::Fail;
 
 // Four mappings: at 0:0 of source 0 at 0:0 with name 0; at 0:300 of none; at 2:2 of source 1 at 3:21 with name 1; and at 2:3
@@ -37,12 +37,11 @@ fn mappings_are_handed_out(rt: HostRuntime) -> Result<(), Fail> {
     assert_eq!(&rt; smap_map_mappings(alloc, &mut map, &mut bytes), DONE);
     let mut text = Text { text: b"" };
     assert_eq!(&rt; smap_bytes_text(&mut bytes, &mut text), DONE);
-    assert_eq!(&rt; text.text.len(), 128);
-    assert_eq!(&rt; &text.text[..32], FIRST.as_slice());
-    assert_eq!(&rt; &text.text[32..64], SECOND.as_slice());
-    assert_eq!(&rt; &text.text[64..96], THIRD.as_slice());
-    assert_eq!(&rt; &text.text[96..], FOURTH.as_slice());
-    smap_bytes_free(alloc, &mut bytes);
+    let mut wanted = Vec::from_slice(alloc, &FIRST)?;
+    wanted.extend_from_slice(&SECOND)?;
+    wanted.extend_from_slice(&THIRD)?;
+    wanted.extend_from_slice(&FOURTH)?;
+    assert_eq!(&rt; text.text, wanted.as_slice());
     Ok(())
 }
 
