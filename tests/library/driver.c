@@ -3,6 +3,8 @@
  *   refuse FILE..                  what `smap check --explain` prints on each file
  *   why FILE                       why the file is refused: the value, its limit and the column, or -, and the sentences
  *   counts MAP                     the line of `smap check`
+ *   mappings MAP                   what `smap mappings` prints
+ *   version -                      the version, without an LF
  *   show MAP                       what `smap show` writes, without its LF
  *   compose OUTER SOURCE INNER     what `smap compose` writes, without its LF
  *   all OUTER LESS SOURCE INNER..  the map composed with all these inner ones, where LESS is prune, bare, both or none
@@ -167,6 +169,28 @@ static void counts(const char *path) {
            (unsigned long)count.sources, (unsigned long)count.names, (unsigned long)count.segments,
            (unsigned long)count.lines, (unsigned long)count.checkpoints);
     smap_map_free(&map);
+}
+
+static void mappings(const char *path) {
+    smap_map map = opened(path);
+    smap_bytes bytes = {0};
+    smap_text text = SMAP_TEXT;
+    if (smap_map_mappings(&map, &bytes) != SMAP_DONE || smap_bytes_text(&bytes, &text) != SMAP_DONE) fail("no mappings");
+    const smap_mapping *all = (const smap_mapping *)text.bytes;
+    for (size_t i = 0; i < text.length / sizeof *all; i++) {
+        const smap_mapping *one = &all[i];
+        const smap_found found = {one->kind, one->column, one->source, one->original_line, one->original_column, one->named, one->name};
+        printf("%u:%u ", one->line + 1, one->column + 1);
+        tell(&map, &found);
+    }
+    smap_bytes_free(&bytes);
+    smap_map_free(&map);
+}
+
+static void version(void) {
+    smap_text text = SMAP_TEXT;
+    if (smap_version(&text) != SMAP_DONE) fail("no version");
+    put(text);
 }
 
 static void show(const char *path) {
@@ -383,6 +407,10 @@ int main(int count, char **words) {
         why(words[2]);
     } else if (!strcmp(command, "counts")) {
         counts(words[2]);
+    } else if (!strcmp(command, "mappings")) {
+        mappings(words[2]);
+    } else if (!strcmp(command, "version")) {
+        version();
     } else if (!strcmp(command, "show")) {
         show(words[2]);
     } else if (!strcmp(command, "compose")) {

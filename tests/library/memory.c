@@ -102,6 +102,7 @@ static uint32_t explain_call(void) {
     return smap_refusal_explain((const uint8_t *)file, sizeof file - 1, &fault, &reason, &bytes);
 }
 static uint32_t write_call(void) { return smap_map_write(&outer, &bytes); }
+static uint32_t mappings_call(void) { return smap_map_mappings(&outer, &bytes); }
 static uint32_t compose_call(void) { return smap_compose(&outer, 0, &inner, &bytes, &why); }
 static uint32_t inners_call(void) { return smap_inners_new(&outer, &made_inners); }
 static uint32_t all_call(void) {
@@ -128,6 +129,7 @@ static const struct call {
     {"smap_refusal_text", line_call, SMAP_DONE, FILLS_BYTES},
     {"smap_refusal_explain", explain_call, SMAP_DONE, FILLS_BYTES},
     {"smap_map_write", write_call, SMAP_DONE, FILLS_BYTES},
+    {"smap_map_mappings", mappings_call, SMAP_DONE, FILLS_BYTES},
     {"smap_compose", compose_call, SMAP_DONE, FILLS_BYTES},
     {"smap_inners_new", inners_call, SMAP_DONE, FILLS_INNERS},
     {"smap_compose_all", all_call, SMAP_DONE, FILLS_BYTES},
@@ -256,7 +258,8 @@ static void free_calls(void) {
     refuses_all = true;
     uint32_t statuses = smap_look_up(&outer, 0, 0, &found) | smap_look_up_from(&outer, 0, 0, &found) |
                         smap_look_up_many(&outer, &position, 1, &found, 1) | smap_counts(&outer, &counts) |
-                        smap_source(&outer, 0, &source) | smap_name(&outer, 0, &text) | smap_bytes_text(&bytes, &text);
+                        smap_source(&outer, 0, &source) | smap_name(&outer, 0, &text) | smap_bytes_text(&bytes, &text) |
+                        smap_version(&text);
     uint32_t file = smap_file(&outer, &text);
     statuses |= smap_inners_put(&inners, 0, &inner) | smap_inners_take(&inners, 0, &inner) | smap_inners_put(&inners, 0, &inner);
     smap_inners_free(&inners);

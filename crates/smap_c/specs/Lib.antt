@@ -4,6 +4,7 @@ pub mod Frames
 pub mod Inners
 pub mod Look
 pub mod Many
+pub mod Mappings
 pub mod Owned
 pub mod Private
 pub mod Read

@@ -1,7 +1,7 @@
 //! Bytes that are handed out.
 use std::marker::Model;
 
-/// A text that was written, in UTF-8.
+/// A text that was written, in UTF-8, or mappings.
 #[derive(Drop)]
 pub struct Bytes {
     pub(crate) bytes: Vec<u8>,

@@ -3,6 +3,7 @@ ghost use Rattle.std.specs.Prelude.{IfOk, IsSome};
 
 mod composing;
 mod explaining;
+mod mappings;
 
 use crate::bytes::Bytes;
 use crate::counts::{Counts, smap_counts};
