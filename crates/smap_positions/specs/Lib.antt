@@ -6,4 +6,5 @@ pub mod Json
 pub mod Positions
 pub mod Answering
 pub mod Mappings
+pub mod Sources
 pub mod Private

@@ -104,8 +104,8 @@ fn put_found<O: Output>(
     put_origin_members(entry, name_at(map, origin.name), origin, output);
 }
 
-// Puts whether a source is ignored, behind other members.
-fn put_ignored<O: Output>(entry: Option<&SourceEntry>, output: &mut O)
+/// Puts whether a source is ignored, behind other members.
+pub fn put_ignored<O: Output>(entry: Option<&SourceEntry>, output: &mut O)
     ensures { O.Puts output.old output.new (ignored_member
         (is_ignored (option_map (λ entry. source_of entry.now) entry.entry))) }
 {
@@ -177,8 +177,8 @@ fn put_mapped<O: Output>(map: &MapFile, line: u32, column: u32, origin: &Origin,
     put_origin_members(entry, name_at(map, origin.name), origin, output);
 }
 
-// A truth value as JSON.
-fn bool_text(value: bool) -> &'static [u8]
+/// A truth value as JSON.
+pub fn bool_text(value: bool) -> &'static [u8]
     ensures { result.now ≡ compact_text (boolean value) }
 {
     if value { b"true" } else { b"false" }

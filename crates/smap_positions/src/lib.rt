@@ -1,6 +1,6 @@
 //! What a map answers for positions, as the texts that are printed: for one position, or for a text of them, a line each,
-//! while it is read; and its mappings, a line each. Lines and columns count from 1 in these texts and in positions that are read, columns in UTF-16 code
-//! units.
+//! while it is read; its mappings, and its sources, a line each. Lines and columns count from 1 in these texts and in
+//! positions that are read, columns in UTF-16 code units.
 //!
 //! ```text
 //! let text = lookup_text(alloc, &map, 0, 5, after)?;
@@ -8,6 +8,7 @@
 //! let options = AnswerOptions { after: false, json: true };
 //! let summary = answer_positions(alloc, &mut input, &mut output, &map, options)?;
 //! print_mappings(alloc, &map, Some(0), false, &mut output)?;
+//! let text = sources_text(alloc, &map, Some(generated), true, false)?;
 //! ```
 #![tactic(auto)]
 
@@ -25,6 +26,7 @@ mod output;
 mod printed_position;
 mod reading;
 mod short_text;
+mod sources;
 mod text_form;
 
 pub use answer::from_one;
@@ -35,4 +37,5 @@ pub use mappings::print_mappings;
 pub use printed_position::PrintedPosition;
 pub use reading::read_position;
 pub use smap_lines::LineFault;
+pub use sources::sources_text;
 pub use text_form::{NONE, UNMAPPED};

@@ -39,8 +39,8 @@ pub fn put_origin_line<O: Output>(map: &MapFile, origin: &Origin, output: &mut O
     put_line_end(is_ignored(entry), output);
 }
 
-// Puts how a source of this name and index prints.
-fn put_source<O: Output>(name: Option<&str>, index: u32, output: &mut O)
+/// Puts how a source of this name and index prints.
+pub fn put_source<O: Output>(name: Option<&str>, index: u32, output: &mut O)
     ensures { O.Puts output.old output.new
         (source_text (option_map (λ name. name.now) name.entry) index) }
 {

@@ -1,0 +1,79 @@
+-- What `sources` prints of a map: each of its sources, and how much of the generated text it makes. Indices count from 0.
+use Rattle.std.specs.Prelude.{◌≡◌, ℕ, Bool, true, false, List, [], ◌∷◌, ◌++◌, Option, Some, None, codes, if◌then◌else◌, length, option_map, slice_get}
+use Rattle.std.specs.Fmt.{decimal}
+use Rattle.std.specs.List.{flat_map}
+use Rattle.serde_json.specs.Data.{Data, boolean, object, no_members, member}
+use Rattle.smap_index.specs.Parts.{joined}
+use Rattle.smap_record.specs.Record.{MapRecord}
+use Rattle.smap_record.specs.Sources.{StatedSource}
+use Rattle.smap_record.specs.Written.{member_where, value_of_text}
+use Rattle.smap_shares.specs.Rows.{IsOrderedRows, rows_of, unmapped_in}
+use Rattle.smap_shares.specs.declared.rows.SourceRow.{SourceRow}
+use Rattle.smap_positions.specs.Json.{count, json_line}
+use Rattle.smap_positions.specs.Lines.{ignored_text, line_from}
+use Rattle.smap_positions.specs.Lookup.{is_ignored, source_name, source_text}
+
+-- the map has the source's content
+abbrev pub has_content : Option StatedSource → Bool
+has_content None = false
+has_content (Some source) = has_text source.content
+  where
+    abbrev has_text : Option (List ℕ) → Bool
+    has_text None = false
+    has_text (Some text) = true
+
+-- ---- as text
+
+-- the bytes, where they are known
+abbrev pub bytes_text : Option ℕ → List ℕ
+bytes_text None = []
+bytes_text (Some bytes) = codes " " ++ decimal bytes
+
+abbrev pub no_content_text : (held : Bool) → List ℕ
+no_content_text held = if held then [] else codes " no content"
+
+abbrev pub row_line : SourceRow → Option StatedSource → List ℕ
+row_line row source = line_from (
+    decimal row.source ∷ codes " " ∷ decimal row.segments ∷ bytes_text row.bytes ∷ codes " "
+    ∷ source_text (source_name source) row.source ∷ ignored_text (is_ignored source) ∷ no_content_text (has_content source) ∷ [])
+
+-- the bytes that come from no source, and all
+abbrev pub totals_lines : (unmapped total : ℕ) → List ℕ
+totals_lines unmapped total =
+    line_from (codes "unmapped " ∷ decimal unmapped ∷ []) ++ line_from (codes "total " ∷ decimal total ∷ [])
+
+-- ---- as JSON
+
+abbrev pub row_value : SourceRow → Option StatedSource → Data
+row_value row source = object (
+    member_where (codes "bytes") (option_map count row.bytes)
+    (member (codes "content") (boolean (has_content source))
+    (member (codes "ignored") (boolean (is_ignored source))
+    (member (codes "segments") (count row.segments)
+    (member (codes "source") (value_of_text (source_name source))
+    (member (codes "sourceIndex") (count row.source) no_members))))))
+
+abbrev pub totals_value : (unmapped total : ℕ) → Data
+totals_value unmapped total = object (member (codes "total") (count total) (member (codes "unmapped") (count unmapped) no_members))
+
+-- ---- all of it
+
+abbrev pub printed_row : (json : Bool) → MapRecord → SourceRow → List ℕ
+printed_row json stated row =
+    if json then json_line (row_value row (slice_get stated.sources row.source)) else row_line row (slice_get stated.sources row.source)
+
+-- nothing where there is no generated text
+abbrev pub printed_totals : (json : Bool) (unmapped : ℕ) → (generated : Option (List ℕ)) → List ℕ
+printed_totals json unmapped None = []
+printed_totals json unmapped (Some text) = if json then json_line (totals_value unmapped (length text)) else totals_lines unmapped (length text)
+
+-- the text for these rows of a map
+abbrev pub rows_text : (json : Bool) → MapRecord → (generated : Option (List ℕ)) → List SourceRow → List ℕ
+rows_text json stated generated rows =
+    flat_map (printed_row json stated) rows ++ printed_totals json (unmapped_in (joined stated.parts) generated) generated
+
+-- what is printed of the sources of a map: by index or, by their bytes, those with the most first
+pub record IsSourcesText (by_bytes json : Bool) (stated : MapRecord) (generated : Option (List ℕ)) (text : List ℕ) : Type 0 where
+  pub rows : List SourceRow
+  pub ordered : IsOrderedRows by_bytes (rows_of (joined stated.parts) generated (length stated.sources)) rows
+  pub printed : text ≡ rows_text json stated generated rows

@@ -1,0 +1,157 @@
+//! What is printed of the sources of a map.
+ghost use Rattle.std.specs.Prelude.{◌≡◌, ◌++◌, option_copied, option_map, slice_get, true, IfOk};
+ghost use Rattle.std.specs.List.{flat_map};
+ghost use Rattle.serde_json.specs.Written.{compact_text};
+ghost use Rattle.smap_record.specs.Sources.{source_of};
+ghost use Rattle.smap_positions.specs.Json.{json_line};
+ghost use Rattle.smap_positions.specs.Sources.{IsSourcesText, bytes_text, has_content, no_content_text};
+ghost use Rattle.smap_positions.specs.Sources.{printed_row, printed_totals, row_line, row_value, totals_lines, totals_value};
+
+use crate::answer::{is_ignored, source_name};
+use crate::growing_text::GrowingText;
+use crate::json_form::{bool_text, put_ignored};
+use crate::map_text::put_json_text;
+use crate::output::{Output, put_number};
+use crate::text_form::put_source;
+use smap_record::{MapFile, SourceEntry};
+use smap_shares::{SourceRow, source_table};
+use std::alloc::{AllocError, Global};
+
+/// What is printed of the sources of a map, a line each as JSON or as text: its index, how many segments it has and, where
+/// the generated text is given, how many bytes of it the source makes; and then how many come from none, and how many there
+/// are. They stand by index or, `by_bytes`, those with the most bytes first.
+pub fn sources_text(
+    alloc: Global,
+    map: &MapFile,
+    generated: Option<&str>,
+    by_bytes: bool,
+    json: bool,
+) -> Result<Vec<u8>, AllocError>
+    ensures { IfOk result (λ text. IsSourcesText by_bytes json map.now.stated
+        (option_copied generated.entry) text.items) }
+{
+    let table = source_table(alloc, map, generated, by_bytes)?;
+    let mut text = GrowingText::new(alloc);
+    put_rows(map, &table.rows, json, &mut text);
+    put_totals(table.unmapped, generated, json, &mut text);
+    text.text()
+}
+
+// Puts the lines for rows of a map.
+fn put_rows<O: Output>(map: &MapFile, rows: &[SourceRow], json: bool, output: &mut O)
+    ensures { O.Puts output.old output.new (flat_map (printed_row json map.now.stated) rows.now) }
+{
+    for row in rows {
+        put_row(map, row, json, output);
+    }
+}
+
+// Puts the line for a row.
+fn put_row<O: Output>(map: &MapFile, row: &SourceRow, json: bool, output: &mut O)
+    ensures { O.Puts output.old output.new (printed_row json map.now.stated row.now) }
+{
+    let entry = map.source(row.source);
+    if json {
+        put_row_object(entry, row, output)
+    } else {
+        put_row_line(entry, row, output)
+    }
+}
+
+// Puts the line for a row of a source as text.
+fn put_row_line<O: Output>(entry: Option<&SourceEntry>, row: &SourceRow, output: &mut O)
+    ensures { O.Puts output.old output.new
+        (row_line row.now (option_map (λ entry. source_of entry.now) entry.entry)) }
+{
+    output.put_decimal(u64::from(row.source));
+    put_number(b" ", row.segments, output);
+    put_bytes(row.bytes, output);
+    output.put(b" ");
+    put_source(source_name(entry), row.source, output);
+    output.put(ignored_text(is_ignored(entry)));
+    output.put(no_content_text(has_content(entry)));
+    output.put(b"\n");
+}
+
+// Puts how many bytes a source makes, where that is known.
+fn put_bytes<O: Output>(bytes: Option<u64>, output: &mut O)
+    ensures { O.Puts output.old output.new (bytes_text bytes) }
+{
+    if let Some(bytes) = bytes {
+        put_number(b" ", bytes, output);
+    }
+}
+
+fn ignored_text(ignored: bool) -> &'static [u8]
+    ensures { result.now ≡ ignored_text ignored }
+{
+    if ignored { b" ignored" } else { b"" }
+}
+
+fn no_content_text(held: bool) -> &'static [u8]
+    ensures { result.now ≡ no_content_text held }
+{
+    if held { b"" } else { b" no content" }
+}
+
+// Whether the map has the content of a source.
+fn has_content(entry: Option<&SourceEntry>) -> bool
+    ensures { result ≡ has_content (option_map (λ entry. source_of entry.now) entry.entry) }
+{
+    match entry {
+        Some(entry) => entry.content.is_some(),
+        None => false,
+    }
+}
+
+// Puts the line for a row of a source as JSON.
+fn put_row_object<O: Output>(entry: Option<&SourceEntry>, row: &SourceRow, output: &mut O)
+    ensures { O.Puts output.old output.new (json_line
+        (row_value row.now (option_map (λ entry. source_of entry.now) entry.entry))) }
+{
+    match row.bytes {
+        Some(bytes) => {
+            put_number(b"{\"bytes\":", bytes, output);
+            output.put(b",\"content\":");
+        }
+        None => output.put(b"{\"content\":"),
+    }
+    output.put(bool_text(has_content(entry)));
+    put_ignored(entry, output);
+    put_number(b",\"segments\":", row.segments, output);
+    output.put(b",\"source\":");
+    put_json_text(source_name(entry), output);
+    put_number(b",\"sourceIndex\":", u64::from(row.source), output);
+    output.put(b"}\n");
+}
+
+// Puts how many bytes come from no source, and how many there are, where the generated text is given.
+fn put_totals<O: Output>(unmapped: u64, generated: Option<&str>, json: bool, output: &mut O)
+    ensures { O.Puts output.old output.new
+        (printed_totals json unmapped (option_copied generated.entry)) }
+{
+    if let Some(text) = generated {
+        let total = text.len() as u64;
+        if json {
+            put_totals_object(unmapped, total, output)
+        } else {
+            put_totals_lines(unmapped, total, output)
+        }
+    }
+}
+
+fn put_totals_lines<O: Output>(unmapped: u64, total: u64, output: &mut O)
+    ensures { O.Puts output.old output.new (totals_lines unmapped total) }
+{
+    put_number(b"unmapped ", unmapped, output);
+    put_number(b"\ntotal ", total, output);
+    output.put(b"\n");
+}
+
+fn put_totals_object<O: Output>(unmapped: u64, total: u64, output: &mut O)
+    ensures { O.Puts output.old output.new (json_line (totals_value unmapped total)) }
+{
+    put_number(b"{\"total\":", total, output);
+    put_number(b",\"unmapped\":", unmapped, output);
+    output.put(b"}\n");
+}

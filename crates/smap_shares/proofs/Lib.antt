@@ -1,0 +1,6 @@
+mod OwnerLaws
+mod TextLaws
+mod CountLaws
+mod ByteLaws
+mod SegmentLaws
+mod RowLaws

@@ -1,0 +1,4 @@
+pub mod Owners
+pub mod Shares
+pub mod Rows
+pub mod Private

@@ -1,0 +1,4 @@
+-- What contracts of private functions alone cite.
+pub mod Counted
+pub mod Counts
+pub mod Left
