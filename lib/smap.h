@@ -141,6 +141,11 @@ uint32_t smap_look_up_many(smap_map *map, const smap_position *positions, size_t
  * read where they are lent. The bytes are freed by smap_bytes_free. */
 uint32_t smap_map_mappings(smap_map *map, smap_bytes *bytes);
 
+/* Says how many bytes of the generated file each source makes: `places` numbers at `sources`, which is the map's number of
+ * sources, and `unmapped`. Returns 1 where the text is not UTF-8 (`refusal` 1) or has more than 67,108,864 bytes (`refusal` 2). */
+uint32_t smap_bytes_by_source(smap_map *map, const uint8_t *generated, size_t length, uint64_t *sources, size_t places,
+                              uint64_t *unmapped, uint32_t *refusal);
+
 /* Tells how much the map holds. Returns 0. */
 uint32_t smap_counts(smap_map *map, smap_count *counts);
 

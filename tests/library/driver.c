@@ -4,6 +4,7 @@
  *   why FILE                       why the file is refused: the value, its limit and the column, or -, and the sentences
  *   counts MAP                     the line of `smap check`
  *   mappings MAP                   what `smap mappings` prints
+ *   bytes MAP GENERATED            how many bytes of the generated file each source makes, and at last none
  *   version -                      the version, without an LF
  *   show MAP                       what `smap show` writes, without its LF
  *   compose OUTER SOURCE INNER     what `smap compose` writes, without its LF
@@ -184,6 +185,22 @@ static void mappings(const char *path) {
         tell(&map, &found);
     }
     smap_bytes_free(&bytes);
+    smap_map_free(&map);
+}
+
+static void bytes_by_source(const char *path, const char *generated) {
+    smap_map map = opened(path);
+    smap_count count = {0};
+    smap_counts(&map, &count);
+    size_t length;
+    uint8_t *text = bytes_in(generated, &length);
+    uint64_t *sources = calloc(count.sources + 1, sizeof *sources), unmapped = 0;
+    uint32_t why = 0;
+    if (smap_bytes_by_source(&map, text, length, sources, count.sources, &unmapped, &why) != SMAP_DONE) fail("not counted");
+    for (uint64_t i = 0; i < count.sources; i++) printf("%llu ", (unsigned long long)sources[i]);
+    printf("%llu\n", (unsigned long long)unmapped);
+    free(sources);
+    free(text);
     smap_map_free(&map);
 }
 
@@ -409,6 +426,8 @@ int main(int count, char **words) {
         counts(words[2]);
     } else if (!strcmp(command, "mappings")) {
         mappings(words[2]);
+    } else if (!strcmp(command, "bytes") && count > 3) {
+        bytes_by_source(words[2], words[3]);
     } else if (!strcmp(command, "version")) {
         version();
     } else if (!strcmp(command, "show")) {

@@ -7,7 +7,7 @@
 
 /* Line 0 has a mapping at column 0 and one at 10 with a name, line 1 none, and line 2 one at 5 without an original. */
 static const char small[] = "{\"version\":3,\"sources\":[\"a.js\"],\"names\":[\"n\"],\"mappings\":\"AAAA,UACIA;;K\"}";
-static const size_t most_trace_bytes = 1073741824;
+static const size_t most_trace_bytes = 1073741824, most_generated_bytes = 67108864;
 
 static int told;
 
@@ -184,8 +184,25 @@ static void traces(void) {
     smap_table_free(&table);
 }
 
+static void generated_files(void) {
+    smap_map map = opened();
+    const uint8_t *zeros = mmap(NULL, most_generated_bytes + 1, PROT_READ, MAP_PRIVATE | MAP_ANONYMOUS | MAP_NORESERVE, -1, 0);
+    insist(zeros != MAP_FAILED, "a long file");
+    uint64_t source = 9, unmapped = 9;
+    uint32_t why = 9;
+    insist(smap_bytes_by_source(&map, zeros, most_generated_bytes + 1, &source, 1, &unmapped, &why) == SMAP_REFUSED, "a file that is too long");
+    insist(why == 2 && source == 9 && unmapped == 9, "why it is");
+    insist(smap_bytes_by_source(&map, (const uint8_t *)"\xff", 1, &source, 1, &unmapped, &why) == SMAP_REFUSED, "a file that is no text");
+    insist(why == 1 && source == 9 && unmapped == 9, "why it is none");
+    insist(smap_bytes_by_source(&map, zeros, most_generated_bytes, &source, 1, &unmapped, &why) == SMAP_DONE, "the longest file");
+    insist(why == 1 && source == most_generated_bytes && unmapped == 0, "its bytes");
+    insist(smap_bytes_by_source(&map, zeros, 0, &source, 1, &unmapped, &why) == SMAP_DONE && source == 0 && unmapped == 0, "no file");
+    smap_map_free(&map);
+}
+
 int main(void) {
     look_ups();
+    generated_files();
     texts();
     reading();
     reasons();

@@ -84,6 +84,7 @@ static smap_bytes bytes;
 static smap_refusal refusal;
 static smap_reason reason;
 static smap_trace_count count;
+static uint64_t by_source[8], unmapped;
 static uint32_t why;
 
 static uint32_t read_map(smap_map *map, const struct text *file) {
@@ -103,6 +104,12 @@ static uint32_t explain_call(void) {
 }
 static uint32_t write_call(void) { return smap_map_write(&outer, &bytes); }
 static uint32_t mappings_call(void) { return smap_map_mappings(&outer, &bytes); }
+static uint32_t bytes_call(void) {
+    smap_count held = {0};
+    smap_counts(&outer, &held);
+    if (held.sources > 8) fail("a map", "has too many sources");
+    return smap_bytes_by_source(&outer, trace, sizeof trace - 1, by_source, held.sources, &unmapped, &why);
+}
 static uint32_t compose_call(void) { return smap_compose(&outer, 0, &inner, &bytes, &why); }
 static uint32_t inners_call(void) { return smap_inners_new(&outer, &made_inners); }
 static uint32_t all_call(void) {
@@ -115,8 +122,8 @@ static uint32_t twice_call(void) { return smap_table_add(&table, base, sizeof ba
 static uint32_t rewrite_call(void) { return smap_rewrite(&table, trace, sizeof trace - 1, false, &bytes, &count); }
 static uint32_t anywhere_call(void) { return smap_rewrite_anywhere(&table, trace, sizeof trace - 1, &bytes, &count); }
 
-/* Which handle a call fills; or it takes the map from `made`, and gives it back where it refuses. */
-enum handle { FILLS_MAP, FILLS_TABLE, FILLS_INNERS, FILLS_BYTES, TAKES_MAP };
+/* Which handle a call fills, if it fills one; or it takes the map from `made`, and gives it back where it refuses. */
+enum handle { FILLS_MAP, FILLS_TABLE, FILLS_INNERS, FILLS_BYTES, FILLS_NONE, TAKES_MAP };
 
 static const struct call {
     const char *name;
@@ -130,6 +137,7 @@ static const struct call {
     {"smap_refusal_explain", explain_call, SMAP_DONE, FILLS_BYTES},
     {"smap_map_write", write_call, SMAP_DONE, FILLS_BYTES},
     {"smap_map_mappings", mappings_call, SMAP_DONE, FILLS_BYTES},
+    {"smap_bytes_by_source", bytes_call, SMAP_DONE, FILLS_NONE},
     {"smap_compose", compose_call, SMAP_DONE, FILLS_BYTES},
     {"smap_inners_new", inners_call, SMAP_DONE, FILLS_INNERS},
     {"smap_compose_all", all_call, SMAP_DONE, FILLS_BYTES},
@@ -214,6 +222,8 @@ static bool made_without(const struct call *call, long number) {
     refusal = (smap_refusal){77, 77, 77, 77, 77, 77};
     reason = (smap_reason){77, 77, 77, 77, 77, 77, 77, 77};
     count = (smap_trace_count){77, 77, 77, 77};
+    for (int i = 0; i < 8; i++) by_source[i] = 77;
+    unmapped = 77;
     refused = number;
     asked = 0;
     uint32_t status = call->make();
@@ -224,6 +234,7 @@ static bool made_without(const struct call *call, long number) {
         if (!was_refused) fail(call->name, "is out of memory where none was refused");
         if ((call->handle != TAKES_MAP && made.at) || made_table.at || made_inners.at || bytes.at) fail(call->name, "has filled a handle");
         if (why != 77 || refusal.number != 77 || reason.value != 77 || reason.has_column != 77) fail(call->name, "tells a refusal");
+        if (by_source[0] != 77 || unmapped != 77) fail(call->name, "counts bytes");
         if (!alike(&before, &after)) fail(call->name, "has changed the table");
     } else if (status != call->wanted) {
         fail(call->name, "has another status");
@@ -236,6 +247,9 @@ static bool made_without(const struct call *call, long number) {
         if (call->make == explain_call && (reason.most != -1 || reason.generated_column != 2)) fail(call->name, "has other numbers");
         uint64_t frames = call->make == rewrite_call ? 2 : 1; /* of a URL in the table, where places are counted */
         if (rewrites && (count.lines != 4 || count.frames != frames || count.mapped != 1)) fail(call->name, "has other counts");
+        uint64_t bytes_told = unmapped;
+        for (int i = 0; i < 8 && by_source[i] != 77; i++) bytes_told += by_source[i];
+        if (call->make == bytes_call && bytes_told != sizeof trace - 1) fail(call->name, "counts other bytes");
         if (call->make == twice_call && why != 2) fail(call->name, "has another refusal");
     }
     smap_map_free(&outer);

@@ -10,6 +10,7 @@ pub mod Private
 pub mod Read
 pub mod Reason
 pub mod Refusal
+pub mod Shares
 pub mod Tables
 pub mod Telling
 pub mod Texts

@@ -26,6 +26,7 @@ mod mappings;
 mod read;
 mod reason;
 mod refusal;
+mod shares;
 mod status;
 mod tables;
 mod telling;

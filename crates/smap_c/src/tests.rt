@@ -4,6 +4,7 @@ ghost use Rattle.std.specs.Prelude.{IfOk, IsSome};
 mod composing;
 mod explaining;
 mod mappings;
+mod shares;
 
 use crate::bytes::Bytes;
 use crate::counts::{Counts, smap_counts};
