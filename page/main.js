@@ -121,6 +121,7 @@ function litAmong(order, from, to) {
 
 const panes = {
   generated: new Pane($('generated'), {
+    wraps: true,
     segments: visitGenerated,
     isLit,
     point: (place) => pointAt(place ? mappingAt(map, place.line, place.column) : -1, panes.original),
@@ -131,8 +132,9 @@ const panes = {
     },
   }),
   original: new Pane($('original'), {
+    wraps: false,
     segments: visitOriginal,
-    isLit: (index) => (isLit(index) ? Math.max(1, isLit(index)) : 0),
+    isLit,
     point: (place) => pointAt(originalAt(place), panes.generated),
     choose: (place) => {
       const index = originalAt(place, chosen);
@@ -346,6 +348,13 @@ function step(by) {
   choose(Math.max(0, Math.min(next, map.count - 1)), {});
 }
 
+// Wraps the lines of a pane, or no longer.
+function wrap(name) {
+  const pane = panes[name];
+  pane.wrap(!pane.wraps);
+  $(name).querySelector('.wrap').setAttribute('aria-pressed', String(pane.wraps));
+}
+
 function see(view) {
   const isText = view === 'text';
   $('texts').hidden = !isText;
@@ -407,6 +416,7 @@ function listen() {
   $('see-text').addEventListener('click', () => see('text'));
   $('see-areas').addEventListener('click', () => see('areas'));
   $('help').addEventListener('click', () => $('keys').showModal());
+  for (const name of Object.keys(panes)) $(name).querySelector('.wrap').addEventListener('click', () => wrap(name));
   document.addEventListener('keydown', (event) => {
     if (event.altKey || event.ctrlKey || event.metaKey || $('keys').open) return;
     if (event.target instanceof HTMLInputElement) {
@@ -418,6 +428,7 @@ function listen() {
       p: () => step(-1),
       g: () => $('place').select(),
       '/': () => $('place').select(),
+      w: () => wrap(document.activeElement === panes.original.scroller ? 'original' : 'generated'),
       t: () => see('text'),
       a: () => see('areas'),
       '?': () => $('keys').showModal(),
@@ -461,6 +472,7 @@ Object.defineProperty(window, 'smapPage', {
     chosen: () => placed(chosen),
     pointed: () => placed(pointed),
     open: () => open,
+    text: (source) => (source < 0 ? generated.text : contentOf(source)),
     pointOf: (pane, line, column) => panes[pane].pointAt(line - 1, column - 1),
     scrolled: (pane) => ({ left: panes[pane].left, top: panes[pane].top }),
   }),

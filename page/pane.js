@@ -3,6 +3,7 @@
 const FONT = '13px ui-monospace, "SF Mono", Menlo, Consolas, "DejaVu Sans Mono", "Liberation Mono", monospace';
 const LINE_HEIGHT = 20;
 const TOP = 6;
+const PAD = 6;
 // No browser lays out more than some millions of pixels. A longer text is scrolled by its share of so many.
 const MOST_PIXELS = 4000000;
 
@@ -32,8 +33,8 @@ function colourOf(rank, alpha) {
 
 class Pane {
   // `segments` visits the segments of a part of a line: begin and end columns, mapping, rank of its source or -1.
-  constructor(element, { segments, isLit, point, choose }) {
-    Object.assign(this, { segments, isLit, point, choose });
+  constructor(element, { segments, isLit, point, choose, wraps }) {
+    Object.assign(this, { segments, isLit, point, choose, wraps });
     this.scroller = element.querySelector('.scroller');
     this.spacer = element.querySelector('.spacer');
     this.canvas = element.querySelector('canvas');
@@ -44,13 +45,9 @@ class Pane {
     this.left = 0;
     this.top = 0;
     this.share = { across: 1, down: 1 };
-    this.measure();
-    this.listen();
-  }
-
-  measure() {
     this.context.font = FONT;
     this.cell = this.context.measureText('0'.repeat(100)).width / 100;
+    this.listen();
   }
 
   show(text) {
@@ -66,26 +63,72 @@ class Pane {
     return this.text ? this.text.lines.count : 0;
   }
 
+  // ---- rows: a line is one, or where lines are wrapped one for each `across` cells of it
+
   resize() {
     const { clientWidth: width, clientHeight: height } = this.scroller;
     this.width = width;
     this.height = height;
     this.gutter = Math.ceil((String(this.lines).length + 2) * this.cell);
-    this.wide = this.gutter + Math.ceil((this.widest + 4) * this.cell);
-    this.high = this.lines * LINE_HEIGHT + 2 * TOP;
+    this.begin = this.gutter + PAD;
+    this.across = this.wraps ? Math.max(8, Math.floor((width - this.begin) / this.cell)) : Infinity;
+    this.layRows();
+    this.wide = this.wraps ? width : this.begin + Math.ceil((this.widest + 4) * this.cell);
+    this.high = this.rows * LINE_HEIGHT + 2 * TOP;
     this.spacer.style.width = `${Math.min(this.wide, MOST_PIXELS)}px`;
     this.spacer.style.height = `${Math.min(this.high, MOST_PIXELS)}px`;
-    const room = (all, seen) => Math.max(1, all - seen) / Math.max(1, Math.min(all, MOST_PIXELS) - seen);
-    this.share = { across: this.wide > MOST_PIXELS ? room(this.wide, width) : 1, down: this.high > MOST_PIXELS ? room(this.high, height) : 1 };
-    const scale = window.devicePixelRatio || 1;
-    this.canvas.width = Math.round(width * scale);
-    this.canvas.height = Math.round(height * scale);
+    const room = (all, seen) => (all > MOST_PIXELS ? (all - seen) / (MOST_PIXELS - seen) : 1);
+    this.share = { across: room(this.wide, width), down: room(this.high, height) };
+    this.scale = window.devicePixelRatio || 1;
+    this.canvas.width = Math.round(width * this.scale);
+    this.canvas.height = Math.round(height * this.scale);
     this.canvas.style.width = `${width}px`;
     this.canvas.style.height = `${height}px`;
-    this.scale = scale;
     this.scrollTo(this.left, this.top);
     this.draw();
   }
+
+  layRows() {
+    this.rows = this.lines;
+    if (!this.wraps || (this.rowsOf && this.rowsOf.text === this.text && this.rowsOf.across === this.across)) {
+      if (this.wraps) this.rows = this.rowsOf.before[this.lines];
+      return;
+    }
+    const before = new Int32Array(this.lines + 1);
+    for (let line = 0; line < this.lines; line += 1) {
+      before[line + 1] = before[line] + Math.max(1, Math.ceil(this.text.cellsOf(line) / this.across));
+    }
+    this.rowsOf = { text: this.text, across: this.across, before };
+    this.rows = before[this.lines];
+  }
+
+  // The line of a row, and the cell of the line with which the row begins.
+  lineOfRow(row) {
+    if (!this.wraps) return { line: row, base: 0 };
+    const { before } = this.rowsOf;
+    const line = firstWhere(0, this.lines, (i) => before[i + 1] > row);
+    return { line, base: (row - before[line]) * this.across };
+  }
+
+  // The row and the cell of a column of a line.
+  seatOf(line, column) {
+    const cell = this.text.cellsBefore(line, column);
+    if (!this.wraps || line >= this.lines) return { row: line, cell };
+    const { before } = this.rowsOf;
+    const down = Math.min(Math.floor(cell / this.across), before[line + 1] - before[line] - 1);
+    return { row: before[line] + down, cell: cell - down * this.across };
+  }
+
+  wrap(wraps) {
+    const { line, base } = this.lineOfRow(Math.max(0, Math.min(Math.floor((this.top - TOP) / LINE_HEIGHT), this.rows - 1)));
+    const place = this.caret ?? { line, column: this.text ? this.text.columnAt(line, base + this.left / this.cell) : 0 };
+    this.wraps = wraps;
+    this.left = 0;
+    this.resize();
+    this.reveal(place.line, place.column);
+  }
+
+  // ---- scrolling
 
   get isScaled() {
     return this.share.across > 1 || this.share.down > 1;
@@ -103,12 +146,13 @@ class Pane {
   // Brings a place into view, a third from the top and the left, where it isn't well within it.
   reveal(line, column) {
     if (!this.text) return;
-    const x = this.gutter + this.text.cellsBefore(line, column) * this.cell;
-    const y = TOP + line * LINE_HEIGHT;
-    if (x + 40 > this.wide) this.widen((x - this.gutter) / this.cell + 8);
+    const { row, cell } = this.seatOf(line, column);
+    const x = this.begin + cell * this.cell;
+    const y = TOP + row * LINE_HEIGHT;
+    if (!this.wraps && x + 40 > this.wide) this.widen(cell + 8);
     let { left, top } = this;
     const margin = Math.min(160, this.width / 4);
-    if (x - left < this.gutter || x - left > this.width - margin) {
+    if (!this.wraps && (x - left < this.begin || x - left > this.width - margin)) {
       left = x < this.width - margin ? 0 : x - (this.width + this.gutter) / 3;
     }
     if (y - top < LINE_HEIGHT || y - top > this.height - 3 * LINE_HEIGHT) top = y - this.height / 3;
@@ -127,17 +171,19 @@ class Pane {
     const across = x - box.left - this.scroller.clientLeft;
     const down = y - box.top - this.scroller.clientTop;
     if (across < this.gutter || down < 0 || across >= this.width || down >= this.height) return null;
-    const line = Math.floor((down + this.top - TOP) / LINE_HEIGHT);
-    if (line < 0 || line >= this.lines) return null;
-    const cell = (across + this.left - this.gutter) / this.cell;
-    return { line, column: this.text.columnAt(line, cell), isPast: cell > this.text.cellsOf(line) };
+    const row = Math.floor((down + this.top - TOP) / LINE_HEIGHT);
+    if (row < 0 || row >= this.rows) return null;
+    const { line, base } = this.lineOfRow(row);
+    const cell = base + Math.min((across + this.left - this.begin) / this.cell, this.across - 0.5);
+    return { line, column: this.text.columnAt(line, Math.max(base, cell)), isPast: cell > this.text.cellsOf(line) };
   }
 
   // The point of the page in the middle of the cell at a place, or null where it isn't seen.
   pointAt(line, column) {
     const box = this.scroller.getBoundingClientRect();
-    const x = this.gutter + (this.text.cellsBefore(line, column) + 0.5) * this.cell - this.left;
-    const y = TOP + (line + 0.5) * LINE_HEIGHT - this.top;
+    const { row, cell } = this.seatOf(line, column);
+    const x = this.begin + (cell + 0.5) * this.cell - this.left;
+    const y = TOP + (row + 0.5) * LINE_HEIGHT - this.top;
     if (x < this.gutter || x >= this.width || y < 0 || y >= this.height) return null;
     return { x: box.left + this.scroller.clientLeft + x, y: box.top + this.scroller.clientTop + y };
   }
@@ -171,8 +217,8 @@ class Pane {
         ArrowDown: [0, LINE_HEIGHT],
         PageUp: [0, LINE_HEIGHT - this.height],
         PageDown: [0, this.height - LINE_HEIGHT],
-        Home: [-Infinity, event.shiftKey ? 0 : -Infinity],
-        End: [event.shiftKey ? Infinity : 0, event.shiftKey ? 0 : Infinity],
+        Home: event.shiftKey ? [-Infinity, 0] : [-Infinity, -Infinity],
+        End: event.shiftKey ? [Infinity, 0] : [0, Infinity],
       }[event.key];
       if (!step) return;
       event.preventDefault();
@@ -189,6 +235,8 @@ class Pane {
     });
   }
 
+  // ---- drawing
+
   later() {
     if (this.waits) return;
     this.waits = true;
@@ -199,7 +247,7 @@ class Pane {
   }
 
   draw() {
-    const { context, width, height, gutter, cell } = this;
+    const { context, width, height, gutter } = this;
     context.setTransform(this.scale, 0, 0, this.scale, 0, 0);
     context.fillStyle = colours.paper;
     context.fillRect(0, 0, width, height);
@@ -209,87 +257,91 @@ class Pane {
     context.direction = 'ltr';
     if ('textRendering' in context) context.textRendering = 'optimizeSpeed';
     if ('fontKerning' in context) context.fontKerning = 'none';
-    const from = Math.max(0, Math.floor((this.top - TOP) / LINE_HEIGHT));
-    const to = Math.min(this.lines, Math.ceil((this.top - TOP + height) / LINE_HEIGHT));
-    const firstCell = Math.max(0, this.left / cell);
-    const lastCell = (this.left + width - gutter) / cell;
+    const rows = this.seenRows();
     context.save();
     context.beginPath();
     context.rect(gutter, 0, width - gutter, height);
     context.clip();
     const lit = [];
-    let widest = 0;
-    for (let line = from; line < to; line += 1) {
-      const begin = this.text.columnAt(line, firstCell);
-      const end = Math.min(this.text.lengthOf(line), this.text.columnAt(line, lastCell) + 2);
-      if (!this.text.isSimpleLine(line)) widest = Math.max(widest, this.text.cellsOf(line));
-      this.drawLine(line, Math.max(0, begin - 1), end, lit);
-    }
+    for (const row of rows) this.drawSegments(row, lit);
     this.drawLit(lit);
-    for (let line = from; line < to; line += 1) {
-      const begin = Math.max(0, this.text.columnAt(line, firstCell) - 1);
-      this.drawText(line, begin, Math.min(this.text.lengthOf(line), this.text.columnAt(line, lastCell) + 2));
-    }
+    for (const row of rows) this.drawText(row);
     if (this.caret) {
-      const x = this.xOf(this.caret.line, this.caret.column);
+      const { row, cell } = this.seatOf(this.caret.line, this.caret.column);
       context.fillStyle = colours.accent;
-      context.fillRect(x - 1, this.yOf(this.caret.line) + 1, 2, LINE_HEIGHT - 2);
+      context.fillRect(this.begin + cell * this.cell - this.left - 1, TOP + row * LINE_HEIGHT - this.top + 1, 2, LINE_HEIGHT - 2);
     }
     context.restore();
-    this.drawGutter(from, to);
+    this.drawGutter(rows);
+    const widest = this.wraps ? 0 : rows.reduce((most, { line }) => (this.text.isSimpleLine(line) ? most : Math.max(most, this.text.cellsOf(line))), 0);
     if (widest > this.widest) this.widen(widest);
   }
 
-  xOf(line, column) {
-    return this.gutter + this.text.cellsBefore(line, column) * this.cell - this.left;
+  // The rows that are seen, each with its line, the part of it that is seen, and where its line's cell 0 would be.
+  seenRows() {
+    const from = Math.max(0, Math.floor((this.top - TOP) / LINE_HEIGHT));
+    const to = Math.min(this.rows, Math.ceil((this.top - TOP + this.height) / LINE_HEIGHT));
+    const rows = [];
+    for (let row = from; row < to; row += 1) {
+      const { line, base } = this.lineOfRow(row);
+      const low = this.wraps ? base : Math.max(0, (this.left - PAD) / this.cell - 2);
+      const high = this.wraps ? base + this.across : (this.left + this.width - this.begin) / this.cell + 2;
+      const begin = this.text.columnAt(line, low);
+      const end = this.text.columnAt(line, high);
+      rows.push({ line, base, begin, end, y: TOP + row * LINE_HEIGHT - this.top, zero: this.begin - base * this.cell - this.left });
+    }
+    return rows;
   }
 
-  yOf(line) {
-    return TOP + line * LINE_HEIGHT - this.top;
+  isCaretRow({ line, begin, end }) {
+    if (!this.caret || this.caret.line !== line) return false;
+    return !this.wraps || (this.caret.column >= begin && (this.caret.column < end || end === this.text.lengthOf(line)));
   }
 
-  drawLine(line, begin, end, lit) {
+  drawSegments(row, lit) {
     const { context } = this;
-    const y = this.yOf(line);
-    if (this.caret && this.caret.line === line) {
+    const { line, begin, end, y, zero } = row;
+    if (this.isCaretRow(row)) {
       context.fillStyle = colours.row;
       context.fillRect(this.gutter, y, this.width - this.gutter, LINE_HEIGHT);
     }
     this.segments(line, begin, end, (from, to, index, rank) => {
-      const left = this.xOf(line, Math.max(from, begin - 1));
-      const right = this.xOf(line, Math.min(to, end));
+      const left = zero + this.text.cellsBefore(line, Math.max(from, begin)) * this.cell;
+      const right = zero + this.text.cellsBefore(line, Math.min(to, end)) * this.cell;
       const isLit = this.isLit(index);
-      if (rank >= 0) {
+      if (rank >= 0 && right > left) {
         context.fillStyle = colourOf(rank, colours.tint);
         context.fillRect(left, y + 1, right - left, LINE_HEIGHT - 2);
-        context.fillStyle = colourOf(rank, colours.tint * 2.2);
-        context.fillRect(left, y + 1, 1, LINE_HEIGHT - 2);
+        if (from >= begin) {
+          context.fillStyle = colourOf(rank, colours.tint * 2.2);
+          context.fillRect(left, y + 1, 1, LINE_HEIGHT - 2);
+        }
       }
-      if (isLit) lit.push({ left, right: Math.max(right, left + 3), y, rank, isChosen: isLit === 2 });
+      if (isLit && (right > left || from >= begin)) lit.push({ left, right: Math.max(right, left + 3), y, rank, isChosen: isLit === 2 });
     });
   }
 
   drawLit(lit) {
     const { context } = this;
     for (const { left, right, y, rank, isChosen } of lit) {
-      const edge = rank >= 0 ? colourOf(rank, 1) : colours.quiet;
       if (rank >= 0) {
         context.fillStyle = colourOf(rank, colours.tint * (isChosen ? 2.4 : 1.8));
         context.fillRect(left, y + 1, right - left, LINE_HEIGHT - 2);
       }
-      context.strokeStyle = edge;
+      context.strokeStyle = rank >= 0 ? colourOf(rank, 1) : colours.quiet;
       context.lineWidth = isChosen ? 2 : 1.25;
       context.strokeRect(left, y + 1, right - left, LINE_HEIGHT - 2);
     }
   }
 
-  drawText(line, begin, end) {
+  drawText({ line, begin, end, y, zero }) {
     const { context, text } = this;
-    const middle = this.yOf(line) + LINE_HEIGHT / 2 + 0.5;
+    const middle = y + LINE_HEIGHT / 2 + 0.5;
     const start = text.lines.starts[line];
+    const x = (cells) => zero + cells * this.cell;
     context.fillStyle = colours.text;
     if (text.isSimpleLine(line)) {
-      context.fillText(text.text.slice(start + begin, start + end), this.xOf(line, begin), middle);
+      context.fillText(text.text.slice(start + begin, start + end), x(begin), middle);
       return;
     }
     // Other characters are put one by one at their cells, with those that are joined to them.
@@ -297,7 +349,6 @@ class Pane {
     let cells = text.cellsBefore(line, begin);
     let run = '';
     let runAt = cells;
-    const x = (at) => this.gutter + at * this.cell - this.left;
     const flush = () => {
       if (run) context.fillText(run, x(runAt), middle);
       run = '';
@@ -311,7 +362,7 @@ class Pane {
         run += text.text[at];
       } else {
         flush();
-        const isPair = isHigh(code) && column + 1 < end && isLow(text.text.charCodeAt(at + 1));
+        const isPair = isHigh(code) && column + 1 < text.lengthOf(line) && isLow(text.text.charCodeAt(at + 1));
         let next = column + (isPair ? 2 : 1);
         if (code !== 9 && (isPair || units[code] !== HIDDEN)) {
           while (next < end && units[text.text.charCodeAt(start + next)] === JOINED) next += 1;
@@ -329,16 +380,20 @@ class Pane {
     flush();
   }
 
-  drawGutter(from, to) {
+  // The numbers of lines, each beside its first row that is seen.
+  drawGutter(rows) {
     const { context, gutter } = this;
     context.fillStyle = colours.gutter;
     context.fillRect(0, 0, gutter, this.height);
     context.fillStyle = colours.edge;
     context.fillRect(gutter - 1, 0, 1, this.height);
     context.textAlign = 'right';
-    for (let line = from; line < to; line += 1) {
-      context.fillStyle = this.caret && this.caret.line === line ? colours.text : colours.quiet;
-      context.fillText(String(line + 1), gutter - this.cell, this.yOf(line) + LINE_HEIGHT / 2 + 0.5);
+    for (const [i, { line, base, y }] of rows.entries()) {
+      const isFirst = i === 0 ? base > 0 && y > -4 : i === 1 && rows[0].y <= -4 && rows[0].base > 0;
+      if (base === 0 || isFirst) {
+        context.fillStyle = this.caret && this.caret.line === line ? colours.text : colours.quiet;
+        context.fillText(String(line + 1), gutter - this.cell, y + LINE_HEIGHT / 2 + 0.5);
+      }
     }
     context.textAlign = 'left';
   }
