@@ -34,7 +34,7 @@ function treeOf(sources) {
   const closed = (node) => {
     while (node !== top && node.files.length === 0 && node.folders.size === 1) {
       const [only] = node.folders.values();
-      Object.assign(node, { name: `${node.name}/${only.name}`, folders: only.folders, files: only.files });
+      Object.assign(node, { name: `${node.name.replace(/\/$/, '')}/${only.name}`, folders: only.folders, files: only.files });
     }
     const children = [...[...node.folders.values()].map(closed), ...node.files];
     return { name: node.name, bytes: node.bytes, source: -1, children: children.sort((a, b) => b.bytes - a.bytes) };

@@ -22,8 +22,8 @@ const nameOf = (source) => sources[source] ?? `[${source}]`;
 const contentOf = (source) => record.sourcesContent?.[source] ?? null;
 const count = (number) => number.toLocaleString('en-US');
 const percent = (bytes) => `${(owned.total ? (100 * bytes) / owned.total : 0).toFixed(1)} %`;
-const share = (bytes) => `${count(bytes)} bytes · ${percent(bytes)}`;
 const many = (number, one, more) => `${count(number)} ${number === 1 ? one : more}`;
+const share = (bytes) => `${many(bytes, 'byte', 'bytes')} · ${percent(bytes)}`;
 
 // The colours go by rank: the largest source has the first.
 const ranked = sources.map((_, index) => index).sort((a, b) => owned.bytes[b] - owned.bytes[a] || a - b);

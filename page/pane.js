@@ -21,6 +21,7 @@ function readColours() {
     accent: of('accent'),
     row: of('row'),
     tint: Number(of('tint')),
+    lit: Number(of('lit')),
     light: of('light'),
   };
 }
@@ -325,7 +326,7 @@ class Pane {
     const { context } = this;
     for (const { left, right, y, rank, isChosen } of lit) {
       if (rank >= 0) {
-        context.fillStyle = colourOf(rank, colours.tint * (isChosen ? 2.4 : 1.8));
+        context.fillStyle = colourOf(rank, isChosen ? colours.lit : colours.lit * 0.7);
         context.fillRect(left, y + 1, right - left, LINE_HEIGHT - 2);
       }
       context.strokeStyle = rank >= 0 ? colourOf(rank, 1) : colours.quiet;
@@ -357,7 +358,8 @@ class Pane {
       const at = start + column;
       const code = text.text.charCodeAt(at);
       const wide = text.cellsOfUnit(at, cells);
-      if (isSimple(code)) {
+      const isJoined = column + 1 < end && units[text.text.charCodeAt(at + 1)] === JOINED;
+      if (isSimple(code) && !isJoined) {
         if (!run) runAt = cells;
         run += text.text[at];
       } else {

@@ -134,7 +134,7 @@ class Text {
     const whole = Math.min(column, length);
     const mark = Math.floor(whole / MARK_EVERY);
     const start = this.lines.starts[line];
-    let cells = this.marksOf(line)[mark];
+    let cells = mark === 0 ? 0 : this.marksOf(line)[mark];
     for (let i = mark * MARK_EVERY; i < whole; i += 1) cells += this.cellsOfUnit(start + i, cells);
     return cells + column - whole;
   }

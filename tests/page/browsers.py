@@ -60,6 +60,12 @@ class Browser:
         self.act([{"type": "key", "id": "keys", "actions": steps}])
         self.settle()
 
+    def chord(self, first: str, second: str) -> None:
+        """Presses a key while another one is held."""
+        keys = [("keyDown", KEYS[first]), ("keyDown", second), ("keyUp", second), ("keyUp", KEYS[first])]
+        self.act([{"type": "key", "id": "keys", "actions": [{"type": kind, "value": key} for kind, key in keys]}])
+        self.settle()
+
     def settle(self) -> None:
         """Waits until what was asked for is drawn."""
         self.run("window.drawn = 0; requestAnimationFrame(() => requestAnimationFrame(() => { window.drawn = 1; }))")
@@ -114,7 +120,8 @@ class Chromium(Browser):
 
     def complaints(self) -> List[str]:
         """What the browser wrote into its console."""
-        return [entry["message"] for entry in self.driver.get_log("browser")]
+        # That the test reads colours back is told too.
+        return [entry["message"] for entry in self.driver.get_log("browser") if "getImageData" not in entry["message"]]
 
     def close(self) -> None:
         self.driver.quit()

@@ -5,6 +5,7 @@ BIN has smap and smap-page. PICTURES is a folder for a picture of each view. Wit
 written, which README shows.
 """
 
+import json
 import random
 import subprocess
 import sys
@@ -62,8 +63,9 @@ class Page:
         self.path = to / f"{pair[1].name}.html"
         with self.path.open("wb") as out:
             subprocess.run([program / "smap-page", *options, *pair], stdout=out, check=True)
-        self.shown = __import__("json").loads(subprocess.run([self.smap, "show", pair[0]], stdout=subprocess.PIPE, check=True).stdout)
+        self.shown = json.loads(subprocess.run([self.smap, "show", pair[0]], stdout=subprocess.PIPE, check=True).stdout)
         self.text = self.text_path.read_bytes().decode()
+        self.mapped = mapped(self)
 
     def answers(self, places: List[Tuple[int, int]]) -> List[str]:
         """What smap says of positions."""
@@ -110,11 +112,12 @@ def colour(browser: browsers.Browser, pane: str, line: int, column: int) -> Any:
 def mapped(page: Page) -> List[Tuple[int, int, int, int, int]]:
     """The mappings that own text and lead into a text: line, column, source, original line and column, all but the source from 1."""
     contents = page.shown.get("sourcesContent", [])
+    own = [len(line.encode("utf-16-le")) // 2 for line, _ in maps.split_lines(page.text)]
     lengths = [[len(line) for line, _ in maps.split_lines(content)] if content else [] for content in contents]
     found = []
     for number, line in enumerate(maps.decode(page.shown["mappings"])):
         for i, mapping in enumerate(line):
-            owns = i + 1 == len(line) or line[i + 1][0] > mapping[0]
+            owns = number < len(own) and mapping[0] < own[number] and (i + 1 == len(line) or line[i + 1][0] > mapping[0])
             if owns and len(mapping) > 1 and mapping[2] < len(lengths[mapping[1]]) and mapping[3] < lengths[mapping[1]][mapping[2]]:
                 found.append((number + 1, mapping[0] + 1, mapping[1], mapping[2] + 1, mapping[3] + 1))
     return found
@@ -140,6 +143,11 @@ def try_bytes(browser: browsers.Browser, page: Page, checks: Checks) -> None:
     checks.insist("the bytes of the areas", sum(area[1] for area in drawn) + unseen, page.text_path.stat().st_size)
     checks.insist("the bytes of all folders", total, page.text_path.stat().st_size)
     checks.insist("areas of other bytes than their sources", [area for area in drawn if area[0] >= 0 and owned[area[0]] != area[1]], [])
+    for source in [area[0] for area in drawn if area[0] >= 0][:3]:
+        browser.run("document.getElementById('see-areas').click()")
+        browser.run("document.querySelector(`#areas [data-source='${arguments[0]}']`).click()", source)
+        shown = browser.run("return [smapPage.open(), document.getElementById('texts').hidden]")
+        checks.insist("what an area opens", shown, [source, False])
     if total and len(drawn) < 20:
         # Edges and heads take some of the room.
         wrong = [area for area in drawn if abs(area[2] / room - area[1] / total) > 0.05]
@@ -159,8 +167,7 @@ def try_positions(browser: browsers.Browser, page: Page, checks: Checks, count: 
 
 def try_pointing(browser: browsers.Browser, page: Page, checks: Checks, count: int) -> None:
     """Points at a mapping in the one text and looks at the other, clicks, and back."""
-    all_mapped = mapped(page)
-    for line, column, source, down, across in random.Random(3).sample(all_mapped, min(count, len(all_mapped))):
+    for line, column, source, down, across in random.Random(3).sample(page.mapped, min(count, len(page.mapped))):
         here = f"at {line}:{column}"
         answer = page.answers([(line, column)])[0]
         browser.press("Escape")
@@ -296,6 +303,13 @@ def try_keys(browser: browsers.Browser, page: Page, checks: Checks) -> None:
     browser.press("Escape")
     checks.insist("what is chosen after Escape", browser.run("return smapPage.chosen()"), None)
 
+    # What is copied.
+    asked(browser, "2:1896")
+    browser.run("document.querySelector('#generated .scroller').focus()")
+    browser.run("window.addEventListener('copy', (event) => { window.copied = event.clipboardData.getData('text/plain'); })")
+    browser.chord("Control", "c")
+    checks.insist("what is copied", browser.run("return window.copied"), f"2:1896 {page.answers([(2, 1896)])[0]}")
+
     # The list, and each thing that Tab leads to has a name.
     browser.run("document.getElementById('list').focus()")
     browser.press("Home", "Down", "Enter")
@@ -319,9 +333,9 @@ def try_marks(browser: browsers.Browser, page: Page, checks: Checks) -> None:
         "src/own.js:1:1 name first", "vendor/ignored.js:1:1 name library ignored", "src/gone.js:42:7", "unmapped", "none", "none", "src/own.js:2:1",
     ])
     rows = browser.run("return [...document.querySelectorAll('#list .row')].map((row) => row.textContent)")
-    checks.insist("the list", sorted(rows), sorted([
-        "own.js28.6 %src/8 bytes" if False else row for row in [
-            "own.js32.0 %src/8 bytes", "ignored.jsignored16.0 %vendor/4 bytes", "gone.jsno content16.0 %src/4 bytes"]]))
+    checks.insist("the list", rows, [
+        "own.js32.0 %src/8 bytes", "ignored.jsignored16.0 %vendor/4 bytes", "gone.jsno content16.0 %src/4 bytes",
+    ])
     asked(browser, "1:9")
     checks.insist("a source without a text", browser.run("return document.querySelector('#original .empty').textContent.split('.')[0]"), "The map holds no text of this source")
     asked(browser, "1:5")
@@ -353,7 +367,7 @@ def try_hostile(browser: browsers.Browser, page: Page, checks: Checks) -> None:
     checks.insist("answers with what shows nothing", hidden, [])
     checks.insist("what ran", browser.run("return window.hostile ?? null"), None)
     elements = browser.run("return [document.scripts.length, document.querySelectorAll('img, iframe, a, object, embed, link, base').length, document.title]")
-    checks.insist("scripts, other elements, and the title", elements, [3 - 3 + 1, 0, "hostile <b>&amp;.js · smap"])
+    checks.insist("scripts, other elements, and the title", elements, [1, 0, "hostile <b>&amp;.js · smap"])
 
     # The policy: no other script, style, picture or address.
     tried = browser.run("""
@@ -437,6 +451,41 @@ def try_large(browser: browsers.Browser, page: Page, short: Page, checks: Checks
     return f"{seconds:.2f} s to open {page.path.stat().st_size:,} bytes; a step of scrolling {long:.1f} ms, wrapped {wrapped:.1f}, a short text {small:.1f}"
 
 
+def contrast(first: Any, second: Any) -> float:
+    """The contrast of two colours, as WCAG has it."""
+    lights = []
+    for colour_of in (first, second):
+        parts = [int(part) / 255 for part in colour_of]
+        lights.append(sum(w * (p / 12.92 if p <= 0.04045 else ((p + 0.055) / 1.055) ** 2.4) for w, p in zip((0.2126, 0.7152, 0.0722), parts)))
+    return (max(lights) + 0.05) / (min(lights) + 0.05)
+
+
+def try_contrast(browser: browsers.Browser, page: Page, checks: Checks) -> None:
+    """Texts can be read on each colour that is behind them. The page has sources of many colours."""
+    shown = browser.run("""
+        const style = getComputedStyle(document.documentElement);
+        const parts = (name) => [1, 3, 5].map((at) => parseInt(style.getPropertyValue(`--${name}`).trim().slice(at, at + 2), 16));
+        return Object.fromEntries(['text', 'quiet', 'paper', 'ground', 'gutter', 'hover', 'chosen', 'row', 'accent'].map((name) => [name, parts(name)]));
+    """)
+    pairs = [("text", "paper"), ("text", "ground"), ("text", "hover"), ("text", "chosen"), ("text", "row"), ("quiet", "paper"), ("quiet", "ground"),
+             ("quiet", "gutter"), ("quiet", "hover"), ("quiet", "chosen"), ("accent", "paper")]
+    for above, below in pairs:
+        checks.insist(f"whether {above} can be read on {below}", contrast(shown[above], shown[below]) >= 4.5, True)
+    least = 21.0
+    for at in range(1, 24):
+        line, column, *_ = page.mapped[at * 700]
+        for is_chosen in (True, False):
+            asked(browser, f"{line}:{column}")
+            if not is_chosen:
+                browser.press("Escape")
+                browser.run("document.activeElement.blur()")
+                browser.press("Escape")
+            browser.settle()
+            behind = colour(browser, "generated", line, column)
+            least = min(least, contrast(shown["text"], behind.split(",")[:3]) if behind else 0.0)
+    checks.insist(f"whether texts can be read on the colours of sources, the least contrast being {least:.1f}", least >= 4.5, True)
+
+
 # ---- pictures
 
 def size_of(picture: bytes) -> Tuple[int, int]:
@@ -468,6 +517,7 @@ def keep_views(browser: browsers.Browser, pages: Dict[str, Page], to: Path, sche
     keep(browser, to, f"{start}-marks.png", checks)
     opened(browser, pages["bundle"], "#1:2500000")
     keep(browser, to, f"{start}-bundle.png", checks)
+    try_contrast(browser, pages["bundle"], checks)
     browser.run("document.querySelector('#generated .wrap').click()")
     keep(browser, to, f"{start}-bundle-unwrapped.png", checks)
     browser.run("document.getElementById('see-areas').click()")
