@@ -67,6 +67,8 @@ class Pane {
   // ---- rows: a line is one, or where lines are wrapped one for each `across` cells of it
 
   resize() {
+    // Bars that come and go would change the room while it is measured.
+    this.scroller.style.overflow = this.wraps ? 'hidden scroll' : 'scroll';
     const { clientWidth: width, clientHeight: height } = this.scroller;
     this.width = width;
     this.height = height;
@@ -144,7 +146,7 @@ class Pane {
     this.later();
   }
 
-  // Brings a place into view, a third from the top and the left, where it isn't well within it.
+  // Brings a place into view, where it isn't well within it: with as much as may be of what stands before it on its line.
   reveal(line, column) {
     if (!this.text) return;
     const { row, cell } = this.seatOf(line, column);
@@ -152,10 +154,8 @@ class Pane {
     const y = TOP + row * LINE_HEIGHT;
     if (!this.wraps && x + 40 > this.wide) this.widen(cell + 8);
     let { left, top } = this;
-    const margin = Math.min(160, this.width / 4);
-    if (!this.wraps && (x - left < this.begin || x - left > this.width - margin)) {
-      left = x < this.width - margin ? 0 : x - (this.width + this.gutter) / 3;
-    }
+    const most = this.width - Math.min(80, this.width / 4);
+    if (!this.wraps && (x - left < this.begin || x - left > most)) left = x < most ? 0 : x - (this.width * 2) / 3;
     if (y - top < LINE_HEIGHT || y - top > this.height - 3 * LINE_HEIGHT) top = y - this.height / 3;
     if (left !== this.left || top !== this.top) this.scrollTo(left, top);
   }

@@ -13,7 +13,7 @@ import subprocess
 import tempfile
 import time
 from pathlib import Path
-from typing import Any, Dict, List, Optional, Tuple
+from typing import Any, Dict, List, Tuple
 
 SIZE = (1440, 900)
 KEYS = {"Enter": "\ue007", "Escape": "\ue00c", "Tab": "\ue004", "End": "\ue010", "Home": "\ue011", "Down": "\ue015", "Control": "\ue009"}
@@ -86,7 +86,7 @@ class Browser:
 class Chromium(Browser):
     name = "Chromium"
 
-    def __init__(self, is_dark: bool = False) -> None:
+    def __init__(self, is_dark: bool = False, size: Tuple[int, int] = SIZE) -> None:
         from selenium import webdriver
         from selenium.webdriver.chrome.options import Options
         from selenium.webdriver.chrome.service import Service
@@ -102,7 +102,7 @@ class Chromium(Browser):
         self.actions = Command.W3C_ACTIONS
         scheme = {"name": "prefers-color-scheme", "value": "dark" if is_dark else "light"}
         self.driver.execute_cdp_cmd("Emulation.setEmulatedMedia", {"features": [scheme]})
-        width, height = SIZE
+        width, height = size
         sizes = {"width": width, "height": height, "deviceScaleFactor": 1, "mobile": False}
         self.driver.execute_cdp_cmd("Emulation.setDeviceMetricsOverride", sizes)
 

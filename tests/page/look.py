@@ -530,7 +530,7 @@ def write_picture(program: Path, examples: Path, to: Path) -> None:
     """The picture for README: the place of its first frame, pointed at."""
     with tempfile.TemporaryDirectory() as folder:
         page = Page(program, (examples / "receipt.min.js.map", examples / "receipt.min.js"), Path(folder))
-        browser = browsers.Chromium()
+        browser = browsers.Chromium(size=(1280, 680))
         try:
             opened(browser, page, "#2:4472")
             browser.settle()
