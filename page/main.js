@@ -1,16 +1,27 @@
 // The page: what it holds, what is chosen and pointed at, and what is shown of it.
 
 const $ = (id) => document.getElementById(id);
-const held = (id) => {
-  const element = $(id);
-  const value = JSON.parse(element.textContent);
-  element.remove();
-  return value;
-};
 
-const facts = held('the-facts');
-const record = held('the-map');
-const generated = new Text(held('the-text'));
+// What an element holds: JSON, compressed, in Base64.
+async function held(id) {
+  const element = $(id);
+  const digits = atob(element.textContent);
+  element.remove();
+  const bytes = new Uint8Array(digits.length);
+  for (let i = 0; i < digits.length; i += 1) bytes[i] = digits.charCodeAt(i);
+  const { readable, writable } = new DecompressionStream('deflate');
+  const writer = writable.getWriter();
+  writer.write(bytes);
+  writer.close();
+  return new Response(readable).json();
+}
+
+if (!('DecompressionStream' in window)) {
+  $('note').textContent = 'This browser is too old for the page: it has no DecompressionStream.';
+  return;
+}
+const [facts, record, text] = await Promise.all(['the-facts', 'the-map', 'the-text'].map(held));
+const generated = new Text(text);
 const sources = record.sources;
 const names = record.names;
 const ignored = new Set(record.ignoreList ?? []);

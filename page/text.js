@@ -9,30 +9,28 @@ function linesOf(text) {
   let ends = new Int32Array(1024);
   let count = 0;
   let begin = 0;
-  const add = (end, next) => {
-    if (count + 1 >= starts.length) {
+  const find = (end, from) => {
+    const at = text.indexOf(end, from);
+    return at < 0 ? Infinity : at;
+  };
+  const signs = ['\n', '\r', '\u2028', '\u2029'];
+  const next = signs.map((sign) => find(sign, 0));
+  for (;;) {
+    const end = Math.min(next[0], next[1], next[2], next[3], text.length);
+    if (count === starts.length) {
       const [less, lesser] = [starts, ends];
-      starts = new Int32Array(count * 2 + 2);
+      starts = new Int32Array(count * 2);
       starts.set(less);
-      ends = new Int32Array(count * 2 + 2);
+      ends = new Int32Array(count * 2);
       ends.set(lesser);
     }
     starts[count] = begin;
     ends[count] = end;
     count += 1;
-    begin = next;
-  };
-  for (let i = 0; i < text.length; i += 1) {
-    const code = text.charCodeAt(i);
-    if (code === 10 || code === 0x2028 || code === 0x2029) add(i, i + 1);
-    else if (code === 13) {
-      const end = i;
-      if (text.charCodeAt(i + 1) === 10) i += 1;
-      add(end, i + 1);
-    }
+    if (end === text.length) return { count, starts, ends };
+    begin = end === next[1] && next[0] === end + 1 ? end + 2 : end + 1;
+    for (let i = 0; i < 4; i += 1) if (next[i] < begin) next[i] = find(signs[i], begin);
   }
-  add(text.length, text.length);
-  return { count, starts, ends };
 }
 
 const PLAIN = 1;
