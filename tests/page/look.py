@@ -214,6 +214,21 @@ def try_pointing(browser: browsers.Browser, page: Page, checks: Checks, count: i
         browser.move(5, 5)
 
 
+def try_preview(browser: browsers.Browser, page: Page, checks: Checks) -> None:
+    """What is pointed at shows for as long as it is. The page is that of examples/receipt.min.js."""
+    asked(browser, "2:4472")
+    browser.move(5, 5)
+    before = browser.run("return [smapPage.open(), smapPage.scrolled('original')]")
+    point = browser.run("return smapPage.pointOf('generated', 3, 20)")
+    browser.move(point["x"], point["y"])
+    source = page.shown["sources"].index(page.answers([(3, 20)])[0].rsplit(":", 2)[0])
+    checks.insist("the source of what is pointed at is another", source == before[0], False)
+    checks.insist("the source of what is pointed at", browser.run("return smapPage.open()"), source)
+    browser.move(5, 5)
+    checks.insist("what is shown afterwards", browser.run("return [smapPage.open(), smapPage.scrolled('original')]"), before)
+    checks.insist("what is chosen still", browser.run("return document.getElementById('asked').textContent"), "2:4472")
+
+
 def try_field(browser: browsers.Browser, page: Page, checks: Checks) -> None:
     """What may be written into the field. The page is that of examples/receipt.min.js."""
     url = "https://example.test/receipt.min.js"
@@ -574,6 +589,7 @@ def main() -> int:
                         try_pointing(browser, pages[name], checks, 20)
                 checks.about = f"{kind.name}, receipt"
                 opened(browser, pages["receipt"])
+                try_preview(browser, pages["receipt"], checks)
                 try_field(browser, pages["receipt"], checks)
                 try_keys(browser, pages["receipt"], checks)
                 checks.about = f"{kind.name}, marked"
