@@ -96,9 +96,9 @@ class Areas {
     this.draw();
   }
 
-  enter(node) {
-    const at = this.way.indexOf(node);
-    this.way = at >= 0 ? this.way.slice(0, at + 1) : [...this.way, node];
+  // Shows the last one of these folders alone, each of which is in the one before it.
+  enter(way) {
+    this.way = way;
     this.draw();
   }
 
@@ -109,7 +109,7 @@ class Areas {
     this.unseen = 0;
     const nodes = document.createDocumentFragment();
     const top = this.way[this.way.length - 1];
-    this.fill(top, { x: 0, y: 0, width, height }, nodes, [top]);
+    this.fill(top, { x: 0, y: 0, width, height }, nodes, this.way);
     this.element.replaceChildren(nodes);
     this.element.dataset.unseen = String(this.unseen);
     this.element.dataset.bytes = String(top.bytes);
@@ -118,7 +118,7 @@ class Areas {
         const button = document.createElement('button');
         button.textContent = i === 0 ? 'All' : visible(node.name);
         button.disabled = i === this.way.length - 1;
-        button.addEventListener('click', () => this.enter(node));
+        button.addEventListener('click', () => this.enter(this.way.slice(0, i + 1)));
         return button;
       }),
     );
@@ -143,10 +143,11 @@ class Areas {
       nodes.append(button);
       if (isFolder) {
         if (hasHead) button.append(labelOf(visible(child.name), this.share(child.bytes)));
-        button.addEventListener('click', () => this.enter(child));
+        button.addEventListener('click', () => this.enter([...way, child]));
         const inset = Math.min(2, width / 8, height / 8);
         const head = hasHead ? HEAD : inset;
-        this.fill(child, { x: x + inset, y: y + head, width: width - 2 * inset, height: height - head - inset }, nodes, [...way, child]);
+        const within = { x: x + inset, y: y + head, width: width - 2 * inset, height: height - head - inset };
+        this.fill(child, within, nodes, [...way, child]);
         return;
       }
       button.dataset.bytes = String(child.bytes);

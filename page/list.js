@@ -66,8 +66,9 @@ class List {
     for (let i = from; i < to; i += 1) rows.push(this.row(i));
     this.rows.replaceChildren(...rows);
     const active = this.shown[this.active];
-    if (active && this.active >= from && this.active < to) this.element.setAttribute('aria-activedescendant', `source-${active.index}`);
-    else this.element.removeAttribute('aria-activedescendant');
+    if (active && this.active >= from && this.active < to) {
+      this.element.setAttribute('aria-activedescendant', `source-${active.index}`);
+    } else this.element.removeAttribute('aria-activedescendant');
   }
 
   row(i) {

@@ -274,7 +274,9 @@ class Pane {
     }
     context.restore();
     this.drawGutter(rows);
-    const widest = this.wraps ? 0 : rows.reduce((most, { line }) => (this.text.isSimpleLine(line) ? most : Math.max(most, this.text.cellsOf(line))), 0);
+    // Of a line with wide characters it is known only here how wide it is.
+    const wide = rows.filter(({ line }) => !this.wraps && !this.text.isSimpleLine(line));
+    const widest = wide.reduce((most, { line }) => Math.max(most, this.text.cellsOf(line)), 0);
     if (widest > this.widest) this.widen(widest);
   }
 
@@ -318,7 +320,9 @@ class Pane {
           context.fillRect(left, y + 1, 1, LINE_HEIGHT - 2);
         }
       }
-      if (isLit && (right > left || from >= begin)) lit.push({ left, right: Math.max(right, left + 3), y, rank, isChosen: isLit === 2 });
+      if (isLit && (right > left || from >= begin)) {
+        lit.push({ left, right: Math.max(right, left + 3), y, rank, isChosen: isLit === 2 });
+      }
     });
   }
 
@@ -368,7 +372,8 @@ class Pane {
         let next = column + (isPair ? 2 : 1);
         if (code !== 9 && (isPair || units[code] !== HIDDEN)) {
           while (next < end && units[text.text.charCodeAt(start + next)] === JOINED) next += 1;
-          context.fillText(text.text.slice(at, start + next), x(cells), middle, (isPair ? 2 : Math.max(1, wide)) * this.cell * 1.15);
+          const room = (isPair ? 2 : Math.max(1, wide)) * this.cell * 1.15;
+          context.fillText(text.text.slice(at, start + next), x(cells), middle, room);
         } else if (code !== 9) {
           context.strokeStyle = colours.quiet;
           context.lineWidth = 1;

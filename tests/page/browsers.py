@@ -16,7 +16,7 @@ from pathlib import Path
 from typing import Any, Dict, List, Tuple
 
 SIZE = (1440, 900)
-KEYS = {"Enter": "\ue007", "Escape": "\ue00c", "Tab": "\ue004", "End": "\ue010", "Home": "\ue011", "Down": "\ue015", "Control": "\ue009"}
+KEYS = {"Enter": "\ue007", "Escape": "\ue00c", "Tab": "\ue004", "Home": "\ue011", "Down": "\ue015", "Control": "\ue009"}
 
 
 class Browser:
@@ -151,7 +151,8 @@ class Firefox(Browser):
         Path(self.profile, "user.js").write_text("".join(lines))
         command = ["firefox-esr", "--headless", "--marionette", "--no-remote", "--profile", self.profile]
         quiet = {"stdin": subprocess.DEVNULL, "stdout": subprocess.DEVNULL, "stderr": subprocess.DEVNULL}
-        self.process = subprocess.Popen(command, env={**os.environ, "MOZ_HEADLESS_WIDTH": "1600", "MOZ_HEADLESS_HEIGHT": "1200"}, **quiet)
+        screen = {"MOZ_HEADLESS_WIDTH": "1600", "MOZ_HEADLESS_HEIGHT": "1200"}
+        self.process = subprocess.Popen(command, env={**os.environ, **screen}, **quiet)
         self.count = 0
         self.socket = self.connect(port)
         self.file = self.socket.makefile("rb")

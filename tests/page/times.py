@@ -12,7 +12,8 @@ from pathlib import Path
 from typing import Any
 
 import browsers
-import look
+from guards import frame_time
+from pages import opened
 
 
 def load_of(browser: browsers.Browser, path: Path) -> float:
@@ -45,20 +46,21 @@ class Made:
 def main() -> None:
     program, runs = Path(sys.argv[1]), int(sys.argv[2])
     paths = [Path(word) for word in sys.argv[3:]]
-    print("| Generated text | Its bytes | Its map's | The page's | Made in, seconds | Browser | Opened in | The text alone in | A step of scrolling, ms |")
-    print("|---|---|---|---|---|---|---|---|---|")
+    heads = ["Generated text", "Its bytes", "Its map's", "The page's", "Made in, seconds", "Browser", "Opened in"]
+    print(f"| {' | '.join(heads)} | The text alone in | A step of scrolling, ms |\n|{'---|' * 9}")
     with tempfile.TemporaryDirectory() as folder:
         pages = [Made(program, paths[i], paths[i + 1], Path(folder)) for i in range(0, len(paths), 2)]
         for kind in (browsers.Chromium, browsers.Firefox):
             browser = kind()
             try:
-                look.opened(browser, pages[0])
+                opened(browser, pages[0])
                 for page in pages:
-                    opened = min(look.opened(browser, page) for _ in range(runs)) / 1000
-                    step = look.frame_time(browser)
+                    took = min(opened(browser, page) for _ in range(runs)) / 1000
+                    step = frame_time(browser)
                     plain = min(load_of(browser, page.plain) for _ in range(runs)) / 1000
                     map_size, size, made = page.sizes
-                    print(f"| {page.text_path.name} | {size:,} | {map_size:,} | {made:,} | {page.seconds:.2f} | {kind.name} | {opened:.2f} | {plain:.2f} | {step:.1f} |", flush=True)
+                    cells = [page.text_path.name, f"{size:,}", f"{map_size:,}", f"{made:,}", f"{page.seconds:.2f}", kind.name]
+                    print(f"| {' | '.join(cells)} | {took:.2f} | {plain:.2f} | {step:.1f} |", flush=True)
             finally:
                 browser.close()
 
