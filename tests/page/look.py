@@ -49,11 +49,12 @@ def keep_views(browser: browsers.Browser, pages: Dict[str, Page], to: Path, sche
     keep(browser, to, f"{start}-marks.png", checks)
     opened(browser, pages["bundle"], "#1:2500000")
     keep(browser, to, f"{start}-bundle.png", checks)
-    try_contrast(browser, pages["bundle"], checks)
     press_button(browser, "#generated .wrap")
     keep(browser, to, f"{start}-bundle-unwrapped.png", checks)
     press_button(browser, "#see-areas")
     keep(browser, to, f"{start}-bundle-areas.png", checks)
+    opened(browser, pages["bundle"])
+    try_contrast(browser, pages["bundle"], checks)
     opened(browser, pages["empty"])
     keep(browser, to, f"{start}-empty.png", checks)
 
