@@ -2,8 +2,8 @@
 """Runs the samples of pages in the current folder, one after another: samples.py PAGE...
 
 A sample is an indented line `$ COMMAND` with what it prints below it, on both streams, as indented; it goes on below a line
-that ends in a backslash or `|`. `./smap` is taken for `smap`. Samples over files of Debian's packages are passed over. The
-status is 1 where one printed something else.
+that ends in a backslash or `|`. `./smap` is taken for `smap`, and `./smap-page` for `smap-page`. Samples over files of Debian's packages are passed over.
+The status is 1 where one printed something else.
 """
 
 import re
@@ -30,7 +30,7 @@ def samples(page: str) -> Iterator[Tuple[str, str]]:
         while i < len(lines) and (not lines[i] or lines[i].startswith(indent) and not lines[i].startswith(f"{indent}$ ")):
             printed.append(lines[i][len(indent):])
             i += 1
-        yield command.replace("./smap ", "smap "), "\n".join(printed).rstrip("\n")
+        yield re.sub(r"\./(smap(-page)?) ", r"\1 ", command), "\n".join(printed).rstrip("\n")
 
 
 def main() -> int:

@@ -1,0 +1,138 @@
+#!/usr/bin/python3
+"""Tries the page in browsers: look.py BIN EXAMPLES PICTURES [--picture FILE] [BROWSER..]
+
+BIN has smap and smap-page. PICTURES is a folder for a picture of each view. With --picture nothing is tried but one picture is
+written, which README shows.
+"""
+
+import sys
+import tempfile
+import time
+from pathlib import Path
+from typing import Dict, Tuple
+
+import browsers
+import files
+from guards import try_contrast, try_hostile, try_large
+from pages import Checks, Page, asked, opened, press_button
+from texts import try_bytes, try_field, try_keys, try_marks, try_pointing, try_positions, try_preview
+
+SIZE = 5000000
+
+
+def size_of(picture: bytes) -> Tuple[int, int]:
+    return int.from_bytes(picture[16:20], "big"), int.from_bytes(picture[20:24], "big")
+
+
+def keep(browser: browsers.Browser, to: Path, name: str, checks: Checks) -> None:
+    browser.settle()
+    picture = browser.picture()
+    (to / name).write_bytes(picture)
+    checks.insist(f"the size of {name}", size_of(picture), browsers.SIZE)
+
+
+def keep_views(browser: browsers.Browser, pages: Dict[str, Page], to: Path, scheme: str, checks: Checks) -> None:
+    start = f"{browser.name.lower()}-{scheme}"
+    opened(browser, pages["receipt"])
+    keep(browser, to, f"{start}-opened.png", checks)
+    asked(browser, "2:4472")
+    keep(browser, to, f"{start}-text.png", checks)
+    press_button(browser, "#see-areas")
+    keep(browser, to, f"{start}-areas.png", checks)
+    press_button(browser, "#help")
+    keep(browser, to, f"{start}-keys.png", checks)
+    opened(browser, pages["hostile"], "#2:9")
+    keep(browser, to, f"{start}-hostile.png", checks)
+    press_button(browser, "#see-areas")
+    keep(browser, to, f"{start}-hostile-areas.png", checks)
+    opened(browser, pages["marked"], "#1:9")
+    keep(browser, to, f"{start}-marks.png", checks)
+    opened(browser, pages["bundle"], "#1:2500000")
+    keep(browser, to, f"{start}-bundle.png", checks)
+    press_button(browser, "#generated .wrap")
+    keep(browser, to, f"{start}-bundle-unwrapped.png", checks)
+    press_button(browser, "#see-areas")
+    keep(browser, to, f"{start}-bundle-areas.png", checks)
+    opened(browser, pages["bundle"])
+    try_contrast(browser, pages["bundle"], checks)
+    opened(browser, pages["empty"])
+    keep(browser, to, f"{start}-empty.png", checks)
+
+
+def write_picture(program: Path, examples: Path, to: Path) -> None:
+    """The picture for README: the place of its first frame, pointed at."""
+    with tempfile.TemporaryDirectory() as folder:
+        page = Page(program, (examples / "receipt.min.js.map", examples / "receipt.min.js"), Path(folder))
+        browser = browsers.Chromium(size=(1280, 680))
+        try:
+            opened(browser, page, "#2:4472")
+            browser.settle()
+            to.write_bytes(browser.picture())
+        finally:
+            browser.close()
+    print(f"{to}: {to.stat().st_size} bytes")
+
+
+def main() -> int:
+    words = sys.argv[1:]
+    program, examples, pictures = map(Path, words[:3])
+    if words[3:4] == ["--picture"]:
+        write_picture(program, examples, Path(words[4]))
+        return 0
+    checks = Checks()
+    with tempfile.TemporaryDirectory() as made:
+        folder = Path(made)
+        pages = {
+            "receipt": Page(program, (examples / "receipt.min.js.map", examples / "receipt.min.js"), folder),
+            "index": Page(program, (examples / "bundle.js.map", examples / "bundle.js"), folder),
+            "hostile": Page(program, files.hostile(folder), folder),
+            "marked": Page(program, files.marked(folder), folder),
+            "empty": Page(program, files.empty(folder), folder),
+            "bundle": Page(program, files.bundle(folder, examples, SIZE), folder),
+        }
+        pictures.mkdir(parents=True, exist_ok=True)
+        for kind in [one for one in (browsers.Chromium, browsers.Firefox) if not words[3:] or one.name in words[3:]]:
+            begin = time.monotonic()
+            browser = kind()
+            try:
+                for name in ("receipt", "index", "hostile", "marked", "empty"):
+                    checks.about = f"{kind.name}, {name}"
+                    took = opened(browser, pages[name])
+                    if name == "receipt":
+                        took = min(took, opened(browser, pages[name]))
+                        print(f"{kind.name}: {took / 1000:.2f} s to open {pages[name].path.stat().st_size:,} bytes")
+                    try_bytes(browser, pages[name], checks)
+                    if name in ("receipt", "index"):
+                        try_positions(browser, pages[name], checks)
+                        try_pointing(browser, pages[name], checks, 20)
+                checks.about = f"{kind.name}, receipt"
+                opened(browser, pages["receipt"])
+                try_preview(browser, pages["receipt"], checks)
+                try_field(browser, pages["receipt"], checks)
+                try_keys(browser, pages["receipt"], checks)
+                checks.about = f"{kind.name}, marked"
+                opened(browser, pages["marked"])
+                try_marks(browser, pages["marked"], checks)
+                checks.insist("what the browser complains of", browser.complaints(), [])
+                checks.about = f"{kind.name}, hostile"
+                opened(browser, pages["hostile"])
+                checks.insist("what the browser complains of", browser.complaints(), [])
+                try_hostile(browser, pages["hostile"], checks)
+                checks.about = f"{kind.name}, bundle"
+                print(f"{kind.name}: {try_large(browser, pages['bundle'], pages['receipt'], checks)}")
+                checks.about = f"{kind.name}, pictures"
+                keep_views(browser, pages, pictures, "light", checks)
+            finally:
+                browser.close()
+            browser = kind(is_dark=True)
+            try:
+                keep_views(browser, pages, pictures, "dark", checks)
+            finally:
+                browser.close()
+            print(f"{kind.name}: {checks.count} checks so far, {time.monotonic() - begin:.0f} s")
+    print(f"{checks.count} checks in browsers, {checks.failed} failed")
+    return 1 if checks.failed else 0
+
+
+if __name__ == "__main__":
+    sys.exit(main())
