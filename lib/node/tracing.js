@@ -40,7 +40,8 @@ function traceSegment(map, line, column) {
   room[2] = 0;
   lookUp();
   if (room[3] === 0) return null;
-  return [...room.subarray(4, room[3] === 1 ? 5 : 8), ...(room[8] ? [room[9]] : [])];
+  if (room[3] === 1) return [room[4]];
+  return room[8] ? [room[4], room[5], room[6], room[7], room[9]] : [room[4], room[5], room[6], room[7]];
 }
 
 // Looks many positions up. `positions` is a Uint32Array of a line, from 1, and a column, from 0, each; the answers are seven
