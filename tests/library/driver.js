@@ -2,6 +2,7 @@
 // What tests/try-library asks of the library in node. driver.c says of each command what it prints. And
 //   chain FOLDER OUTER LESS    the map composed with those NAME.map of the folder, by a loader; on standard error what that is asked
 //   mappings MAP               each mapping as the program prints it
+//   unclosed MAP COUNT         the peak of memory, in KiB, where the map is read so often and never closed
 //   unlike MAP OTHER CODE      how many mappings the first map has in the code, and how many of them the other answers otherwise
 const fs = require('node:fs');
 const smap = require('smap');
@@ -52,6 +53,12 @@ function again(path, count) {
     if (i === 100) before = process.memoryUsage().rss;
   }
   console.log(Math.round((process.memoryUsage().rss - before) / 1024));
+}
+
+function unclosed(path, count) {
+  const data = fs.readFileSync(path);
+  for (let i = 0; i < Number(count); i++) new smap.TraceMap(data);
+  console.log(process.resourceUsage().maxRSS);
 }
 
 // Each mapping as the program prints it.
@@ -134,5 +141,6 @@ const commands = {
     process.stdout.write(smap.rewrite(table, fs.readFileSync(0), { anywhere: true }));
   },
   again,
+  unclosed,
 };
 commands[process.argv[2]](...process.argv.slice(3));
