@@ -97,7 +97,7 @@ export interface BytesBySource {
 /** A source map that was read. A TraceMap that is given is itself. */
 export class TraceMap implements SourceMapMembers {
   /** `mapUrl` is the URL or path at which the map stands; a checkpoint is made at every `interval`-th segment of a line. The
-   * mappings of an object may be decoded. */
+   * mappings of an object may be decoded. What is given is kept for the members that are as it has them, so it is not to be changed. */
   constructor(map: string | Uint8Array | object, mapUrl?: string | URL | null, interval?: number);
   readonly counts: Counts;
   readonly version: 3;

@@ -35,7 +35,7 @@ function originalPositionFor(map, { line, column, bias }) {
 function traceSegment(map, line, column) {
   const lookUp = open(map);
   room[0] = given.lineFromZero(line);
-  if (column < 0) return null;
+  if (typeof column === 'number' && column < 0) return null;
   room[1] = given.column(column);
   room[2] = 0;
   lookUp();
