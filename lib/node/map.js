@@ -92,6 +92,12 @@ function ignored(handle) {
   return [...Array(addon.counts(handle).sources).keys()].filter((index) => addon.isIgnored(handle, index));
 }
 
+// Leaves a map closed, whose handle is freed or is no more its own.
+function empty(map) {
+  map.handle = map.given = undefined;
+  map.made.clear();
+}
+
 // A source map that was read: of a text, a Uint8Array or a parsed map, which stands at the URL or path `mapUrl`, if there is one.
 // It is freed by `close`, or when nothing names it any more. A TraceMap is itself.
 class TraceMap {
@@ -190,8 +196,7 @@ class TraceMap {
 
   close() {
     if (this.handle) addon.closeMap(this.handle);
-    this.handle = this.given = undefined;
-    this.made.clear();
+    empty(this);
   }
 
   [DISPOSE]() {
@@ -199,4 +204,4 @@ class TraceMap {
   }
 }
 
-module.exports = { DISPOSE, TraceMap, json, namesOf, once, open, read, standingAt };
+module.exports = { DISPOSE, TraceMap, empty, json, namesOf, once, open, read, standingAt };

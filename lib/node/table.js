@@ -2,7 +2,7 @@
 // Stack traces and other texts, rewritten over a table of maps.
 const addon = require('./smap.node');
 const given = require('./given.js');
-const { DISPOSE, TraceMap, open: openMap, standingAt } = require('./map.js');
+const { DISPOSE, TraceMap, empty, open: openMap, standingAt } = require('./map.js');
 const { Refused, refusedUrl } = require('./refused.js');
 
 // Maps, each under the URL that frames name: an object or pairs of a URL and a map's text, Uint8Array or TraceMap. A
@@ -46,7 +46,7 @@ function put(table, url, map) {
   const isRead = map instanceof TraceMap;
   const handle = isRead ? openMap(map) : standingAt(given.mapBytes(map), url);
   const told = addon.add(open(table), Buffer.from(url), handle);
-  if (isRead && typeof told !== 'number') map.close();
+  if (isRead && typeof told !== 'number') empty(map);
   return told;
 }
 

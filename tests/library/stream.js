@@ -67,7 +67,10 @@ async function pieces() {
 async function early() {
   const stream = new smap.RewriteStream(table());
   const read = () => String(stream.read() || '');
-  const write = (text) => new Promise((done) => stream.write(text, done));
+  const write = (text) => {
+    stream.write(text);
+    return new Promise(setImmediate);
+  };
   await write(`${frame(11)}\n${frame(1)}`);
   same(read(), '    at f (https://e.test/a.js:2:5)\n');
   await write('\n');
