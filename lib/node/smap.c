@@ -144,7 +144,7 @@ static napi_value look_up(napi_env env, napi_callback_info info) {
 
 /* About how many bytes the map of a file of this length has. */
 static int64_t size_of(size_t length, const smap_count *count) {
-    return (int64_t)(length + 48 * count->checkpoints);
+    return (int64_t)(length + 32 * (count->checkpoints + count->sources + count->names) + 8 * count->lines);
 }
 
 /* read(bytes, base, interval, refusal): a map, or null, with the numbers of the refusal in a Float64Array of 6. The map is a

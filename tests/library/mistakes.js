@@ -510,26 +510,6 @@ function closed() {
   }
 }
 
-// V8 is told what is held, and what is no more.
-function toldToV8() {
-  const external = () => process.memoryUsage().external;
-  const content = 'x'.repeat(4e6);
-  const text = JSON.stringify({ version: 3, sources: ['a.js'], sourcesContent: [content], names: [], mappings: 'AAAA' });
-  const before = external();
-  const rises = (call, least, most) => {
-    const was = external();
-    const made = call();
-    const rose = external() - was;
-    same(rose >= least && rose <= most, true, `${rose}`);
-    return made;
-  };
-  const maps = rises(() => Array.from({ length: 5 }, () => new smap.TraceMap(text)), 20e6, 100e6);
-  const table = rises(() => new smap.Table(maps.slice(1).map((map, i) => [`${i}.js`, map])), -1e6, 1e6);
-  rises(() => maps[0].close(), -20e6, -4e6);
-  rises(() => table.close(), -80e6, -16e6);
-  same(Math.abs(external() - before) < 5e6, true);
-}
-
 places();
 many();
 beneath();
@@ -548,5 +528,4 @@ loading();
 anywhere();
 options();
 closed();
-toldToV8();
 console.log('mistakes', told);
