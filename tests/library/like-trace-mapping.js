@@ -133,6 +133,38 @@ function compare(file) {
   same(new smap.TraceMap(Buffer.from(text)).resolvedSources, ours.resolvedSources);
 }
 
+// Each row of the table of docs/LIBRARY.md, in its order: what the two answer otherwise.
+function rows() {
+  const map = (mappings, more) => ({ version: 3, sources: ['a.js'], names: [], mappings, ...more });
+  const ask = (library, given, place) => library.originalPositionFor(new library.TraceMap(given), place).line;
+  const differ = (call, theirs, ours) => {
+    for (const [library, wanted] of [[trace, theirs], [smap, ours]]) {
+      if (wanted instanceof Error || typeof wanted === 'function') assert.throws(() => call(library), wanted);
+      else same(call(library), wanted);
+    }
+    counts.calls += 1;
+  };
+  const refused = (text) => (error) => error instanceof smap.Refused && error.message.includes(text);
+  const decoded = (given) => (library) => library.decodedMappings(new library.AnyMap(given));
+  const text = JSON.stringify(map([[[3, 0, 0, 0]]]));
+  differ(decoded(map('AAAAC')), [[[0, 0, 0, 0, 1]]], refused('F11 NameIndex'));
+  differ(decoded(map('CAAA,DAAC')), [[[0, 0, 0, 1], [1, 0, 0, 0]]], refused('F9 ColumnFalls'));
+  differ(decoded(text), [[[3, 0, 0, 0]]], refused('M13 Mappings'));
+  for (const [bias, theirs, ours] of [[1, 1, 2], [-1, 2, 1]]) differ((library) => ask(library, map('AAAA,AACA'), { line: 1, column: 0, bias }), theirs, ours);
+  const named = (source, mapUrl) => (library) => new library.TraceMap(map('', { sources: [source] }), mapUrl).resolvedSources[0];
+  differ(named('x/../a.ts'), 'a.ts', 'x/../a.ts');
+  differ(named('x/../a.ts', 'a.js.map'), 'a.ts', 'a.ts');
+  differ(named(null, 'dist/a.js.map'), 'dist/', null);
+  const index = (...list) => ({ version: 3, sections: list.map(([column, mappings]) => ({ offset: { line: 0, column }, map: map(mappings) })) });
+  differ((library) => new library.TraceMap(index([0, 'AAAA'])).sources, TypeError, ['a.js']);
+  differ(decoded(index([0, 'AAAA,EAAA'], [1, 'AAAA'])), [[[0, 0, 0, 0], [1, 1, 0, 0]]], refused('B3 SectionOverlap'));
+  differ(decoded(index([0, 'AAAA,CAAA'], [1, 'AAAA'])), [[[0, 0, 0, 0], [1, 1, 0, 0]]], [[[0, 0, 0, 0], [1, 0, 0, 0], [1, 1, 0, 0]]]);
+  differ((library) => new library.TraceMap(map('', { names: undefined })).names, undefined, []);
+  differ((library) => library.sourceContentFor(new library.TraceMap(map('', { sourcesContent: [] })), 'a.js'), undefined, null);
+  differ((library) => ask(library, map('AAAA'), { line: 1, column: 0.5 }), 1, TypeError);
+}
+
+rows();
 for (const file of process.argv.slice(2)) {
   try {
     compare(file);
