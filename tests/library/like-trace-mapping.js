@@ -12,7 +12,7 @@ const URLS = [undefined, 'https://e.test/js/out.js.map', 'out.js.map', 'dist/js/
 // How many mappings of a map are looked up.
 const MOST = 300;
 
-const counts = { maps: 0, calls: 0, names: 0, columns: 0, refused: 0 };
+const counts = { maps: 0, files: 0, calls: 0, names: 0, columns: 0, refused: 0 };
 const same = (got, wanted, what) => {
   counts.calls += 1;
   assert.deepStrictEqual(got, wanted, what);
@@ -100,6 +100,25 @@ function sameMaps(ours, theirs) {
   for (const line of [0, lines.length - 1, lines.length, lines.length + 7]) if (line >= 0) sameAt(ours, theirs, lines, line, 3);
 }
 
+// The bytes of each source in the generated file, where that stands beside the map, as trace-mapping's mappings cut it.
+function sameBytes(ours, theirs, file) {
+  const code = file.replace(/\.map$/, '');
+  if (!fs.existsSync(code)) return;
+  const bytes = fs.readFileSync(code);
+  const wanted = { sources: ours.resolvedSources.map(() => 0), unmapped: bytes.length };
+  bytes.toString().split(/\r\n|[\n\r\u2028\u2029]/).forEach((text, line) => {
+    const mappings = trace.decodedMappings(theirs)[line] || [];
+    mappings.forEach(([column, source], i) => {
+      if (source === undefined) return;
+      const length = Buffer.byteLength(text.slice(column, i + 1 < mappings.length ? mappings[i + 1][0] : text.length));
+      wanted.sources[source] += length;
+      wanted.unmapped -= length;
+    });
+  });
+  counts.files += 1;
+  same(ours.bytesBySource(bytes), wanted, 'bytesBySource');
+}
+
 function compare(file) {
   const text = fs.readFileSync(file, 'utf8');
   const object = JSON.parse(text);
@@ -131,6 +150,7 @@ function compare(file) {
     same(new smap.TraceMap(mine) === mine, new trace.TraceMap(theirs) === theirs);
   }
   same(new smap.TraceMap(Buffer.from(text)).resolvedSources, ours.resolvedSources);
+  sameBytes(ours, new trace.AnyMap(text), file);
 }
 
 // Each row of the table of docs/LIBRARY.md, in its order: what the two answer otherwise.
