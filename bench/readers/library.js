@@ -8,6 +8,7 @@ const fs = require('fs');
 const [how, path, places] = process.argv.slice(2);
 const bytes = fs.readFileSync(places);
 const positions = new Uint32Array(bytes.buffer.slice(bytes.byteOffset, bytes.byteOffset + bytes.length));
+for (let i = 0; i < positions.length; i += 2) positions[i] += 1; // in node lines count from 1
 const library = how === 'smap' ? require('../../lib/node') : require('@jridgewell/trace-mapping');
 const now = () => Number(process.hrtime.bigint() / 1000n);
 
@@ -17,7 +18,7 @@ library.originalPositionFor(map, { line: 1, column: 0 }); // trace-mapping decod
 const read = now();
 let sum = 0;
 for (let i = 0; i < positions.length; i += 2) {
-  const { line, column } = library.originalPositionFor(map, { line: positions[i] + 1, column: positions[i + 1] });
+  const { line, column } = library.originalPositionFor(map, { line: positions[i], column: positions[i + 1] });
   if (line !== null) sum += line - 1 + column;
 }
 const one = now();
@@ -26,7 +27,7 @@ if (how === 'smap') {
   const found = library.lookUpMany(map, positions);
   many = now() - one;
   let same = 0;
-  for (let i = 0; i < found.length; i += 7) if (found[i] === 2) same += found[i + 3] + found[i + 4];
+  for (let i = 0; i < found.length; i += 7) if (found[i] === 2) same += found[i + 3] - 1 + found[i + 4];
   if (same !== sum) throw new Error(`${same} in place of ${sum}`);
 }
 console.log(`${read - begin} ${one - read} ${many} ${sum}`);

@@ -2,7 +2,7 @@
 // Maps composed with the maps of their sources.
 const addon = require('./smap.node');
 const given = require('./given.js');
-const { TraceMap, open, read, standingAt } = require('./map.js');
+const { TraceMap, namesOf, open, read, standingAt } = require('./map.js');
 const { refusedComposition, refusedSource } = require('./refused.js');
 
 // The text of the map that two maps come to, the inner one being of this source of the outer one, from 0; as a Buffer.
@@ -34,7 +34,8 @@ function composedWithItself(map, source) {
 // one of those that lead to it. What is read here stands at the name of its source where that is a URL. With `prune` sources
 // and names that no mapping has are left out, and of equal ones all but the first; with `noContent` the contents of the
 // sources. A TraceMap stays open.
-function composeAll(outer, inners = {}, { load, prune = false, noContent = false } = {}) {
+function composeAll(outer, inners = {}, options = undefined) {
+  const { load, prune = false, noContent = false } = given.options(options, 'load', 'prune', 'noContent');
   const handle = open(outer);
   const composing = new Composing(handle, given.loader(load));
   const [isPruned, isBare] = [given.boolean(prune, 'prune'), given.boolean(noContent, 'noContent')];
@@ -43,11 +44,6 @@ function composeAll(outer, inners = {}, { load, prune = false, noContent = false
   } finally {
     composing.close();
   }
-}
-
-// The names of the sources of a map.
-function namesOf(handle) {
-  return Array.from({ length: addon.counts(handle).sources }, (_, index) => addon.sourceName(handle, index));
 }
 
 // The inner maps by the numbers of the sources that they are of.
@@ -130,7 +126,7 @@ class Composing {
 
   // Closes the maps that were made here.
   close() {
-    this.made.splice(0).forEach((handle) => addon.close(handle));
+    this.made.splice(0).forEach((handle) => addon.closeMap(handle));
   }
 
   keep(handle) {

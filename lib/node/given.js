@@ -1,6 +1,8 @@
 'use strict';
 // Checks what was given: what no call of the library may get is refused here, and never read as something else.
 const { isUint8Array, isUint32Array, isAnyArrayBuffer } = require('util').types;
+const { parsed } = require('./json.js');
+const { encode } = require('./vlq.js');
 
 // The greatest number of 32 bits. No map has a line, a column or a source of this number or a greater one.
 const MOST = 4294967295;
@@ -22,6 +24,12 @@ function line(value) {
   return Math.min(value - 1, MOST);
 }
 
+// A line from 0.
+function lineFromZero(value) {
+  if (whole(value, 'line') < 0) throw new Error('`line` must be greater than or equal to 0 (lines start at line 0 here)');
+  return Math.min(value, MOST);
+}
+
 // A column from 0.
 function column(value) {
   if (whole(value, 'column') < 0) {
@@ -40,7 +48,7 @@ function interval(value) {
   return Math.min(Math.max(whole(value, 'interval'), 0), MOST);
 }
 
-// Lines and columns in turn, both from 0.
+// Lines from 1 and columns from 0 in turn.
 function positions(value) {
   if (!isUint32Array(value)) throw new TypeError('`positions` must be a Uint32Array');
   if (value.length % 2) throw new TypeError('`positions` must be of even length: a line and a column each');
@@ -54,13 +62,24 @@ function mapBytes(value) {
   if (typeof value !== 'object' || value === null || ArrayBuffer.isView(value) || isAnyArrayBuffer(value)) {
     throw new TypeError('a map must be a text, a Uint8Array or a parsed map');
   }
-  return Buffer.from(JSON.stringify(value));
+  return Buffer.from(JSON.stringify(encoded(parsed(value))));
 }
 
-// The bytes of a trace.
-function traceBytes(value) {
-  if (isUint8Array(value)) return value;
-  return Buffer.from(text(value, 'trace', ' or a Uint8Array'));
+const isObject = (value) => typeof value === 'object' && value !== null && !Array.isArray(value);
+
+// A parsed map, whose mappings are a text where they were decoded.
+function encoded(map) {
+  if (!isObject(map)) return map;
+  if (Array.isArray(map.sections)) {
+    const section = (value) => (isObject(value) ? { ...value, map: encoded(value.map) } : value);
+    return { ...map, sections: map.sections.map(section) };
+  }
+  return Array.isArray(map.mappings) ? { ...map, mappings: encode(map.mappings) } : map;
+}
+
+// The bytes of a text or of a Uint8Array.
+function bytes(value, what) {
+  return isUint8Array(value) ? value : Buffer.from(text(value, what, ' or a Uint8Array'));
 }
 
 function text(value, what, more = '') {
@@ -68,7 +87,7 @@ function text(value, what, more = '') {
   return value;
 }
 
-// The URL at which a map stands, or '' for none.
+// The URL or path at which a map stands, or '' for none.
 function mapUrl(value) {
   if (value === undefined || value === null) return '';
   return value instanceof URL ? value.href : text(value, 'mapUrl');
@@ -85,4 +104,13 @@ function loader(value) {
   return value;
 }
 
-module.exports = { boolean, column, interval, line, loader, mapBytes, mapUrl, positions, source, text, traceBytes };
+// The options that were given, of which there are no others than these.
+function options(value, ...known) {
+  if (value === undefined) return {};
+  if (typeof value !== 'object' || value === null) throw new TypeError(`the options must be an object, and not ${kind(value)}`);
+  const other = Object.keys(value).find((key) => !known.includes(key));
+  if (other !== undefined) throw new TypeError(`\`${other}\` is no option here: there are \`${known.join('`, `')}\``);
+  return value;
+}
+
+module.exports = { boolean, bytes, column, interval, line, lineFromZero, loader, mapBytes, mapUrl, options, positions, source, text };

@@ -1,5 +1,14 @@
 /** Source maps of ECMA-426 over the library libsmap. Lines count from 1 and columns from 0, in UTF-16 code units. */
 
+import { Transform } from 'stream';
+
+declare global {
+  interface SymbolConstructor {
+    /** What `using` calls at the end of a block. */
+    readonly dispose: unique symbol;
+  }
+}
+
 export const GREATEST_LOWER_BOUND: 1;
 export const LEAST_UPPER_BOUND: -1;
 
@@ -7,7 +16,7 @@ export const LEAST_UPPER_BOUND: -1;
  * the program's line and, of a map that is refused, the lines of the explanation. */
 export class Refused extends Error {
   /** Of a map that of M1 to M17, or 0 where the base is no URL and 18 where it is too long; of others that of C1, C2 and
-   * C4, A1 and A2, or X3. */
+   * C4, A1 and A2, or X3, and of a generated file 1 where it is not UTF-8 and 2 where it is too large. */
   number?: number;
   /** That of the fault of the mappings, F1 to F11, or 0. */
   fault?: number;
@@ -38,6 +47,7 @@ export interface SourceEntry {
   ignored: boolean;
 }
 
+/** What a map holds; `lines` are the generated lines with a mapping. */
 export interface Counts {
   sections: number;
   sources: number;
@@ -47,18 +57,73 @@ export interface Counts {
   checkpoints: number;
 }
 
-/** A source map that was read. */
-export class TraceMap {
-  /** `mapUrl` is the URL at which the map stands; a checkpoint is made at every `interval`-th segment of a line. */
+/** A mapping. */
+export type EachMapping = {
+  generatedLine: number;
+  generatedColumn: number;
+  source: string | null;
+  originalLine: number | null;
+  originalColumn: number | null;
+  name: string | null;
+};
+
+/** The generated column; or it, the source, the original line and column, and the name. All of them from 0. */
+export type SourceMapSegment = [number] | [number, number, number, number] | [number, number, number, number, number];
+
+interface SourceMapMembers {
+  file?: string | null;
+  names: string[];
+  sourceRoot?: string;
+  sources: (string | null)[];
+  sourcesContent?: (string | null)[];
+  ignoreList?: number[];
+  version: 3;
+}
+
+export interface EncodedSourceMap extends SourceMapMembers {
+  mappings: string;
+}
+
+export interface DecodedSourceMap extends SourceMapMembers {
+  mappings: SourceMapSegment[][];
+}
+
+/** How many bytes of a generated file come from each source, and from none. */
+export interface BytesBySource {
+  sources: number[];
+  unmapped: number;
+}
+
+/** A source map that was read. A TraceMap that is given is itself. */
+export class TraceMap implements SourceMapMembers {
+  /** `mapUrl` is the URL or path at which the map stands; a checkpoint is made at every `interval`-th segment of a line. The
+   * mappings of an object may be decoded. What is given is kept for the members that are as it has them, so it is not to be changed. */
   constructor(map: string | Uint8Array | object, mapUrl?: string | URL | null, interval?: number);
   readonly counts: Counts;
-  readonly file: string | null;
-  readonly sourceEntries: SourceEntry[];
-  readonly sources: (string | null)[];
+  readonly version: 3;
+  readonly file: string | undefined;
   readonly names: string[];
+  /** These four are as the map has them; an index map has the names of its sources and no root. */
+  readonly sources: (string | null)[];
+  readonly sourceRoot: string | undefined;
+  readonly sourcesContent: (string | null)[] | undefined;
+  readonly ignoreList: number[] | undefined;
+  /** The names of the sources. */
+  readonly resolvedSources: (string | null)[];
+  readonly sourceEntries: SourceEntry[];
+  /** Each mapping in its order. */
+  mappings(): IterableIterator<EachMapping>;
+  /** The bytes of the generated file by the source that they come from. */
+  bytesBySource(generated: string | Uint8Array): BytesBySource;
+  /** The text of one regular map that states the same. */
   write(): Buffer;
   close(): void;
+  [Symbol.dispose](): void;
 }
+
+/** A map or an index map: both are read alike. */
+export function AnyMap(map: string | Uint8Array | object, mapUrl?: string | URL | null): TraceMap;
+export function presortedDecodedMap(map: object, mapUrl?: string | URL | null): TraceMap;
 
 export interface Needle {
   /** From 1. */
@@ -73,7 +138,16 @@ export type OriginalMapping =
   | { source: null; line: null; column: null; name: null };
 
 export function originalPositionFor(map: TraceMap, needle: Needle): OriginalMapping;
-/** Lines and columns from 0, two numbers a position; seven numbers an answer. */
+/** The segment that answers, or null. Here lines count from 0. */
+export function traceSegment(map: TraceMap, line: number, column: number): SourceMapSegment | null;
+export function eachMapping(map: TraceMap, call: (mapping: EachMapping) => void): void;
+export function decodedMappings(map: TraceMap): SourceMapSegment[][];
+export function encodedMappings(map: TraceMap): string;
+export function decodedMap(map: TraceMap): DecodedSourceMap;
+export function encodedMap(map: TraceMap): EncodedSourceMap;
+/** Two numbers a position: the line, from 1, and the column, from 0. Seven numbers an answer: the kind (0 nothing, 1 without an
+ * original, 2 with one), the generated column, the source, the line from 1, the column, 1 where there is a name, and the name.
+ * What there is not is 0. */
 export function lookUpMany(map: TraceMap, positions: Uint32Array): Uint32Array;
 export function sourceContentFor(map: TraceMap, source: string): string | null;
 export function isIgnored(map: TraceMap, source: string): boolean;
@@ -102,10 +176,22 @@ export function composeAll(
   options?: ComposeAllOptions,
 ): Buffer;
 
-/** What was in a trace: of frames, or of places anywhere. */
-export type TraceCounts =
-  | { lines: number; frames: number; mapped: number; hidden: number }
-  | { lines: number; places: number; mapped: number };
+/** What was in a trace: its lines, how many of them were frames, and how many of these were replaced and hidden. */
+export interface FrameCounts {
+  lines: number;
+  frames: number;
+  mapped: number;
+  hidden: number;
+}
+
+/** What was in a text with `anywhere`: its lines, its places, and how many of these were replaced. */
+export interface PlaceCounts {
+  lines: number;
+  places: number;
+  mapped: number;
+}
+
+export type TraceCounts = FrameCounts | PlaceCounts;
 
 /** The maps of a trace, each under the URL that frames name. A TraceMap that is given is closed. */
 export class Table {
@@ -114,13 +200,23 @@ export class Table {
     maps: Named<string>,
     options?: { load?: (url: string) => Given | null | undefined },
   );
-  /** Those of the last trace that was rewritten. */
+  /** Those of the last text that `rewrite` rewrote over this table. */
   readonly counts: TraceCounts | null;
+  close(): void;
+  [Symbol.dispose](): void;
 }
 
 /** With `anywhere` each place URL:line:column is replaced, wherever it stands; it excludes `hideIgnored`. */
-export function rewrite(
-  table: Table,
-  trace: string | Uint8Array,
-  options?: { hideIgnored?: boolean; anywhere?: boolean },
-): Buffer;
+export interface RewriteOptions {
+  hideIgnored?: boolean;
+  anywhere?: boolean;
+}
+
+export function rewrite(table: Table, trace: string | Uint8Array, options?: RewriteOptions): Buffer;
+
+/** Rewrites what is written to it, line by line. At most an unfinished line is held back. The table stays open. */
+export class RewriteStream extends Transform {
+  constructor(table: Table, options?: RewriteOptions);
+  /** Those of all that was rewritten so far. */
+  readonly counts: TraceCounts;
+}

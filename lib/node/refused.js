@@ -41,6 +41,11 @@ function refusedMap(bytes, numbers, base, url) {
   return new Refused(line, [...numbers], url, why(bytes, numbers));
 }
 
+// Why no bytes are told of a generated file.
+function refusedGenerated(number) {
+  return new Refused(`refused: ${['NotUtf8', 'TooLarge'][number - 1] || number}`, [number]);
+}
+
 // Why two maps are not composed.
 function refusedComposition(number) {
   return new Refused(`refused: ${addon.composeRefusalText(number) || number}`, [number]);
@@ -56,4 +61,4 @@ function refusedUrl(number, url) {
   return new Refused(`usage: ${addon.tableRefusalText(number) || number}: ${shown(url)}`, [number], url);
 }
 
-module.exports = { BAD_BASE, Refused, refusedComposition, refusedMap, refusedSource, refusedUrl };
+module.exports = { BAD_BASE, Refused, refusedComposition, refusedGenerated, refusedMap, refusedSource, refusedUrl };

@@ -1,8 +1,6 @@
 /* The library libsmap inside node, over Node-API. index.js is what people call. */
+#include "held.h"
 #include <math.h>
-#include <node_api.h>
-#include <smap.h>
-#include <stdlib.h>
 #include <string.h>
 
 #define WORDS 8
@@ -71,52 +69,37 @@ static double *doubles_of(napi_env env, napi_value value, size_t wanted) {
     return NULL;
 }
 
-static const napi_type_tag map_tag = {0x8d3f0b6a91c24e55, 0xb1a7c05e2f6d4a01};
-static const napi_type_tag table_tag = {0x8d3f0b6a91c24e55, 0xb1a7c05e2f6d4a02};
-
 /* What one look-up is asked and answers, in a Uint32Array of ten: the line, the column, 1 for the other direction, and the
  * seven numbers of the answer. There is one, so that a look-up hands over no argument and makes no value. */
 #define ROOM 10
 
-struct held_map { smap_map map; bool full; uint32_t *room; };
-struct held_table { smap_table table; bool full; };
-
-static void drop_map(napi_env env, void *data, void *hint) {
-    (void)env, (void)hint;
-    struct held_map *held = data;
-    if (held->full) smap_map_free(&held->map);
-    free(held);
-}
-
-static void drop_table(napi_env env, void *data, void *hint) {
-    (void)env, (void)hint;
-    struct held_table *held = data;
-    if (held->full) smap_table_free(&held->table);
-    free(held);
-}
-
-static struct held_map *map_of(napi_env env, napi_value value) {
+/* What an object with this tag holds, or nothing, and why that is an error. */
+static struct held *held_of(napi_env env, napi_value value, const napi_type_tag *tag, const char *other, const char *closed) {
     bool is = false;
     void *data = NULL;
-    if (napi_check_object_type_tag(env, value, &map_tag, &is) != napi_ok || !is || napi_unwrap(env, value, &data) != napi_ok) {
-        refuse_type(env, "no map");
+    if (napi_check_object_type_tag(env, value, tag, &is) != napi_ok || !is || napi_unwrap(env, value, &data) != napi_ok) {
+        refuse_type(env, other);
         return NULL;
     }
-    struct held_map *held = data;
+    struct held *held = data;
     if (!held->full) {
-        refuse(env, "the map is closed");
+        refuse(env, closed);
         return NULL;
     }
     return held;
 }
 
-static struct held_table *table_of(napi_env env, napi_value value) {
-    bool is = false;
+static struct held *map_of(napi_env env, napi_value value) {
+    return held_of(env, value, &map_tag, "no map", "the map is closed");
+}
+
+static struct held *table_of(napi_env env, napi_value value) {
+    return held_of(env, value, &table_tag, "no table", "the table is closed");
+}
+
+static struct addon *addon_of(napi_env env) {
     void *data = NULL;
-    if (napi_check_object_type_tag(env, value, &table_tag, &is) != napi_ok || !is || napi_unwrap(env, value, &data) != napi_ok) {
-        refuse_type(env, "no table");
-        return NULL;
-    }
+    napi_get_instance_data(env, &data);
     return data;
 }
 
@@ -152,11 +135,16 @@ static napi_value buffer(napi_env env, smap_bytes *bytes) {
 static napi_value look_up(napi_env env, napi_callback_info info) {
     void *data = NULL;
     napi_get_cb_info(env, info, NULL, NULL, NULL, &data);
-    struct held_map *held = data;
+    struct held *held = data;
     if (!held->full) return refuse(env, "the map is closed");
-    uint32_t *room = held->room;
+    uint32_t *room = held->addon->room;
     (room[2] ? smap_look_up_from : smap_look_up)(&held->map, room[0], room[1], (smap_found *)(room + 3));
     return NULL;
+}
+
+/* About how many bytes the map of a file of this length has. */
+static int64_t size_of(size_t length, const smap_count *count) {
+    return (int64_t)(length + 32 * (count->checkpoints + count->sources + count->names) + 8 * count->lines);
 }
 
 /* read(bytes, base, interval, refusal): a map, or null, with the numbers of the refusal in a Float64Array of 6. The map is a
@@ -170,7 +158,9 @@ static napi_value read_map(napi_env env, napi_callback_info info) {
     if (!words_of(env, info, 4, words) || !bytes_of(env, words[0], &bytes, &length) || !bytes_of(env, words[1], &base, &base_length) ||
         !number_of(env, words[2], &interval) || !(numbers = doubles_of(env, words[3], 6)))
         return NULL;
-    struct held_map *held = calloc(1, sizeof *held);
+    struct addon *addon = addon_of(env);
+    sweep(env, addon);
+    struct held *held = calloc(1, sizeof *held);
     if (!held) return refuse(env, "out of memory");
     smap_refusal refusal = {0};
     uint32_t status = smap_map_read(bytes, length, base, base_length, interval, &held->map, &refusal);
@@ -181,15 +171,15 @@ static napi_value read_map(napi_env env, napi_callback_info info) {
         numbers[3] = refusal.build, numbers[4] = (double)refusal.section, numbers[5] = (double)refusal.byte;
         return null(env);
     }
-    held->full = true;
+    smap_count count = {0};
+    smap_counts(&held->map, &count);
     napi_value map = NULL;
-    if (napi_get_instance_data(env, (void **)&held->room) != napi_ok ||
-        napi_create_function(env, "lookUp", NAPI_AUTO_LENGTH, look_up, held, &map) != napi_ok ||
-        napi_type_tag_object(env, map, &map_tag) != napi_ok || napi_wrap(env, map, held, drop_map, NULL, NULL) != napi_ok) {
-        drop_map(env, held, NULL);
+    if (napi_create_function(env, "lookUp", NAPI_AUTO_LENGTH, look_up, held, &map) != napi_ok) {
+        held->full = true;
+        drop(env, held, NULL);
         return refuse(env, "out of memory");
     }
-    return map;
+    return hold(env, addon, map, held, size_of(length, &count)) ? map : refuse(env, "out of memory");
 }
 
 /* The refusal of these six numbers. */
@@ -252,33 +242,95 @@ static napi_value table_refusal_text(napi_env env, napi_callback_info info) {
     return lent(env, info, smap_table_refusal_text);
 }
 
+/* closeMap(map), closeTable(table): frees it now. */
 static napi_value close_map(napi_env env, napi_callback_info info) {
     napi_value words[WORDS];
-    if (!words_of(env, info, 1, words)) return NULL;
-    struct held_map *held = map_of(env, words[0]);
-    if (!held) return NULL;
-    smap_map_free(&held->map);
-    held->full = false;
+    struct held *held = words_of(env, info, 1, words) ? map_of(env, words[0]) : NULL;
+    if (held) let_go(env, held);
     return NULL;
 }
 
-/* lookUpMany(map, positions, found): the answers to a Uint32Array of lines and columns, seven numbers each. */
+static napi_value close_table(napi_env env, napi_callback_info info) {
+    napi_value words[WORDS];
+    struct held *held = words_of(env, info, 1, words) ? table_of(env, words[0]) : NULL;
+    if (held) let_go(env, held);
+    return NULL;
+}
+
+/* How many positions are looked up at once. */
+#define AT_ONCE 512
+
+/* lookUpMany(map, positions, found): the answers to a Uint32Array of lines, from 1, and columns; seven numbers each, and the
+ * lines in them from 1 too. */
 static napi_value look_up_many(napi_env env, napi_callback_info info) {
     napi_value words[WORDS];
-    uint32_t *positions, *found;
+    uint32_t *positions, *numbers;
     size_t length, places;
     if (!words_of(env, info, 3, words)) return NULL;
-    struct held_map *held = map_of(env, words[0]);
-    if (!held || !numbers_of(env, words[1], &positions, &length) || !numbers_of(env, words[2], &found, &places)) return NULL;
+    struct held *held = map_of(env, words[0]);
+    if (!held || !numbers_of(env, words[1], &positions, &length) || !numbers_of(env, words[2], &numbers, &places)) return NULL;
     if (length % 2 || places != length / 2 * 7) return refuse_type(env, "the lengths do not fit");
-    smap_look_up_many(&held->map, (const smap_position *)positions, length / 2, (smap_found *)found, length / 2);
+    smap_position asked[AT_ONCE];
+    for (size_t done = 0, count; done < length / 2; done += count) {
+        count = length / 2 - done < AT_ONCE ? length / 2 - done : AT_ONCE;
+        smap_found *found = (smap_found *)numbers + done;
+        for (size_t i = 0; i < count; i++) {
+            const uint32_t *at = positions + 2 * (done + i);
+            if (!at[0]) return refuse(env, "`line` must be greater than 0 (lines start at line 1)");
+            asked[i] = (smap_position){at[0] - 1, at[1]};
+        }
+        smap_look_up_many(&held->map, asked, count, found, count);
+        for (size_t i = 0; i < count; i++) found[i].line += found[i].kind == 2;
+    }
     return words[2];
+}
+
+/* mappings(map): those of the map as a Uint32Array, eight numbers each, as smap_mapping has them. */
+static napi_value mappings(napi_env env, napi_callback_info info) {
+    napi_value words[WORDS], array = NULL, room;
+    void *place;
+    if (!words_of(env, info, 1, words)) return NULL;
+    struct held *held = map_of(env, words[0]);
+    if (!held) return NULL;
+    smap_bytes bytes = {0};
+    if (smap_map_mappings(&held->map, &bytes) != SMAP_DONE) return refuse(env, "out of memory");
+    smap_text text = SMAP_TEXT;
+    smap_bytes_text(&bytes, &text);
+    if (napi_create_arraybuffer(env, text.length, &place, &room) == napi_ok &&
+        napi_create_typedarray(env, napi_uint32_array, text.length / sizeof(uint32_t), room, 0, &array) == napi_ok)
+        memcpy(text.length ? place : nothing, text.bytes, text.length);
+    smap_bytes_free(&bytes);
+    return array ? array : refuse(env, "out of memory");
+}
+
+/* bytesBySource(map, generated, refusal): a Float64Array of the bytes of each source and, at its end, those that are
+ * unmapped; or the number of the refusal. */
+static napi_value bytes_by_source(napi_env env, napi_callback_info info) {
+    napi_value words[WORDS], array = NULL, room;
+    const uint8_t *generated;
+    size_t length;
+    uint32_t why = 0;
+    void *place;
+    if (!words_of(env, info, 2, words)) return NULL;
+    struct held *held = map_of(env, words[0]);
+    if (!held || !bytes_of(env, words[1], &generated, &length)) return NULL;
+    smap_count count = {0};
+    smap_counts(&held->map, &count);
+    uint64_t *told = calloc(count.sources + 1, sizeof *told);
+    if (!told) return refuse(env, "out of memory");
+    uint32_t status = smap_bytes_by_source(&held->map, generated, length, told, count.sources, told + count.sources, &why);
+    if (status == SMAP_DONE && napi_create_arraybuffer(env, (count.sources + 1) * sizeof(double), &place, &room) == napi_ok &&
+        napi_create_typedarray(env, napi_float64_array, count.sources + 1, room, 0, &array) == napi_ok)
+        for (size_t i = 0; i <= count.sources; i++) ((double *)place)[i] = (double)told[i];
+    free(told);
+    if (status == SMAP_REFUSED) return number(env, why);
+    return array ? array : refuse(env, "out of memory");
 }
 
 static napi_value counts(napi_env env, napi_callback_info info) {
     napi_value words[WORDS], result;
     if (!words_of(env, info, 1, words)) return NULL;
-    struct held_map *held = map_of(env, words[0]);
+    struct held *held = map_of(env, words[0]);
     if (!held) return NULL;
     smap_count count = {0};
     smap_counts(&held->map, &count);
@@ -294,7 +346,7 @@ static bool source_of(napi_env env, napi_callback_info info, smap_source_text *s
     napi_value words[WORDS];
     uint32_t index;
     if (!words_of(env, info, 2, words)) return false;
-    struct held_map *held = map_of(env, words[0]);
+    struct held *held = map_of(env, words[0]);
     if (!held || !number_of(env, words[1], &index)) return false;
     if (smap_source(&held->map, index, source) == SMAP_DONE) return true;
     refuse(env, "no such source");
@@ -325,7 +377,7 @@ static napi_value name(napi_env env, napi_callback_info info) {
     napi_value words[WORDS];
     uint32_t index;
     if (!words_of(env, info, 2, words)) return NULL;
-    struct held_map *held = map_of(env, words[0]);
+    struct held *held = map_of(env, words[0]);
     if (!held || !number_of(env, words[1], &index)) return NULL;
     smap_text text = SMAP_TEXT;
     return smap_name(&held->map, index, &text) == SMAP_DONE ? string(env, text) : null(env);
@@ -334,7 +386,7 @@ static napi_value name(napi_env env, napi_callback_info info) {
 static napi_value file(napi_env env, napi_callback_info info) {
     napi_value words[WORDS];
     if (!words_of(env, info, 1, words)) return NULL;
-    struct held_map *held = map_of(env, words[0]);
+    struct held *held = map_of(env, words[0]);
     if (!held) return NULL;
     smap_text text = SMAP_TEXT;
     return smap_file(&held->map, &text) == SMAP_DONE ? string(env, text) : null(env);
@@ -344,7 +396,7 @@ static napi_value file(napi_env env, napi_callback_info info) {
 static napi_value write_map(napi_env env, napi_callback_info info) {
     napi_value words[WORDS];
     if (!words_of(env, info, 1, words)) return NULL;
-    struct held_map *held = map_of(env, words[0]);
+    struct held *held = map_of(env, words[0]);
     if (!held) return NULL;
     smap_bytes bytes = {0};
     uint32_t status = smap_map_write(&held->map, &bytes);
@@ -357,7 +409,7 @@ static napi_value compose(napi_env env, napi_callback_info info) {
     napi_value words[WORDS];
     uint32_t index, why = 0;
     if (!words_of(env, info, 3, words)) return NULL;
-    struct held_map *outer = map_of(env, words[0]), *inner = outer ? map_of(env, words[2]) : NULL;
+    struct held *outer = map_of(env, words[0]), *inner = outer ? map_of(env, words[2]) : NULL;
     if (!inner || !number_of(env, words[1], &index)) return NULL;
     if (outer == inner) return refuse_type(env, "one map twice");
     smap_bytes bytes = {0};
@@ -367,13 +419,13 @@ static napi_value compose(napi_env env, napi_callback_info info) {
 }
 
 /* The maps of an array of so many, all different and none of them this one. */
-static struct held_map **maps_of(napi_env env, napi_value array, size_t count, struct held_map *other) {
+static struct held **maps_of(napi_env env, napi_value array, size_t count, struct held *other) {
     uint32_t length;
     if (napi_get_array_length(env, array, &length) != napi_ok || length != count) {
         refuse_type(env, "no array of as many maps");
         return NULL;
     }
-    struct held_map **maps = calloc(count + 1, sizeof *maps);
+    struct held **maps = calloc(count + 1, sizeof *maps);
     if (!maps) {
         refuse(env, "out of memory");
         return NULL;
@@ -400,11 +452,11 @@ static napi_value compose_all(napi_env env, napi_callback_info info) {
     size_t count, put = 0;
     smap_compose_options options = {0};
     if (!words_of(env, info, 5, words)) return NULL;
-    struct held_map *outer = map_of(env, words[0]);
+    struct held *outer = map_of(env, words[0]);
     if (!outer || !numbers_of(env, words[1], &sources, &count)) return NULL;
     if (napi_get_value_bool(env, words[3], &options.prune) != napi_ok || napi_get_value_bool(env, words[4], &options.no_content) != napi_ok)
         return refuse_type(env, "no boolean");
-    struct held_map **maps = maps_of(env, words[2], count, outer);
+    struct held **maps = maps_of(env, words[2], count, outer);
     if (!maps) return NULL;
     smap_inners inners = {0};
     smap_bytes bytes = {0};
@@ -423,20 +475,15 @@ static napi_value compose_all(napi_env env, napi_callback_info info) {
 
 static napi_value new_table(napi_env env, napi_callback_info info) {
     (void)info;
-    struct held_table *held = calloc(1, sizeof *held);
+    napi_value object;
+    struct held *held = calloc(1, sizeof *held);
     if (!held || smap_table_new(&held->table) != SMAP_DONE) {
         free(held);
         return refuse(env, "out of memory");
     }
-    held->full = true;
-    napi_value object;
+    held->is_table = true;
     napi_create_object(env, &object);
-    napi_type_tag_object(env, object, &table_tag);
-    if (napi_wrap(env, object, held, drop_table, NULL, NULL) != napi_ok) {
-        drop_table(env, held, NULL);
-        return refuse(env, "out of memory");
-    }
-    return object;
+    return hold(env, addon_of(env), object, held, 0) ? object : refuse(env, "out of memory");
 }
 
 /* add(table, url, map): nothing, and the map is closed then; or the number of the refusal. */
@@ -446,12 +493,14 @@ static napi_value add(napi_env env, napi_callback_info info) {
     size_t length;
     uint32_t why = 0;
     if (!words_of(env, info, 3, words)) return NULL;
-    struct held_table *table = table_of(env, words[0]);
+    struct held *table = table_of(env, words[0]);
     if (!table || !bytes_of(env, words[1], &url, &length)) return NULL;
-    struct held_map *held = map_of(env, words[2]);
+    struct held *held = map_of(env, words[2]);
     if (!held) return NULL;
     uint32_t status = smap_table_add(&table->table, url, length, &held->map, &why);
     held->full = status == SMAP_REFUSED;
+    if (status == SMAP_DONE) tell_size(env, table, table->size + held->size);
+    if (!held->full) tell_size(env, held, 0);
     if (status == SMAP_DONE) return NULL;
     return status == SMAP_REFUSED ? number(env, why) : refuse(env, "out of memory");
 }
@@ -464,7 +513,7 @@ static napi_value rewrite(napi_env env, napi_callback_info info) {
     size_t length;
     bool anywhere, hide;
     if (!words_of(env, info, 5, words)) return NULL;
-    struct held_table *table = table_of(env, words[0]);
+    struct held *table = table_of(env, words[0]);
     if (!table || !bytes_of(env, words[1], &text, &length)) return NULL;
     if (napi_get_value_bool(env, words[2], &anywhere) != napi_ok || napi_get_value_bool(env, words[3], &hide) != napi_ok)
         return refuse_type(env, "no boolean");
@@ -505,19 +554,26 @@ static napi_value next_frame_url(napi_env env, napi_callback_info info) {
 
 NAPI_MODULE_INIT() {
     const struct { const char *name; napi_callback call; } calls[] = {
-        {"read", read_map}, {"refusalText", refusal_text}, {"refusalExplain", refusal_explain}, {"close", close_map}, {"lookUpMany", look_up_many},
+        {"read", read_map}, {"refusalText", refusal_text}, {"refusalExplain", refusal_explain}, {"closeMap", close_map},
+        {"closeTable", close_table}, {"lookUpMany", look_up_many}, {"mappings", mappings}, {"bytesBySource", bytes_by_source},
         {"counts", counts}, {"sourceName", source_name}, {"sourceContent", source_content}, {"isIgnored", is_ignored},
-        {"name", name}, {"file", file}, {"write", write_map}, {"compose", compose}, {"composeAll", compose_all}, {"newTable", new_table}, {"add", add},
-        {"rewrite", rewrite}, {"nextFrameUrl", next_frame_url}, {"composeRefusalText", compose_refusal_text}, {"tableRefusalText", table_refusal_text},
+        {"name", name}, {"file", file}, {"write", write_map}, {"compose", compose}, {"composeAll", compose_all}, {"newTable", new_table},
+        {"add", add}, {"rewrite", rewrite}, {"nextFrameUrl", next_frame_url}, {"composeRefusalText", compose_refusal_text},
+        {"tableRefusalText", table_refusal_text},
     };
     napi_value buffer, room;
     napi_ref kept;
     void *numbers;
+    struct addon *addon = calloc(1, sizeof *addon);
+    if (!addon || napi_set_instance_data(env, addon, drop_addon, NULL) != napi_ok) {
+        free(addon);
+        return refuse(env, "out of memory");
+    }
     if (napi_create_arraybuffer(env, ROOM * sizeof(uint32_t), &numbers, &buffer) != napi_ok ||
         napi_create_typedarray(env, napi_uint32_array, ROOM, buffer, 0, &room) != napi_ok ||
-        napi_create_reference(env, buffer, 1, &kept) != napi_ok ||
-        napi_set_instance_data(env, numbers, NULL, NULL) != napi_ok)
+        napi_create_reference(env, buffer, 1, &kept) != napi_ok)
         return refuse(env, "out of memory");
+    addon->room = numbers;
     napi_set_named_property(env, exports, "room", room);
     for (size_t i = 0; i < sizeof calls / sizeof *calls; i++) {
         napi_value function;

@@ -1,13 +1,16 @@
 'use strict';
 // What tests/try-library asks of the library in node. driver.c says of each command what it prints. And
 //   chain FOLDER OUTER LESS    the map composed with those NAME.map of the folder, by a loader; on standard error what that is asked
+//   mappings MAP               each mapping as the program prints it
+//   unclosed MAP COUNT         the peak of memory, in KiB, where the map is read so often and never closed
 //   unlike MAP OTHER CODE      how many mappings the first map has in the code, and how many of them the other answers otherwise
 const fs = require('node:fs');
 const smap = require('smap');
 
 const open = (path, ...words) => new smap.TraceMap(fs.readFileSync(path), ...words);
+// Those of standard input, whose lines count from 0, and in node from 1.
 const positions = () =>
-  fs.readFileSync(0, 'utf8').split('\n').filter(Boolean).map((line) => line.split(' ').map(Number));
+  fs.readFileSync(0, 'utf8').split('\n').filter(Boolean).map((line) => line.split(' ').map(Number)).map(([line, column]) => [line + 1, column]);
 const put = (lines) => process.stdout.write(lines.map((line) => `${line}\n`).join(''));
 
 function tell(map, kind, source, line, column, name) {
@@ -24,7 +27,7 @@ function look(path, bias) {
   const places = positions();
   const kinds = smap.lookUpMany(map, Uint32Array.from(places.flat()));
   put(places.map(([line, column], i) => {
-    const answer = smap.originalPositionFor(map, { line: line + 1, column, bias });
+    const answer = smap.originalPositionFor(map, { line, column, bias });
     if (answer.line === null) return kinds[7 * i] === 1 && bias !== -1 ? 'unmapped' : 'none';
     const source = map.sourceEntries.findIndex((entry) => entry.name === answer.source);
     return tell(map, 2, source, answer.line, answer.column, answer.name);
@@ -37,7 +40,7 @@ function many(path) {
   const lines = [];
   for (let i = 0; i < found.length; i += 7) {
     const [kind, , source, line, column, named, name] = found.subarray(i, i + 7);
-    lines.push(tell(map, kind, source, line + 1, column, named ? map.names[name] : null));
+    lines.push(tell(map, kind, source, line, column, named ? map.names[name] : null));
   }
   put(lines);
 }
@@ -52,6 +55,21 @@ function again(path, count) {
   console.log(Math.round((process.memoryUsage().rss - before) / 1024));
 }
 
+function unclosed(path, count) {
+  const data = fs.readFileSync(path);
+  for (let i = 0; i < Number(count); i++) new smap.TraceMap(data);
+  console.log(process.resourceUsage().maxRSS);
+}
+
+// Each mapping as the program prints it.
+function mappings(path) {
+  const map = open(path);
+  const ignored = new Map(map.sourceEntries.map((entry) => [entry.name, entry.ignored]));
+  put([...map.mappings()].map(({ generatedLine, generatedColumn, source, originalLine, originalColumn, name }) =>
+    `${generatedLine}:${generatedColumn + 1} ${originalLine === null ? 'unmapped' : `${source}:${originalLine}:${originalColumn + 1}`}` +
+    `${name === null ? '' : ` name ${name}`}${ignored.get(source) ? ' ignored' : ''}`));
+}
+
 const options = (less) => ({ prune: ['prune', 'both'].includes(less), noContent: ['bare', 'both'].includes(less) });
 
 // How many mappings of a map the other one does not answer alike: at each column of the code at which one of them begins.
@@ -60,7 +78,7 @@ function unlike(path, otherPath, code) {
   let [count, unlike] = [0, 0];
   fs.readFileSync(code, 'utf8').split('\n').forEach((text, line) => {
     for (let column = 0; column <= text.length; column++) {
-      const [kind, begins] = smap.lookUpMany(map, Uint32Array.of(line, column));
+      const [kind, begins] = smap.lookUpMany(map, Uint32Array.of(line + 1, column));
       if (kind !== 2 || begins !== column) continue;
       const [wanted, got] = [map, other].map((from) => smap.originalPositionFor(from, { line: line + 1, column }));
       count += 1;
@@ -74,6 +92,7 @@ const commands = {
   look: (path) => look(path),
   from: (path) => look(path, smap.LEAST_UPPER_BOUND),
   many,
+  mappings,
   refuse: (...paths) =>
     put(paths.map((path) => {
       try {
@@ -122,5 +141,6 @@ const commands = {
     process.stdout.write(smap.rewrite(table, fs.readFileSync(0), { anywhere: true }));
   },
   again,
+  unclosed,
 };
 commands[process.argv[2]](...process.argv.slice(3));

@@ -59,11 +59,16 @@ function places() {
 function many() {
   const map = new smap.TraceMap(small);
   const ask = (...numbers) => [...smap.lookUpMany(map, Uint32Array.of(...numbers))];
-  const found = [2, 10, 0, 1, 4, 1, 0];
+  const found = [2, 10, 0, 2, 4, 1, 0];
   const none = [0, 0, 0, 0, 0, 0, 0];
-  same(ask(0, 12, 3, 0, 0, far - 1, far - 1, 0), [...found, ...none, ...found, ...none]);
+  same(ask(1, 12, 4, 0, 1, far - 1, far - 1, 0, 3, 7), [...found, ...none, ...found, ...none, 1, 5, 0, 0, 0, 0, 0]);
   same(ask(), []);
-  same([...smap.lookUpMany(map, Uint32Array.of(9, 9, 0, 12).subarray(2))], found);
+  same([...smap.lookUpMany(map, Uint32Array.of(9, 9, 1, 12).subarray(2))], found);
+  const often = Array.from({ length: 2500 }, (_, i) => (i % 3 ? [1, 12] : [2, 0]));
+  same(ask(...often.flat()), often.flatMap(([line]) => (line === 1 ? found : none)));
+  for (const before of [0, 1, 600]) {
+    refuses('Error', () => ask(...often.slice(0, before).flat(), 0, 12), /`line` must be greater than 0/);
+  }
   const others = [[0, 12], Int32Array.of(0, 12), Float64Array.of(0, 12), Uint16Array.of(0, 12), Uint8Array.of(0, 12),
     new BigUint64Array(2), Buffer.alloc(8), new ArrayBuffer(8), new DataView(new ArrayBuffer(8)), '0 12', 7, null, undefined,
     { length: 2, 0: 0, 1: 12 }, Object.create(Uint32Array.prototype)];
@@ -101,7 +106,6 @@ function maps() {
   const buffer = new ArrayBuffer(8);
   const others = [7, true, null, undefined, 7n, Symbol('map'), () => small, buffer, new DataView(buffer), new Uint16Array(8)];
   for (const other of others) refuses('TypeError', () => new smap.TraceMap(other), /a map must be a text/);
-  refuses('TypeError', () => new smap.TraceMap(new smap.TraceMap(small)), /read already/);
   refuses('Refused', () => new smap.TraceMap('no JSON'), /^refused: M2 NotJson\n  the file is no JSON text/, { number: 2, url: undefined });
   refuses('Refused', () => new smap.TraceMap([]), /M3 NotObject/, { number: 3 });
 }
@@ -131,14 +135,14 @@ function reasons() {
 
 function bases() {
   for (const url of ['https://e.test/x/b.js', new URL('https://e.test/x/b.js')]) {
-    same(new smap.TraceMap(small, url).sources, ['https://e.test/x/a.js']);
+    same(new smap.TraceMap(small, url).resolvedSources, ['https://e.test/x/a.js']);
   }
-  for (const url of [undefined, null, '']) same(new smap.TraceMap(small, url).sources, ['a.js']);
-  same(new smap.TraceMap(small, `https://e.test/${'x'.repeat(100000)}/b.js`).sources[0].length, 100020);
-  for (const url of ['no URL', 'a.js', '/a.js']) {
+  for (const url of [undefined, null, '']) same(new smap.TraceMap(small, url).resolvedSources, ['a.js']);
+  same(new smap.TraceMap(small, `https://e.test/${'x'.repeat(100000)}/b.js`).resolvedSources[0].length, 100020);
+  for (const url of ['https://', 'https://[/a.js']) {
     refuses('Refused', () => new smap.TraceMap(small, url), `the base is no URL: "${url}"`, { number: 0 });
   }
-  refuses('Refused', () => new smap.TraceMap(small, 'x'.repeat(100000)), /the base is no URL: .* 99800 characters more$/);
+  refuses('Refused', () => new smap.TraceMap(small, `https://[${'x'.repeat(99991)}`), /the base is no URL: .* 99800 characters more$/);
   for (const url of [7, false, {}, [], Buffer.from('https://e.test/')]) {
     refuses('TypeError', () => new smap.TraceMap(small, url), /`mapUrl` must be a text/);
   }
@@ -146,6 +150,133 @@ function bases() {
   const long = refusedMap(Buffer.alloc(0), Float64Array.of(18, 0, 0, 0, 0, 0), 'https://e.test/');
   same([long.number, long.message], [18, 'the base is too long: "https://e.test/"']);
   same(refusedMap(Buffer.alloc(0), Float64Array.of(99, 0, 0, 0, 0, 0), '').message, 'refused: 99');
+}
+
+function paths() {
+  // The path of the map, its root, a source, and what that is called.
+  const rows = [
+    ['dist/a.js.map', undefined, '../src/a.ts', 'src/a.ts'],
+    ['a.js.map', 'src', './a.ts', 'src/a.ts'],
+    ['./dist/a.js.map', '', 'b.ts', './dist/b.ts'],
+    ['../dist/a.js.map', undefined, '../../b.ts', '../../b.ts'],
+    ['/srv/dist/a.js.map', null, '../../../b.ts', '/b.ts'],
+    ['no URL', undefined, 'x/../b.ts', 'b.ts'],
+    ['dist/a.js.map', undefined, 'https://e.test/x/../b.ts', 'https://e.test/b.ts'],
+    ['dist/a.js.map', 'https://e.test/s', 'b.ts', 'https://e.test/s/b.ts'],
+    ['dist/a.js.map', '/root', '../b.ts', '/b.ts'],
+    ['dist/a.js.map', undefined, '//e.test/../b.ts', '//e.test/../b.ts'],
+    ['dist/a.js.map', undefined, 'b.vue?x=../y#z/..', 'dist/b.vue?x=../y#z/..'],
+    ['dist/a.js.map', 'src', null, null],
+  ];
+  for (const [path, sourceRoot, source, name] of rows) {
+    const regular = { version: 3, sourceRoot, sources: ['c.ts', source], names: [], mappings: 'ACAA' };
+    const sections = { version: 3, sections: [{ offset: { line: 0, column: 0 }, map: regular }] };
+    for (const given of [regular, JSON.stringify(regular), `)]}'\n${JSON.stringify(regular)}`, Buffer.from(`\ufeff${JSON.stringify(sections)}`)]) {
+      const map = new smap.TraceMap(given, path);
+      same(map.resolvedSources[1], name);
+      same(smap.originalPositionFor(map, { line: 1, column: 0 }), { source: name, line: 1, column: 0, name: null });
+      same(JSON.parse(map.write()).sources[1], name);
+      same(map.sources[1], typeof given === 'object' && Buffer.isBuffer(given) ? name : source);
+      map.close();
+    }
+  }
+  refuses('Refused', () => new smap.TraceMap('no JSON', 'a.js'), /^refused: M2 NotJson\n/, { number: 2 });
+  refuses('Refused', () => new smap.TraceMap(small, 'a.js', 0), /M15 Build B1 Interval/);
+}
+
+// What trace-mapping has too, of maps that are worked out by hand.
+function members() {
+  const map = new smap.TraceMap({
+    version: 3, file: 'f.js', sourceRoot: 'src/', sources: ['./a.js', null, 'b.js'], sourcesContent: ['x', null], names: ['n'], ignoreList: [2, 0], mappings: 'AAAA,UACIA;CEAA;;K,;',
+  });
+  const members = () => [map.version, map.file, map.sourceRoot, map.sources, map.sourcesContent, map.names, map.ignoreList, map.resolvedSources];
+  same(members(), [3, 'f.js', 'src/', ['./a.js', null, 'b.js'], ['x', null], ['n'], [2, 0], ['src/./a.js', null, 'src/b.js']]);
+  same(members().every((value, i) => value === members()[i]), true);
+  const list = [
+    { generatedLine: 1, generatedColumn: 0, source: 'src/./a.js', originalLine: 1, originalColumn: 0, name: null },
+    { generatedLine: 1, generatedColumn: 10, source: 'src/./a.js', originalLine: 2, originalColumn: 4, name: 'n' },
+    { generatedLine: 2, generatedColumn: 1, source: 'src/b.js', originalLine: 2, originalColumn: 4, name: null },
+    { generatedLine: 4, generatedColumn: 5, source: null, originalLine: null, originalColumn: null, name: null },
+  ];
+  same([...map.mappings()], list);
+  const each = [];
+  smap.eachMapping(map, (mapping) => each.push(mapping));
+  same(each, list);
+  refuses('RangeError', () => smap.eachMapping(map, () => { throw new RangeError('stop'); }), 'stop');
+  const decoded = [[[0, 0, 0, 0], [10, 0, 1, 4, 0]], [[1, 2, 1, 4]], [], [[5]], []];
+  same(smap.decodedMappings(map), decoded);
+  same(smap.encodedMappings(map), 'AAAA,UACIA;CEAA;;K,;');
+  same([smap.traceSegment(map, 0, 9), smap.traceSegment(map, 0, Infinity), smap.traceSegment(map, 3, 5)], [[0, 0, 0, 0], [10, 0, 1, 4, 0], [5]]);
+  same([smap.traceSegment(map, 3, 4), smap.traceSegment(map, 4, 0), smap.traceSegment(map, 9, 0), smap.traceSegment(map, 0, -1)], [null, null, null, null]);
+  refuses('Error', () => smap.traceSegment(map, -1, 0), /`line` must be greater than or equal to 0/);
+  for (const bad of [0.5, NaN, '0', null, undefined]) {
+    refuses('TypeError', () => smap.traceSegment(map, bad, 0), /`line` must be a whole number/);
+    refuses('TypeError', () => smap.traceSegment(map, 0, bad), /`column` must be a whole number/);
+  }
+  same(['./a.js', 'src/./a.js', 'b.js', null, 'a.js'].map((source) => smap.sourceContentFor(map, source)), ['x', 'x', null, null, null]);
+  same(['./a.js', 'src/b.js', null, 'a.js'].map((source) => smap.isIgnored(map, source)), [true, true, false, false]);
+  const { version, file, sourceRoot, sources, sourcesContent, names, ignoreList } = map;
+  same(smap.decodedMap(map), { version, file, names, sourceRoot, sources, sourcesContent, mappings: decoded, ignoreList });
+  same(smap.encodedMap(map), { version, file, names, sourceRoot, sources, sourcesContent, mappings: 'AAAA,UACIA;CEAA;;K,;', ignoreList });
+  same(new smap.TraceMap(map, 7, 'x') === map && new smap.AnyMap(map) === map, true);
+  const bare = new smap.TraceMap('{"version":3,"sources":[],"x_google_ignoreList":[],"mappings":";"}');
+  same([bare.file, bare.sourceRoot, bare.sourcesContent, bare.names, bare.ignoreList], [undefined, undefined, undefined, [], []]);
+  same(smap.decodedMappings(bare), [[], []]);
+  same(new smap.TraceMap(small).ignoreList, undefined);
+  // An index map has what its sections have together.
+  const part = (source, mappings, more) => ({ version: 3, sourceRoot: 'r', sources: [source], names: ['m'], mappings, ...more });
+  const at = (line, column, map) => ({ offset: { line, column }, map });
+  const index = { version: 3, file: 'i.js', sections: [at(1, 2, part('p.js', 'AAAAA;;', { sourcesContent: ['y'] })), at(2, 0, part('q.js', [[[3, 0, 1, 2]], []], { ignoreList: [0] }))] };
+  const whole = smap.AnyMap(index);
+  same([whole.file, whole.sourceRoot, whole.sources, whole.sourcesContent, whole.names, whole.ignoreList], ['i.js', undefined, ['r/p.js', 'r/q.js'], ['y', null], ['m', 'm'], [1]]);
+  same([smap.decodedMappings(whole), smap.encodedMappings(whole)], [[[], [[2, 0, 0, 0, 0]], [[3, 1, 1, 2]], []], ';EAAAA;GCCE;']);
+  same([smap.decodedMappings(smap.AnyMap({ version: 3, sections: [] })), smap.AnyMap({ version: 3, sections: [] }).sources], [[], []]);
+  // Its lines would be more than there can be.
+  const far = smap.AnyMap({ version: 3, sections: [at(2147483647, 0, part('p.js', 'A'))] });
+  refuses('Refused', () => smap.decodedMappings(far), 'refused: O1 TextTooLong');
+  same([...far.mappings()].length, 1);
+  for (const bad of [7, null, small, {}]) {
+    for (const call of ['eachMapping', 'decodedMappings', 'encodedMappings', 'decodedMap', 'encodedMap', 'traceSegment', 'sourceContentFor', 'isIgnored']) {
+      refuses('TypeError', () => smap[call](bad, 0, 0), /TraceMap|undefined/);
+    }
+  }
+}
+
+function decodedMaps() {
+  const given = (mappings) => ({ version: 3, sources: ['a.js'], names: ['n'], mappings });
+  const lines = [[[0, 0, 0, 0], [10, 0, 1, 4, 0]], [], [[5]]];
+  for (const map of [given(lines), { toJSON: () => given(lines) }, { toJSON: () => JSON.parse(small) }]) {
+    const read = new smap.TraceMap(map);
+    same([smap.encodedMappings(read), smap.decodedMappings(read), read.sources], ['AAAA,UACIA;;K', lines, ['a.js']]);
+  }
+  same(smap.decodedMappings(new smap.TraceMap(given([]))), []);
+  const most = 2147483647;
+  const far = [[[0, 0, most, 0], [most, 0, 0, most]]];
+  same(smap.decodedMappings(new smap.TraceMap(given(far))), far);
+  same(smap.encodedMappings(new smap.TraceMap(given(far))), 'AA+/////DA,+/////DA//////D+/////D');
+  const bad = [[[0.5]], [[-1]], [[most + 1]], [['0']], [[NaN]], [[]], [[0, 0]], [[0, 0, 0]], [[0, 0, 0, 0, 0, 0]], [7], ['AAAA'], [null]].map((line) => [line]);
+  for (const mappings of [...bad, [7], ['AAAA'], [null]]) refuses('TypeError', () => new smap.TraceMap(given(mappings)), /^decoded `mappings` must be lines of segments/);
+  refuses('Refused', () => new smap.TraceMap(given([[[5], [3]]])), /F9 ColumnFalls/, { fault: 9 });
+  refuses('Refused', () => new smap.TraceMap(given([[[0, 1, 0, 0]]])), /F10 SourceIndex/, { fault: 10 });
+  refuses('Refused', () => new smap.TraceMap(JSON.stringify(given(lines))), /M13 Mappings/, { number: 13 });
+  for (const sections of [[null], [7], [[]], [{}], [{ map: null }]]) refuses('Refused', () => new smap.TraceMap({ version: 3, sections }), /M[56] Section/);
+  same(smap.originalPositionFor(new smap.TraceMap(small), { line: 1, column: 12 }), last);
+  const table = new smap.Table({ 'b.js': given(lines) });
+  same(String(smap.rewrite(table, 'f@b.js:1:11')), 'f@a.js:2:5');
+}
+
+// Bytes, worked out by hand: a mapping inside a pair of units begins after it, and line ends and what is before a line's first
+// mapping are nobody's.
+function bytes() {
+  const lines = [[[1, 0, 0, 0], [2, 1, 0, 0]], [[0, 1, 0, 0], [3, 0, 0, 0], [5]], [], [[90, 0, 0, 0]]];
+  const map = new smap.TraceMap({ version: 3, sources: ['a.js', 'b.js', 'c.js'], names: [], mappings: lines });
+  const text = 'abc\nx\u00e9\u{1f600}yz\n\nlast';
+  for (const given of [text, Buffer.from(text)]) same(map.bytesBySource(given), { sources: [2, 8, 0], unmapped: 9 });
+  same(map.bytesBySource(''), { sources: [0, 0, 0], unmapped: 0 });
+  same(new smap.TraceMap('{"version":3,"sources":[],"mappings":""}').bytesBySource('x'), { sources: [], unmapped: 1 });
+  refuses('Refused', () => map.bytesBySource(Buffer.of(97, 255)), 'refused: NotUtf8', { number: 1 });
+  refuses('Refused', () => map.bytesBySource(Buffer.alloc(67108865, 'x')), 'refused: TooLarge', { number: 2 });
+  for (const bad of [7, null, undefined, {}, [text]]) refuses('TypeError', () => map.bytesBySource(bad), /`generated` must be a text or a Uint8Array/);
 }
 
 function intervals() {
@@ -335,6 +466,18 @@ function anywhere() {
   same(smap.rewrite(new smap.Table({}, { load: () => small }), text, { anywhere: true }), wanted);
 }
 
+// No option is passed over.
+function options() {
+  const map = new smap.TraceMap(small);
+  const table = new smap.Table({ 'b.js': small });
+  const calls = [(given) => smap.composeAll(map, {}, given), (given) => new smap.Table({}, given), (given) => smap.rewrite(table, 'x', given), (given) => new smap.RewriteStream(table, given)];
+  for (const call of calls) {
+    for (const bad of [{ anyWhere: true }, { load: undefined, hideignored: false }, { '': 7 }]) refuses('TypeError', () => call(bad), /^`.*` is no option here: there are `/);
+    for (const bad of [7, null, 'anywhere', true]) refuses('TypeError', () => call(bad), /^the options must be an object, and not /);
+    for (const none of [undefined, {}, Object.create(null)]) call(none);
+  }
+}
+
 function closed() {
   const map = new smap.TraceMap(small);
   same(smap.sourceContentFor(map, 'no such source'), null);
@@ -343,7 +486,28 @@ function closed() {
   map.close();
   const calls = [() => map.counts, () => map.file, () => map.names, () => map.write(), () => smap.compose(map, 0, map),
     () => smap.lookUpMany(map, new Uint32Array(2)), () => smap.sourceContentFor(map, 'a.js'), () => smap.isIgnored(map, 'a.js')];
+  for (const member of ['version', 'names', 'sources', 'sourceRoot', 'sourcesContent', 'ignoreList', 'resolvedSources', 'sourceEntries']) calls.push(() => map[member]);
+  for (const call of ['eachMapping', 'decodedMappings', 'encodedMappings', 'encodedMap', 'traceSegment']) calls.push(() => smap[call](map, 0, 0));
+  calls.push(() => map.mappings(), () => map.bytesBySource(''), () => new smap.TraceMap(map));
   for (const call of calls) refuses('Error', call, 'the map is closed');
+  // What was begun goes on.
+  const other = new smap.TraceMap(small);
+  const begun = other.mappings();
+  begun.next();
+  other.close();
+  same([...begun].length, 2);
+  const dispose = Symbol.dispose || Symbol.for('nodejs.dispose');
+  const disposed = new smap.TraceMap(small);
+  disposed[dispose]();
+  refuses('Error', () => disposed.names, 'the map is closed');
+  for (const end of ['close', dispose]) {
+    const table = new smap.Table({ 'b.js': small }, { load: () => small });
+    same(String(smap.rewrite(table, 'f@b.js:1:11')), 'f@a.js:2:5');
+    table[end]();
+    table.close();
+    refuses('Error', () => smap.rewrite(table, 'f@c.js:1:11'), 'the table is closed');
+    same(table.counts, { lines: 1, frames: 1, mapped: 1, hidden: 0 });
+  }
 }
 
 places();
@@ -352,11 +516,16 @@ beneath();
 maps();
 reasons();
 bases();
+paths();
+members();
+decodedMaps();
+bytes();
 intervals();
 compositions(process.argv[2]);
 composingAll();
 tables();
 loading();
 anywhere();
+options();
 closed();
 console.log('mistakes', told);

@@ -1,0 +1,125 @@
+'use strict';
+// The calls of @jridgewell/trace-mapping, and look-ups of many positions at once.
+const addon = require('./smap.node');
+const given = require('./given.js');
+const { lines } = require('./json.js');
+const { TraceMap, json, once, open } = require('./map.js');
+const { NUMBERS, decoded, mappingAt } = require('./mappings.js');
+const { encode } = require('./vlq.js');
+
+const GREATEST_LOWER_BOUND = 1;
+const LEAST_UPPER_BOUND = -1;
+
+// What a look-up is asked and answers: the line, the column, whether in the other direction, and from the fourth on the seven
+// numbers of an answer.
+const { room } = addon;
+
+// Where the generated position comes from: {source, line, column, name}, all null where nothing answers or what answers
+// has no original. A column past the line's end, and Infinity, has the line's last mapping.
+function originalPositionFor(map, { line, column, bias }) {
+  const lookUp = open(map);
+  room[0] = given.line(line);
+  room[1] = given.column(column);
+  room[2] = bias === LEAST_UPPER_BOUND ? 1 : 0;
+  lookUp();
+  if (room[3] !== 2) return { source: null, line: null, column: null, name: null };
+  return {
+    source: map.sourceAt(room[5]),
+    line: room[6] + 1,
+    column: room[7],
+    name: room[8] ? map.nameAt(room[9]) : null,
+  };
+}
+
+// The segment that answers at a line and a column, both from 0, as in decoded mappings, or null.
+function traceSegment(map, line, column) {
+  const lookUp = open(map);
+  room[0] = given.lineFromZero(line);
+  if (typeof column === 'number' && column < 0) return null;
+  room[1] = given.column(column);
+  room[2] = 0;
+  lookUp();
+  if (room[3] === 0) return null;
+  if (room[3] === 1) return [room[4]];
+  return room[8] ? [room[4], room[5], room[6], room[7], room[9]] : [room[4], room[5], room[6], room[7]];
+}
+
+// Looks many positions up. `positions` is a Uint32Array of a line, from 1, and a column, from 0, each; the answers are seven
+// numbers each: the kind (0 nothing, 1 without an original, 2 with one), the generated column, source, line from 1 and column
+// from 0, whether there is a name (1 or 0), and the name. What there is not is 0.
+function lookUpMany(map, positions) {
+  const handle = open(map);
+  const asked = given.positions(positions);
+  return addon.lookUpMany(handle, asked, new Uint32Array((asked.length / 2) * 7));
+}
+
+// Calls the function with each mapping.
+function eachMapping(map, call) {
+  const numbers = addon.mappings(open(map));
+  const { resolvedSources, names } = map;
+  for (let at = 0; at < numbers.length; at += NUMBERS) call(mappingAt(numbers, at, resolvedSources, names));
+}
+
+// The mappings as lines of segments.
+function decodedMappings(map) {
+  return once(map, 'decoded', (handle) => decoded(addon.mappings(handle), lines(json(map))));
+}
+
+// The mappings as a text: that of the map, where it has one.
+function encodedMappings(map) {
+  return once(map, 'encoded', () => {
+    const { mappings, sections } = json(map);
+    return typeof mappings === 'string' && !sections ? mappings : encode(decodedMappings(map));
+  });
+}
+
+// The map as an object, with these mappings.
+function withMappings(map, mappings) {
+  const { version, file, names, sourceRoot, sources, sourcesContent, ignoreList } = map;
+  return { version, file, names, sourceRoot, sources, sourcesContent, mappings, ignoreList };
+}
+
+const decodedMap = (map) => withMappings(map, decodedMappings(map));
+const encodedMap = (map) => withMappings(map, encodedMappings(map));
+
+// A map or an index map: both are read alike.
+function AnyMap(map, mapUrl) {
+  return new TraceMap(map, mapUrl);
+}
+
+// The number of the first source that the map calls so, or else the first of this name, or -1.
+function sourceNumber(map, source) {
+  const index = map.sources.indexOf(source);
+  return index < 0 ? map.resolvedSources.indexOf(source) : index;
+}
+
+// The content of this source, where the map has both.
+function sourceContentFor(map, source) {
+  const handle = open(map);
+  const index = sourceNumber(map, source);
+  return index < 0 ? null : addon.sourceContent(handle, index);
+}
+
+// Whether the map says that a debugger should pass over this source.
+function isIgnored(map, source) {
+  const handle = open(map);
+  const index = sourceNumber(map, source);
+  return index >= 0 && addon.isIgnored(handle, index);
+}
+
+module.exports = {
+  AnyMap,
+  GREATEST_LOWER_BOUND,
+  LEAST_UPPER_BOUND,
+  decodedMap,
+  decodedMappings,
+  eachMapping,
+  encodedMap,
+  encodedMappings,
+  isIgnored,
+  lookUpMany,
+  originalPositionFor,
+  presortedDecodedMap: AnyMap,
+  sourceContentFor,
+  traceSegment,
+};

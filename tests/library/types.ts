@@ -1,0 +1,52 @@
+// What tests/try-library gives to tsc --strict: the types of the library in node, as a script uses them.
+import {
+  AnyMap, EachMapping, EncodedSourceMap, GREATEST_LOWER_BOUND, LEAST_UPPER_BOUND, Refused, RewriteStream, SourceMapSegment, Table, TraceMap, compose,
+  composeAll, decodedMap, decodedMappings, eachMapping, encodedMap, encodedMappings, isIgnored, lookUpMany, originalPositionFor, presortedDecodedMap,
+  rewrite, sourceContentFor, traceSegment,
+} from 'smap';
+
+const object = { version: 3, sources: ['a.js', null], names: [], mappings: [[[0, 0, 0, 0]]] };
+const map: TraceMap = new TraceMap(object, 'dist/a.js.map');
+const others: TraceMap[] = [new TraceMap('{}', new URL('https://e.test/'), 64), AnyMap(new Uint8Array(2)), presortedDecodedMap(object, null), new TraceMap(map)];
+
+const found = originalPositionFor(map, { line: 1, column: 0, bias: LEAST_UPPER_BOUND });
+const line: number = found.line === null ? GREATEST_LOWER_BOUND : found.line;
+const segment: SourceMapSegment | null = traceSegment(map, 0, 0);
+const column: number = segment === null ? 0 : segment[0];
+const original: number | null = segment !== null && segment.length === 5 ? segment[4] : null;
+const answers: Uint32Array = lookUpMany(map, Uint32Array.of(line, column));
+
+const columns: number[] = [];
+eachMapping(map, (mapping: EachMapping) => columns.push(mapping.generatedColumn));
+for (const { source, originalLine } of map.mappings()) if (source !== null && originalLine !== null) columns.push(originalLine);
+const lines: SourceMapSegment[][] = decodedMappings(map);
+const text: string = encodedMappings(map);
+const written: EncodedSourceMap = encodedMap(map);
+const list: number[] = decodedMap(map).ignoreList || [];
+const names: (string | null)[] = [...map.sources, ...map.resolvedSources, ...map.names, map.sourceRoot || null, ...(map.sourcesContent || [])];
+const content: string | null = sourceContentFor(map, 'a.js');
+const ignored: boolean = isIgnored(map, 'a.js');
+const { sources, unmapped } = map.bytesBySource('x');
+const total: number = sources.reduce((sum, bytes) => sum + bytes, unmapped) + map.counts.segments;
+
+const made: Uint8Array[] = [compose(map, 0, others[0]), composeAll(map, { 'a.js': others[1] }, { load: (source) => source, prune: true }), map.write()];
+const table = new Table({ 'https://e.test/a.js': map }, { load: (url) => (url === '' ? null : '{}') });
+made.push(rewrite(table, 'f@a.js:1:1', { hideIgnored: true }));
+const stream: RewriteStream = new RewriteStream(table, { anywhere: true });
+const places: number = 'places' in stream.counts ? stream.counts.places : stream.counts.frames;
+stream.end('x');
+table[Symbol.dispose]();
+map.close();
+export const all = [line, original, answers, columns, lines, text, written, list, names, content, ignored, total, made, places, new Refused('x').number];
+
+// What no call takes.
+// @ts-expect-error
+new TraceMap(7);
+// @ts-expect-error
+rewrite(table, 'x', { anyWhere: true });
+// @ts-expect-error
+new RewriteStream(table, { highWaterMark: 1 });
+// @ts-expect-error
+composeAll(map, {}, { pruned: true });
+// @ts-expect-error
+lookUpMany(map, [1, 2]);
