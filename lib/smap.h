@@ -79,6 +79,9 @@ typedef struct smap_found {
     uint32_t name;
 } smap_found;
 
+/* A mapping: where it stands in the generated file, and what it answers, as smap_found has it. */
+typedef struct smap_mapping { uint32_t line, column, kind, source, original_line, original_column, named, name; } smap_mapping;
+
 typedef struct smap_position { uint32_t line, column; } smap_position;
 
 /* How much a map holds. `lines` are the generated lines that hold a mapping, each section's by themselves. */
@@ -134,6 +137,14 @@ uint32_t smap_look_up_from(smap_map *map, uint32_t line, uint32_t column, smap_f
 /* Looks `count` positions up as smap_look_up does. `places` is the length of `found`, which is `count` too. Returns 0. */
 uint32_t smap_look_up_many(smap_map *map, const smap_position *positions, size_t count, smap_found *found, size_t places);
 
+/* Hands out all mappings of the map in their order: `bytes` has smap_mapping after smap_mapping, 32 bytes each. */
+uint32_t smap_map_mappings(smap_map *map, smap_bytes *bytes);
+
+/* Says how many bytes of the generated file each source makes: `places` numbers at `sources`, which is the map's number of
+ * sources, and `unmapped`. Returns 1 where the text is not UTF-8 (`refusal` 1) or has more than 67,108,864 bytes (`refusal` 2). */
+uint32_t smap_bytes_by_source(smap_map *map, const uint8_t *generated, size_t length, uint64_t *sources, size_t places,
+                              uint64_t *unmapped, uint32_t *refusal);
+
 /* Tells how much the map holds. Returns 0. */
 uint32_t smap_counts(smap_map *map, smap_count *counts);
 
@@ -183,6 +194,9 @@ uint32_t smap_bytes_text(smap_bytes *bytes, smap_text *text);
 
 /* Frees bytes that were handed out, and leaves their handle empty. */
 void smap_bytes_free(smap_bytes *bytes);
+
+/* Lends the version, as "0.1.0". Returns 0. */
+uint32_t smap_version(smap_text *version);
 
 /* Makes a table without maps. */
 uint32_t smap_table_new(smap_table *table);
