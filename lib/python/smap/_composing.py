@@ -30,7 +30,8 @@ def compose_all(outer: SourceMap, inners: Optional[Mapping[Union[str, int], Give
     if load is not None and not callable(load):
         raise TypeError(f"load is a function, not {type(load).__name__}")
     with ExitStack() as stack:
-        return _Composing(outer, load, stack).text(_by_number(outer, inners or {}), bool(prune), bool(no_content))
+        text = _Composing(outer, load, stack).text(_by_number(outer, inners or {}), bool(prune), bool(no_content))
+    return text
 
 
 def _by_number(outer: SourceMap, inners: Mapping[Union[str, int], Given]) -> Dict[int, Given]:

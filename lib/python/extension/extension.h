@@ -1,0 +1,85 @@
+/* The library libsmap inside Python, for the limited API of Python 3.8: one file serves it and all later versions. The
+ * modules in smap/ are what people call.
+ *
+ * Each handle has a lock, and a call waits for the one before it. A call that may take long lets other threads go on. It does
+ * not where it reads bytes that they could change meanwhile. */
+#ifndef EXTENSION_H
+#define EXTENSION_H
+
+#define PY_SSIZE_T_CLEAN
+#define Py_LIMITED_API 0x03080000
+#include <Python.h>
+#include <pythread.h>
+#include <smap.h>
+
+/* The classes of _answers.py. Their tuples are made here, since the way through Python takes longer than a look-up. */
+extern PyTypeObject *answer_class, *counts_class, *mapping_class, *reason_class, *refusal_class, *source_class;
+
+/* The types of the extension, and what they are made of. */
+extern PyTypeObject *map_type, *table_type, *mappings_type;
+extern PyType_Spec map_spec, table_spec, mappings_spec;
+
+/* given.c: what is given is checked, and what is handed back is made. */
+
+/* Bytes that are given, as `bytes` or as a memoryview, which holds them where they are. They are steady where no other thread
+ * of Python can change them. */
+struct given { const uint8_t *bytes; size_t length; bool steady; };
+bool bytes_of(PyObject *value, struct given *given);
+
+/* Where a buffer is written to. Nothing else can have it. */
+void *room_of(PyObject *value, size_t *length);
+
+/* A line or a column. Past the greatest number there is as much as at it: nothing. */
+bool place_of(PyObject *value, const char *what, uint32_t *place);
+
+/* The number of a source or a name. One that none can have is the greatest, which none has. */
+bool index_of(PyObject *value, const char *what, uint32_t *index);
+
+PyObject *none(void);
+PyObject *number_if(bool is, uint32_t number);
+PyObject *text_if(bool is, smap_text text);
+
+/* A tuple of a class, with items that it takes over. Where one of them is NULL, which is an error, so is the tuple. */
+PyObject *tuple_of(PyTypeObject *class, Py_ssize_t count, PyObject **items);
+
+/* Bytes that were handed out, which are freed. */
+PyObject *taken(smap_bytes *bytes);
+
+/* What a call gives that hands bytes out: the bytes, or the number of a refusal. */
+PyObject *taken_or_refused(uint32_t status, smap_bytes *bytes, uint32_t refusal);
+
+/* held.c: a map or a table with its lock. */
+struct held {
+    PyObject_HEAD
+    PyThread_type_lock lock;
+    bool full;
+    union { smap_map map; smap_table table; };
+};
+
+/* Waits for the call before this one. `leave` ends it. */
+bool lock(struct held *held);
+void leave(struct held *held);
+
+/* Begins a call with a map or a table, which has to be open. */
+bool enter_map(struct held *held);
+bool enter_table(struct held *held);
+
+/* Lets other threads go on, if what is read is steady, until `come_back` with what this gives. */
+PyThreadState *let_go(bool steady);
+void come_back(PyThreadState *state);
+
+PyObject *held_new(PyTypeObject *type, PyObject *words, PyObject *named);
+void held_free(PyObject *self);
+
+/* The functions of the module, and a method of the map that mappings.c has. */
+PyObject *map_mappings(PyObject *self, PyObject *unused);
+PyObject *frame_urls(PyObject *module, PyObject *data);
+PyObject *compose(PyObject *module, PyObject *words);
+PyObject *compose_all(PyObject *module, PyObject *words);
+PyObject *refusal_of(const smap_refusal *refusal);
+PyObject *refusal_text(PyObject *module, PyObject *words);
+PyObject *explained(PyObject *module, PyObject *words);
+PyObject *compose_refusal_text(PyObject *module, PyObject *value);
+PyObject *table_refusal_text(PyObject *module, PyObject *value);
+
+#endif
