@@ -1,8 +1,8 @@
 /* The library libsmap inside Python, for the limited API of Python 3.8: one file serves it and all later versions. The
  * modules in smap/ are what people call.
  *
- * Each handle has a lock, and a call waits for the one before it. A call that may take long lets other threads go on. It does
- * not where it reads bytes that they could change meanwhile. */
+ * A call that may take long lets other threads of Python go on. It does not where it reads bytes that they could change
+ * meanwhile. A call with a handle that such a call is at work with waits for it. */
 #ifndef EXTENSION_H
 #define EXTENSION_H
 
@@ -48,21 +48,24 @@ PyObject *taken(smap_bytes *bytes);
 /* What a call gives that hands bytes out: the bytes, or the number of a refusal. */
 PyObject *taken_or_refused(uint32_t status, smap_bytes *bytes, uint32_t refusal);
 
-/* held.c: a map or a table with its lock. */
+/* held.c: a map or a table, used by one call at a time. It is full where it is open. A call that lets other threads go on is at
+ * work with it while it is busy, and has its lock. A short call needs none, since it is alone until it returns. */
 struct held {
     PyObject_HEAD
     PyThread_type_lock lock;
-    bool full;
+    bool busy, full;
     union { smap_map map; smap_table table; };
 };
 
-/* Waits for the call before this one. `leave` ends it. */
-bool lock(struct held *held);
-void leave(struct held *held);
+/* Waits until no call is at work with it. Returns false where a signal raised an error. */
+bool idle(struct held *held);
 
-/* Begins a call with a map or a table, which has to be open. */
-bool enter_map(struct held *held);
-bool enter_table(struct held *held);
+/* The same for several, which have to be open. So they are all until this thread lets others go on. */
+bool ready(struct held *const *held, size_t count);
+
+/* Begins and ends a call that may let other threads go on, with what is idle. */
+void begin(struct held *held);
+void end(struct held *held);
 
 /* Lets other threads go on, if what is read is steady, until `come_back` with what this gives. */
 PyThreadState *let_go(bool steady);

@@ -1,44 +1,5 @@
-/* A map or a table with its lock. */
+/* A map or a table, used by one call at a time. */
 #include "extension.h"
-
-PyThreadState *let_go(bool steady) { return steady ? PyEval_SaveThread() : NULL; }
-
-void come_back(PyThreadState *state) {
-    if (state) PyEval_RestoreThread(state);
-}
-
-bool lock(struct held *held) {
-    if (PyThread_acquire_lock(held->lock, NOWAIT_LOCK)) return true;
-    for (;;) {
-        PyLockStatus status;
-        Py_BEGIN_ALLOW_THREADS
-        status = PyThread_acquire_lock_timed(held->lock, -1, 1);
-        Py_END_ALLOW_THREADS
-        if (status == PY_LOCK_ACQUIRED) return true;
-        if (PyErr_CheckSignals() < 0) return false;
-    }
-}
-
-void leave(struct held *held) { PyThread_release_lock(held->lock); }
-
-static bool refuse_closed(bool is_map) {
-    PyErr_SetString(PyExc_ValueError, is_map ? "the map is closed" : "the rewriter is closed");
-    return false;
-}
-
-bool enter_map(struct held *held) {
-    if (!lock(held)) return false;
-    if (held->full) return true;
-    leave(held);
-    return refuse_closed(true);
-}
-
-bool enter_table(struct held *held) {
-    if (!lock(held)) return false;
-    if (held->full) return true;
-    leave(held);
-    return refuse_closed(false);
-}
 
 PyObject *held_new(PyTypeObject *type, PyObject *words, PyObject *named) {
     (void)words, (void)named;
@@ -56,4 +17,49 @@ void held_free(PyObject *self) {
     if (held->lock) PyThread_free_lock(held->lock);
     ((freefunc)PyType_GetSlot(type, Py_tp_free))(self);
     Py_DECREF(type);
+}
+
+bool idle(struct held *held) {
+    while (held->busy) {
+        PyLockStatus status;
+        Py_BEGIN_ALLOW_THREADS
+        status = PyThread_acquire_lock_timed(held->lock, -1, 1);
+        if (status == PY_LOCK_ACQUIRED) PyThread_release_lock(held->lock);
+        Py_END_ALLOW_THREADS
+        if (status != PY_LOCK_ACQUIRED && PyErr_CheckSignals() < 0) return false;
+    }
+    return true;
+}
+
+bool ready(struct held *const *held, size_t count) {
+    size_t i = 0;
+    while (i < count) {
+        if (held[i]->busy) {
+            if (!idle(held[i])) return false;
+            i = 0;
+        } else if (held[i]->full) {
+            i++;
+        } else {
+            bool is_table = PyObject_TypeCheck((PyObject *)held[i], table_type);
+            PyErr_SetString(PyExc_ValueError, is_table ? "the rewriter is closed" : "the map is closed");
+            return false;
+        }
+    }
+    return true;
+}
+
+void begin(struct held *held) {
+    held->busy = true;
+    PyThread_acquire_lock(held->lock, WAIT_LOCK);
+}
+
+void end(struct held *held) {
+    held->busy = false;
+    PyThread_release_lock(held->lock);
+}
+
+PyThreadState *let_go(bool steady) { return steady ? PyEval_SaveThread() : NULL; }
+
+void come_back(PyThreadState *state) {
+    if (state) PyEval_RestoreThread(state);
 }

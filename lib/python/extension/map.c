@@ -12,12 +12,14 @@ static void map_free(PyObject *self) {
 static PyObject *map_close(PyObject *self, PyObject *unused) {
     (void)unused;
     struct held *held = (struct held *)self;
-    if (!lock(held)) return NULL;
-    PyThreadState *state = let_go(held->full);
-    if (held->full) smap_map_free(&held->map);
+    if (!idle(held)) return NULL;
+    if (!held->full) return none();
     held->full = false;
+    begin(held);
+    PyThreadState *state = let_go(true);
+    smap_map_free(&held->map);
     come_back(state);
-    leave(held);
+    end(held);
     return none();
 }
 
@@ -29,18 +31,15 @@ static PyObject *map_read(PyObject *self, PyObject *words) {
     unsigned int interval;
     struct given given;
     if (!PyArg_ParseTuple(words, "Oy#I", &data, &base, &base_length, &interval) || !bytes_of(data, &given)) return NULL;
-    if (!lock(held)) return NULL;
-    if (held->full) {
-        leave(held);
-        PyErr_SetString(PyExc_ValueError, "the map is read already");
-        return NULL;
-    }
+    if (!idle(held)) return NULL;
+    if (held->full) return PyErr_Format(PyExc_ValueError, "the map is read already");
     smap_refusal refusal = {0};
+    begin(held);
     PyThreadState *state = let_go(given.steady);
     uint32_t status = smap_map_read(given.bytes, given.length, (const uint8_t *)base, (size_t)base_length, interval, &held->map, &refusal);
     come_back(state);
     held->full = status == SMAP_DONE;
-    leave(held);
+    end(held);
     if (status == SMAP_REFUSED) return refusal_of(&refusal);
     return status == SMAP_DONE ? none() : PyErr_NoMemory();
 }
@@ -58,10 +57,9 @@ static PyObject *looked_up(PyObject *self, PyObject *words, PyObject *named, loo
     } else if (!PyArg_ParseTupleAndKeywords(words, named, "OO:look_up", names, &given_line, &given_column)) {
         return NULL;
     }
-    if (!place_of(given_line, "line", &line) || !place_of(given_column, "column", &column) || !enter_map(held)) return NULL;
+    if (!place_of(given_line, "line", &line) || !place_of(given_column, "column", &column) || !ready(&held, 1)) return NULL;
     smap_found found = {0};
     call(&held->map, line, column, &found);
-    leave(held);
     if (found.kind == 0) return none();
     bool is = found.kind == 2;
     PyObject *items[] = {
@@ -95,25 +93,25 @@ static PyObject *map_look_up_many(PyObject *self, PyObject *words) {
         if (!copy) return PyErr_NoMemory();
         given.bytes = memcpy(copy, given.bytes, given.length);
     }
-    if (!enter_map(held)) {
+    if (!ready(&held, 1)) {
         free(copy);
         return NULL;
     }
+    begin(held);
     PyThreadState *state = let_go(true);
     smap_look_up_many(&held->map, (const smap_position *)(const void *)given.bytes, count, found, count);
     free(copy);
     come_back(state);
-    leave(held);
+    end(held);
     return none();
 }
 
 static PyObject *map_counts(PyObject *self, void *unused) {
     (void)unused;
     struct held *held = (struct held *)self;
-    if (!enter_map(held)) return NULL;
+    if (!ready(&held, 1)) return NULL;
     smap_count count = {0};
     smap_counts(&held->map, &count);
-    leave(held);
     PyObject *items[] = {
         PyLong_FromUnsignedLongLong(count.sections), PyLong_FromUnsignedLongLong(count.sources),
         PyLong_FromUnsignedLongLong(count.names), PyLong_FromUnsignedLongLong(count.segments),
@@ -129,84 +127,78 @@ static PyObject *map_source(PyObject *self, PyObject *words, PyObject *named) {
     PyObject *value;
     uint32_t index;
     if (!PyArg_ParseTupleAndKeywords(words, named, "O:source", names, &value) || !index_of(value, "a source", &index)) return NULL;
-    if (!enter_map(held)) return NULL;
+    if (!ready(&held, 1)) return NULL;
     smap_source_text source = SMAP_SOURCE;
     PyObject *items[3] = {NULL};
-    uint32_t status = smap_source(&held->map, index, &source);
-    if (status == SMAP_DONE) {
+    if (smap_source(&held->map, index, &source) == SMAP_DONE) {
         items[0] = text_if(source.named, source.name);
-        items[1] = text_if(source.held, source.content);
+        items[1] = items[0] ? text_if(source.held, source.content) : NULL;
         items[2] = PyBool_FromLong(source.ignored);
+        return tuple_of(source_class, 3, items);
     }
-    leave(held);
-    if (status == SMAP_DONE) return tuple_of(source_class, 3, items);
     return PyErr_Format(PyExc_IndexError, "no source %S", value);
 }
 
 static PyObject *map_source_name(PyObject *self, PyObject *value) {
     struct held *held = (struct held *)self;
     uint32_t index;
-    if (!index_of(value, "a source", &index) || !enter_map(held)) return NULL;
+    if (!index_of(value, "a source", &index) || !ready(&held, 1)) return NULL;
     smap_source_text source = SMAP_SOURCE;
     smap_source(&held->map, index, &source);
-    PyObject *name = text_if(source.named, source.name);
-    leave(held);
-    return name;
+    return text_if(source.named, source.name);
 }
 
 static PyObject *map_name(PyObject *self, PyObject *words, PyObject *named) {
     static char *names[] = {"index", NULL};
     struct held *held = (struct held *)self;
-    PyObject *value, *name = NULL;
+    PyObject *value;
     uint32_t index;
     if (!PyArg_ParseTupleAndKeywords(words, named, "O:name", names, &value)) return NULL;
     if (value == Py_None) return none();
-    if (!index_of(value, "a name", &index) || !enter_map(held)) return NULL;
+    if (!index_of(value, "a name", &index) || !ready(&held, 1)) return NULL;
     smap_text text = SMAP_TEXT;
-    uint32_t status = smap_name(&held->map, index, &text);
-    if (status == SMAP_DONE) name = text_if(true, text);
-    leave(held);
-    return status == SMAP_DONE ? name : PyErr_Format(PyExc_IndexError, "no name %S", value);
+    if (smap_name(&held->map, index, &text) == SMAP_DONE) return text_if(true, text);
+    return PyErr_Format(PyExc_IndexError, "no name %S", value);
 }
 
 static PyObject *map_file(PyObject *self, void *unused) {
     (void)unused;
     struct held *held = (struct held *)self;
-    if (!enter_map(held)) return NULL;
+    if (!ready(&held, 1)) return NULL;
     smap_text text = SMAP_TEXT;
     bool is = smap_file(&held->map, &text) == SMAP_DONE;
-    PyObject *file = text_if(is, text);
-    leave(held);
-    return file;
+    return text_if(is, text);
 }
 
 static PyObject *map_written(PyObject *self, PyObject *unused) {
     (void)unused;
     struct held *held = (struct held *)self;
-    if (!enter_map(held)) return NULL;
+    if (!ready(&held, 1)) return NULL;
     smap_bytes bytes = {0};
+    begin(held);
     PyThreadState *state = let_go(true);
     uint32_t status = smap_map_write(&held->map, &bytes);
     come_back(state);
-    leave(held);
+    end(held);
     return status == SMAP_REFUSED ? none() : taken_or_refused(status, &bytes, 0);
 }
 
 static PyObject *map_bytes_by_source(PyObject *self, PyObject *data) {
     struct held *held = (struct held *)self;
     struct given given;
-    if (!bytes_of(data, &given) || !enter_map(held)) return NULL;
+    if (!bytes_of(data, &given) || !ready(&held, 1)) return NULL;
     smap_count count = {0};
     smap_counts(&held->map, &count);
     size_t places = (size_t)count.sources;
     uint64_t *sources = calloc(places + 1, sizeof *sources), unmapped = 0;
     uint32_t refusal = 0, status = SMAP_NO_MEMORY;
+    begin(held);
     if (sources) {
         PyThreadState *state = let_go(given.steady);
         status = smap_bytes_by_source(&held->map, given.bytes, given.length, sources, places, &unmapped, &refusal);
         come_back(state);
     }
-    leave(held);
+    end(held);
     PyObject *list = status == SMAP_DONE ? PyList_New((Py_ssize_t)places) : NULL;
     for (size_t i = 0; list && i < places; i++) {
         PyObject *number = PyLong_FromUnsignedLongLong(sources[i]);

@@ -15,15 +15,15 @@ PyObject *map_mappings(PyObject *self, PyObject *unused) {
     (void)unused;
     struct held *held = (struct held *)self;
     struct mappings *mappings = (struct mappings *)PyType_GenericAlloc(mappings_type, 0);
-    if (!mappings) return NULL;
-    if (!enter_map(held)) {
-        Py_DECREF(mappings);
+    if (!mappings || !ready(&held, 1)) {
+        Py_XDECREF(mappings);
         return NULL;
     }
+    begin(held);
     PyThreadState *state = let_go(true);
     mappings->full = smap_map_mappings(&held->map, &mappings->bytes) == SMAP_DONE;
     come_back(state);
-    leave(held);
+    end(held);
     if (!mappings->full) {
         Py_DECREF(mappings);
         return PyErr_NoMemory();

@@ -19,12 +19,14 @@ static void table_free(PyObject *self) {
 static PyObject *table_close(PyObject *self, PyObject *unused) {
     (void)unused;
     struct held *held = (struct held *)self;
-    if (!lock(held)) return NULL;
-    PyThreadState *state = let_go(held->full);
-    if (held->full) smap_table_free(&held->table);
+    if (!idle(held)) return NULL;
+    if (!held->full) return none();
     held->full = false;
+    begin(held);
+    PyThreadState *state = let_go(true);
+    smap_table_free(&held->table);
     come_back(state);
-    leave(held);
+    end(held);
     return none();
 }
 
@@ -36,16 +38,10 @@ static PyObject *table_put(PyObject *self, PyObject *words) {
     PyObject *value;
     if (!PyArg_ParseTuple(words, "y#O!", &url, &length, map_type, &value)) return NULL;
     map = (struct held *)value;
-    if (!enter_table(table)) return NULL;
-    if (!enter_map(map)) {
-        leave(table);
-        return NULL;
-    }
+    if (!ready((struct held *[]){table, map}, 2)) return NULL;
     uint32_t refusal = 0;
     uint32_t status = smap_table_add(&table->table, (const uint8_t *)url, (size_t)length, &map->map, &refusal);
     map->full = status == SMAP_REFUSED;
-    leave(map);
-    leave(table);
     if (status == SMAP_REFUSED) return PyLong_FromUnsignedLong(refusal);
     return status == SMAP_DONE ? none() : PyErr_NoMemory();
 }
@@ -64,14 +60,15 @@ static PyObject *table_rewrite(PyObject *self, PyObject *words) {
     int hide_ignored, anywhere;
     struct given given;
     if (!PyArg_ParseTuple(words, "Opp", &data, &hide_ignored, &anywhere) || !bytes_of(data, &given)) return NULL;
-    if (!enter_table(held)) return NULL;
+    if (!ready(&held, 1)) return NULL;
     smap_bytes bytes = {0};
     smap_trace_count count = {0};
+    begin(held);
     PyThreadState *state = let_go(given.steady);
     uint32_t status = anywhere ? smap_rewrite_anywhere(&held->table, given.bytes, given.length, &bytes, &count)
                                : smap_rewrite(&held->table, given.bytes, given.length, hide_ignored, &bytes, &count);
     come_back(state);
-    leave(held);
+    end(held);
     return rewritten(status, &bytes, &count);
 }
 
