@@ -6,7 +6,6 @@
 #ifndef EXTENSION_H
 #define EXTENSION_H
 
-#define PY_SSIZE_T_CLEAN
 #define Py_LIMITED_API 0x03080000
 #include <Python.h>
 #include <pythread.h>

@@ -2,7 +2,8 @@
 #include "extension.h"
 
 /* The stable ABI has these two calls for good, and the headers of 3.13 have them no more. They give a pointer alone: what holds
- * the bytes is a memoryview, since the limited API of 3.8 has no other way to a buffer. */
+ * the bytes is a memoryview, since the limited API of 3.8 has no other way to a buffer. (Formats with # are no way: with the
+ * headers of 3.13 they mean something else before 3.13.) */
 #pragma GCC diagnostic ignored "-Wdeprecated-declarations"
 PyAPI_FUNC(int) PyObject_AsReadBuffer(PyObject *, const void **, Py_ssize_t *);
 PyAPI_FUNC(int) PyObject_AsWriteBuffer(PyObject *, void **, Py_ssize_t *);

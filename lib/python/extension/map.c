@@ -25,18 +25,16 @@ static PyObject *map_close(PyObject *self, PyObject *unused) {
 
 static PyObject *map_read(PyObject *self, PyObject *words) {
     struct held *held = (struct held *)self;
-    PyObject *data;
-    const char *base;
-    Py_ssize_t base_length;
+    PyObject *data, *base_data;
     unsigned int interval;
-    struct given given;
-    if (!PyArg_ParseTuple(words, "Oy#I", &data, &base, &base_length, &interval) || !bytes_of(data, &given)) return NULL;
-    if (!idle(held)) return NULL;
+    struct given given, base;
+    if (!PyArg_ParseTuple(words, "OOI", &data, &base_data, &interval)) return NULL;
+    if (!bytes_of(data, &given) || !bytes_of(base_data, &base) || !idle(held)) return NULL;
     if (held->full) return PyErr_Format(PyExc_ValueError, "the map is read already");
     smap_refusal refusal = {0};
     begin(held);
     PyThreadState *state = let_go(given.steady);
-    uint32_t status = smap_map_read(given.bytes, given.length, (const uint8_t *)base, (size_t)base_length, interval, &held->map, &refusal);
+    uint32_t status = smap_map_read(given.bytes, given.length, base.bytes, base.length, interval, &held->map, &refusal);
     come_back(state);
     held->full = status == SMAP_DONE;
     end(held);

@@ -48,7 +48,8 @@ static bool filled(PyObject *module) {
     return PyModule_AddObject(module, "version", text_if(true, version)) == 0;
 }
 
-PyMODINIT_FUNC PyInit__smap(void) {
+/* What alone can be linked. The headers of 3.8 do not say so. */
+__attribute__((visibility("default"))) PyMODINIT_FUNC PyInit__smap(void) {
     PyObject *module = PyModule_Create(&definition);
     if (!module || filled(module)) return module;
     Py_DECREF(module);

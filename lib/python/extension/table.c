@@ -33,14 +33,13 @@ static PyObject *table_close(PyObject *self, PyObject *unused) {
 /* Puts a map into the table under a URL. Gives None, or the number of the refusal. */
 static PyObject *table_put(PyObject *self, PyObject *words) {
     struct held *table = (struct held *)self, *map;
-    const char *url;
-    Py_ssize_t length;
-    PyObject *value;
-    if (!PyArg_ParseTuple(words, "y#O!", &url, &length, map_type, &value)) return NULL;
+    PyObject *data, *value;
+    struct given url;
+    if (!PyArg_ParseTuple(words, "OO!", &data, map_type, &value) || !bytes_of(data, &url)) return NULL;
     map = (struct held *)value;
     if (!ready((struct held *[]){table, map}, 2)) return NULL;
     uint32_t refusal = 0;
-    uint32_t status = smap_table_add(&table->table, (const uint8_t *)url, (size_t)length, &map->map, &refusal);
+    uint32_t status = smap_table_add(&table->table, url.bytes, url.length, &map->map, &refusal);
     map->full = status == SMAP_REFUSED;
     if (status == SMAP_REFUSED) return PyLong_FromUnsignedLong(refusal);
     return status == SMAP_DONE ? none() : PyErr_NoMemory();
