@@ -137,7 +137,8 @@ uint32_t smap_look_up_from(smap_map *map, uint32_t line, uint32_t column, smap_f
 /* Looks `count` positions up as smap_look_up does. `places` is the length of `found`, which is `count` too. Returns 0. */
 uint32_t smap_look_up_many(smap_map *map, const smap_position *positions, size_t count, smap_found *found, size_t places);
 
-/* Hands out all mappings of the map in their order: `bytes` has smap_mapping after smap_mapping, 32 bytes each. */
+/* Hands out all mappings of the map in their order: `bytes` has one smap_mapping after another, 32 bytes each, which may be
+ * read where they are lent. The bytes are freed by smap_bytes_free. */
 uint32_t smap_map_mappings(smap_map *map, smap_bytes *bytes);
 
 /* Says how many bytes of the generated file each source makes: `places` numbers at `sources`, which is the map's number of
@@ -195,7 +196,7 @@ uint32_t smap_bytes_text(smap_bytes *bytes, smap_text *text);
 /* Frees bytes that were handed out, and leaves their handle empty. */
 void smap_bytes_free(smap_bytes *bytes);
 
-/* Lends the version, as "0.1.0". Returns 0. */
+/* Lends the version of the library, as "0.1.0". It stays. Returns 0. */
 uint32_t smap_version(smap_text *version);
 
 /* Makes a table without maps. */
