@@ -1,5 +1,5 @@
 #!/usr/bin/env python3
-"""Makes a wheel of a package that is ready in a folder, with its shared library: pack/wheel.py FOLDER PYPROJECT README TO.
+"""Makes a wheel of a package that is ready in a folder, with its extension: pack/wheel.py FOLDER PYPROJECT README TO.
 
 All times are SOURCE_DATE_EPOCH, and files stand in the order of their names, so the same files give the same bytes.
 """
@@ -14,7 +14,8 @@ import zipfile
 from pathlib import Path
 from typing import Dict
 
-TAG = "py3-none-linux_x86_64"
+# The limited API of 3.8 is part of every later version.
+TAG = "cp38-abi3-linux_x86_64"
 
 
 def project(pyproject: Path) -> Dict[str, str]:

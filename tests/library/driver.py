@@ -1,6 +1,7 @@
 """What tests/try-library asks of the library in Python. driver.c says of each command what it prints. And
 
     chain FOLDER OUTER LESS    the map composed with those NAME.map of the folder, by a loader; on standard error what that is asked
+    mappings MAP               what `smap mappings` prints
 """
 
 import re
@@ -8,7 +9,7 @@ import sys
 from array import array
 from pathlib import Path
 
-from smap import Refused, Rewriter, SourceMap, compose, compose_all
+from smap import Answer, Refused, Rewriter, SourceMap, compose, compose_all
 
 
 def opened(path, **words):
@@ -47,7 +48,6 @@ def from_(path):
 
 
 def many(path):
-    from smap import Answer
     with opened(path) as source_map:
         found = source_map.look_up_many(array("I", [number for pair in positions() for number in pair]))
         for i in range(0, len(found), 7):
@@ -78,6 +78,13 @@ def why(path):
 def counts(path):
     with opened(path) as source_map:
         print("ok " + " ".join(f"{name} {value}" for name, value in source_map.counts._asdict().items()))
+
+
+def mappings(path):
+    with opened(path) as source_map:
+        for mapping in source_map.mappings():
+            answer = Answer(*mapping[1:])
+            print(f"{mapping.generated_line + 1}:{mapping.generated_column + 1} {tell(source_map, answer)}")
 
 
 def show(path):
@@ -145,5 +152,5 @@ def resident():
 
 if __name__ == "__main__":
     commands = {"look": look, "from": from_, "many": many, "refuse": refuse, "why": why, "counts": counts, "show": show,
-                "compose": composed, "all": composed_with_all, "chain": chain, "rewrite": rewrite, "load": load, "anywhere": anywhere, "again": again}
+                "compose": composed, "all": composed_with_all, "chain": chain, "mappings": mappings, "rewrite": rewrite, "load": load, "anywhere": anywhere, "again": again}
     commands[sys.argv[1]](*sys.argv[2:])

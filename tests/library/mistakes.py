@@ -1,14 +1,17 @@
 """What the library answers in Python where it is called wrongly, and at the ends of what numbers hold: mistakes.py MAP."""
 
+import copy
 import ctypes
+import mmap
 import os
+import pickle
 import sys
 import tempfile
 from array import array
 from pathlib import Path
 
-from smap import Answer, Refused, Rewriter, SourceMap, compose, compose_all
-from smap._library import Refusal
+from smap import Answer, Mapping, Refused, Rewriter, SourceMap, compose, compose_all
+from smap._answers import Refusal
 from smap._told import refused_map
 
 # Line 0 has a mapping at column 0 and one at 10 with a name, line 1 none, and line 2 one at 5 without an original.
@@ -40,6 +43,18 @@ def refuses(error, call, *texts, **members):
     raise AssertionError(f"{got!r} in place of {error.__name__}")
 
 
+class Whole:
+    """What has a whole number, or raises an error of its own."""
+
+    def __init__(self, number):
+        self.number = number
+
+    def __index__(self):
+        if self.number is None:
+            raise KeyError("no number")
+        return self.number
+
+
 def places():
     with SourceMap(SMALL) as small:
         for column in (10, 203, FAR - 1, FAR, FAR + 3, FAR + 203, 2**64, 2**64 + 3):
@@ -59,6 +74,13 @@ def places():
             for number in (True, False, 0.0, 1.5, float("inf"), float("nan"), "0", b"0", None, (0,)):
                 refuses(TypeError, lambda: look_up(number, 0), "line", type(number).__name__)
                 refuses(TypeError, lambda: look_up(0, number), "column", type(number).__name__)
+            same(look_up(line=0, column=10), LAST)
+            same(look_up(0, column=10), LAST)
+            same(look_up(Whole(0), Whole(10)), LAST)
+            refuses(KeyError, lambda: look_up(0, Whole(None)), "no number")
+            for words in ((), (0,), (0, 10, 0)):
+                refuses(TypeError, lambda: look_up(*words))
+            refuses(TypeError, lambda: look_up(0, row=10))
 
 
 def many():
@@ -71,6 +93,9 @@ def many():
         same(ask(memoryview(array("I", [0, 9, 12, 9]))[::2]), last)
         same(ask((ctypes.c_uint32 * 2)(0, 12)), last)
         same(ask(memoryview(array("I", [0, 12, 3, 0])).cast("B").cast("I", [2, 2])), last + none)
+        # Positions that can't be written, and such that stand at an odd byte.
+        same(ask(memoryview(array("I", [0, 12]).tobytes()).cast("I")), last)
+        same(ask(memoryview(b"\0" + array("I", [0, 12]).tobytes())[1:].cast("I")), last)
         for typecode in "bBhHiqQfd":
             refuses(TypeError, lambda: ask(array(typecode, [0, 12])), "32 bits")
         if array("L").itemsize == 8:
@@ -97,9 +122,20 @@ def maps(folder):
     path, other = folder / "small.map", folder / "other ä.map"
     path.write_bytes(SMALL)
     other.write_bytes(b"no JSON")
-    for data in (SMALL, SMALL.decode(), bytearray(SMALL), memoryview(SMALL), path):
-        with SourceMap(data) as small:
-            same(small.look_up(0, 12), LAST)
+    apart = memoryview(bytes(2 * len(SMALL)))[::2]
+    with path.open("r+b") as file, mmap.mmap(file.fileno(), 0) as writable, mmap.mmap(file.fileno(), 0, access=mmap.ACCESS_READ) as mapped:
+        for data in (SMALL, SMALL.decode(), bytearray(SMALL), memoryview(SMALL), memoryview(bytearray(SMALL)), array("B", SMALL),
+                     memoryview(b"".join(bytes((byte, 0)) for byte in SMALL))[::2], writable, mapped, path):
+            with SourceMap(data) as small:
+                same(small.look_up(0, 12), LAST)
+    refuses(Refused, lambda: SourceMap(apart), "refused: M2 NotJson")
+    for given in (path, str(path)):
+        with SourceMap.from_file(given, base="https://e.test/x.js", interval=1) as small:
+            same((small.look_up(0, 12), small.source(0).name), (LAST, "https://e.test/a.js"))
+    refuses(Refused, lambda: SourceMap.from_file(str(other)), f"refused: {other}: M2 NotJson", number=2)
+    refuses(FileNotFoundError, lambda: SourceMap.from_file(str(folder / "none.map")), "none.map")
+    for given in (7, b"x.map", None, [path]):
+        refuses(TypeError, lambda: SourceMap.from_file(given))
     with SourceMap('{"version":3,"sources":["ä.js"],"names":[],"mappings":"AAAA"}') as source_map:
         same(source_map.source(0).name, "ä.js")
     for data in (7, 7.5, True, None, [123, 125], {"version": 3}, object()):
@@ -151,9 +187,9 @@ def bases():
     for base in (7, b"https://e.test/", Path("a")):
         refuses(TypeError, lambda: SourceMap(SMALL, base=base), "base is a str", type(base).__name__)
     # No base of a test is so long.
-    long = refused_map(b"", Refusal(number=18), None, "https://e.test/")
+    long = refused_map(b"", Refusal(18, 0, 0, 0, 0, 0), None, "https://e.test/")
     same((long.number, str(long)), (18, "the base is too long: 'https://e.test/'"))
-    same(str(refused_map(b"", Refusal(number=99), None, "")), "refused: 99")
+    same(str(refused_map(b"", Refusal(99, 0, 0, 0, 0, 0), None, "")), "refused: 99")
 
 
 def intervals():
@@ -321,6 +357,72 @@ def anywhere():
         same(rewriter.rewrite(text, anywhere=True), b"{a.js:2:5} [h.js:1:11] {g.js:9:9}\n    at a.js:2:5\n")
 
 
+def lists():
+    with SourceMap(SMALL) as small:
+        wanted = [Mapping(0, 0, 0, 0, 0, None), Mapping(0, 10, 0, 1, 4, 0), Mapping(2, 5, None, None, None, None)]
+        same(list(small.mappings()), wanted)
+        same([type(mapping) for mapping in small.mappings()], [Mapping] * 3)
+        mappings = small.mappings()
+        same((next(mappings), mappings.__length_hint__()), (wanted[0], 2))
+        same((small.sources, small.names), ([("a.js", None, False)], ["n"]))
+    # They stay when the map is closed.
+    same((list(mappings), list(mappings), mappings.__length_hint__()), (wanted[1:], [], 0))
+    with SourceMap('{"version":3,"sources":[],"mappings":""}') as empty:
+        same((list(empty.mappings()), empty.sources, empty.names), ([], [], []))
+    refuses(ValueError, empty.mappings, "the map is closed")
+
+
+def generated(folder):
+    # Columns count units: the third line begins with a pair of them, and the mapping within it begins behind it. The last mapping
+    # stands past the end of its line.
+    text = "abcäefg\nxyz\n😀z\nq"
+    path = folder / "generated.js"
+    with SourceMap('{"version":3,"sources":["a","b","c"],"mappings":"AAAA,GCAA,E;;CAAA;mGDAA"}') as made:
+        for given in (text, text.encode(), bytearray(text.encode()), memoryview(text.encode())):
+            same(made.bytes_by_source(given), ([3, 4, 0], 13))
+        path.write_text(text, encoding="utf-8")
+        same(made.bytes_by_source(path), ([3, 4, 0], 13))
+        same(made.bytes_by_source(""), ([0, 0, 0], 0))
+        path.write_bytes(b"a\xff")
+        refuses(Refused, lambda: made.bytes_by_source(b"\xff"), args=("refused: NotUtf8",), number=1)
+        refuses(Refused, lambda: made.bytes_by_source(path), args=(f"refused: {path}: NotUtf8",), number=1)
+        same(made.bytes_by_source(b"a" * 2**26), ([3, 2, 0], 2**26 - 5))
+        refuses(Refused, lambda: made.bytes_by_source(b"a" * (2**26 + 1)), args=("refused: TooLarge",), number=2)
+        for given in (7, None, ["a"]):
+            refuses(TypeError, lambda: made.bytes_by_source(given), "a generated file is bytes, a str or a Path")
+    with SourceMap('{"version":3,"sources":[],"mappings":""}') as empty:
+        same(empty.bytes_by_source("ä"), ([], 2))
+    refuses(ValueError, lambda: empty.bytes_by_source("ä"), "the map is closed")
+
+
+def kinds():
+    # A tuple with names, as it was when Python made it.
+    with SourceMap(SMALL) as small:
+        answer = small.look_up(0, 12)
+        same(type(answer), Answer)
+        same(repr(answer), "Answer(generated_column=10, source=0, line=1, column=4, name=0)")
+        same(answer._asdict(), {"generated_column": 10, "source": 0, "line": 1, "column": 4, "name": 0})
+        same((answer._replace(name=None), hash(answer)), (Answer(10, 0, 1, 4, None), hash((10, 0, 1, 4, 0))))
+        same((pickle.loads(pickle.dumps(answer)), copy.copy(answer)), (answer, answer))
+        same(repr(next(small.mappings())), "Mapping(generated_line=0, generated_column=0, source=0, line=0, column=0, name=None)")
+        for broken in (pickle.dumps, copy.copy):
+            refuses(TypeError, lambda: broken(small), "pickle")
+
+    class Named(SourceMap):
+        """A map of someone's own."""
+
+        def __init__(self, name, data):
+            super().__init__(data)
+            self.name_of_it = name
+
+    with Named("its name", SMALL) as named:
+        same((named.name_of_it, named.look_up(0, 12)), ("its name", LAST))
+        same(compose(named, 0, named), compose(named, 0, SourceMap(SMALL)))
+        refuses(ValueError, lambda: SourceMap.__init__(named, SMALL), "read already")
+    refuses(ValueError, lambda: SourceMap.__new__(SourceMap).look_up(0, 0), "closed")
+    same(type(Named.__new__(Named)), Named)
+
+
 def closed():
     small = SourceMap(SMALL)
     small.close()
@@ -337,6 +439,7 @@ if __name__ == "__main__":
     with tempfile.TemporaryDirectory() as made:
         maps(Path(made))
         reasons(Path(made))
+        generated(Path(made))
     bases()
     intervals()
     compositions(Path(sys.argv[1]))
@@ -345,4 +448,6 @@ if __name__ == "__main__":
     loading()
     anywhere()
     closed()
+    lists()
+    kinds()
     print("mistakes", told)

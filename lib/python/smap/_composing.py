@@ -1,17 +1,15 @@
 """A map composed with the maps of its sources, all at once."""
 
-import ctypes
 from collections.abc import Mapping as AnyMapping
 from contextlib import ExitStack
 from typing import Callable, Dict, List, Mapping, Optional, Tuple, Union
 
-from . import _given
-from ._library import DONE, REFUSED, ComposeOptions, Handle, calls, taken
+from . import _given, _smap
 from ._maps import SourceMap
 from ._told import Refused, refused_composition, refused_source
 
 # The map of a source.
-Given = Union[_given.MapData, SourceMap]
+Given = Union[_given.FileData, SourceMap]
 Load = Callable[[str], Optional[Given]]
 
 
@@ -31,9 +29,9 @@ def compose_all(outer: SourceMap, inners: Optional[Mapping[Union[str, int], Give
         raise TypeError(f"inner maps are a dict of sources and maps, not {type(inners).__name__}")
     if load is not None and not callable(load):
         raise TypeError(f"load is a function, not {type(load).__name__}")
-    options = ComposeOptions(bool(prune), bool(no_content))
     with ExitStack() as stack:
-        return _Composing(outer, load, stack).text(_by_number(outer, inners or {}), options)
+        text = _Composing(outer, load, stack).text(_by_number(outer, inners or {}), bool(prune), bool(no_content))
+    return text
 
 
 def _by_number(outer: SourceMap, inners: Mapping[Union[str, int], Given]) -> Dict[int, Given]:
@@ -68,7 +66,7 @@ class _Composing:
         # The maps of this turn, the whole one among them: none is used twice.
         self._taken = {id(outer)}
 
-    def text(self, given: Dict[int, Given], options: ComposeOptions) -> bytes:
+    def text(self, given: Dict[int, Given], prune: bool, no_content: bool) -> bytes:
         """The text of the whole, where these maps are given."""
         names = _names(self._whole)
         inners = {}
@@ -87,7 +85,7 @@ class _Composing:
                     inners[number] = self._read(name, found)
             if not inners:
                 break
-            whole = SourceMap(composed(self._whole, inners, ComposeOptions()))
+            whole = SourceMap(_composed(self._whole, inners, False, False))
             for number in sorted(inners):
                 trails += [trails[number] + (names[number],)] * inners[number].counts.sources
             # The maps that were read in this turn are closed.
@@ -95,7 +93,7 @@ class _Composing:
             self._whole = self._stack.enter_context(whole)
             first = len(names)
             names, inners, self._taken = _names(whole), {}, {id(whole)}
-        return composed(self._whole, inners, options)
+        return _composed(self._whole, inners, prune, no_content)
 
     def _ask(self, load: Load, name: str) -> Optional[Given]:
         if name not in self._loaded:
@@ -113,31 +111,9 @@ class _Composing:
         return given
 
 
-def composed(outer: SourceMap, inners: Dict[int, SourceMap], options: ComposeOptions) -> bytes:
-    """The text of the map that these come to, which are all different maps."""
-    with ExitStack() as locked:
-        for source_map in sorted([outer, *inners.values()], key=id):
-            locked.enter_context(source_map._lock)
-        handles = {number: inner._used() for number, inner in inners.items()}
-        return _composed(outer._used(), handles, options)
-
-
-def _composed(outer: Handle, inners: Dict[int, Handle], options: ComposeOptions) -> bytes:
-    places, out, why = Handle(), Handle(), ctypes.c_uint32()
-    if calls.smap_inners_new(outer, places) != DONE:
-        raise MemoryError
-    try:
-        for number, inner in inners.items():
-            if calls.smap_inners_put(places, number, inner) != DONE:
-                raise refused_composition(1)
-        status = calls.smap_compose_all(outer, places, options, out, why)
-    finally:
-        # Each map goes back to its handle.
-        for number, inner in inners.items():
-            calls.smap_inners_take(places, number, inner)
-        calls.smap_inners_free(places)
-    if status == REFUSED:
-        raise refused_composition(why.value)
-    if status != DONE:
-        raise MemoryError
-    return taken(out)
+# The text of the map that these come to, which are all different maps.
+def _composed(outer: SourceMap, inners: Dict[int, SourceMap], prune: bool, no_content: bool) -> bytes:
+    text = _smap.compose_all(outer, inners, prune, no_content)
+    if isinstance(text, int):
+        raise refused_composition(text)
+    return text

@@ -3,8 +3,11 @@
 import operator
 import os
 import sys
-from array import array
-from typing import Any, Union
+from typing import TYPE_CHECKING, Any, Optional, Tuple, Union
+
+if TYPE_CHECKING:
+    from array import array
+    from mmap import mmap
 
 # The greatest number of 32 bits. No map has a line, a column, a source or a name of this number or a greater one.
 MOST = 2**32 - 1
@@ -12,8 +15,10 @@ MOST = 2**32 - 1
 # What a buffer of numbers says of its bytes' order where it is this machine's.
 _NATIVE = "@=" + ("<" if sys.byteorder == "little" else ">")
 
-MapData = Union[bytes, bytearray, memoryview, str, "os.PathLike[str]"]
-TraceData = Union[bytes, bytearray, memoryview, str]
+Data = Union[bytes, bytearray, memoryview, "mmap", "array[int]"]
+Trace = Union[Data, str]
+FileData = Union[Data, str, "os.PathLike[str]"]
+Held = Union[bytes, memoryview]
 
 
 def whole(value: Any, what: str) -> int:
@@ -26,16 +31,8 @@ def whole(value: Any, what: str) -> int:
         raise TypeError(f"{what} is a whole number, not {_kind(value)}") from None
 
 
-def place(value: Any, what: str) -> int:
-    """A line or a column. Past the greatest number there is as much as at it: nothing."""
-    number = whole(value, what)
-    if number < 0:
-        raise ValueError(f"{what} is {number}: lines and columns count from 0")
-    return min(number, MOST)
-
-
 def index(value: Any, what: str) -> int:
-    """The number of a source or a name. One that none can have is the greatest, which none has."""
+    """The number of a source. One that none can have is the greatest, which none has."""
     number = whole(value, what)
     return number if 0 <= number < MOST else MOST
 
@@ -45,33 +42,36 @@ def interval(value: Any) -> int:
     return min(max(whole(value, "interval"), 0), MOST)
 
 
-def map_bytes(data: Any) -> bytes:
-    """The bytes of a map file: those that are given, a text in UTF-8, or those of the file at a path."""
+def file_bytes(data: Any, what: str) -> Held:
+    """The bytes of a file: those that are given, which are not copied, a text in UTF-8, or those of the file at a path."""
     if isinstance(data, os.PathLike):
         with open(data, "rb") as file:
             return file.read()
-    return _bytes(data, "a map is bytes, a str or a Path")
+    return _bytes(data, f"{what} is bytes, a str or a Path")
 
 
-def trace_bytes(data: Any) -> bytes:
+def file_name(data: Any) -> Optional[str]:
+    """The path of a file, where one is given."""
+    return os.fsencode(data).decode(errors="replace") if isinstance(data, os.PathLike) else None
+
+
+def trace_bytes(data: Any) -> Held:
     """The bytes of a trace."""
     return _bytes(data, "a trace is bytes or a str")
 
 
-def positions(data: Any) -> "array[int]":
-    """Lines and columns in turn, as unsigned numbers of 32 bits."""
+def positions(data: Any) -> Tuple[Held, int]:
+    """Lines and columns in turn, as unsigned numbers of 32 bits, and how many of both there are."""
     try:
         view = memoryview(data)
     except TypeError:
         raise TypeError(f"positions are an array('I'), not {_kind(data)}") from None
-    with view:
-        if view.format.lstrip(_NATIVE) not in ("I", "L") or view.itemsize != 4:
-            raise TypeError(f"positions are unsigned numbers of 32 bits, as in array('I'), not '{view.format}' of "
-                            f"{8 * view.itemsize} bits")
-        given = array("I", view.tobytes())
-    if len(given) % 2:
+    if view.format.lstrip(_NATIVE) not in ("I", "L") or view.itemsize != 4:
+        raise TypeError(f"positions are unsigned numbers of 32 bits, as in array('I'), not '{view.format}' of "
+                        f"{8 * view.itemsize} bits")
+    if view.nbytes % 8:
         raise ValueError("positions: a line without a column")
-    return given
+    return _together(view), view.nbytes // 8
 
 
 def text(value: Any, what: str) -> str:
@@ -81,7 +81,7 @@ def text(value: Any, what: str) -> str:
     return value
 
 
-def _bytes(data: Any, what: str) -> bytes:
+def _bytes(data: Any, what: str) -> Held:
     if isinstance(data, bytes):
         return data
     if isinstance(data, str):
@@ -90,10 +90,14 @@ def _bytes(data: Any, what: str) -> bytes:
         view = memoryview(data)
     except TypeError:
         raise TypeError(f"{what}, not {_kind(data)}") from None
-    with view:
-        if view.itemsize != 1:
-            raise TypeError(f"{what}, not items of {8 * view.itemsize} bits")
-        return view.tobytes()
+    if view.itemsize != 1:
+        raise TypeError(f"{what}, not items of {8 * view.itemsize} bits")
+    return _together(view)
+
+
+# What stands apart is copied.
+def _together(view: memoryview) -> Held:
+    return view if view.c_contiguous else view.tobytes()
 
 
 def _kind(value: Any) -> str:

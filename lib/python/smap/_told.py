@@ -1,40 +1,10 @@
-"""What the library tells: answers, what a map holds, and why something is refused."""
+"""Why something is refused, in words."""
 
-from typing import Callable, NamedTuple, Optional
+from typing import NamedTuple, Optional
 
-from ._library import COUNT_NAMES, DONE, REFUSED, Found, Handle, Reason, Refusal, calls, copied, room, taken
-
-
-class Answer(NamedTuple):
-    """The mapping that answers a look-up. One without an original has None for all but its column."""
-
-    generated_column: int
-    source: Optional[int]
-    line: Optional[int]
-    column: Optional[int]
-    name: Optional[int]
-
-
-class Source(NamedTuple):
-    """A source of a map: its name and its content, where the map has them, and whether a debugger passes over it."""
-
-    name: Optional[str]
-    content: Optional[str]
-    ignored: bool
-
-
-class Counts(NamedTuple):
-    """How much a map holds. `lines` are the generated lines that hold a mapping."""
-
-    sections: int
-    sources: int
-    names: int
-    segments: int
-    lines: int
-    checkpoints: int
-
-
-assert Counts._fields == COUNT_NAMES
+from . import _smap
+from ._answers import Refusal
+from ._given import Held
 
 
 class Refused(ValueError):
@@ -77,17 +47,7 @@ class Why(NamedTuple):
 BAD_BASE, LONG_BASE = 0, 18
 
 
-def answer(found: Found) -> Optional[Answer]:
-    """What a look-up found."""
-    if found.kind == 0:
-        return None
-    if found.kind == 1:
-        return Answer(found.generated_column, None, None, None, None)
-    name = found.name if found.named else None
-    return Answer(found.generated_column, found.source, found.line, found.column, name)
-
-
-def refused_map(held: bytes, refusal: Refusal, name: Optional[str], base: str, url: Optional[str] = None) -> Refused:
+def refused_map(held: Held, refusal: Refusal, name: Optional[str], base: str, url: Optional[str] = None) -> Refused:
     """Why the map of these bytes and of this name, if it has one, is refused at this base."""
     number = refusal.number
     if number in (BAD_BASE, LONG_BASE):
@@ -109,7 +69,7 @@ def refused_base(number: int, base: str, url: Optional[str] = None) -> Refused:
 
 def refused_composition(number: int) -> Refused:
     """Why two maps are not composed."""
-    return Refused(f"refused: {_lent(calls.smap_compose_refusal_text, number)}", number)
+    return Refused(f"refused: {_smap.compose_refusal_text(number) or number}", number)
 
 
 def refused_source(name: str) -> Refused:
@@ -117,9 +77,15 @@ def refused_source(name: str) -> Refused:
     return Refused(f"refused: C4 NoSource {name}", 4)
 
 
+def refused_generated(number: int, name: Optional[str]) -> Refused:
+    """Why the bytes of a generated file, of this name if it has one, are not counted."""
+    why = {1: "NotUtf8", 2: "TooLarge"}.get(number, str(number))
+    return Refused(f"refused: {name}: {why}" if name else f"refused: {why}", number)
+
+
 def refused_url(number: int, url: str) -> Refused:
     """Why a table takes no map under this URL."""
-    why = _lent(calls.smap_table_refusal_text, number) if number else "the URL is no UTF-8"
+    why = _smap.table_refusal_text(number) or number if number else "the URL is no UTF-8"
     return Refused(f"usage: {why}: {_shown(url)}", number, url=url)
 
 
@@ -127,31 +93,13 @@ def _shown(url: str) -> str:
     return repr(url) if len(url) <= 200 else f"{url[:200]!r} and {len(url) - 200} characters more"
 
 
-def _lent(call: Callable[..., int], number: int) -> str:
-    text = room()
-    return copied(text).decode() if call(number, text) == DONE else str(number)
-
-
-def _why(held: bytes, refusal: Refusal) -> Optional[Why]:
-    reason, text = Reason(), Handle()
-    status = calls.smap_refusal_explain(held, len(held), refusal, reason, text)
-    if status == REFUSED:
+def _why(held: Held, refusal: Refusal) -> Optional[Why]:
+    reason = _smap.explained(refusal, held)
+    if reason is None:
         return None
-    if status != DONE:
-        raise MemoryError
-    sentences = taken(text).decode()
-    value = reason.value if reason.has_value else None
-    least = reason.least if reason.has_least else None
-    most = reason.most if reason.has_most else None
-    limit = least if value is not None and least is not None and value < least else most
-    return Why(value, limit, reason.generated_column if reason.has_column else None, sentences)
+    below = reason.value is not None and reason.least is not None and reason.value < reason.least
+    return Why(reason.value, reason.least if below else reason.most, reason.column, reason.sentences)
 
 
 def _text(refusal: Refusal) -> str:
-    text = Handle()
-    status = calls.smap_refusal_text(refusal, text)
-    if status == REFUSED:
-        return str(refusal.number)
-    if status != DONE:
-        raise MemoryError
-    return taken(text).decode()
+    return _smap.refusal_text(refusal) or str(refusal.number)

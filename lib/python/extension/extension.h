@@ -1,0 +1,87 @@
+/* The library libsmap inside Python, for the limited API of Python 3.8: one file serves it and all later versions. The
+ * modules in smap/ are what people call.
+ *
+ * A call that may take long lets other threads of Python go on. It does not where it reads bytes that they could change
+ * meanwhile. A call with a handle that such a call is at work with waits for it. */
+#ifndef EXTENSION_H
+#define EXTENSION_H
+
+#define Py_LIMITED_API 0x03080000
+#include <Python.h>
+#include <pythread.h>
+#include <smap.h>
+
+/* The classes of _answers.py. Their tuples are made here, since the way through Python takes longer than a look-up. */
+extern PyTypeObject *answer_class, *counts_class, *mapping_class, *reason_class, *refusal_class, *source_class;
+
+/* The types of the extension, and what they are made of. */
+extern PyTypeObject *map_type, *table_type, *mappings_type;
+extern PyType_Spec map_spec, table_spec, mappings_spec;
+
+/* given.c: what is given is checked, and what is handed back is made. */
+
+/* Bytes that are given, as `bytes` or as a memoryview, which holds them where they are. They are steady where no other thread
+ * of Python can change them. */
+struct given { const uint8_t *bytes; size_t length; bool steady; };
+bool bytes_of(PyObject *value, struct given *given);
+
+/* Where a buffer is written to. Nothing else can have it. */
+void *room_of(PyObject *value, size_t *length);
+
+/* A line or a column. Past the greatest number there is as much as at it: nothing. */
+bool place_of(PyObject *value, const char *what, uint32_t *place);
+
+/* The number of a source or a name. One that none can have is the greatest, which none has. */
+bool index_of(PyObject *value, const char *what, uint32_t *index);
+
+PyObject *none(void);
+PyObject *number_if(bool is, uint32_t number);
+PyObject *text_if(bool is, smap_text text);
+
+/* A tuple of a class, with items that it takes over. Where one of them is NULL, which is an error, so is the tuple. */
+PyObject *tuple_of(PyTypeObject *class, Py_ssize_t count, PyObject **items);
+
+/* Bytes that were handed out, which are freed. */
+PyObject *taken(smap_bytes *bytes);
+
+/* What a call gives that hands bytes out: the bytes, or the number of a refusal. */
+PyObject *taken_or_refused(uint32_t status, smap_bytes *bytes, uint32_t refusal);
+
+/* held.c: a map or a table, used by one call at a time. It is full where it is open. A call that lets other threads go on is at
+ * work with it while it is busy, and has its lock. A short call needs none, since it is alone until it returns. */
+struct held {
+    PyObject_HEAD
+    PyThread_type_lock lock;
+    bool busy, full;
+    union { smap_map map; smap_table table; };
+};
+
+/* Waits until no call is at work with it. Returns false where a signal raised an error. */
+bool idle(struct held *held);
+
+/* The same for several, which have to be open. So they are all until this thread lets others go on. */
+bool ready(struct held *const *held, size_t count);
+
+/* Begins and ends a call that may let other threads go on, with what is idle. */
+void begin(struct held *held);
+void end(struct held *held);
+
+/* Lets other threads go on, if what is read is steady, until `come_back` with what this gives. */
+PyThreadState *let_go(bool steady);
+void come_back(PyThreadState *state);
+
+PyObject *held_new(PyTypeObject *type, PyObject *words, PyObject *named);
+void held_free(PyObject *self);
+
+/* The functions of the module, and a method of the map that mappings.c has. */
+PyObject *map_mappings(PyObject *self, PyObject *unused);
+PyObject *frame_urls(PyObject *module, PyObject *data);
+PyObject *compose(PyObject *module, PyObject *words);
+PyObject *compose_all(PyObject *module, PyObject *words);
+PyObject *refusal_of(const smap_refusal *refusal);
+PyObject *refusal_text(PyObject *module, PyObject *words);
+PyObject *explained(PyObject *module, PyObject *words);
+PyObject *compose_refusal_text(PyObject *module, PyObject *value);
+PyObject *table_refusal_text(PyObject *module, PyObject *value);
+
+#endif

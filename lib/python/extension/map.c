@@ -1,0 +1,250 @@
+/* A map of the library, which SourceMap is made of. */
+#include "extension.h"
+#include <stdlib.h>
+#include <string.h>
+
+static void map_free(PyObject *self) {
+    struct held *held = (struct held *)self;
+    if (held->full) smap_map_free(&held->map);
+    held_free(self);
+}
+
+static PyObject *map_close(PyObject *self, PyObject *unused) {
+    (void)unused;
+    struct held *held = (struct held *)self;
+    if (!idle(held)) return NULL;
+    if (!held->full) return none();
+    held->full = false;
+    begin(held);
+    PyThreadState *state = let_go(true);
+    smap_map_free(&held->map);
+    come_back(state);
+    end(held);
+    return none();
+}
+
+static PyObject *map_read(PyObject *self, PyObject *words) {
+    struct held *held = (struct held *)self;
+    PyObject *data, *base_data;
+    unsigned int interval;
+    struct given given, base;
+    if (!PyArg_ParseTuple(words, "OOI", &data, &base_data, &interval)) return NULL;
+    if (!bytes_of(data, &given) || !bytes_of(base_data, &base) || !idle(held)) return NULL;
+    if (held->full) return PyErr_Format(PyExc_ValueError, "the map is read already");
+    smap_refusal refusal = {0};
+    begin(held);
+    PyThreadState *state = let_go(given.steady);
+    uint32_t status = smap_map_read(given.bytes, given.length, base.bytes, base.length, interval, &held->map, &refusal);
+    come_back(state);
+    held->full = status == SMAP_DONE;
+    end(held);
+    if (status == SMAP_REFUSED) return refusal_of(&refusal);
+    return status == SMAP_DONE ? none() : PyErr_NoMemory();
+}
+
+typedef uint32_t look_up_call(smap_map *, uint32_t, uint32_t, smap_found *);
+
+static PyObject *looked_up(PyObject *self, PyObject *words, PyObject *named, look_up_call *call) {
+    static char *names[] = {"line", "column", NULL};
+    struct held *held = (struct held *)self;
+    PyObject *given_line, *given_column;
+    uint32_t line, column;
+    if (!named && PyTuple_Size(words) == 2) {
+        given_line = PyTuple_GetItem(words, 0);
+        given_column = PyTuple_GetItem(words, 1);
+    } else if (!PyArg_ParseTupleAndKeywords(words, named, "OO:look_up", names, &given_line, &given_column)) {
+        return NULL;
+    }
+    if (!place_of(given_line, "line", &line) || !place_of(given_column, "column", &column) || !ready(&held, 1)) return NULL;
+    smap_found found = {0};
+    call(&held->map, line, column, &found);
+    if (found.kind == 0) return none();
+    bool is = found.kind == 2;
+    PyObject *items[] = {
+        PyLong_FromUnsignedLong(found.generated_column), number_if(is, found.source), number_if(is, found.line),
+        number_if(is, found.column), number_if(is && found.named, found.name),
+    };
+    return tuple_of(answer_class, 5, items);
+}
+
+static PyObject *map_look_up(PyObject *self, PyObject *words, PyObject *named) { return looked_up(self, words, named, smap_look_up); }
+
+static PyObject *map_look_up_from(PyObject *self, PyObject *words, PyObject *named) {
+    return looked_up(self, words, named, smap_look_up_from);
+}
+
+/* Looks positions up, whose bytes are given, and writes the answers into a buffer that nobody else has. Positions that could be
+ * changed meanwhile, or do not stand as numbers do, are copied. */
+static PyObject *map_look_up_many(PyObject *self, PyObject *words) {
+    struct held *held = (struct held *)self;
+    PyObject *data, *answers;
+    struct given given;
+    void *found, *copy = NULL;
+    size_t room = 0;
+    if (!PyArg_ParseTuple(words, "OO", &data, &answers) || !bytes_of(data, &given)) return NULL;
+    found = room_of(answers, &room);
+    if (!found) return NULL;
+    size_t count = given.length / sizeof(smap_position);
+    if (room / sizeof(smap_found) != count) return PyErr_Format(PyExc_ValueError, "no room for %zu answers", count);
+    if (!given.steady || (uintptr_t)given.bytes % sizeof(uint32_t)) {
+        copy = malloc(given.length + 1);
+        if (!copy) return PyErr_NoMemory();
+        given.bytes = memcpy(copy, given.bytes, given.length);
+    }
+    if (!ready(&held, 1)) {
+        free(copy);
+        return NULL;
+    }
+    begin(held);
+    PyThreadState *state = let_go(true);
+    smap_look_up_many(&held->map, (const smap_position *)(const void *)given.bytes, count, found, count);
+    free(copy);
+    come_back(state);
+    end(held);
+    return none();
+}
+
+static PyObject *map_counts(PyObject *self, void *unused) {
+    (void)unused;
+    struct held *held = (struct held *)self;
+    if (!ready(&held, 1)) return NULL;
+    smap_count count = {0};
+    smap_counts(&held->map, &count);
+    PyObject *items[] = {
+        PyLong_FromUnsignedLongLong(count.sections), PyLong_FromUnsignedLongLong(count.sources),
+        PyLong_FromUnsignedLongLong(count.names), PyLong_FromUnsignedLongLong(count.segments),
+        PyLong_FromUnsignedLongLong(count.lines), PyLong_FromUnsignedLongLong(count.checkpoints),
+    };
+    return tuple_of(counts_class, 6, items);
+}
+
+/* The texts are copied before the next call. */
+static PyObject *map_source(PyObject *self, PyObject *words, PyObject *named) {
+    static char *names[] = {"index", NULL};
+    struct held *held = (struct held *)self;
+    PyObject *value;
+    uint32_t index;
+    if (!PyArg_ParseTupleAndKeywords(words, named, "O:source", names, &value) || !index_of(value, "a source", &index)) return NULL;
+    if (!ready(&held, 1)) return NULL;
+    smap_source_text source = SMAP_SOURCE;
+    PyObject *items[3] = {NULL};
+    if (smap_source(&held->map, index, &source) == SMAP_DONE) {
+        items[0] = text_if(source.named, source.name);
+        items[1] = items[0] ? text_if(source.held, source.content) : NULL;
+        items[2] = PyBool_FromLong(source.ignored);
+        return tuple_of(source_class, 3, items);
+    }
+    return PyErr_Format(PyExc_IndexError, "no source %S", value);
+}
+
+static PyObject *map_source_name(PyObject *self, PyObject *value) {
+    struct held *held = (struct held *)self;
+    uint32_t index;
+    if (!index_of(value, "a source", &index) || !ready(&held, 1)) return NULL;
+    smap_source_text source = SMAP_SOURCE;
+    smap_source(&held->map, index, &source);
+    return text_if(source.named, source.name);
+}
+
+static PyObject *map_name(PyObject *self, PyObject *words, PyObject *named) {
+    static char *names[] = {"index", NULL};
+    struct held *held = (struct held *)self;
+    PyObject *value;
+    uint32_t index;
+    if (!PyArg_ParseTupleAndKeywords(words, named, "O:name", names, &value)) return NULL;
+    if (value == Py_None) return none();
+    if (!index_of(value, "a name", &index) || !ready(&held, 1)) return NULL;
+    smap_text text = SMAP_TEXT;
+    if (smap_name(&held->map, index, &text) == SMAP_DONE) return text_if(true, text);
+    return PyErr_Format(PyExc_IndexError, "no name %S", value);
+}
+
+static PyObject *map_file(PyObject *self, void *unused) {
+    (void)unused;
+    struct held *held = (struct held *)self;
+    if (!ready(&held, 1)) return NULL;
+    smap_text text = SMAP_TEXT;
+    bool is = smap_file(&held->map, &text) == SMAP_DONE;
+    return text_if(is, text);
+}
+
+static PyObject *map_written(PyObject *self, PyObject *unused) {
+    (void)unused;
+    struct held *held = (struct held *)self;
+    if (!ready(&held, 1)) return NULL;
+    smap_bytes bytes = {0};
+    begin(held);
+    PyThreadState *state = let_go(true);
+    uint32_t status = smap_map_write(&held->map, &bytes);
+    come_back(state);
+    end(held);
+    return status == SMAP_REFUSED ? none() : taken_or_refused(status, &bytes, 0);
+}
+
+static PyObject *map_bytes_by_source(PyObject *self, PyObject *data) {
+    struct held *held = (struct held *)self;
+    struct given given;
+    if (!bytes_of(data, &given) || !ready(&held, 1)) return NULL;
+    smap_count count = {0};
+    smap_counts(&held->map, &count);
+    size_t places = (size_t)count.sources;
+    uint64_t *sources = calloc(places + 1, sizeof *sources), unmapped = 0;
+    uint32_t refusal = 0, status = SMAP_NO_MEMORY;
+    begin(held);
+    if (sources) {
+        PyThreadState *state = let_go(given.steady);
+        status = smap_bytes_by_source(&held->map, given.bytes, given.length, sources, places, &unmapped, &refusal);
+        come_back(state);
+    }
+    end(held);
+    PyObject *list = status == SMAP_DONE ? PyList_New((Py_ssize_t)places) : NULL;
+    for (size_t i = 0; list && i < places; i++) {
+        PyObject *number = PyLong_FromUnsignedLongLong(sources[i]);
+        if (number) PyList_SetItem(list, (Py_ssize_t)i, number);
+        else Py_CLEAR(list);
+    }
+    free(sources);
+    if (list) return Py_BuildValue("NK", list, (unsigned long long)unmapped);
+    if (status == SMAP_REFUSED) return PyLong_FromUnsignedLong(refusal);
+    return PyErr_Occurred() ? NULL : PyErr_NoMemory();
+}
+
+#define WITH_NAMES(call) ((PyCFunction)(void (*)(void))(call))
+
+static PyMethodDef map_methods[] = {
+    {"close", map_close, METH_NOARGS, "close($self)\n--\n\nFrees the map. It answers nothing any more."},
+    {"look_up", WITH_NAMES(map_look_up), METH_VARARGS | METH_KEYWORDS,
+     "look_up($self, line, column)\n--\n\nThe last mapping on the line at the position or before it, or None."},
+    {"look_up_from", WITH_NAMES(map_look_up_from), METH_VARARGS | METH_KEYWORDS,
+     "look_up_from($self, line, column)\n--\n\nThe first mapping on the line at the position or after it, or None."},
+    {"mappings", map_mappings, METH_NOARGS,
+     "mappings($self)\n--\n\nAn iterator over all mappings, in their order. It holds 32 bytes of memory for each."},
+    {"source", WITH_NAMES(map_source), METH_VARARGS | METH_KEYWORDS,
+     "source($self, index)\n--\n\nThis source, from 0. Raises `IndexError` where there is none."},
+    {"name", WITH_NAMES(map_name), METH_VARARGS | METH_KEYWORDS,
+     "name($self, index)\n--\n\nThis name, from 0, and None for None, as an answer without a name has it. Raises `IndexError` "
+     "where there is none."},
+    {"_read", map_read, METH_VARARGS, NULL},
+    {"_look_up_many", map_look_up_many, METH_VARARGS, NULL},
+    {"_source_name", map_source_name, METH_O, NULL},
+    {"_written", map_written, METH_NOARGS, NULL},
+    {"_bytes_by_source", map_bytes_by_source, METH_O, NULL},
+    {NULL, NULL, 0, NULL},
+};
+
+static PyGetSetDef map_properties[] = {
+    {"counts", map_counts, NULL, "How much the map holds.", NULL},
+    {"file", map_file, NULL, "The name of the generated file, where the map has one, or None.", NULL},
+    {NULL, NULL, NULL, NULL, NULL},
+};
+
+static PyType_Slot map_slots[] = {
+    {Py_tp_doc, "A map of the library, which is closed until it is read."},
+    {Py_tp_new, held_new},
+    {Py_tp_dealloc, map_free},
+    {Py_tp_methods, map_methods},
+    {Py_tp_getset, map_properties},
+    {0, NULL},
+};
+
+PyType_Spec map_spec = {"smap._smap.Map", sizeof(struct held), 0, Py_TPFLAGS_DEFAULT | Py_TPFLAGS_BASETYPE, map_slots};

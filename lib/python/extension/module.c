@@ -1,0 +1,57 @@
+/* The module: its types, its functions and its version. */
+#include "extension.h"
+#include <string.h>
+
+PyTypeObject *answer_class, *counts_class, *mapping_class, *reason_class, *refusal_class, *source_class;
+PyTypeObject *map_type, *table_type, *mappings_type;
+
+static PyMethodDef functions[] = {
+    {"frame_urls", frame_urls, METH_O, NULL},
+    {"compose", compose, METH_VARARGS, NULL},
+    {"compose_all", compose_all, METH_VARARGS, NULL},
+    {"refusal_text", refusal_text, METH_VARARGS, NULL},
+    {"explained", explained, METH_VARARGS, NULL},
+    {"compose_refusal_text", compose_refusal_text, METH_O, NULL},
+    {"table_refusal_text", table_refusal_text, METH_O, NULL},
+    {NULL, NULL, 0, NULL},
+};
+
+static struct PyModuleDef definition = {
+    PyModuleDef_HEAD_INIT, "_smap", "The library libsmap.", -1, functions, NULL, NULL, NULL, NULL,
+};
+
+/* The classes of _answers.py, the types of this module, and the version of the library. */
+static bool filled(PyObject *module) {
+    static const struct { const char *name; PyTypeObject **class; } classes[] = {
+        {"Answer", &answer_class}, {"Counts", &counts_class}, {"Mapping", &mapping_class},
+        {"Reason", &reason_class}, {"Refusal", &refusal_class}, {"Source", &source_class},
+    };
+    static const struct { PyType_Spec *spec; PyTypeObject **type; } types[] = {
+        {&map_spec, &map_type}, {&table_spec, &table_type}, {&mappings_spec, &mappings_type},
+    };
+    PyObject *answers = PyImport_ImportModule("smap._answers");
+    for (size_t i = 0; answers && i < sizeof classes / sizeof *classes; i++) {
+        *classes[i].class = (PyTypeObject *)PyObject_GetAttrString(answers, classes[i].name);
+        if (!*classes[i].class) return false;
+    }
+    if (!answers) return false;
+    Py_DECREF(answers);
+    for (size_t i = 0; i < sizeof types / sizeof *types; i++) {
+        PyObject *type = PyType_FromSpec(types[i].spec);
+        *types[i].type = (PyTypeObject *)type;
+        if (!type) return false;
+        Py_INCREF(type);
+        if (PyModule_AddObject(module, strrchr(types[i].spec->name, '.') + 1, type) < 0) return false;
+    }
+    smap_text version = SMAP_TEXT;
+    smap_version(&version);
+    return PyModule_AddObject(module, "version", text_if(true, version)) == 0;
+}
+
+/* What alone can be linked. The headers of 3.8 do not say so. */
+__attribute__((visibility("default"))) PyMODINIT_FUNC PyInit__smap(void) {
+    PyObject *module = PyModule_Create(&definition);
+    if (!module || filled(module)) return module;
+    Py_DECREF(module);
+    return NULL;
+}

@@ -1,0 +1,106 @@
+/* A table of the library, which Rewriter is made of, and the URLs of a trace. */
+#include "extension.h"
+
+static PyObject *table_new(PyTypeObject *type, PyObject *words, PyObject *named) {
+    struct held *held = (struct held *)held_new(type, words, named);
+    if (!held) return NULL;
+    held->full = smap_table_new(&held->table) == SMAP_DONE;
+    if (held->full) return (PyObject *)held;
+    Py_DECREF(held);
+    return PyErr_NoMemory();
+}
+
+static void table_free(PyObject *self) {
+    struct held *held = (struct held *)self;
+    if (held->full) smap_table_free(&held->table);
+    held_free(self);
+}
+
+static PyObject *table_close(PyObject *self, PyObject *unused) {
+    (void)unused;
+    struct held *held = (struct held *)self;
+    if (!idle(held)) return NULL;
+    if (!held->full) return none();
+    held->full = false;
+    begin(held);
+    PyThreadState *state = let_go(true);
+    smap_table_free(&held->table);
+    come_back(state);
+    end(held);
+    return none();
+}
+
+/* Puts a map into the table under a URL. Gives None, or the number of the refusal. */
+static PyObject *table_put(PyObject *self, PyObject *words) {
+    struct held *table = (struct held *)self, *map;
+    PyObject *data, *value;
+    struct given url;
+    if (!PyArg_ParseTuple(words, "OO!", &data, map_type, &value) || !bytes_of(data, &url)) return NULL;
+    map = (struct held *)value;
+    if (!ready((struct held *[]){table, map}, 2)) return NULL;
+    uint32_t refusal = 0;
+    uint32_t status = smap_table_add(&table->table, url.bytes, url.length, &map->map, &refusal);
+    map->full = status == SMAP_REFUSED;
+    if (status == SMAP_REFUSED) return PyLong_FromUnsignedLong(refusal);
+    return status == SMAP_DONE ? none() : PyErr_NoMemory();
+}
+
+/* The rewritten bytes, and how many lines, frames or places, mapped and hidden ones there were. None where there is too much. */
+static PyObject *rewritten(uint32_t status, smap_bytes *bytes, const smap_trace_count *count) {
+    if (status == SMAP_REFUSED) return none();
+    if (status != SMAP_DONE) return PyErr_NoMemory();
+    return Py_BuildValue("N(KKKK)", taken(bytes), (unsigned long long)count->lines, (unsigned long long)count->frames,
+                         (unsigned long long)count->mapped, (unsigned long long)count->hidden);
+}
+
+static PyObject *table_rewrite(PyObject *self, PyObject *words) {
+    struct held *held = (struct held *)self;
+    PyObject *data;
+    int hide_ignored, anywhere;
+    struct given given;
+    if (!PyArg_ParseTuple(words, "Opp", &data, &hide_ignored, &anywhere) || !bytes_of(data, &given)) return NULL;
+    if (!ready(&held, 1)) return NULL;
+    smap_bytes bytes = {0};
+    smap_trace_count count = {0};
+    begin(held);
+    PyThreadState *state = let_go(given.steady);
+    uint32_t status = anywhere ? smap_rewrite_anywhere(&held->table, given.bytes, given.length, &bytes, &count)
+                               : smap_rewrite(&held->table, given.bytes, given.length, hide_ignored, &bytes, &count);
+    come_back(state);
+    end(held);
+    return rewritten(status, &bytes, &count);
+}
+
+/* The URLs that the frames of a trace name, each once, in their order. */
+PyObject *frame_urls(PyObject *module, PyObject *data) {
+    (void)module;
+    struct given given;
+    if (!bytes_of(data, &given)) return NULL;
+    PyObject *urls = PyDict_New();
+    smap_frame_url found = {0};
+    while (urls && smap_next_frame_url(given.bytes, given.length, found.next, &found) == SMAP_DONE) {
+        PyObject *url = PyBytes_FromStringAndSize((const char *)given.bytes + found.start, (Py_ssize_t)found.length);
+        if (!url || PyDict_SetItem(urls, url, Py_None) < 0) Py_CLEAR(urls);
+        Py_XDECREF(url);
+    }
+    PyObject *keys = urls ? PyDict_Keys(urls) : NULL;
+    Py_XDECREF(urls);
+    return keys;
+}
+
+static PyMethodDef table_methods[] = {
+    {"close", table_close, METH_NOARGS, "close($self)\n--\n\nFrees the maps."},
+    {"_put", table_put, METH_VARARGS, NULL},
+    {"_rewrite", table_rewrite, METH_VARARGS, NULL},
+    {NULL, NULL, 0, NULL},
+};
+
+static PyType_Slot table_slots[] = {
+    {Py_tp_doc, "A table of the library."},
+    {Py_tp_new, table_new},
+    {Py_tp_dealloc, table_free},
+    {Py_tp_methods, table_methods},
+    {0, NULL},
+};
+
+PyType_Spec table_spec = {"smap._smap.Table", sizeof(struct held), 0, Py_TPFLAGS_DEFAULT | Py_TPFLAGS_BASETYPE, table_slots};
