@@ -3,7 +3,7 @@
 
 A sample is an indented line `$ COMMAND` with what it prints below it, on both streams, as indented; a command goes on below a
 line that ends in a backslash or `|`. One shell runs all samples of a page. `./smap` is taken for `smap`. A block behind a line
-`<!-- not run: REASON -->` is not run. A fenced block in C, Python or JavaScript is left to languages.sh, and one in another
+`<!-- not run: REASON -->` is not run. A fenced block in C, Python or JavaScript is left to tests/try-pages, and one in another
 language needs such a line. The status is 1 where a sample printed something else.
 """
 
