@@ -2,7 +2,7 @@
 """Runs the samples of pages in the current folder, page after page: samples.py PAGE...
 
 A sample is an indented line `$ COMMAND` with what it prints below it, on both streams, as indented; a command goes on below a
-line that ends in a backslash or `|`. One shell runs all samples of a page. `./smap` is taken for `smap`. A block behind a line
+line that ends in a backslash, `|` or `&&`. One shell runs all samples of a page. `./smap` is taken for `smap`. A block behind a line
 `<!-- not run: REASON -->` is not run. A fenced block in C, Python or JavaScript is left to tests/try-pages, and one in another
 language needs such a line. The status is 1 where a sample printed something else.
 """
@@ -46,7 +46,7 @@ def samples(page: str) -> list[Sample]:
                 reason = None
             continue
         indent, command = begin.groups()
-        while command.endswith(("\\", "|")):
+        while command.endswith(("\\", "|", "&&")):
             command += "\n" + lines[i].removeprefix(indent)
             i += 1
         printed = []
