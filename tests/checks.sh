@@ -30,9 +30,10 @@ same() {
     fi
 }
 
-# The sample of docs/LIBRARY.md in a language, as c, python or js. Each prints `told_by_samples`.
+# sample_in LANGUAGE [PAGE]: all samples of a page in c, python or js, joined; of docs/LIBRARY.md if none is given. They print
+# `told_by_samples`.
 sample_in() {
-    awk -v fence="\`\`\`$1" '$0 == "```" { inside = 0 } inside { print } $0 == fence { inside = 1 }' "$root/docs/LIBRARY.md"
+    awk -v fence="\`\`\`$1" '$0 == "```" { inside = 0 } inside { print } $0 == fence { inside = 1 }' "$root/${2:-docs/LIBRARY.md}"
 }
 # shellcheck disable=SC2034
 told_by_samples='../src/index.ts:36:54 transformReactJSX'

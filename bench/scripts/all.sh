@@ -17,8 +17,8 @@ done
 
 version_of() { NODE_PATH=${NODE_PATH:-/usr/share/nodejs} node -p "require('$1/package.json').version"; }
 
-printf '\nCommit %s, %s runs each, best time and highest peak. %s, %s processors; node %s, trace-mapping %s, source-map %s, remapping %s, sourcemap-codec %s.\n\n' \
-    "$(git -C "$here" rev-parse --short=9 HEAD)" "$RUNS" \
+printf '\nCommit %s, %s runs each, least seconds%s and highest peak. %s, %s processors; node %s, trace-mapping %s, source-map %s, remapping %s, sourcemap-codec %s.\n\n' \
+    "$(git -C "$here" rev-parse --short=9 HEAD)" "$RUNS" "${CLOCK:+ of a $CLOCK}" \
     "$(sed -n 's/^model name[^:]*: //p' /proc/cpuinfo | head -n 1)" "$(nproc)" "$(node -v)" \
     "$(version_of @jridgewell/trace-mapping)" "$(version_of source-map)" "$(version_of @ampproject/remapping)" \
     "$(version_of @jridgewell/sourcemap-codec)"

@@ -3,7 +3,8 @@
 #
 # They time commands and print a table for each comparison. RUNS says how often each command is started, PROGRAM times
 # that program in place of the one of this repository, and BYTES says how large the large maps are. Where ROWS names a
-# file, as all.sh does, each row is added to it as well.
+# file, as all.sh does, each row is added to it as well. CLOCK=processor counts seconds of processors in place of those of the
+# clock, where other things run on the machine; a program with several threads, as node, then counts with each.
 #
 # The maps are made of a real one, MAP, of Debian's package node-babel7-debug. The other readers are modules of its
 # packages node-ampproject-remapping and node-source-map. The peaks of memory need the program `time` (/usr/bin/time).
@@ -47,12 +48,14 @@ make_large_map() {
     insist 'smap lookup' "$(place_in "$1")" "$place"
 }
 
-# Runs a command, and leaves the greatest of the peaks of its memory in all runs, in KiB, in `peak`.
+# Runs a command, and leaves the greatest of the peaks of its memory in all runs, in KiB, in `peak`. The microseconds of
+# processors that it took are added to `processor`.
 measured() {
-    /usr/bin/time -f %M -o "$folder/peak" "$@"
-    local took
-    took=$(tail -n 1 "$folder/peak")
+    /usr/bin/time -f '%M %U %S' -o "$folder/peak" "$@"
+    local took user system
+    read -r took user system < <(tail -n 1 "$folder/peak")
     if ((took > peak)); then peak=$took; fi
+    processor=$((processor + (10#${user/./} + 10#${system/./}) * 10000))
 }
 
 plain() { measured cat -- "$map" >/dev/null; }
@@ -86,9 +89,10 @@ best_of() {
     least='' least_within='' peak=0
     for ((i = 0; i < runs; i++)); do
         within=''
-        begin=${EPOCHREALTIME/[.,]/}
+        begin=${EPOCHREALTIME/[.,]/} processor=0
         "$1"
         took=$((${EPOCHREALTIME/[.,]/} - begin))
+        if [ "${CLOCK:-}" = processor ]; then took=$processor; fi
         if [ -z "$least" ] || ((took < least)); then least=$took; fi
         if [ -n "$within" ] && { [ -z "$least_within" ] || ((within < least_within)); }; then
             least_within=$within
