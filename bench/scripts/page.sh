@@ -12,6 +12,8 @@ set -euo pipefail
 
 # shellcheck source=../../tests/checks.sh
 . "$(dirname -- "$(readlink -f -- "${BASH_SOURCE[0]}")")/../../tests/checks.sh"
+# shellcheck source=bundle.sh
+. "$(dirname -- "$(readlink -f -- "${BASH_SOURCE[0]}")")/bundle.sh"
 if [ -n "${PROGRAM:-}" ]; then
     program=$PROGRAM
 else
@@ -32,10 +34,8 @@ import sys, files
 from pathlib import Path
 files.bundle(Path(sys.argv[1]), Path(sys.argv[2]), 5000000)' "$folder" "$root/examples")
     pairs+=("$folder/bundle.min.js.map" "$folder/bundle.min.js")
-    typescript=${NODE_PATH:-/usr/share/nodejs}/typescript/lib
-    if command -v esbuild >/dev/null && [ -r "$typescript/tsc.js" ]; then
-        printf 'require("%s/typescript.js"); require("%s/tsc.js");\n' "$typescript" "$typescript" >"$folder/entry.js"
-        esbuild "$folder/entry.js" --bundle --minify --sourcemap --platform=node --outfile="$folder/typescript.js" --log-level=error
+    if can_bundle; then
+        make_bundle "$folder/typescript.js"
         pairs+=("$folder/typescript.js.map" "$folder/typescript.js")
     fi
 fi
