@@ -34,12 +34,12 @@ impl<S: ByteSink> KeepingSink<S> {
         let _ = self.kept.extend_from_slice(&bytes[..room.min(bytes.len())]);
     }
 
-    /// Adds the line that says which word tells more of the first refusal that was told, where there is one.
-    pub fn tell_more(&mut self, alloc: Global) {
-        let Ok(told) = String::from_utf8_lossy(alloc, &self.kept) else {
+    /// Adds the line that says which word says more of the first refusal that was reported, where there is one.
+    pub fn report_more(&mut self, alloc: Global) {
+        let Ok(reported) = String::from_utf8_lossy(alloc, &self.kept) else {
             return;
         };
-        let Some(code) = code_in(&told) else {
+        let Some(code) = code_in(&reported) else {
             return;
         };
         if let Ok(line) = format!(in alloc; "smap explain {code} says more\n") {
@@ -72,8 +72,8 @@ impl<S: ByteSink> ByteSink for KeepingSink<S> {
 }
 
 // The code of the first refusal among these lines: the first word after the last `: ` of its line, where that has a row.
-fn code_in(told: &str) -> Option<&'static str> {
-    for line in told.lines() {
+fn code_in(reported: &str) -> Option<&'static str> {
+    for line in reported.lines() {
         if line.starts_with("refused: ") {
             return code_of_line(line);
         }
