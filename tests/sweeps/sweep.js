@@ -113,7 +113,7 @@ function swept(tools, { call, answer, again = answer, memory, growths }) {
   }
   if (Array.isArray(memory) && unseen.size > 0) return { wrong: `never answered: ${[...unseen].join(', ')}` };
   const refused = answers.memory + answers.ample;
-  return { line: `${refused} refused, ${answers.memory} want of memory, ${answers.ample} ample`, refused };
+  return { line: `${refused} refused, ${answers.memory} out of memory, ${answers.ample} ample`, refused };
 }
 
 // How a call that takes no memory answers while every growth is refused.

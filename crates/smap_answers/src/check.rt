@@ -128,7 +128,7 @@ fn accepted_line(
     }
 }
 
-// Why the map of these bytes is refused. Want of memory is no refusal of the map.
+// Why the map of these bytes is refused. Out of memory is no refusal of the map.
 fn refused_reply(
     alloc: Global,
     path: &str,

@@ -12,7 +12,7 @@ use smap_record::MapRefusal;
 use smap_verdicts::refusal_text;
 use std::alloc::{AllocError, Global};
 
-/// Why the map file at this path is refused. Want of memory is no refusal of the map.
+/// Why the map file at this path is refused. Out of memory is no refusal of the map.
 pub fn refusal_of(alloc: Global, path: &str, refused: MapRefusal) -> Failure
     ensures { OrMemory (λ report. (refused ≢ Memory) × (report ≡ refusal_result path.now refused))
         (failure_report result) }
@@ -23,7 +23,7 @@ pub fn refusal_of(alloc: Global, path: &str, refused: MapRefusal) -> Failure
     }
 }
 
-/// The line that says why the map file at this path is refused, with its LF. Want of memory has none.
+/// The line that says why the map file at this path is refused, with its LF. Out of memory has none.
 pub fn refusal_line(alloc: Global, path: &str, refused: MapRefusal) -> Result<String, AllocError>
     ensures reported { IfOk result (λ line. string_bytes line ≡ map_refused_line path.now
         (refusal_text refused)) }

@@ -166,7 +166,7 @@ pub fn refused_list(alloc: Global, list: &str, refused: ListRefusal) -> Failure
     }
 }
 
-// Why a folder or a line is refused, in words; none stands for want of memory.
+// Why a folder or a line is refused, in words; none stands for out of memory.
 fn reason_of(fault: ListFault) -> Option<&'static str>
     ensures { option_copied result ≡ reason_of fault }
 {

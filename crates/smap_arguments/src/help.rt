@@ -100,7 +100,7 @@ pub const CHECK_NOTES: &str = "\
 Answer: how many sections, sources, names and segments the map has, how many generated lines hold a segment,
 and how many checkpoints its index has.
 
-With several PATHs each is reported by a line, in their order: `PATH: ok ..` on standard output, or
+With several PATHs each has a line, in their order: `PATH: ok ..` on standard output, or
 `refused: PATH: ..` or `device: read PATH` on standard error. A file is let go before the next is read, and
 one that is refused or can't be read stops no other. The status is the greatest of all.
 
@@ -187,7 +187,7 @@ pub const LINE_HELP: &str = "Line of the generated file, from 1";
 pub const ONE_LINE_HELP: &str = "Line of the generated file, from 1; without it all lines";
 
 pub const GENERATED_HELP: &str =
-    "Path of the generated file, to say how many of its bytes each source makes";
+    "Path of the generated file, to count how many of its bytes each source makes";
 
 pub const ORDER_HELP: &str = "Print those that make most first: `bytes`";
 

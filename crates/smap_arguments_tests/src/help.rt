@@ -55,7 +55,7 @@ Options:
 Answer: how many sections, sources, names and segments the map has, how many generated lines hold a segment,
 and how many checkpoints its index has.
 
-With several PATHs each is reported by a line, in their order: `PATH: ok ..` on standard output, or
+With several PATHs each has a line, in their order: `PATH: ok ..` on standard output, or
 `refused: PATH: ..` or `device: read PATH` on standard error. A file is let go before the next is read, and
 one that is refused or can't be read stops no other. The status is the greatest of all.
 
