@@ -67,7 +67,7 @@ abbrev pub cause_text : UnreadCause → List ℕ
 cause_text causes.Missing = codes "  there is no such file\n"
 cause_text causes.Folder = codes "  the path is that of a folder\n"
 cause_text causes.NoPermission = codes "  the file may not be read: permission is denied\n"
-cause_text causes.Other = codes "  the file is there, and reading it failed\n"
+cause_text causes.Other = codes "  reading the file failed for another cause\n"
 
 -- the file at a path can't be read, and that is reported, and why, where that is asked: the machine says the cause
 abbrev pub IsUnreadReported : (path : List ℕ) → (explain : Bool) → Report → Type 0

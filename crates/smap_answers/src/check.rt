@@ -242,6 +242,6 @@ fn cause_text(cause: UnreadCause) -> &'static str
         UnreadCause::Missing => "  there is no such file\n",
         UnreadCause::Folder => "  the path is that of a folder\n",
         UnreadCause::NoPermission => "  the file may not be read: permission is denied\n",
-        UnreadCause::Other => "  the file is there, and reading it failed\n",
+        UnreadCause::Other => "  reading the file failed for another cause\n",
     }
 }

@@ -71,7 +71,7 @@ impl<S: ByteSink> ByteSink for KeepingSink<S> {
     }
 }
 
-// The code of the first refusal among these lines: the first word after the last `: ` of its line, where that has a row.
+// The code of the first refusal among these lines, where that has a row.
 fn code_in(reported: &str) -> Option<&'static str> {
     for line in reported.lines() {
         if line.starts_with("refused: ") {
@@ -81,7 +81,12 @@ fn code_in(reported: &str) -> Option<&'static str> {
     None
 }
 
+// The code and its name stand behind `refused: ` or behind the last `: `, before which a path stands.
 fn code_of_line(line: &str) -> Option<&'static str> {
+    let (_, refusal) = line.split_once(": ")?;
+    if let Some(code) = code_with_name(refusal) {
+        return Some(code);
+    }
     let (_, refusal) = line.rsplit_once(": ")?;
     let word = match refusal.split_once(' ') {
         Some((word, _)) => word,
@@ -89,4 +94,15 @@ fn code_of_line(line: &str) -> Option<&'static str> {
     };
     let row = row_of(word)?;
     Some(row.code)
+}
+
+// The code that this begins with, where a blank and its name follow.
+fn code_with_name(refusal: &str) -> Option<&'static str> {
+    let (word, rest) = refusal.split_once(' ')?;
+    let row = row_of(word)?;
+    if rest.starts_with(row.name) {
+        Some(row.code)
+    } else {
+        None
+    }
 }
