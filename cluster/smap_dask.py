@@ -47,11 +47,11 @@ MOST_BLOCK_BYTES = 536_870_912
 # none of these: Dask gives its blocks to others by itself.)
 RETRIES = 2
 
-# What the program tells of a trace that it rewrote to its end, before its counts.
+# What the program prints of a trace that it rewrote to its end, before its counts.
 SUMMARY = "ok "
 
-# So many lines about maps are told, as by the program.
-MOST_TOLD = 100
+# So many lines about maps are reported, as by the program.
+MOST_REPORTED = 100
 
 # A free port that only this machine reaches.
 LOOPBACK = "127.0.0.1:0"
@@ -68,7 +68,7 @@ over: so a run that ended early is given once more, and does what is missing. To
 its file.
 
 The maps of words URL=FILE are read for each block. Those of folders and lists are read only for blocks that name them;
-one that can't be had is told once, and ends nothing.
+one that can't be had is reported once, and ends nothing.
 """
 
 END = """
@@ -90,7 +90,7 @@ class Stop(Exception):
 
 
 def counts_in(line: str) -> dict[str, int]:
-    """The counts in the line that the program tells at the end."""
+    """The counts in the line that the program prints at the end."""
     words = line.removeprefix(SUMMARY).split(" ")
     return dict(zip(words[0::2], map(int, words[1::2])))
 
@@ -252,18 +252,18 @@ def show(bar: str) -> None:
 
 
 @dataclass
-class Told:
-    """What the programs told of all blocks: the greatest status, the lines about maps, and the sums of the counts."""
+class Reported:
+    """What the programs reported of all blocks: the greatest status, the lines about maps, and the sums of the counts."""
 
     status: int = 0
     lines: set[str] = field(default_factory=set)
     counts: dict[str, int] = field(default_factory=dict)
 
     def add(self, status: int, said: str, counts: dict[str, int]) -> None:
-        """Takes what was told of a block. A line that no block had before is told, up to so many."""
+        """Takes what was reported of a block. A line that no block had before is reported, up to so many."""
         self.status = max(self.status, status)
         for line in said.splitlines():
-            if line not in self.lines and len(self.lines) < MOST_TOLD:
+            if line not in self.lines and len(self.lines) < MOST_REPORTED:
                 self.lines.add(line)
                 show("")
                 print(line, file=sys.stderr)
@@ -274,7 +274,7 @@ class Told:
         return SUMMARY + " ".join(f"{name} {count}" for name, count in self.counts.items())
 
 
-def rewrite_all(client: Client, traces: list[Trace], folder: Path, told: Told) -> None:
+def rewrite_all(client: Client, traces: list[Trace], folder: Path, reported: Reported) -> None:
     """Has all blocks rewritten, and joins what becomes of them."""
     tasks = [(trace, number) for trace in traces for number in range(len(trace.blocks))]
     futures: list[Future] = client.map(
@@ -297,7 +297,7 @@ def rewrite_all(client: Client, traces: list[Trace], folder: Path, told: Told) -
                 if not part:
                     raise Stop(status, said)
                 trace, number = tasks_of.pop(future.key)
-                told.add(status, said, counts)
+                reported.add(status, said, counts)
                 try:
                     trace.add(number, Path(part))
                 except OSError:
@@ -342,7 +342,7 @@ def arguments(words: list[str]) -> argparse.Namespace:
     rewrite.add_argument("--hide-ignored", action="store_true", help=same)
     rewrite.add_argument("--anywhere", action="store_true", help=same)
     rewrite.add_argument("--cache", metavar="BYTES", help=f"{same}, for each block")
-    rewrite.add_argument("--summary", action="store_true", help="tell the sums of the counts of all blocks at the end")
+    rewrite.add_argument("--summary", action="store_true", help="report the sums of the counts of all blocks at the end")
     rewrite.add_argument(
         "--block",
         metavar="SIZE",
@@ -383,7 +383,7 @@ def absolute(path: str) -> str:
 
 
 def run(given: argparse.Namespace) -> int:
-    """Does what is missing, and tells what was done. The answer is the greatest status of all blocks."""
+    """Does what is missing, and says what was done. The answer is the greatest status of all blocks."""
     begun = time.monotonic()
     words = []
     for word in given.words:
@@ -405,7 +405,7 @@ def run(given: argparse.Namespace) -> int:
     output = given.output.absolute()
     to_do = traces_to_do(given.traces, output)
     program = program_of(given.program)
-    told = Told()
+    reported = Reported()
     with folder_of_parts(output) as folder:
         try_options(program, options, words)
         (folder / "job").write_text(json.dumps({"program": program, **job}))
@@ -417,14 +417,14 @@ def run(given: argparse.Namespace) -> int:
         blocks = sum(len(trace.blocks) for trace in traces)
         if blocks > 0:
             with cluster_of(given.scheduler) as client:
-                rewrite_all(client, traces, folder, told)
+                rewrite_all(client, traces, folder, reported)
     if given.summary and blocks > 0:
-        print(told.summary(), file=sys.stderr)
+        print(reported.summary(), file=sys.stderr)
     print(
         f"ok traces {len(traces)} finished before {len(given.traces) - len(traces)} blocks {blocks} "
-        f"lines {told.counts.get('lines', 0)} seconds {time.monotonic() - begun:.1f}"
+        f"lines {reported.counts.get('lines', 0)} seconds {time.monotonic() - begun:.1f}"
     )
-    return told.status
+    return reported.status
 
 
 def fail(status: int, said: str) -> NoReturn:

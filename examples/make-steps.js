@@ -6,7 +6,7 @@
 //
 //   node examples/make-steps.js
 //
-// needs the module terser, and the program esbuild (ESBUILD=PROGRAM where it is not on the PATH). No step is told of the
+// needs the module terser, and the program esbuild (ESBUILD=PROGRAM where it is not on the PATH). No step knows of the
 // map of the one before it: the maps that the comments in the two modules name are not in this folder.
 'use strict';
 

@@ -9,7 +9,7 @@
  * stays there. Each handle is used by one call at a time; two threads may use two handles, each its own.
  *
  * No pointer is null: of no bytes, give a pointer to anything and the length 0. Two pointers of a call lead to different
- * places. What a call writes to has values before: begin with {0} or {}, or with SMAP_TEXT and SMAP_SOURCE.
+ * places. Set what a call writes to before: to {0} or {}, or to SMAP_TEXT and SMAP_SOURCE.
  *
  * A call returns 0 where it did what it was asked, 1 where what it was given is refused or there is nothing of that
  * number, and 3 where it is out of memory.
@@ -67,8 +67,8 @@ typedef struct smap_reason {
     uint32_t has_value, has_least, has_most, has_column;
 } smap_reason;
 
-/* What a look-up answers: no mapping (0), one without an original (1), or one with an original (2). What the kind has
- * not is 0. */
+/* What a look-up answers: no mapping (0), one without an original (1), or one with an original (2). Fields that the kind
+ * does not have are 0. */
 typedef struct smap_found {
     uint32_t kind;
     uint32_t generated_column; /* of the mapping that answers */
@@ -146,7 +146,7 @@ uint32_t smap_map_mappings(smap_map *map, smap_bytes *bytes);
 uint32_t smap_bytes_by_source(smap_map *map, const uint8_t *generated, size_t length, uint64_t *sources, size_t places,
                               uint64_t *unmapped, uint32_t *refusal);
 
-/* Tells how much the map holds. Returns 0. */
+/* Gives how much the map holds. Returns 0. */
 uint32_t smap_counts(smap_map *map, smap_count *counts);
 
 /* Lends source or name `index`, or the name of the generated file. Returns 1 where there is none. */
@@ -216,13 +216,13 @@ void smap_table_free(smap_table *table);
 
 /* Rewrites a trace: each frame whose URL is in the table and whose place has an original gets it in its place, and every
  * other byte stays. With `hide_ignored` lines of frames from ignored sources are dropped. Returns 1 where the trace has
- * more than 1,073,741,824 bytes. `counts` is told where it returns 0. The bytes are freed by smap_bytes_free. */
+ * more than 1,073,741,824 bytes. `counts` is set where it returns 0. The bytes are freed by smap_bytes_free. */
 uint32_t smap_rewrite(smap_table *table, const uint8_t *trace, size_t length, bool hide_ignored,
                       smap_bytes *bytes, smap_trace_count *counts);
 
 /* Rewrites a text: each place URL:line:column, wherever it stands in a line, whose URL is in the table and which has an
  * original gets it in its stead, and every other byte stays. Returns 1 where the text has more than 1,073,741,824 bytes.
- * `counts` is told where it returns 0: `frames` are the places, and none is hidden. The bytes are freed by
+ * `counts` is set where it returns 0: `frames` are the places, and none is hidden. The bytes are freed by
  * smap_bytes_free. */
 uint32_t smap_rewrite_anywhere(smap_table *table, const uint8_t *text, size_t length, smap_bytes *bytes,
                                smap_trace_count *counts);

@@ -30,11 +30,11 @@ def record(path: str, data: bytes) -> str:
 
 
 def main(folder: Path, pyproject: Path, readme: Path, to: Path) -> None:
-    told = project(pyproject)
-    name = f"{told['name']}-{told['version']}"
+    reported = project(pyproject)
+    name = f"{reported['name']}-{reported['version']}"
     metadata = (
-        f"Metadata-Version: 2.1\nName: {told['name']}\nVersion: {told['version']}\nSummary: {told['description']}\n"
-        f"Requires-Python: {told['requires-python']}\nDescription-Content-Type: text/markdown\n\n{readme.read_text()}"
+        f"Metadata-Version: 2.1\nName: {reported['name']}\nVersion: {reported['version']}\nSummary: {reported['description']}\n"
+        f"Requires-Python: {reported['requires-python']}\nDescription-Content-Type: text/markdown\n\n{readme.read_text()}"
     )
     wheel = f"Wheel-Version: 1.0\nGenerator: smap\nRoot-Is-Purelib: false\nTag: {TAG}\n"
     files = {str(path.relative_to(folder)): path.read_bytes() for path in sorted(folder.rglob("*")) if path.is_file()}

@@ -135,10 +135,10 @@ class Areas {
       const isFolder = Boolean(child.children);
       const hasHead = isFolder && width > 46 && height > HEAD + 16;
       const whole = isFolder ? child.name : child.source < 0 ? child.name : this.nameOf(child.source);
-      const told = `${visible(whole)}, ${this.share(child.bytes)}`;
+      const reported = `${visible(whole)}, ${this.share(child.bytes)}`;
       Object.assign(button.style, { left: `${x}px`, top: `${y}px`, width: `${width}px`, height: `${height}px` });
-      button.title = told;
-      button.setAttribute('aria-label', told);
+      button.title = reported;
+      button.setAttribute('aria-label', reported);
       button.className = isFolder ? 'folder' : child.source < 0 ? 'area unmapped' : 'area';
       nodes.append(button);
       if (isFolder) {

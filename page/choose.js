@@ -1,4 +1,4 @@
-// Pointing and choosing, and the line that tells of it.
+// Pointing and choosing, and the line that says so.
 
 function pointAt(index, other) {
   if (index === pointed) return;
@@ -13,7 +13,7 @@ function pointAt(index, other) {
   }
   hint(other === panes.generated ? index : -1);
   redraw();
-  tell();
+  report();
 }
 
 // Back to the source that was open before something was pointed at, and to where it was.
@@ -54,7 +54,7 @@ function choose(index, { in: other } = {}) {
   }
   $('generated').querySelector('.hint').hidden = true;
   redraw();
-  tell();
+  report();
 }
 
 // Sets the place of the generated text that is asked for, from 0.
@@ -71,7 +71,7 @@ function letGo() {
   panes.generated.caret = null;
   panes.original.caret = null;
   redraw();
-  tell();
+  report();
 }
 
 function redraw() {
@@ -90,7 +90,7 @@ function answerOf(index) {
 }
 
 // The line at the bottom: what is pointed at, or else what is chosen.
-function tell() {
+function report() {
   const isPointed = pointed >= 0;
   const index = isPointed ? pointed : chosen;
   let at = null;

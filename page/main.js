@@ -110,7 +110,7 @@ function start() {
   panes.generated.show(generated);
   open = -2;
   openSource(ranked.length > 0 ? ranked[0] : -1);
-  tell();
+  report();
 }
 
 function redrawAll() {

@@ -1,7 +1,7 @@
 # shellcheck shell=bash
 # What the scripts here and in bench/ have in common. It is read by them and not run.
 #
-# It makes a temporary folder, which goes when the script ends. Each check is counted. One that fails is told; where
+# It makes a temporary folder, which goes when the script ends. Each check is counted. One that fails is reported; where
 # `at_once` is set, as the scripts that measure have it, it ends the script with status 1.
 
 root=$(cd -- "$(dirname -- "$(readlink -f -- "${BASH_SOURCE[0]}")")/.." && pwd)
@@ -31,12 +31,12 @@ same() {
 }
 
 # sample_in LANGUAGE [PAGE]: all samples of a page in c, python or js, joined; of docs/LIBRARY.md if none is given. They print
-# `told_by_samples`.
+# `reported_by_samples`.
 sample_in() {
     awk -v fence="\`\`\`$1" '$0 == "```" { inside = 0 } inside { print } $0 == fence { inside = 1 }' "$root/${2:-docs/LIBRARY.md}"
 }
 # shellcheck disable=SC2034
-told_by_samples='../src/index.ts:36:54 transformReactJSX'
+reported_by_samples='../src/index.ts:36:54 transformReactJSX'
 
 # Says how many checks were made, and ends with status 1 where one of them failed.
 sum_up() {

@@ -47,7 +47,7 @@ def place(value, what):
     return min(number, 2**32 - 1)
 
 
-def told(found):
+def reported(found):
     if found.kind == 0:
         return None
     if found.kind == 1:
@@ -65,7 +65,7 @@ class SourceMap:
         line, column, found = place(line, "line"), place(column, "column"), Found()
         with self._lock:
             library.smap_look_up(self._handle, line, column, found)
-        return told(found)
+        return reported(found)
 
     def look_up_many(self, positions):
         given = array("I", positions.tobytes())

@@ -1,5 +1,5 @@
 #!/usr/bin/env node
-// Counts what map files hold, with @jridgewell/trace-mapping: each is read, decoded, told and let go before the next.
+// Counts what map files hold, with @jridgewell/trace-mapping: each is read, decoded, reported and let go before the next.
 //
 //   node check-maps.js text|json < PATHS
 //
@@ -26,8 +26,8 @@ function countsOf(path) {
 }
 
 function text({ path, ...counts }) {
-  const told = ['sections', 'sources', 'names', 'segments', 'lines', 'checkpoints'].map((what) => `${what} ${counts[what]}`);
-  return `${path}: ok ${told.join(' ')}`;
+  const reported = ['sections', 'sources', 'names', 'segments', 'lines', 'checkpoints'].map((what) => `${what} ${counts[what]}`);
+  return `${path}: ok ${reported.join(' ')}`;
 }
 
 const line = how === 'json' ? JSON.stringify : text;

@@ -5,7 +5,7 @@
 # The maps are made of a real one, MAP (cut-maps.js), and the places of the frames are random (make-trace.js); the
 # large trace is REPEATS times the same, 4 where it is not given. It goes to a file, and each of the small ones to its
 # own, by one process after another, by parallel, and by a scheduler and workers that run already. The time is that of
-# the whole command: of the script a part of it is Python's start, so that what it says itself is told beside it. The
+# the whole command: of the script a part of it is Python's start, so that what it says itself is reported beside it. The
 # last row is the script with a cluster of its own, which it starts and ends, with a worker for each processor. All have
 # to write the same bytes.
 #

@@ -54,13 +54,13 @@ both 'both large' "$large" "$large"
 
 # The bundle, whose modules are all composed in one run.
 mkdir "$folder/bundle"
-told=$(node "$makers/make-bundle.js" "$real" "$modules" "$segments" "$folder/bundle")
+reported=$(node "$makers/make-bundle.js" "$real" "$modules" "$segments" "$folder/bundle")
 outer=$folder/bundle/dist/bundle.js.map list=$folder/bundle/list
 printf '\nbundle: %s bytes, and %s modules with %s bytes\n%s\n' "$(stat -c %s -- "$outer")" "$modules" \
-    "$(cat -- "$folder"/bundle/build/*.map | wc -c)" "$told"
+    "$(cat -- "$folder"/bundle/build/*.map | wc -c)" "$reported"
 compared "composing, a bundle of $modules modules"
 report 'smap compose --prune' compose_pruned
-insist 'smap check' "$("$program" check "$folder/by_smap")" "$told"
+insist 'smap check' "$("$program" check "$folder/by_smap")" "$reported"
 report 'smap compose' compose_all
 report 'remapping' by_loader
 same_places

@@ -31,8 +31,8 @@ for map in "$folder/map" "$root/examples/preset-react.js.map"; do
     sum=
     for way in in_c in_python by_ctypes in_node by_trace_mapping; do
         for ((i = 0; i < runs; i++)); do "$way"; done >"$folder/said"
-        told=$(cut -d ' ' -f 4 "$folder/said" | sort -u)
-        insist "$way" "$told" "${sum:=$told}"
+        reported=$(cut -d ' ' -f 4 "$folder/said" | sort -u)
+        insist "$way" "$reported" "${sum:=$reported}"
         printf '%-16s' "$way"
         for field in 1 2 3; do
             cut -d ' ' -f "$field" "$folder/said" | sort -n | head -n 1 | awk '{ if ($1 == "-") printf " %11s", "-"; else printf " %11.1f", $1 / 1000 }'

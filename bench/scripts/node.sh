@@ -14,9 +14,9 @@ count=${MAPS:-300}
 node "$makers/repeat-map.js" "$real" 3200000 "$folder/small" >/dev/null
 node "$makers/repeat-map.js" "$real" "$most" "$folder/large" >/dev/null
 
-# told WHAT PEAK COMMAND..: a row of the least of each time and the highest peak, which is field PEAK; what stands behind it is
+# reported WHAT PEAK COMMAND..: a row of the least of each time and the highest peak, which is field PEAK; what stands behind it is
 # the sum.
-told() {
+reported() {
     local what=$1 peak_at=$2 i
     for ((i = 0; i < runs; i++)); do "${@:3}"; done >"$folder/said"
     local got
@@ -29,13 +29,13 @@ told() {
 
 printf '%s maps of %s bytes: time and peak\n' "$count" "$(stat -c %s -- "$folder/small")"
 sum=
-told smap 2 node "$readers/many-maps.js" smap "$folder/small" "$count"
-told trace-mapping 2 node "$readers/many-maps.js" trace "$folder/small" "$count"
+reported smap 2 node "$readers/many-maps.js" smap "$folder/small" "$count"
+reported trace-mapping 2 node "$readers/many-maps.js" trace "$folder/small" "$count"
 
 printf '\na map of %s bytes: reading, the call, and the peak\n' "$(stat -c %s -- "$folder/large")"
 sum=
 for call in eachMapping decodedMappings; do
-    told "$call of smap" 3 node "$readers/each-mapping.js" smap "$folder/large" "$call"
-    told "$call of trace-mapping" 3 node "$readers/each-mapping.js" trace "$folder/large" "$call"
+    reported "$call of smap" 3 node "$readers/each-mapping.js" smap "$folder/large" "$call"
+    reported "$call of trace-mapping" 3 node "$readers/each-mapping.js" trace "$folder/large" "$call"
 done
-told 'mappings of smap' 3 node "$readers/each-mapping.js" smap "$folder/large" mappings
+reported 'mappings of smap' 3 node "$readers/each-mapping.js" smap "$folder/large" mappings

@@ -83,7 +83,7 @@ by_node() {
 }
 
 # The least times of a few runs, in microseconds: of the whole process in `least`, and within it in `least_within`, where
-# the command tells it. The highest peak of memory is in `peak`.
+# the command says it. The highest peak of memory is in `peak`.
 best_of() {
     local begin took i
     least='' least_within='' peak=0

@@ -9,9 +9,9 @@ const { refusedComposition, refusedSource } = require('./refused.js');
 function compose(outer, source, inner) {
   const [first, second, index] = [open(outer), open(inner), given.source(source)];
   if (first === second) return composedWithItself(outer, index);
-  const told = addon.compose(first, index, second);
-  if (typeof told === 'number') throw refusedComposition(told);
-  return told;
+  const reported = addon.compose(first, index, second);
+  if (typeof reported === 'number') throw refusedComposition(reported);
+  return reported;
 }
 
 // No call of the library takes one handle twice, so the map is written and read again.
@@ -137,9 +137,9 @@ class Composing {
 
 // The text of the map that these come to, which are all different maps.
 function composed(outer, inners, prune, noContent) {
-  const told = addon.composeAll(outer, Uint32Array.from(inners.keys()), [...inners.values()], prune, noContent);
-  if (typeof told === 'number') throw refusedComposition(told);
-  return told;
+  const reported = addon.composeAll(outer, Uint32Array.from(inners.keys()), [...inners.values()], prune, noContent);
+  if (typeof reported === 'number') throw refusedComposition(reported);
+  return reported;
 }
 
 module.exports = { compose, composeAll };

@@ -1,4 +1,4 @@
-/* What the objects of the addon hold of the library: a map or a table each. V8 is told of the memory, which is not its own. */
+/* What the objects of the addon hold of the library: a map or a table each. V8 knows of the memory, which is not its own. */
 #include <node_api.h>
 #include <smap.h>
 #include <stdlib.h>
@@ -12,14 +12,14 @@ struct held;
 struct addon {
     uint32_t *room;
     struct held *first;
-    int64_t told, swept; /* the bytes that V8 is told of, and those after the last sweep */
+    int64_t reported, swept; /* the bytes that V8 knows of, and those after the last sweep */
 };
 
 struct held {
     struct addon *addon;
     struct held *before, *after;
     napi_ref itself; /* the object, as long as it was not collected */
-    int64_t size;    /* the bytes that V8 is told of */
+    int64_t size;    /* the bytes that V8 knows of */
     bool full, is_table;
     smap_map map;
     smap_table table;
@@ -28,11 +28,11 @@ struct held {
 static const napi_type_tag map_tag = {0x8d3f0b6a91c24e55, 0xb1a7c05e2f6d4a01};
 static const napi_type_tag table_tag = {0x8d3f0b6a91c24e55, 0xb1a7c05e2f6d4a02};
 
-/* Tells V8 how many bytes this holds now. */
-static void tell_size(napi_env env, struct held *held, int64_t size) {
+/* Says to V8 how many bytes this holds now. */
+static void report_size(napi_env env, struct held *held, int64_t size) {
     int64_t all;
     napi_adjust_external_memory(env, size - held->size, &all);
-    if (held->addon) held->addon->told += size - held->size;
+    if (held->addon) held->addon->reported += size - held->size;
     held->size = size;
 }
 
@@ -43,7 +43,7 @@ static void let_go(napi_env env, struct held *held) {
         else smap_map_free(&held->map);
     }
     held->full = false;
-    tell_size(env, held, 0);
+    report_size(env, held, 0);
 }
 
 /* The object was collected, or the environment ends. */
@@ -71,7 +71,7 @@ static bool hold(napi_env env, struct addon *addon, napi_value object, struct he
     held->after = addon->first;
     if (held->after) held->after->before = held;
     addon->first = held;
-    tell_size(env, held, size);
+    report_size(env, held, size);
     return true;
 }
 
@@ -79,13 +79,13 @@ static bool hold(napi_env env, struct addon *addon, napi_value object, struct he
  * maps does not. */
 static void sweep(napi_env env, struct addon *addon) {
     napi_handle_scope scope;
-    if (addon->told - addon->swept < SWEEP || napi_open_handle_scope(env, &scope) != napi_ok) return;
+    if (addon->reported - addon->swept < SWEEP || napi_open_handle_scope(env, &scope) != napi_ok) return;
     for (struct held *held = addon->first; held; held = held->after) {
         napi_value object = NULL;
         if (napi_get_reference_value(env, held->itself, &object) == napi_ok && !object) let_go(env, held);
     }
     napi_close_handle_scope(env, scope);
-    addon->swept = addon->told;
+    addon->swept = addon->reported;
 }
 
 /* The environment ends: what is still held stands alone. */

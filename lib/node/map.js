@@ -180,9 +180,9 @@ class TraceMap {
 
   // How many bytes of the generated file, a text or a Uint8Array, come from each source, and from none.
   bytesBySource(generated) {
-    const told = addon.bytesBySource(open(this), given.bytes(generated, 'generated'));
-    if (typeof told === 'number') throw refusedGenerated(told);
-    const sources = Array.from(told);
+    const reported = addon.bytesBySource(open(this), given.bytes(generated, 'generated'));
+    if (typeof reported === 'number') throw refusedGenerated(reported);
+    const sources = Array.from(reported);
     const unmapped = sources.pop();
     return { sources, unmapped };
   }

@@ -23,10 +23,10 @@ const shown = (url) =>
 // What is known of why the map of these bytes is refused: the value of the faulty segment, its limit, which is the least where
 // it is below that and else the most, the segment's column, and sentences.
 function why(bytes, numbers) {
-  const told = new Float64Array(4);
-  const sentences = addon.refusalExplain(bytes, numbers, told);
+  const reported = new Float64Array(4);
+  const sentences = addon.refusalExplain(bytes, numbers, reported);
   if (sentences === null) return {};
-  const [value, least, most, column] = Array.from(told, (n) => (Number.isNaN(n) ? undefined : n));
+  const [value, least, most, column] = Array.from(reported, (n) => (Number.isNaN(n) ? undefined : n));
   return { value, limit: value < least ? least : most, column, explanation: sentences.toString() || undefined };
 }
 
@@ -41,7 +41,7 @@ function refusedMap(bytes, numbers, base, url) {
   return new Refused(line, [...numbers], url, why(bytes, numbers));
 }
 
-// Why no bytes are told of a generated file.
+// Why no bytes are counted of a generated file.
 function refusedGenerated(number) {
   return new Refused(`refused: ${['NotUtf8', 'TooLarge'][number - 1] || number}`, [number]);
 }

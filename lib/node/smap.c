@@ -187,7 +187,7 @@ static smap_refusal refusal_of(const double *n) {
     return (smap_refusal){(uint32_t)n[0], (uint32_t)n[1], (uint32_t)n[2], (uint32_t)n[3], (uint64_t)n[4], (uint64_t)n[5]};
 }
 
-/* refusalText(numbers): what the program tells of a refusal, as a Buffer, or null. */
+/* refusalText(numbers): what the program prints of a refusal, as a Buffer, or null. */
 static napi_value refusal_text(napi_env env, napi_callback_info info) {
     napi_value words[WORDS];
     const double *n;
@@ -316,13 +316,13 @@ static napi_value bytes_by_source(napi_env env, napi_callback_info info) {
     if (!held || !bytes_of(env, words[1], &generated, &length)) return NULL;
     smap_count count = {0};
     smap_counts(&held->map, &count);
-    uint64_t *told = calloc(count.sources + 1, sizeof *told);
-    if (!told) return refuse(env, "out of memory");
-    uint32_t status = smap_bytes_by_source(&held->map, generated, length, told, count.sources, told + count.sources, &why);
+    uint64_t *reported = calloc(count.sources + 1, sizeof *reported);
+    if (!reported) return refuse(env, "out of memory");
+    uint32_t status = smap_bytes_by_source(&held->map, generated, length, reported, count.sources, reported + count.sources, &why);
     if (status == SMAP_DONE && napi_create_arraybuffer(env, (count.sources + 1) * sizeof(double), &place, &room) == napi_ok &&
         napi_create_typedarray(env, napi_float64_array, count.sources + 1, room, 0, &array) == napi_ok)
-        for (size_t i = 0; i <= count.sources; i++) ((double *)place)[i] = (double)told[i];
-    free(told);
+        for (size_t i = 0; i <= count.sources; i++) ((double *)place)[i] = (double)reported[i];
+    free(reported);
     if (status == SMAP_REFUSED) return number(env, why);
     return array ? array : refuse(env, "out of memory");
 }
@@ -499,8 +499,8 @@ static napi_value add(napi_env env, napi_callback_info info) {
     if (!held) return NULL;
     uint32_t status = smap_table_add(&table->table, url, length, &held->map, &why);
     held->full = status == SMAP_REFUSED;
-    if (status == SMAP_DONE) tell_size(env, table, table->size + held->size);
-    if (!held->full) tell_size(env, held, 0);
+    if (status == SMAP_DONE) report_size(env, table, table->size + held->size);
+    if (!held->full) report_size(env, held, 0);
     if (status == SMAP_DONE) return NULL;
     return status == SMAP_REFUSED ? number(env, why) : refuse(env, "out of memory");
 }

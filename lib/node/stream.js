@@ -31,14 +31,14 @@ class RewriteStream extends Transform {
   }
 
   _transform(chunk, encoding, done) {
-    this.#told(() => this.#take(chunk), done);
+    this.#reported(() => this.#take(chunk), done);
   }
 
   _flush(done) {
-    this.#told(() => this.#put(this.#pieces), done);
+    this.#reported(() => this.#put(this.#pieces), done);
   }
 
-  #told(call, done) {
+  #reported(call, done) {
     try {
       call();
     } catch (error) {

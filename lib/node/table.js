@@ -19,8 +19,8 @@ class Table {
     this.handle = addon.newTable();
     for (const [key, map] of maps[Symbol.iterator] ? maps : Object.entries(maps)) {
       const url = given.text(key, 'URL');
-      const told = put(this, url, map);
-      if (typeof told === 'number') throw refusedUrl(told, url);
+      const reported = put(this, url, map);
+      if (typeof reported === 'number') throw refusedUrl(reported, url);
       this.known.add(Buffer.from(url).toString('latin1'));
     }
   }
@@ -45,9 +45,9 @@ function open(table) {
 function put(table, url, map) {
   const isRead = map instanceof TraceMap;
   const handle = isRead ? openMap(map) : standingAt(given.mapBytes(map), url);
-  const told = addon.add(open(table), Buffer.from(url), handle);
-  if (isRead && typeof told !== 'number') empty(map);
-  return told;
+  const reported = addon.add(open(table), Buffer.from(url), handle);
+  if (isRead && typeof reported !== 'number') empty(map);
+  return reported;
 }
 
 // Asks for the maps of the URLs that frames of the trace name and that were not asked for. A URL that is not UTF-8, or that no

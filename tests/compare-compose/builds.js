@@ -33,7 +33,7 @@ function filesBelow(folder, ending) {
   return fs.readdirSync(folder, { recursive: true }).filter((name) => name.endsWith(ending)).sort();
 }
 
-// Code without the comment that names its map, and the map of it beside it: a step that is told of no other.
+// Code without the comment that names its map, and the map of it beside it: a step that knows of no other.
 function place(file, code, map) {
   write(file, code.replace(/\n?\/\/# sourceMappingURL=.*\s*$/, '\n'));
   write(`${file}.map`, typeof map === 'string' ? map : JSON.stringify(map));

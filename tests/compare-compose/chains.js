@@ -39,7 +39,7 @@ function mapIn(file) {
 function run(...words) {
   const { status, stdout, stderr, error } = spawnSync(program, words, { encoding: 'utf8', maxBuffer: MOST_BYTES });
   if (error) throw error;
-  return { status, text: stdout, told: stderr.trim() };
+  return { status, text: stdout, reported: stderr.trim() };
 }
 
 // A LIST of these files by names of sources, as a file in the folder.
@@ -90,9 +90,9 @@ function compareStep(what, folder, outer, inners, steps) {
   const wanted = composedAll(mapIn(outer), maps);
   const list = listOf(folder, inners);
   const whole = run('compose', '--inners', list, outer);
-  check(what, whole.status === 0 ? differenceOf(whole.text, wanted) : `status ${whole.status}: ${whole.told}`);
+  check(what, whole.status === 0 ? differenceOf(whole.text, wanted) : `status ${whole.status}: ${whole.reported}`);
   const less = run('compose', '--prune', '--inners', list, outer);
-  check(`${what}, pruned`, less.status === 0 ? differenceOf(less.text, pruned(wanted)) : `status ${less.status}: ${less.told}`);
+  check(`${what}, pruned`, less.status === 0 ? differenceOf(less.text, pruned(wanted)) : `status ${less.status}: ${less.reported}`);
   if (less.status !== 0) return null;
   const given = JSON.parse(less.text);
   const others = remapped(outer, steps);
@@ -125,9 +125,9 @@ function same(what, given, wanted) {
   check(what, given === wanted ? null : `${JSON.stringify(given).slice(0, 200)} in place of ${JSON.stringify(wanted).slice(0, 200)}`);
 }
 
-function refused(what, words, status, told) {
+function refused(what, words, status, reported) {
   const given = run('compose', ...words);
-  same(what, JSON.stringify([given.status, given.text, given.told.split('\n')[0]]), JSON.stringify([status, '', told]));
+  same(what, JSON.stringify([given.status, given.text, given.reported.split('\n')[0]]), JSON.stringify([status, '', reported]));
 }
 
 function compareWords(folder, { bundle, inners }) {

@@ -35,7 +35,7 @@ function compose(program, outer, source, inner) {
   const asked = ['compose', outer, String(source), inner];
   const { status, stdout, stderr, error } = spawnSync(program, asked, { encoding: 'utf8', maxBuffer: MOST_BYTES });
   if (error) throw error;
-  return { status, text: stdout, told: stderr.trim() };
+  return { status, text: stdout, reported: stderr.trim() };
 }
 
 // What became of the mappings to this source, counted.
@@ -55,9 +55,9 @@ function countInto(counts, outer, source, text) {
 function wrongWith(counts, program, [outer, source, inner]) {
   const first = mapIn(outer);
   const wanted = composedMap(first, source, mapIn(inner));
-  const { status, text, told } = compose(program, outer, source, inner);
+  const { status, text, reported } = compose(program, outer, source, inner);
   counts.compositions += 1;
-  if (status !== 0) return `status ${status}: ${told}`;
+  if (status !== 0) return `status ${status}: ${reported}`;
   countInto(counts, first, source, wanted);
   if (text === `${JSON.stringify(wanted)}\n`) return null;
   const written = JSON.parse(text);
@@ -67,9 +67,9 @@ function wrongWith(counts, program, [outer, source, inner]) {
 
 // A source that the map doesn't have.
 function wrongWithRefusal(program, file) {
-  const { status, text, told } = compose(program, file, mapIn(file).sources.length, file);
-  if (status === 1 && text === '' && told === 'refused: C1 SourceIndex') return null;
-  return `a source past the last: status ${status}: ${told}`;
+  const { status, text, reported } = compose(program, file, mapIn(file).sources.length, file);
+  if (status === 1 && text === '' && reported === 'refused: C1 SourceIndex') return null;
+  return `a source past the last: status ${status}: ${reported}`;
 }
 
 // Three maps, composed in either way, have to give the same bytes.
@@ -115,13 +115,13 @@ function shown({ compositions, mappings, followed, found }) {
 // Compares all that is asked of one file and of the two behind it.
 async function compareFile(total, program, folder, [file, next, third]) {
   const outer = await minified(folder, file);
-  if (outer !== null) total.tell(`${file}, minified`, wrongWith(total.steps, program, [outer, 0, file]));
-  for (const source of sourcesOf(file)) total.tell(file, wrongWith(total.any, program, [file, source, next]));
+  if (outer !== null) total.report(`${file}, minified`, wrongWith(total.steps, program, [outer, 0, file]));
+  for (const source of sourcesOf(file)) total.report(file, wrongWith(total.any, program, [file, source, next]));
   if (sourcesOf(file).length > 0 && sourcesOf(next).length > 0) {
-    total.tell(file, wrongWithThree(program, folder, [file, next, third]));
+    total.report(file, wrongWithThree(program, folder, [file, next, third]));
     total.threes += 1;
   }
-  total.tell(file, wrongWithRefusal(program, file));
+  total.report(file, wrongWithRefusal(program, file));
   total.refusals += 1;
 }
 
@@ -132,7 +132,7 @@ function newTotal() {
     threes: 0,
     refusals: 0,
     differences: 0,
-    tell(file, wrong) {
+    report(file, wrong) {
       if (wrong === null) return;
       this.differences += 1;
       console.log(`${file}: ${wrong}`);
@@ -145,7 +145,7 @@ async function main() {
   const folder = fs.mkdtempSync(path.join(os.tmpdir(), 'smap-'));
   const total = newTotal();
   try {
-    for (const step of STEPS) total.tell(step[0], wrongWith(total.steps, program, step));
+    for (const step of STEPS) total.report(step[0], wrongWith(total.steps, program, step));
     for (const i of files.keys()) {
       const three = [0, 1, 2].map((far) => files[(i + far) % files.length]);
       await compareFile(total, program, folder, three);

@@ -17,7 +17,7 @@ const { BUILT, mapsOfPackages } = require('./files.js');
 
 const MOST_BYTES = 67108864;
 const MOST_ENTRIES = 33554432;
-const TOLD = 5;
+const SHOWN = 5;
 
 // How long a look-up is thought to take: so long, and so much longer for each million bytes of its file.
 const MILLIS = 5;
@@ -243,8 +243,8 @@ function differencesOfLookUps(state, places, said) {
     const expected = printedText(state.map, segment);
     const { lines, status } = said[i];
     if (status === 0 && lines.join('\n') === expected) return [];
-    const told = `it says "${lines.join('\\n')}" with status ${status}`;
-    return [`lookup ${line} ${column}: "${expected}" is right, and ${told}`];
+    const reported = `it says "${lines.join('\\n')}" with status ${status}`;
+    return [`lookup ${line} ${column}: "${expected}" is right, and ${reported}`];
   });
 }
 
@@ -252,17 +252,17 @@ function differencesOfLookUps(state, places, said) {
 function differencesOfCheck(program, state) {
   const { status, stdout, stderr, error } = spawnSync(program, ['check', state.file], { encoding: 'utf8' });
   if (error) throw error;
-  const told = `it says "${(stdout + stderr).trim()}" with status ${status}`;
+  const reported = `it says "${(stdout + stderr).trim()}" with status ${status}`;
   if (state.code === null) {
     const right = status === 0 && stdout === `${state.counts}\n` && stderr === '';
-    return { told, wrong: right ? [] : [`check: "${state.counts}" is right, and ${told}`] };
+    return { reported, wrong: right ? [] : [`check: "${state.counts}" is right, and ${reported}`] };
   }
   const right =
     status === 1 &&
     stdout === '' &&
     stderr.startsWith(`refused: ${state.file}: `) &&
     new RegExp(`\\b${state.code}\\b`).test(stderr.slice(`refused: ${state.file}: `.length));
-  return { told, wrong: right ? [] : [`check: to be refused with ${state.code}, and ${told}`] };
+  return { reported, wrong: right ? [] : [`check: to be refused with ${state.code}, and ${reported}`] };
 }
 
 // ---------------------------------------------------------------------------------------------
@@ -293,7 +293,7 @@ async function main() {
       total.compared += places.length;
       continue;
     }
-    const { told, wrong } = differencesOfCheck(program, state);
+    const { reported, wrong } = differencesOfCheck(program, state);
     // Where the counts are refused or wrong, most look-ups would be so too.
     if (wrong.length === 0 && places.length > 0) {
       const said = await askInParts(program, jobs, file, places, after);
@@ -302,9 +302,9 @@ async function main() {
     }
     total.differences += wrong.length;
     const asked = `${places.length} of ${state.places.length} positions`;
-    const agreed = state.code === null ? asked : `refused as is right with ${state.code}: ${told}`;
+    const agreed = state.code === null ? asked : `refused as is right with ${state.code}: ${reported}`;
     console.log(`${file}: ${wrong.length === 0 ? agreed : `${wrong.length} differences`}`);
-    for (const line of wrong.slice(0, TOLD)) console.log(`  ${line}`);
+    for (const line of wrong.slice(0, SHOWN)) console.log(`  ${line}`);
   }
   console.log(`files ${files.length}, of which ${total.refused} are to be refused`);
   console.log(`mappings ${total.segments}, positions ${total.places}`);

@@ -21,7 +21,7 @@ const OF_PACKAGE = 6;
 const MOST_BYTES = 60000;
 const SECONDS = 20;
 const MOST_OUTPUT = 1 << 28;
-const TOLD = 5;
+const SHOWN = 5;
 const COMMANDS = ['check', 'lookup', 'show', 'compose', 'rewrite'];
 const KINDS = ['cut', 'flipped', 'spliced'];
 const URL = 'https://ex.test/app.js';
@@ -107,13 +107,13 @@ const OTHER_REFUSALS = {
   rewrite: [],
 };
 
-// The refusal that a line of standard error tells of this file, or what is wrong with it.
-function refusalIn(name, told, file) {
-  const line = /^refused: ([^\n]*)\n$/.exec(told);
-  if (line === null) return { wrong: `standard error has ${JSON.stringify(told)}` };
+// The refusal that a line of standard error has of this file, or what is wrong with it.
+function refusalIn(name, reported, file) {
+  const line = /^refused: ([^\n]*)\n$/.exec(reported);
+  if (line === null) return { wrong: `standard error has ${JSON.stringify(reported)}` };
   if (OTHER_REFUSALS[name].includes(line[1])) return { refusal: null };
   const front = `${file}: `;
-  if (!line[1].startsWith(front)) return { wrong: `another file is told: ${line[1]}` };
+  if (!line[1].startsWith(front)) return { wrong: `another file is reported: ${line[1]}` };
   const refusal = line[1].slice(front.length);
   return REFUSAL.test(refusal) ? { refusal } : { wrong: `no refusal of a map: ${refusal}` };
 }
@@ -122,15 +122,15 @@ function refusalIn(name, told, file) {
 function judged(name, run, file) {
   if (run.error) return { wrong: String(run.error) };
   if (run.signal !== null) return { wrong: `ended by ${run.signal}` };
-  const [written, told] = [run.stdout.toString(), run.stderr.toString()];
+  const [written, reported] = [run.stdout.toString(), run.stderr.toString()];
   if (run.status === 0) {
-    if (told !== '') return { wrong: `status 0, and standard error has ${JSON.stringify(told)}` };
+    if (reported !== '') return { wrong: `status 0, and standard error has ${JSON.stringify(reported)}` };
     if (!ANSWERS[name](written)) return { wrong: `standard output has ${JSON.stringify(written.slice(0, 200))}` };
     return { refusal: null };
   }
-  if (run.status !== 1) return { wrong: `status ${run.status} ${JSON.stringify(told)}` };
+  if (run.status !== 1) return { wrong: `status ${run.status} ${JSON.stringify(reported)}` };
   if (written !== '') return { wrong: `status 1, and standard output has ${JSON.stringify(written.slice(0, 200))}` };
-  return refusalIn(name, told, file);
+  return refusalIn(name, reported, file);
 }
 
 // ---------------------------------------------------------------------------------------------
@@ -275,7 +275,7 @@ function listed(counts) {
     .join(', ');
 }
 
-function tell(maps, sums) {
+function report(maps, sums) {
   for (const name of COMMANDS) {
     for (const kind of KINDS) {
       const own = Object.entries(sums.statuses).filter(([key]) => key.startsWith(`${kind} ${name} `));
@@ -283,7 +283,7 @@ function tell(maps, sums) {
     }
   }
   console.log(`files by their refusal: ${listed(sums.refusals)}`);
-  for (const { map, change, kind, words, wrong, kept } of sums.wrong.slice(0, TOLD)) {
+  for (const { map, change, kind, words, wrong, kept } of sums.wrong.slice(0, SHOWN)) {
     console.log(`WRONG ${map} change ${change}, ${kind}, kept as ${kept}: ${words.join(' ')}: ${wrong}`);
   }
   const files = Object.values(sums.refusals).reduce((sum, count) => sum + count, 0);
@@ -309,7 +309,7 @@ function main() {
       console.log(`${maps[place]}: ${count.wrong.length === 0 ? 'none wrong' : `${count.wrong.length} wrong`}`);
       done += 1;
       if (done === maps.length) {
-        tell(maps, sums);
+        report(maps, sums);
         process.exitCode = sums.wrong.length === 0 ? 0 : 1;
       }
       give();

@@ -71,7 +71,7 @@ static void put_bytes(smap_bytes *bytes) {
     smap_bytes_free(bytes);
 }
 
-static void tell(smap_map *map, const smap_found *found) {
+static void report(smap_map *map, const smap_found *found) {
     if (found->kind == 0) {
         puts("none");
     } else if (found->kind == 1) {
@@ -100,7 +100,7 @@ static void look(smap_map *map, uint32_t (*call)(smap_map *, uint32_t, uint32_t,
     while (scanf("%u %u", &position.line, &position.column) == 2) {
         smap_found found = {0};
         if (call(map, position.line, position.column, &found) != SMAP_DONE) fail("look-up");
-        tell(map, &found);
+        report(map, &found);
     }
 }
 
@@ -111,12 +111,12 @@ static void many(smap_map *map) {
         if (++count == room) positions = realloc(positions, (room *= 2) * sizeof *positions);
     smap_found *found = calloc(count + 1, sizeof *found);
     if (smap_look_up_many(map, positions, count, found, count) != SMAP_DONE) fail("look-ups");
-    for (size_t i = 0; i < count; i++) tell(map, &found[i]);
+    for (size_t i = 0; i < count; i++) report(map, &found[i]);
     free(found);
     free(positions);
 }
 
-static void tell_refusal(const smap_refusal *refusal, const char *path) {
+static void report_refusal(const smap_refusal *refusal, const char *path) {
     smap_bytes text = {0};
     if (smap_refusal_text(refusal, &text) != SMAP_DONE) fail("no text");
     printf("refused: %s: ", path);
@@ -140,7 +140,7 @@ static void refuse(const char *path) {
     smap_refusal refusal = {0};
     smap_bytes text = {0};
     refused(path, &refusal, &text);
-    tell_refusal(&refusal, path);
+    report_refusal(&refusal, path);
     put_bytes(&text);
 }
 
@@ -182,7 +182,7 @@ static void mappings(const char *path) {
         const smap_mapping *one = &all[i];
         const smap_found found = {one->kind, one->column, one->source, one->original_line, one->original_column, one->named, one->name};
         printf("%u:%u ", one->line + 1, one->column + 1);
-        tell(&map, &found);
+        report(&map, &found);
     }
     smap_bytes_free(&bytes);
     smap_map_free(&map);
@@ -349,21 +349,21 @@ static void lends(uint32_t call(uint32_t, smap_text *), uint32_t number, const c
 }
 
 static void mistakes(const char *path) {
-    smap_text none_told = SMAP_TEXT;
+    smap_text none_reported = SMAP_TEXT;
     lends(smap_compose_refusal_text, 1, "C1 SourceIndex");
     lends(smap_compose_refusal_text, 2, "C2 TooLarge");
     lends(smap_table_refusal_text, 1, "A1 BadUrl");
     lends(smap_table_refusal_text, 2, "A2 Twice");
-    if (smap_compose_refusal_text(3, &none_told) != SMAP_REFUSED || smap_table_refusal_text(0, &none_told) != SMAP_REFUSED)
+    if (smap_compose_refusal_text(3, &none_reported) != SMAP_REFUSED || smap_table_refusal_text(0, &none_reported) != SMAP_REFUSED)
         fail("a text of no refusal");
     smap_map map = {0};
     smap_refusal refusal = {0};
     if (read_file(path, "no URL", 64, &map, &refusal) != SMAP_REFUSED || refusal.number != 0) fail("a base");
     if (read_file(path, "\xff", 64, &map, &refusal) != SMAP_REFUSED || refusal.number != 0) fail("a base that is no text");
     if (read_file(path, "", 0, &map, &refusal) != SMAP_REFUSED) fail("interval 0");
-    tell_refusal(&refusal, "MAP");
+    report_refusal(&refusal, "MAP");
     if (read_file(path, "", 4097, &map, &refusal) != SMAP_REFUSED) fail("interval 4097");
-    tell_refusal(&refusal, "MAP");
+    report_refusal(&refusal, "MAP");
     smap_refusal none = {0};
     smap_bytes bytes = {0};
     if (smap_refusal_text(&none, &bytes) != SMAP_REFUSED) fail("a text of no refusal");

@@ -13,7 +13,7 @@ const positions = () =>
   fs.readFileSync(0, 'utf8').split('\n').filter(Boolean).map((line) => line.split(' ').map(Number)).map(([line, column]) => [line + 1, column]);
 const put = (lines) => process.stdout.write(lines.map((line) => `${line}\n`).join(''));
 
-function tell(map, kind, source, line, column, name) {
+function report(map, kind, source, line, column, name) {
   if (kind === 0) return 'none';
   if (kind === 1) return 'unmapped';
   const entry = map.sourceEntries[source];
@@ -21,7 +21,7 @@ function tell(map, kind, source, line, column, name) {
     `${name === null ? '' : ` name ${name}`}${entry.ignored ? ' ignored' : ''}`;
 }
 
-// originalPositionFor tells nothing of why there is none: the kind is asked of the many.
+// originalPositionFor says nothing of why there is none: the kind is asked of the many.
 function look(path, bias) {
   const map = open(path);
   const places = positions();
@@ -30,7 +30,7 @@ function look(path, bias) {
     const answer = smap.originalPositionFor(map, { line, column, bias });
     if (answer.line === null) return kinds[7 * i] === 1 && bias !== -1 ? 'unmapped' : 'none';
     const source = map.sourceEntries.findIndex((entry) => entry.name === answer.source);
-    return tell(map, 2, source, answer.line, answer.column, answer.name);
+    return report(map, 2, source, answer.line, answer.column, answer.name);
   }));
 }
 
@@ -40,7 +40,7 @@ function many(path) {
   const lines = [];
   for (let i = 0; i < found.length; i += 7) {
     const [kind, , source, line, column, named, name] = found.subarray(i, i + 7);
-    lines.push(tell(map, kind, source, line, column, named ? map.names[name] : null));
+    lines.push(report(map, kind, source, line, column, named ? map.names[name] : null));
   }
   put(lines);
 }

@@ -21,7 +21,7 @@ def positions():
     return [tuple(map(int, line.split())) for line in sys.stdin]
 
 
-def tell(source_map, answer, texts={}):
+def report(source_map, answer, texts={}):
     if answer is None:
         return "none"
     if answer.source is None:
@@ -38,13 +38,13 @@ def tell(source_map, answer, texts={}):
 def look(path):
     with opened(path) as source_map:
         for line, column in positions():
-            print(tell(source_map, source_map.look_up(line, column)))
+            print(report(source_map, source_map.look_up(line, column)))
 
 
 def from_(path):
     with opened(path) as source_map:
         for line, column in positions():
-            print(tell(source_map, source_map.look_up_from(line, column)))
+            print(report(source_map, source_map.look_up_from(line, column)))
 
 
 def many(path):
@@ -54,7 +54,7 @@ def many(path):
             kind, generated, source, line, column, named, name = found[i:i + 7]
             answer = (None if kind == 0 else Answer(generated, None, None, None, None) if kind == 1
                       else Answer(generated, source, line, column, name if named else None))
-            print(tell(source_map, answer))
+            print(report(source_map, answer))
 
 
 def refuse(*paths):
@@ -84,7 +84,7 @@ def mappings(path):
     with opened(path) as source_map:
         for mapping in source_map.mappings():
             answer = Answer(*mapping[1:])
-            print(f"{mapping.generated_line + 1}:{mapping.generated_column + 1} {tell(source_map, answer)}")
+            print(f"{mapping.generated_line + 1}:{mapping.generated_column + 1} {report(source_map, answer)}")
 
 
 def show(path):

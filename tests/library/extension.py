@@ -16,13 +16,13 @@ from smap import Mapping, Refused, Rewriter, SourceMap, compose, compose_all
 SMALL = b'{"version":3,"sources":["a.js"],"names":["n"],"mappings":"AAAA,UACIA;;K"}'
 DIGITS = "ABCDEFGHIJKLMNOPQRSTUVWXYZabcdefghijklmnopqrstuvwxyz0123456789+/"
 
-told = 0
+reported = 0
 
 
 def same(got, wanted, what=""):
-    global told
+    global reported
     assert got == wanted, f"{what} {got!r:.300} in place of {wanted!r:.300}"
-    told += 1
+    reported += 1
 
 
 # Readers of their own, of the mappings of a map without sections, and of the bytes of a text whose lines end with LF.
@@ -245,4 +245,4 @@ if __name__ == "__main__":
     buffers()
     threads()
     memory()
-    print("extension", told)
+    print("extension", reported)

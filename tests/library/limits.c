@@ -9,14 +9,14 @@
 static const char small[] = "{\"version\":3,\"sources\":[\"a.js\"],\"names\":[\"n\"],\"mappings\":\"AAAA,UACIA;;K\"}";
 static const size_t most_trace_bytes = 1073741824, most_generated_bytes = 67108864;
 
-static int told;
+static int reported;
 
 static void insist(bool holds, const char *what) {
     if (!holds) {
         fprintf(stderr, "limits: %s\n", what);
         exit(9);
     }
-    told++;
+    reported++;
 }
 
 static uint32_t read_small(const char *base, size_t base_length, uint32_t interval, smap_map *map, smap_refusal *refusal) {
@@ -207,6 +207,6 @@ int main(void) {
     reading();
     reasons();
     traces();
-    printf("limits %d\n", told);
+    printf("limits %d\n", reported);
     return 0;
 }

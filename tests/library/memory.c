@@ -149,7 +149,7 @@ static const struct call {
 };
 
 /* What handed-out bytes say, which are freed. */
-static void tell(smap_bytes *from, struct text *into) {
+static void report(smap_bytes *from, struct text *into) {
     smap_text text = SMAP_TEXT;
     smap_bytes_text(from, &text);
     if (text.length > sizeof into->bytes) fail("a text", "is too long");
@@ -159,42 +159,42 @@ static void tell(smap_bytes *from, struct text *into) {
 }
 
 /* What a map says, which is freed. */
-static void tell_map(smap_map *map, struct text *into) {
+static void report_map(smap_map *map, struct text *into) {
     smap_bytes written = {0};
     if (smap_map_write(map, &written) != SMAP_DONE) fail("a map", "is not written");
-    tell(&written, into);
+    report(&written, into);
     smap_map_free(map);
 }
 
 /* What a table says of a trace. */
-static void tell_table(smap_table *from, struct text *into) {
+static void report_table(smap_table *from, struct text *into) {
     smap_bytes rewritten = {0};
     smap_trace_count counted = {0};
     if (smap_rewrite(from, trace, sizeof trace - 1, false, &rewritten, &counted) != SMAP_DONE) fail("a table", "rewrites nothing");
-    tell(&rewritten, into);
+    report(&rewritten, into);
 }
 
 /* What the outer map says with these inner ones, which are none. */
-static void tell_inners(smap_inners *from, struct text *into) {
+static void report_inners(smap_inners *from, struct text *into) {
     smap_bytes written = {0};
     const smap_compose_options options = {0};
     if (smap_compose_all(&outer, from, &options, &written, &why) != SMAP_DONE) fail("inner maps", "are not composed");
-    tell(&written, into);
+    report(&written, into);
 }
 
 /* What the call has given, which is freed. A map that was refused is one that was given back. */
-static void tell_answer(const struct call *call, struct text *into) {
+static void report_answer(const struct call *call, struct text *into) {
     into->length = 0;
     if (call->handle == FILLS_BYTES) {
-        tell(&bytes, into);
+        report(&bytes, into);
     } else if (call->handle == FILLS_TABLE) {
-        tell_table(&made_table, into);
+        report_table(&made_table, into);
         smap_table_free(&made_table);
     } else if (call->handle == FILLS_INNERS) {
-        tell_inners(&made_inners, into);
+        report_inners(&made_inners, into);
         smap_inners_free(&made_inners);
     } else if ((call->handle == FILLS_MAP) == (call->wanted == SMAP_DONE)) {
-        tell_map(&made, into);
+        report_map(&made, into);
     }
 }
 
@@ -217,7 +217,7 @@ static bool made_without(const struct call *call, long number) {
     bytes = (smap_bytes){0};
     if (call->handle == TAKES_MAP && read_map(&made, &outer_file)) fail(call->name, "has no map");
     static struct text before, after;
-    tell_table(&table, &before);
+    report_table(&table, &before);
     why = 77;
     refusal = (smap_refusal){77, 77, 77, 77, 77, 77};
     reason = (smap_reason){77, 77, 77, 77, 77, 77, 77, 77};
@@ -229,27 +229,27 @@ static bool made_without(const struct call *call, long number) {
     uint32_t status = call->make();
     refused = -1;
     bool was_refused = number >= 0 && asked > number;
-    tell_table(&table, &after);
+    report_table(&table, &after);
     if (status == SMAP_NO_MEMORY) {
         if (!was_refused) fail(call->name, "is out of memory where none was refused");
         if ((call->handle != TAKES_MAP && made.at) || made_table.at || made_inners.at || bytes.at) fail(call->name, "has filled a handle");
-        if (why != 77 || refusal.number != 77 || reason.value != 77 || reason.has_column != 77) fail(call->name, "tells a refusal");
+        if (why != 77 || refusal.number != 77 || reason.value != 77 || reason.has_column != 77) fail(call->name, "reports a refusal");
         if (by_source[0] != 77 || unmapped != 77) fail(call->name, "counts bytes");
         if (!alike(&before, &after)) fail(call->name, "has changed the table");
     } else if (status != call->wanted) {
         fail(call->name, "has another status");
     } else {
         struct text *into = number < 0 ? &ample : &now;
-        tell_answer(call, into);
+        report_answer(call, into);
         if (number >= 0 && !alike(&ample, &now)) fail(call->name, "has another answer");
         if (alike(&before, &after) != (call->make != add_call)) fail(call->name, "has another table");
         if (call->make == refuse_call && refusal.number != 4) fail(call->name, "has another refusal");
         if (call->make == explain_call && (reason.most != -1 || reason.generated_column != 2)) fail(call->name, "has other numbers");
         uint64_t frames = call->make == rewrite_call ? 2 : 1; /* of a URL in the table, where places are counted */
         if (rewrites && (count.lines != 4 || count.frames != frames || count.mapped != 1)) fail(call->name, "has other counts");
-        uint64_t bytes_told = unmapped;
-        for (int i = 0; i < 8 && by_source[i] != 77; i++) bytes_told += by_source[i];
-        if (call->make == bytes_call && bytes_told != sizeof trace - 1) fail(call->name, "counts other bytes");
+        uint64_t bytes_reported = unmapped;
+        for (int i = 0; i < 8 && by_source[i] != 77; i++) bytes_reported += by_source[i];
+        if (call->make == bytes_call && bytes_reported != sizeof trace - 1) fail(call->name, "counts other bytes");
         if (call->make == twice_call && why != 2) fail(call->name, "has another refusal");
     }
     smap_map_free(&outer);

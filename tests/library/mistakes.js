@@ -16,14 +16,14 @@ const far = 2 ** 32;
 const noVersion = '`version` is missing, and the key must hold the number 3';
 const noObject = 'the JSON value is a list, of which the length is 0, and must be an object';
 
-let told = 0;
+let reported = 0;
 const same = (got, wanted) => {
   assert.deepStrictEqual(got, wanted);
-  told += 1;
+  reported += 1;
 };
 const refuses = (name, call, message, members = {}) => {
   assert.throws(call, { name, message, ...members });
-  told += 1;
+  reported += 1;
 };
 
 function places() {
@@ -528,4 +528,4 @@ loading();
 anywhere();
 options();
 closed();
-console.log('mistakes', told);
+console.log('mistakes', reported);

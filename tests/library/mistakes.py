@@ -12,24 +12,24 @@ from pathlib import Path
 
 from smap import Answer, Mapping, Refused, Rewriter, SourceMap, compose, compose_all
 from smap._answers import Refusal
-from smap._told import refused_map
+from smap._reported import refused_map
 
 # Line 0 has a mapping at column 0 and one at 10 with a name, line 1 none, and line 2 one at 5 without an original.
 SMALL = b'{"version":3,"sources":["a.js"],"names":["n"],"mappings":"AAAA,UACIA;;K"}'
 FIRST, LAST = Answer(0, 0, 0, 0, None), Answer(10, 0, 1, 4, 0)
 FAR = 2**32
 
-told = 0
+reported = 0
 
 
 def same(got, wanted):
-    global told
+    global reported
     assert got == wanted, f"{got!r} in place of {wanted!r}"
-    told += 1
+    reported += 1
 
 
 def refuses(error, call, *texts, **members):
-    global told
+    global reported
     try:
         got = call()
     except Exception as raised:
@@ -38,7 +38,7 @@ def refuses(error, call, *texts, **members):
             assert text in str(raised), f"{raised} has no {text}"
         for name, wanted in members.items():
             assert getattr(raised, name) == wanted, f"{name} of {raised!r}"
-        told += 1
+        reported += 1
         return
     raise AssertionError(f"{got!r} in place of {error.__name__}")
 
@@ -450,4 +450,4 @@ if __name__ == "__main__":
     closed()
     lists()
     kinds()
-    print("mistakes", told)
+    print("mistakes", reported)

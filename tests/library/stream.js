@@ -11,10 +11,10 @@ const small = '{"version":3,"sources":["a.js","n/b.js"],"names":[],"ignoreList":
 const url = 'https://e.test/m.js';
 const run = promisify(pipeline);
 
-let told = 0;
+let reported = 0;
 const same = (got, wanted, what) => {
   assert.deepStrictEqual(got, wanted, what);
-  told += 1;
+  reported += 1;
 };
 
 const frame = (column) => `    at f (${url}:1:${column})`;
@@ -160,5 +160,5 @@ async function children() {
 
 (async () => {
   for (const test of [pieces, early, backpressure, errors, children]) await test();
-  console.log('stream', told);
+  console.log('stream', reported);
 })();

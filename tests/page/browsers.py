@@ -120,7 +120,7 @@ class Chromium(Browser):
 
     def complaints(self) -> List[str]:
         """What the browser wrote into its console."""
-        # That the test reads colours back is told too.
+        # That the test reads colours back is reported too.
         return [entry["message"] for entry in self.driver.get_log("browser") if "getImageData" not in entry["message"]]
 
     def close(self) -> None:

@@ -106,8 +106,8 @@ def try_large(browser: browsers.Browser, page: Page, short: Page, checks: Checks
     opened(browser, page)
     seconds = opened(browser, page) / 1000
     checks.insist(f"opened within {MOST_SECONDS} seconds, in {seconds}", seconds <= MOST_SECONDS, True)
-    told = browser.run("return smapPage.counts")
-    checks.insist("the bytes that it has", told["bytes"], page.text_path.stat().st_size)
+    reported = browser.run("return smapPage.counts")
+    checks.insist("the bytes that it has", reported["bytes"], page.text_path.stat().st_size)
     owned = browser.run("return smapPage.bytes()")
     checks.insist("all bytes", sum(owned["sources"]) + owned["unmapped"], page.text_path.stat().st_size)
     wrapped = frame_time(browser)

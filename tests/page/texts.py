@@ -22,10 +22,10 @@ def hidden_views(browser: browsers.Browser) -> List[bool]:
 
 def try_bytes(browser: browsers.Browser, page: Page, checks: Checks) -> None:
     owned, unmapped = maps.bytes_by_source(page.shown, page.text)
-    told = browser.run("return smapPage.bytes()")
-    checks.insist("the bytes of the sources", told["sources"], owned)
-    checks.insist("the unmapped bytes", told["unmapped"], unmapped)
-    checks.insist("all bytes", sum(told["sources"]) + told["unmapped"], page.text_path.stat().st_size)
+    reported = browser.run("return smapPage.bytes()")
+    checks.insist("the bytes of the sources", reported["sources"], owned)
+    checks.insist("the unmapped bytes", reported["unmapped"], unmapped)
+    checks.insist("all bytes", sum(reported["sources"]) + reported["unmapped"], page.text_path.stat().st_size)
     press_button(browser, "#see-areas")
     room, unseen, total, drawn = browser.run(AREAS)
     checks.insist("the bytes of the areas", sum(area[1] for area in drawn) + unseen, page.text_path.stat().st_size)
@@ -58,9 +58,9 @@ def try_positions(browser: browsers.Browser, page: Page, checks: Checks, count: 
     places = page.places(count, 27)
     wanted = page.answers(places)
     given = asked(browser, *(f"{line}:{column}" for line, column in places))
-    for place, answer, (told, shown, _) in zip(places, wanted, given):
+    for place, answer, (reported, shown, _) in zip(places, wanted, given):
         checks.insist(f"the answer at {place}", shown, answer)
-        checks.insist("the place that is told", told, f"{place[0]}:{place[1]}")
+        checks.insist("the place that is reported", reported, f"{place[0]}:{place[1]}")
 
 
 def try_pointing(browser: browsers.Browser, page: Page, checks: Checks, count: int) -> None:
@@ -99,13 +99,13 @@ def try_pointing(browser: browsers.Browser, page: Page, checks: Checks, count: i
         if not point:
             continue
         browser.move(point["x"], point["y"])
-        told = browser.run("return smapPage.pointed()")
+        reported = browser.run("return smapPage.pointed()")
         place = answer.split(" ")[0]
-        checks.insist(f"the original that is pointed at, of {here}", told and told["answer"].split(" ")[0], place)
+        checks.insist(f"the original that is pointed at, of {here}", reported and reported["answer"].split(" ")[0], place)
         browser.click(point["x"], point["y"])
-        told = browser.run("return smapPage.chosen()")
-        checks.insist(f"the original that is chosen, of {here}", told and told["answer"].split(" ")[0], place)
-        is_back = bool(told) and is_seen(browser, "generated", told["line"], told["column"])
+        reported = browser.run("return smapPage.chosen()")
+        checks.insist(f"the original that is chosen, of {here}", reported and reported["answer"].split(" ")[0], place)
+        is_back = bool(reported) and is_seen(browser, "generated", reported["line"], reported["column"])
         checks.insist(f"its counterpart, of {here}, is in view", is_back, True)
         browser.move(5, 5)
 
@@ -154,16 +154,16 @@ def try_field(browser: browsers.Browser, page: Page, checks: Checks) -> None:
         (" ".join(trace.split("\n")[2:]), lookup),
     ]:
         line, column = map(int, place.split(":"))
-        told, answer, note = asked(browser, text)[0]
-        checks.insist(f"the place of {text[:60]!r}", told, place)
+        reported, answer, note = asked(browser, text)[0]
+        checks.insist(f"the place of {text[:60]!r}", reported, place)
         checks.insist(f"the answer of {text[:60]!r}", answer, page.answers([(line, column)])[0])
         checks.insist(f"the note of {text[:60]!r}", note, "")
         checks.insist(f"the place of {text[:60]!r} is in view", is_seen(browser, "generated", line, column), True)
     note = asked(browser, "at f (https://example.test/other.js:2:4472)")[0][2]
     checks.insist("another file's frame", note, "the frame names other.js, and this is receipt.min.js")
     for text in ["", "x", "0:1", "1:0", "1:99999999999", "at f (native)", ":", "2147483649:1"]:
-        told, answer, note = asked(browser, text)[0]
-        checks.insist(f"the place of {text!r}", told + answer, "")
+        reported, answer, note = asked(browser, text)[0]
+        checks.insist(f"the place of {text!r}", reported + answer, "")
         checks.insist(f"the note of {text!r}", note.startswith("That names no place"), True)
     checks.insist("a line alone", asked(browser, "2")[0][0], "2:1")
     checks.insist("a line past the file", asked(browser, "99:1")[0][1:], ["none", "the file has 13 lines"])
@@ -260,7 +260,7 @@ def try_marks(browser: browsers.Browser, page: Page, checks: Checks) -> None:
         "own.js32.0 %src/8 bytes", "ignored.jsignored16.0 %vendor/4 bytes", "gone.jsno content16.0 %src/4 bytes",
     ])
     asked(browser, "1:9")
-    told = said(browser, "#original .empty")
-    checks.insist("a source without a text", told.split(".")[0], "The map holds no text of this source")
+    reported = said(browser, "#original .empty")
+    checks.insist("a source without a text", reported.split(".")[0], "The map holds no text of this source")
     asked(browser, "1:5")
     checks.insist("the mark of an ignored source", said(browser, "#original .name"), "vendor/ignored.js ignored")

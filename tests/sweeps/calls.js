@@ -1,6 +1,6 @@
 // The calls, each with its answer, which is written out by hand. Those that take memory have what they answer where it is
 // wanting: one answer, or several of which each has to come. `growths` is how often it grows with ample memory, where that is
-// pinned, and `again` what is told in place of its answer where it is not made again.
+// pinned, and `again` what is reported in place of its answer where it is not made again.
 'use strict';
 
 const TWO = '0,0,0,0,0 0,10,1,0,0';

@@ -82,7 +82,7 @@ function ran({ program, library }, call, refuse) {
   if (run.status !== 0 || run.stderr !== '' || counts === null) {
     return { wrong: `status ${run.status ?? run.signal}: ${run.stdout}${run.stderr}` };
   }
-  return { growths: Number(counts[1]), refused: Number(counts[2]), told: lines.slice(1, -1) };
+  return { growths: Number(counts[1]), refused: Number(counts[2]), reported: lines.slice(1, -1) };
 }
 
 // How the answers of a call that takes memory are, while one growth after another is refused, until it runs through.
@@ -95,17 +95,17 @@ function swept(tools, { call, answer, again = answer, memory, growths }) {
   for (let n = 1; n <= MOST_GROWTHS; n += 1) {
     const run = ran(tools, call, n);
     if (run.wrong !== undefined) return { wrong: `growth ${n}: ${run.wrong}` };
-    const told = run.told.join('\n');
+    const reported = run.reported.join('\n');
     if (run.refused === 0) {
       last = run;
-      if (told !== ample.join('\n')) return { wrong: `with ample memory: ${told}` };
+      if (reported !== ample.join('\n')) return { wrong: `with ample memory: ${reported}` };
       break;
     }
-    if (wanting.includes(told)) {
+    if (wanting.includes(reported)) {
       answers.memory += 1;
-      unseen.delete(told);
-    } else if (told === ample.join('\n')) answers.ample += 1;
-    else return { wrong: `growth ${n} refused: ${told}` };
+      unseen.delete(reported);
+    } else if (reported === ample.join('\n')) answers.ample += 1;
+    else return { wrong: `growth ${n} refused: ${reported}` };
   }
   if (last === undefined) return { wrong: `more than ${MOST_GROWTHS} growths` };
   if (growths !== undefined && last.growths !== growths) {
@@ -113,7 +113,7 @@ function swept(tools, { call, answer, again = answer, memory, growths }) {
   }
   if (Array.isArray(memory) && unseen.size > 0) return { wrong: `never answered: ${[...unseen].join(', ')}` };
   const refused = answers.memory + answers.ample;
-  return { line: `${refused} refused, ${answers.memory} want of memory, ${answers.ample} ample`, refused };
+  return { line: `${refused} refused, ${answers.memory} out of memory, ${answers.ample} ample`, refused };
 }
 
 // How a call that takes no memory answers while every growth is refused.
@@ -121,8 +121,8 @@ function freed(tools, { call, answer }) {
   const run = ran(tools, call, 'all');
   if (run.wrong !== undefined) return { wrong: run.wrong };
   if (run.growths !== 0) return { wrong: `${run.growths} growths` };
-  const told = run.told.join('\n');
-  if (told !== answer) return { wrong: told };
+  const reported = run.reported.join('\n');
+  if (reported !== answer) return { wrong: reported };
   return { line: 'no growth, and its answer', refused: 0 };
 }
 

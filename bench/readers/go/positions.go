@@ -1,5 +1,5 @@
 // Answers positions as smap does, with Go's reader of maps: positions MAP < POSITIONS, or positions MAP LINE COLUMN for one.
-// Lines and columns count from 1. It can't tell a position that no mapping answers from one that has no original: both are
+// Lines and columns count from 1. It can't part a position that no mapping answers from one that has no original: both are
 // none. It is built with GO111MODULE=off and GOPATH=/usr/share/gocode, where Debian's package
 // golang-github-go-sourcemap-sourcemap-dev has the reader.
 package main

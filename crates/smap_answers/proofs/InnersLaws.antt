@@ -14,15 +14,15 @@ use Rattle.smap_record.specs.Sources.{StatedSource}
 use Rattle.smap_record.specs.declared.refusal.MapRefusal.{MapRefusal}
 use Rattle.smap_store.specs.MapList.{line_entry}
 use Rattle.smap_answers.specs.ComposeAll.{GivesFound, NamesBytes, NamesEntry, NamesInners, NamesLines, NamesPair, NamesWords, ReadsInner, ReadsInners, ReadsSource}
-use Rattle.smap_answers.specs.ComposeAll.{TellsInners, is_called, pair_of}
+use Rattle.smap_answers.specs.ComposeAll.{ReportsInners, is_called, pair_of}
 use Rattle.smap_answers.specs.Compose.{compose_refusal_result}
-use Rattle.smap_answers.specs.Written.{telling_or, written_of}
+use Rattle.smap_answers.specs.Written.{report_or, written_of}
 use Rattle.smap_command.specs.declared.command.WriteOptions.{WriteOptions}
 use Rattle.smap_compose.specs.Composition.{all_composed}
 use Rattle.smap_answers.specs.Files.{MayRead}
 use Rattle.smap_answers.specs.Lines.{map_refused_line, no_source_named_line, twice_line}
-use Rattle.smap_answers.specs.Map.{Never, TellsFound, refusal_result}
-use Rattle.smap_answers.specs.Outcome.{OrMemory, Telling, misuse, out_of_memory, refusal}
+use Rattle.smap_answers.specs.Map.{Never, ReportsFound, refusal_result}
+use Rattle.smap_answers.specs.Outcome.{OrMemory, Report, misuse, out_of_memory, refusal}
 use Rattle.smap_answers.specs.Private.Gathering.{IsReadAs, IsReadRefusal}
 use Rattle.smap_answers.specs.Private.Inners.{IsNamed, inners_stated}
 use Rattle.smap_answers.specs.Sources.{list_bytes_refusal}
@@ -30,26 +30,26 @@ use Rattle.smap_answers.specs.Trace.{argument_text}
 
 -- ---- a pair
 
-module _ (sources : List StatedSource) (twice : Telling) (old : Named) (name path : List ℕ) where
-  abbrev one_called : Result Named Telling → Type 0
+module _ (sources : List StatedSource) (twice : Report) (old : Named) (name path : List ℕ) where
+  abbrev one_called : Result Named Report → Type 0
   one_called result =
       MatchBool (list_any (is_called name) sources) ((new : Named) × IsWith old name path new × (result ≡ Ok new))
       (result ≡ Err (refusal (no_source_named_line name)))
 
   pub pair_named : (new : Named) → IsNamed sources old name path new → NamesPair sources twice old name path (Ok new)
   pair_named new is =
-      inr (subst (λ b. MatchBool b (◌≡◌ {A = Result Named Telling} (Ok new) (Err twice)) (one_called (Ok new))) (sym is.once)
-      (subst (λ b. MatchBool b ((more : Named) × IsWith old name path more × (◌≡◌ {A = Result Named Telling} (Ok new) (Ok more)))
-      (◌≡◌ {A = Result Named Telling} (Ok new) (Err (refusal (no_source_named_line name))))) (sym is.called) (new, is.with_it, refl)))
+      inr (subst (λ b. MatchBool b (◌≡◌ {A = Result Named Report} (Ok new) (Err twice)) (one_called (Ok new))) (sym is.once)
+      (subst (λ b. MatchBool b ((more : Named) × IsWith old name path more × (◌≡◌ {A = Result Named Report} (Ok new) (Ok more)))
+      (◌≡◌ {A = Result Named Report} (Ok new) (Err (refusal (no_source_named_line name))))) (sym is.called) (new, is.with_it, refl)))
 
   pub pair_twice : is_some (path_under name old) ≡ true → NamesPair sources twice old name path (Err twice)
   pair_twice there =
-      inr (subst (λ b. MatchBool b (◌≡◌ {A = Result Named Telling} (Err twice) (Err twice)) (one_called (Err twice))) (sym there) refl)
+      inr (subst (λ b. MatchBool b (◌≡◌ {A = Result Named Report} (Err twice) (Err twice)) (one_called (Err twice))) (sym there) refl)
 
   pub pair_uncalled : is_some (path_under name old) ≡ false → list_any (is_called name) sources ≡ false
       → NamesPair sources twice old name path (Err (refusal (no_source_named_line name)))
   pair_uncalled absent none =
-      let result : Result Named Telling = Err (refusal (no_source_named_line name)) in
+      let result : Result Named Report = Err (refusal (no_source_named_line name)) in
       inr (subst (λ b. MatchBool b (result ≡ Err twice) (one_called result)) (sym absent)
       (subst (λ b. MatchBool b ((new : Named) × IsWith old name path new × (result ≡ Ok new)) (result ≡ Err (refusal (no_source_named_line name))))
       (sym none) refl))
@@ -58,12 +58,12 @@ module _ (sources : List StatedSource) (twice : Telling) (old : Named) (name pat
 
 module _ (sources : List StatedSource) (words rest : List (List ℕ × List ℕ)) (name path : List ℕ) (old : Named) (is : words ≡ (name, path) ∷ rest) where
   pub words_next : (new : Named) → NamesPair sources (misuse (twice_line (argument_text name path))) old name path (Ok new)
-      → (result : Result Named Telling) → NamesWords sources rest new result → NamesWords sources words old result
+      → (result : Result Named Report) → NamesWords sources rest new result → NamesWords sources words old result
   words_next new pair result names = subst (λ left. NamesWords sources left old result) (sym is) (Ok new, pair, names)
 
-  pub words_refused : (telling : Telling) → NamesPair sources (misuse (twice_line (argument_text name path))) old name path (Err telling)
-      → NamesWords sources words old (Err telling)
-  words_refused telling pair = subst (λ left. NamesWords sources left old (Err telling)) (sym is) (Err telling, pair, refl)
+  pub words_refused : (report : Report) → NamesPair sources (misuse (twice_line (argument_text name path))) old name path (Err report)
+      → NamesWords sources words old (Err report)
+  words_refused report pair = subst (λ left. NamesWords sources left old (Err report)) (sym is) (Err report, pair, refl)
 
 pub words_end : (sources : List StatedSource) (words : List (List ℕ × List ℕ)) (old : Named) → words ≡ [] → NamesWords sources words old (Ok old)
 words_end sources words old is = subst (λ left. NamesWords sources left old (Ok old)) (sym is) refl
@@ -72,12 +72,12 @@ words_end sources words old is = subst (λ left. NamesWords sources left old (Ok
 
 module _ (sources : List StatedSource) (list : List ℕ) (number : ℕ) (all rest : List (List ℕ)) (line : List ℕ) (old : Named) (is : all ≡ line ∷ rest) where
   pub lines_next : (new : Named) → NamesEntry sources list number (line_entry line) old (Ok new)
-      → (result : Result Named Telling) → NamesLines sources list (number + 1) rest new result → NamesLines sources list number all old result
+      → (result : Result Named Report) → NamesLines sources list (number + 1) rest new result → NamesLines sources list number all old result
   lines_next new entry result names = subst (λ left. NamesLines sources list number left old result) (sym is) (Ok new, entry, names)
 
-  pub lines_refused : (telling : Telling) → NamesEntry sources list number (line_entry line) old (Err telling)
-      → NamesLines sources list number all old (Err telling)
-  lines_refused telling entry = subst (λ left. NamesLines sources list number left old (Err telling)) (sym is) (Err telling, entry, refl)
+  pub lines_refused : (report : Report) → NamesEntry sources list number (line_entry line) old (Err report)
+      → NamesLines sources list number all old (Err report)
+  lines_refused report entry = subst (λ left. NamesLines sources list number left old (Err report)) (sym is) (Err report, entry, refl)
 
 pub lines_end : (sources : List StatedSource) (list : List ℕ) (number : ℕ) (all : List (List ℕ)) (old : Named) → all ≡ []
     → NamesLines sources list number all old (Ok old)
@@ -85,7 +85,7 @@ lines_end sources list number all old is = subst (λ left. NamesLines sources li
 
 -- ---- a list
 
-pub bytes_named : (sources : List StatedSource) (list bytes : List ℕ) (old : Named) (result : Result Named Telling)
+pub bytes_named : (sources : List StatedSource) (list bytes : List ℕ) (old : Named) (result : Result Named Report)
     → list_bytes_refusal bytes ≡ None → NamesLines sources list 1 (lines bytes) old result → NamesBytes sources list bytes old result
 bytes_named sources list bytes old result fine names =
     inr (subst (λ r. MatchOption r (NamesLines sources list 1 (lines bytes) old result) (λ reason. result ≡ Err (refusal (map_refused_line list reason))))
@@ -99,14 +99,14 @@ pub inner_read : (Reads : MayRead) (name path bytes : List ℕ) (stated : MapRec
 inner_read Reads name path bytes stated reads (used, is, read) =
     inr (bytes, reads, inr (used, is, subst (λ found. GivesFound path found (Ok stated)) (sym read) (inr refl)))
 
-pub inner_refused : (Reads : MayRead) (name path bytes : List ℕ) (telling : Telling) → Reads 2 path (Ok bytes)
-    → OrMemory (IsReadRefusal None usual_interval name path bytes) telling → ReadsInner Reads name path (Err telling)
-inner_refused Reads name path bytes telling reads (inl no_memory) = inr (bytes, reads, inl (ap Err no_memory))
-inner_refused Reads name path bytes telling reads (inr (used, is, refused)) = inr (bytes, reads, inr (used, is, go (record_of bytes used usual_interval) refused))
+pub inner_refused : (Reads : MayRead) (name path bytes : List ℕ) (report : Report) → Reads 2 path (Ok bytes)
+    → OrMemory (IsReadRefusal None usual_interval name path bytes) report → ReadsInner Reads name path (Err report)
+inner_refused Reads name path bytes report reads (inl no_memory) = inr (bytes, reads, inl (ap Err no_memory))
+inner_refused Reads name path bytes report reads (inr (used, is, refused)) = inr (bytes, reads, inr (used, is, go (record_of bytes used usual_interval) refused))
   where
-    go : (found : Result MapRecord MapRefusal) → TellsFound (refusal_result path) found Never telling → GivesFound path found (Err telling)
-    go (Err why) told = ap Err told
-    go (Ok stated) (inl told) = inl (ap Err told)
+    go : (found : Result MapRecord MapRefusal) → ReportsFound (refusal_result path) found Never report → GivesFound path found (Err report)
+    go (Err why) reported = ap Err reported
+    go (Ok stated) (inl reported) = inl (ap Err reported)
     go (Ok stated) (inr never) = absurd never
 
 -- ---- sources
@@ -114,12 +114,12 @@ inner_refused Reads name path bytes telling reads (inr (used, is, refused)) = in
 module _ (Reads : MayRead) (named : Named) (sources rest : List StatedSource) (source : StatedSource) (so_far : List (Option MapRecord))
     (is : sources ≡ source ∷ rest) where
   pub inners_next : (inner : Option MapRecord) → ReadsSource Reads (pair_of named source) (Ok inner)
-      → (result : Result (List (Option MapRecord)) Telling) → ReadsInners Reads named rest (so_far ++ inner ∷ []) result
+      → (result : Result (List (Option MapRecord)) Report) → ReadsInners Reads named rest (so_far ++ inner ∷ []) result
       → ReadsInners Reads named sources so_far result
   inners_next inner reads result others = subst (λ left. ReadsInners Reads named left so_far result) (sym is) (Ok inner, reads, others)
 
-  pub inners_refused : (telling : Telling) → ReadsSource Reads (pair_of named source) (Err telling) → ReadsInners Reads named sources so_far (Err telling)
-  inners_refused telling reads = subst (λ left. ReadsInners Reads named left so_far (Err telling)) (sym is) (Err telling, reads, refl)
+  pub inners_refused : (report : Report) → ReadsSource Reads (pair_of named source) (Err report) → ReadsInners Reads named sources so_far (Err report)
+  inners_refused report reads = subst (λ left. ReadsInners Reads named left so_far (Err report)) (sym is) (Err report, reads, refl)
 
 pub inners_end : (Reads : MayRead) (named : Named) (sources : List StatedSource) (so_far : List (Option MapRecord)) → sources ≡ []
     → ReadsInners Reads named sources so_far (Ok so_far)
@@ -183,20 +183,20 @@ on_done (Err error) made done failed works is = absurd (cc)
 -- ---- all of it
 
 module _ (Reads : MayRead) (options : WriteOptions) (words : List (List ℕ × List ℕ)) (list : Option (List ℕ)) (outer : MapRecord) (named : Named)
-    (names : NamesInners Reads outer.sources words list (Ok named)) (telling : Telling) where
+    (names : NamesInners Reads outer.sources words list (Ok named)) (report : Report) where
   -- an inner map is refused
-  pub inners_failed : (◌≡◌ {A = Result (List (Option MapRecord)) Telling} (Err telling) (Err out_of_memory))
-      ⊎ ReadsInners Reads named outer.sources [] (Err telling) → OrMemory (TellsInners Reads options words list outer) telling
-  inners_failed (inl no_memory) = inl (same_told no_memory)
+  pub inners_failed : (◌≡◌ {A = Result (List (Option MapRecord)) Report} (Err report) (Err out_of_memory))
+      ⊎ ReadsInners Reads named outer.sources [] (Err report) → OrMemory (ReportsInners Reads options words list outer) report
+  inners_failed (inl no_memory) = inl (same_reported no_memory)
     where
-      same_told : ◌≡◌ {A = Result (List (Option MapRecord)) Telling} (Err telling) (Err out_of_memory) → telling ≡ out_of_memory
-      same_told is = cc
-  inners_failed (inr reads) = inr (Err telling, (Ok named, names, reads), inr refl)
+      same_reported : ◌≡◌ {A = Result (List (Option MapRecord)) Report} (Err report) (Err out_of_memory) → report ≡ out_of_memory
+      same_reported is = cc
+  inners_failed (inr reads) = inr (Err report, (Ok named, names, reads), inr refl)
 
   -- or all are composed
   pub inners_composed : (inners : List (Option MapRecord))
-      → (◌≡◌ {A = Result (List (Option MapRecord)) Telling} (Ok inners) (Err out_of_memory)) ⊎ ReadsInners Reads named outer.sources [] (Ok inners)
-      → OrMemory (λ told. told ≡ telling_or compose_refusal_result (written_of options (all_composed outer inners))) telling
-      → OrMemory (TellsInners Reads options words list outer) telling
-  inners_composed inners (inl no_memory) told = cc
-  inners_composed inners (inr reads) told = inr (Ok inners, (Ok named, names, reads), told)
+      → (◌≡◌ {A = Result (List (Option MapRecord)) Report} (Ok inners) (Err out_of_memory)) ⊎ ReadsInners Reads named outer.sources [] (Ok inners)
+      → OrMemory (λ reported. reported ≡ report_or compose_refusal_result (written_of options (all_composed outer inners))) report
+      → OrMemory (ReportsInners Reads options words list outer) report
+  inners_composed inners (inl no_memory) reported = cc
+  inners_composed inners (inr reads) reported = inr (Ok inners, (Ok named, names, reads), reported)

@@ -1,4 +1,4 @@
--- What `positions` tells, by what answering them came to.
+-- What `positions` prints, by what answering them came to.
 use Rattle.std.proofs.Common.{◌≡◌, ℕ, Bool, true, false, List, [], Option, Some, None, Result, Ok, Err, refl, sym, ap, ◌∙◌, inl, inr, append-nil}
 use Rattle.smap_io.specs.Device.{Gives, SinkSeen, SourceSeen, Takes}
 use Rattle.smap_lines.specs.Edited.{edited}
@@ -12,9 +12,9 @@ use Rattle.smap_positions.specs.declared.answering.PositionsSummary.{PositionsSu
 use Rattle.smap_record.specs.Record.{MapRecord, record_of}
 use Rattle.smap_record.specs.declared.refusal.MapRefusal.{MapRefusal}
 use Rattle.smap_answers.specs.Files.{MayRead}
-use Rattle.smap_answers.specs.Map.{Never, TellsFound, TellsMap, refusal_result}
-use Rattle.smap_answers.specs.Outcome.{OrMemory, Telling, out_of_memory}
-use Rattle.smap_answers.specs.Positions.{AnsweredTells, PositionsTells, positions_telling}
+use Rattle.smap_answers.specs.Map.{Never, ReportsFound, ReportsMap, refusal_result}
+use Rattle.smap_answers.specs.Outcome.{OrMemory, Report, out_of_memory}
+use Rattle.smap_answers.specs.Positions.{AnsweredReports, PositionsReports, positions_report}
 use Rattle.url.specs.Parts.{Parts}
 
 -- all of it was written, but not flushed
@@ -42,7 +42,7 @@ gives_none None = refl
 gives_none (Some bytes) = refl
 
 pub no_room : (stated : MapRecord) (from json : Bool) (now : DevicesSeen) → now.input.failed ≡ false → now.output.failed ≡ false
-    → AnsweredTells stated from json now now out_of_memory
+    → AnsweredReports stated from json now now out_of_memory
 unfolding edited
 no_room stated from json now input_works output_works = record {
   result = Err Memory;
@@ -60,40 +60,40 @@ no_room stated from json now input_works output_works = record {
   output_failed = output_works;
   flushed = λ one. absurd (cc);
   untouched = λ none. refl;
-  told = refl;
+  reported = refl;
 }
 
--- an answer is told where standard output works
-pub answered_works : (stated : MapRecord) (from json : Bool) (before after : DevicesSeen) (telling : Telling)
-    → AnsweredTells stated from json before after telling →
-    telling.is_answer ≡ true → after.output.failed ≡ false
-answered_works stated from json before after telling tells done = go tells.result tells.output_failed tells.told
+-- an answer is reported where standard output works
+pub answered_works : (stated : MapRecord) (from json : Bool) (before after : DevicesSeen) (report : Report)
+    → AnsweredReports stated from json before after report →
+    report.is_answer ≡ true → after.output.failed ≡ false
+answered_works stated from json before after report reports done = go reports.result reports.output_failed reports.reported
   where
-    go : (result : Result PositionsSummary LineFault) → after.output.failed ≡ is_write_fault result → telling ≡ positions_telling result
+    go : (result : Result PositionsSummary LineFault) → after.output.failed ≡ is_write_fault result → report ≡ positions_report result
         → after.output.failed ≡ false
-    go (Ok summary) failed told = failed
-    go (Err Read) failed told = failed
-    go (Err Write) failed told = let bad : ◌≡◌ {A = Bool} true false = sym done ∙ ap (λ (t : Telling). t.is_answer) told in cc
-    go (Err TooMuch) failed told = failed
-    go (Err Memory) failed told = failed
+    go (Ok summary) failed reported = failed
+    go (Err Read) failed reported = failed
+    go (Err Write) failed reported = let bad : ◌≡◌ {A = Bool} true false = sym done ∙ ap (λ (t : Report). t.is_answer) reported in cc
+    go (Err TooMuch) failed reported = failed
+    go (Err Memory) failed reported = failed
 
 -- and nothing else is
-untold : (text : List ℕ) (status : ℕ) (telling : Telling) → telling ≡ record { status = status; is_answer = false; text = text } → telling.is_answer ≡ true → ⊥
-untold text status telling told done = let bad : ◌≡◌ {A = Bool} true false = sym done ∙ ap (λ (t : Telling). t.is_answer) told in cc
+unreported : (text : List ℕ) (status : ℕ) (report : Report) → report ≡ record { status = status; is_answer = false; text = text } → report.is_answer ≡ true → ⊥
+unreported text status report reported done = let bad : ◌≡◌ {A = Bool} true false = sym done ∙ ap (λ (t : Report). t.is_answer) reported in cc
 
-no_map_found : (path : List ℕ) (found : Result MapRecord MapRefusal) (telling : Telling)
-    → TellsFound (refusal_result path) found Never telling → telling.is_answer ≡ true → ⊥
-no_map_found path (Err refused) telling told done = untold _ _ telling told done
-no_map_found path (Ok stated) telling (inl told) done = untold _ _ telling told done
-no_map_found path (Ok stated) telling (inr never) done = never
+no_map_found : (path : List ℕ) (found : Result MapRecord MapRefusal) (report : Report)
+    → ReportsFound (refusal_result path) found Never report → report.is_answer ≡ true → ⊥
+no_map_found path (Err refused) report reported done = unreported _ _ report reported done
+no_map_found path (Ok stated) report (inl reported) done = unreported _ _ report reported done
+no_map_found path (Ok stated) report (inr never) done = never
 
-pub no_map : (Reads : MayRead) (path : List ℕ) (base : Option Parts) (k : ℕ) (telling : Telling)
-    → OrMemory (TellsMap Reads 0 path base k Never) telling → telling.is_answer ≡ true → ⊥
-no_map Reads path base k telling (inl told) done = untold _ _ telling told done
-no_map Reads path base k telling (inr (inl unread)) done = untold _ _ telling unread.1 done
-no_map Reads path base k telling (inr (inr (bytes, reads, found))) done = no_map_found path (record_of bytes base k) telling found done
+pub no_map : (Reads : MayRead) (path : List ℕ) (base : Option Parts) (k : ℕ) (report : Report)
+    → OrMemory (ReportsMap Reads 0 path base k Never) report → report.is_answer ≡ true → ⊥
+no_map Reads path base k report (inl reported) done = unreported _ _ report reported done
+no_map Reads path base k report (inr (inl unread)) done = unreported _ _ report unread.1 done
+no_map Reads path base k report (inr (inr (bytes, reads, found))) done = no_map_found path (record_of bytes base k) report found done
 
-pub positions_work : (Reads : MayRead) (path : List ℕ) (base : Option Parts) (k : ℕ) (from json : Bool) (before after : DevicesSeen) (telling : Telling)
-    → PositionsTells Reads path base k from json before after telling → telling.is_answer ≡ true → after.output.failed ≡ false
-positions_work Reads path base k from json before after telling (inl refused) done = absurd (no_map Reads path base k telling refused.1 done)
-positions_work Reads path base k from json before after telling (inr answered) done = answered_works answered.0 from json before after telling answered.2 done
+pub positions_work : (Reads : MayRead) (path : List ℕ) (base : Option Parts) (k : ℕ) (from json : Bool) (before after : DevicesSeen) (report : Report)
+    → PositionsReports Reads path base k from json before after report → report.is_answer ≡ true → after.output.failed ≡ false
+positions_work Reads path base k from json before after report (inl refused) done = absurd (no_map Reads path base k report refused.1 done)
+positions_work Reads path base k from json before after report (inr answered) done = answered_works answered.0 from json before after report answered.2 done

@@ -1,4 +1,4 @@
--- What `raw` tells of a text, by the tests that it passes.
+-- What `raw` prints of a text, by the tests that it passes.
 use Rattle.std.proofs.Common.{◌≡◌, ℕ, ◌+◌, ◌-◌, ◌<◌, ◌≤◌, not, eqb, List, ◌++◌, length, get_or, Option, Some, None, sym, ap, ◌∙◌, arith, le-ltb}
 use Rattle.std.proofs.Common.{lt-ltb, subst, length-append, ⊎_elim}
 use Rattle.std.specs.Prelude.{IfSome}

@@ -11,7 +11,7 @@ use Rattle.smap_store.specs.MapList.{AreTaken, IsRefusedAt, PutsFolder, folder_f
 use Rattle.smap_store.specs.declared.refusal.ListFault.{ListFault}
 use Rattle.smap_store.specs.declared.refusal.ListRefusal.{ListRefusal}
 use Rattle.smap_answers.specs.Lines.{map_refused_line}
-use Rattle.smap_answers.specs.Outcome.{OrMemory, Telling, out_of_memory, refusal}
+use Rattle.smap_answers.specs.Outcome.{OrMemory, Report, out_of_memory, refusal}
 use Rattle.smap_answers.specs.Private.Sources.{IsFolderRefusal}
 use Rattle.smap_answers.specs.Sources.{AddsLines, AddsList, NamesFolders, folder_refusal, list_bytes_refusal, list_refusal, most_list_bytes}
 use Rattle.smap_answers.specs.Trace.{Maps}
@@ -21,7 +21,7 @@ use Rattle.smap_answers.specs.declared.sources.MapSources.{MapSources}
 
 module _ (arguments rest : List (List ℕ × List ℕ)) (url path : List ℕ) (old : LocationsSeen) (is : arguments ≡ (url, path) ∷ rest) where
   -- an argument names a file
-  pub names_none : is_folder path ≡ false → (result : Result LocationsSeen Telling) → NamesFolders rest old result → NamesFolders arguments old result
+  pub names_none : is_folder path ≡ false → (result : Result LocationsSeen Report) → NamesFolders rest old result → NamesFolders arguments old result
   names_none file result names =
       subst (λ left. NamesFolders left old result) (sym is)
       (subst (λ b. MatchBool b ((result ≡ Err out_of_memory) ⊎ MatchOption (folder_fault old url)
@@ -29,7 +29,7 @@ module _ (arguments rest : List (List ℕ × List ℕ)) (url path : List ℕ) (o
       (λ fault. result ≡ Err (folder_refusal fault url path))) (NamesFolders rest old result)) (sym file) names)
 
   -- or a folder
-  named : is_folder path ≡ true → (result : Result LocationsSeen Telling) → (result ≡ Err out_of_memory) ⊎ MatchOption (folder_fault old url)
+  named : is_folder path ≡ true → (result : Result LocationsSeen Report) → (result ≡ Err out_of_memory) ⊎ MatchOption (folder_fault old url)
       ((next : LocationsSeen) × PutsFolder old url path next × NamesFolders rest next result)
       (λ fault. result ≡ Err (folder_refusal fault url path)) → NamesFolders arguments old result
   named folder result names =
@@ -40,23 +40,23 @@ module _ (arguments rest : List (List ℕ × List ℕ)) (url path : List ℕ) (o
 
   -- which is named
   pub names_next : is_folder path ≡ true → folder_fault old url ≡ None → (next : LocationsSeen) → PutsFolder old url path next
-      → (result : Result LocationsSeen Telling) → NamesFolders rest next result → NamesFolders arguments old result
+      → (result : Result LocationsSeen Report) → NamesFolders rest next result → NamesFolders arguments old result
   names_next folder faultless next puts result names =
       named folder result (inr (subst (λ fault. MatchOption fault
       ((next : LocationsSeen) × PutsFolder old url path next × NamesFolders rest next result)
       (λ fault. result ≡ Err (folder_refusal fault url path))) (sym faultless) (next, puts, names)))
 
   -- or refused
-  refused_so : (fault : Option ListFault) (telling : Telling) (result : Result LocationsSeen Telling) → result ≡ Err telling
-      → (telling ≡ out_of_memory) ⊎ MatchOption fault ⊥ (λ fault. telling ≡ folder_refusal fault url path)
+  refused_so : (fault : Option ListFault) (report : Report) (result : Result LocationsSeen Report) → result ≡ Err report
+      → (report ≡ out_of_memory) ⊎ MatchOption fault ⊥ (λ fault. report ≡ folder_refusal fault url path)
       → (result ≡ Err out_of_memory) ⊎ MatchOption fault ((next : LocationsSeen) × PutsFolder old url path next × NamesFolders rest next result)
       (λ fault. result ≡ Err (folder_refusal fault url path))
-  refused_so fault telling result given (inl no_memory) = inl (given ∙ ap Err no_memory)
-  refused_so None telling result given (inr never) = absurd never
-  refused_so (Some fault) telling result given (inr told) = inr (given ∙ ap Err told)
+  refused_so fault report result given (inl no_memory) = inl (given ∙ ap Err no_memory)
+  refused_so None report result given (inr never) = absurd never
+  refused_so (Some fault) report result given (inr reported) = inr (given ∙ ap Err reported)
 
-  pub names_refused : is_folder path ≡ true → (telling : Telling) → OrMemory (IsFolderRefusal old url path) telling → NamesFolders arguments old (Err telling)
-  names_refused folder telling refused = named folder (Err telling) (refused_so (folder_fault old url) telling (Err telling) refl refused)
+  pub names_refused : is_folder path ≡ true → (report : Report) → OrMemory (IsFolderRefusal old url path) report → NamesFolders arguments old (Err report)
+  names_refused folder report refused = named folder (Err report) (refused_so (folder_fault old url) report (Err report) refl refused)
 
 -- ---- a list
 
@@ -72,24 +72,24 @@ module _ (bytes : List ℕ) (short : length bytes ≤ most_list_bytes) where
   a_text is_text = cond-false _ _ _ (le-ltb most_list_bytes (length bytes) short) ∙ cond-false _ _ _ (ap not (is_utf8-from_IsUtf8 bytes is_text))
 
 -- it is refused for this reason
-pub for_reason : (list bytes reason : List ℕ) (telling : Telling) → list_bytes_refusal bytes ≡ Some reason → telling ≡ refusal (map_refused_line list reason)
-    → IsSomeAnd (list_bytes_refusal bytes) (λ reason. telling ≡ refusal (map_refused_line list reason))
-for_reason list bytes reason telling is told =
-    subst (λ r. IsSomeAnd r (λ reason. telling ≡ refusal (map_refused_line list reason))) (sym is) told
+pub for_reason : (list bytes reason : List ℕ) (report : Report) → list_bytes_refusal bytes ≡ Some reason → report ≡ refusal (map_refused_line list reason)
+    → IsSomeAnd (list_bytes_refusal bytes) (λ reason. report ≡ refusal (map_refused_line list reason))
+for_reason list bytes reason report is reported =
+    subst (λ r. IsSomeAnd r (λ reason. report ≡ refusal (map_refused_line list reason))) (sym is) reported
 
 module _ (list bytes : List ℕ) (words : Maps) (old : LocationsSeen) where
   -- its bytes are refused
-  refused_for : (why : Option (List ℕ)) (telling : Telling) → IsSomeAnd why (λ reason. telling ≡ refusal (map_refused_line list reason))
-      → MatchOption why (AddsLines list bytes words old (Err telling)) (λ reason. ◌≡◌ {A = Result MapSources Telling} (Err telling) (Err (refusal (map_refused_line list reason))))
-  refused_for None telling told = absurd told
-  refused_for (Some reason) telling told = ap Err told
+  refused_for : (why : Option (List ℕ)) (report : Report) → IsSomeAnd why (λ reason. report ≡ refusal (map_refused_line list reason))
+      → MatchOption why (AddsLines list bytes words old (Err report)) (λ reason. ◌≡◌ {A = Result MapSources Report} (Err report) (Err (refusal (map_refused_line list reason))))
+  refused_for None report reported = absurd reported
+  refused_for (Some reason) report reported = ap Err reported
 
-  pub adds_no_text : (telling : Telling) → OrMemory (λ t. IsSomeAnd (list_bytes_refusal bytes) (λ reason. t ≡ refusal (map_refused_line list reason))) telling
-      → AddsList list bytes words old (Err telling)
-  adds_no_text telling (inl no_memory) = inl (ap Err no_memory)
-  adds_no_text telling (inr told) = inr (refused_for (list_bytes_refusal bytes) telling told)
+  pub adds_no_text : (report : Report) → OrMemory (λ t. IsSomeAnd (list_bytes_refusal bytes) (λ reason. t ≡ refusal (map_refused_line list reason))) report
+      → AddsList list bytes words old (Err report)
+  adds_no_text report (inl no_memory) = inl (ap Err no_memory)
+  adds_no_text report (inr reported) = inr (refused_for (list_bytes_refusal bytes) report reported)
 
-  of_lines : list_bytes_refusal bytes ≡ None → (result : Result MapSources Telling) → AddsLines list bytes words old result → AddsList list bytes words old result
+  of_lines : list_bytes_refusal bytes ≡ None → (result : Result MapSources Report) → AddsLines list bytes words old result → AddsList list bytes words old result
   of_lines is_text result adds =
       inr (subst (λ r. MatchOption r (AddsLines list bytes words old result) (λ reason. result ≡ Err (refusal (map_refused_line list reason))))
       (sym is_text) adds)
@@ -101,6 +101,6 @@ module _ (list bytes : List ℕ) (words : Maps) (old : LocationsSeen) where
 
   -- up to one that is refused
   pub adds_refused : list_bytes_refusal bytes ≡ None → (new : LocationsSeen) (refused : ListRefusal) → IsRefusedAt words (lines bytes) old new refused
-      → (telling : Telling) → OrMemory (λ t. t ≡ list_refusal list refused) telling → AddsList list bytes words old (Err telling)
-  adds_refused is_text new refused at telling (inl no_memory) = inl (ap Err no_memory)
-  adds_refused is_text new refused at telling (inr told) = of_lines is_text _ (Err refused, (new, at, ap Err told))
+      → (report : Report) → OrMemory (λ t. t ≡ list_refusal list refused) report → AddsList list bytes words old (Err report)
+  adds_refused is_text new refused at report (inl no_memory) = inl (ap Err no_memory)
+  adds_refused is_text new refused at report (inr reported) = of_lines is_text _ (Err refused, (new, at, ap Err reported))

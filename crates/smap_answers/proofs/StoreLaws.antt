@@ -1,4 +1,4 @@
--- What reading maps from files when they are named comes to, of which a run shows what it told.
+-- What reading maps from files when they are named comes to, of which a run shows what it reported.
 use Rattle.std.specs.Prelude.{◌≡◌, ℕ, Bool, true, false, List, Option, Some, None, Result, Ok, Err, IfErr, IfOk, MatchOption, option_copied}
 use Rattle.std.proofs.Common.{◌∙◌, inl, inr, refl, subst, sym}
 use Rattle.smap_io.specs.Device.{SinkSeen}

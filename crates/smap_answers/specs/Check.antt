@@ -1,4 +1,4 @@
--- What `check` tells: of one file, or of each of several, in their order.
+-- What `check` prints: of one file, or of each of several, in their order.
 use Rattle.std.specs.Prelude.{◌≡◌, ℕ, ◌⊎◌, ◌++◌, Bool, true, false, List, [], ◌∷◌, Option, Ok, Err, codes, if◌then◌else◌, max, suc}
 use Rattle.smap_explain.specs.Explain.{IsExplained}
 use Rattle.smap_explain.specs.declared.explanation.Explanation.{Explanation}
@@ -12,8 +12,8 @@ use Rattle.smap_verdicts.specs.Refusal.{refusal_text, refusal_value}
 use Rattle.smap_verdicts.specs.declared.counts.MapCounts.{MapCounts}
 use Rattle.smap_answers.specs.Files.{MayRead}
 use Rattle.smap_answers.specs.Lines.{counts_line, file_failed_line, map_counts_line, map_refused_line}
-use Rattle.smap_answers.specs.Map.{IsLine, TellsRead, refusal_result}
-use Rattle.smap_answers.specs.Outcome.{OrMemory, Telling, failure, refusal, refused_answer}
+use Rattle.smap_answers.specs.Map.{IsLine, ReportsRead, refusal_result}
+use Rattle.smap_answers.specs.Outcome.{OrMemory, Report, failure, refusal, refused_answer}
 use Rattle.smap_answers.specs.Streams.{Ends, Sinks}
 use Rattle.smap_answers.specs.declared.check.Form.{Form}
 use Rattle.smap_answers.specs.declared.check.Form.TheVariants.{Counts, Named, Object}
@@ -35,31 +35,31 @@ pub record IsWhyLine (bytes path : List ℕ) (refused : MapRefusal) (line : List
   pub known : IsExplained bytes refused explanation
   pub text : line ≡ map_refused_line path (refusal_text refused) ++ explanation_text explanation
 
--- a refusal is told on standard error, and why, where that is asked
-abbrev pub IsLineTold : (bytes path : List ℕ) → (explain : Bool) → MapRefusal → Telling → Type 0
-IsLineTold bytes path false refused telling = telling ≡ refusal_result path refused
-IsLineTold bytes path true refused telling = (line : List ℕ) × IsWhyLine bytes path refused line × (telling ≡ refusal line)
+-- a refusal is reported on standard error, and why, where that is asked
+abbrev pub IsLineReported : (bytes path : List ℕ) → (explain : Bool) → MapRefusal → Report → Type 0
+IsLineReported bytes path false refused report = report ≡ refusal_result path refused
+IsLineReported bytes path true refused report = (line : List ℕ) × IsWhyLine bytes path refused line × (report ≡ refusal line)
 
--- the line of an object that tells of a refusal, and why the map is refused
+-- the line of an object that reports a refusal, and why the map is refused
 pub record IsWhyObject (bytes path : List ℕ) (refused : MapRefusal) (line : List ℕ) : Type 0 where
   pub explanation : Explanation
   pub known : IsExplained bytes refused explanation
   pub text : line ≡ json_line (refusal_value path refused explanation)
 
--- a refusal is told by such a line
-abbrev pub IsObjectTold : (bytes path : List ℕ) → MapRefusal → Telling → Type 0
-IsObjectTold bytes path refused telling = (line : List ℕ) × IsWhyObject bytes path refused line × (telling ≡ refused_answer line)
+-- a refusal is reported by such a line
+abbrev pub IsObjectReported : (bytes path : List ℕ) → MapRefusal → Report → Type 0
+IsObjectReported bytes path refused report = (line : List ℕ) × IsWhyObject bytes path refused line × (report ≡ refused_answer line)
 
 -- the map of these bytes at a path is refused: an answer in JSON, and else a line for standard error
-abbrev pub IsRefusedTold : (bytes path : List ℕ) → Form → (explain : Bool) → MapRefusal → Telling → Type 0
-IsRefusedTold bytes path Object explain refused telling = IsObjectTold bytes path refused telling
-IsRefusedTold bytes path Counts explain refused telling = IsLineTold bytes path explain refused telling
-IsRefusedTold bytes path Named explain refused telling = IsLineTold bytes path explain refused telling
+abbrev pub IsRefusedReported : (bytes path : List ℕ) → Form → (explain : Bool) → MapRefusal → Report → Type 0
+IsRefusedReported bytes path Object explain refused report = IsObjectReported bytes path refused report
+IsRefusedReported bytes path Counts explain refused report = IsLineReported bytes path explain refused report
+IsRefusedReported bytes path Named explain refused report = IsLineReported bytes path explain refused report
 
--- the file of these bytes is told of, with checkpoints at the interval k
-abbrev pub ChecksBytes : Option Parts → (k : ℕ) → Form → (explain : Bool) → (path bytes : List ℕ) → Telling → Type 0
+-- the file of these bytes is reported, with checkpoints at the interval k
+abbrev pub ChecksBytes : Option Parts → (k : ℕ) → Form → (explain : Bool) → (path bytes : List ℕ) → Report → Type 0
 ChecksBytes base k form explain path bytes =
-    TellsRead (IsRefusedTold bytes path form explain) (record_of bytes base k)
+    ReportsRead (IsRefusedReported bytes path form explain) (record_of bytes base k)
     (IsLine (λ stated. accepted_line path form (map_counts stated k)))
 
 -- why a file can't be read
@@ -67,26 +67,26 @@ abbrev pub cause_text : UnreadCause → List ℕ
 cause_text causes.Missing = codes "  there is no such file\n"
 cause_text causes.Folder = codes "  the path is that of a folder\n"
 cause_text causes.NoPermission = codes "  the file may not be read: permission is denied\n"
-cause_text causes.Other = codes "  the file is there, and reading it failed\n"
+cause_text causes.Other = codes "  reading the file failed for another cause\n"
 
--- the file at a path can't be read, and that is told, and why, where that is asked: the machine tells the cause
-abbrev pub IsUnreadTold : (path : List ℕ) → (explain : Bool) → Telling → Type 0
-IsUnreadTold path false telling = telling ≡ failure (file_failed_line path)
-IsUnreadTold path true telling = (cause : UnreadCause) × (telling ≡ failure (file_failed_line path ++ cause_text cause))
+-- the file at a path can't be read, and that is reported, and why, where that is asked: the machine says the cause
+abbrev pub IsUnreadReported : (path : List ℕ) → (explain : Bool) → Report → Type 0
+IsUnreadReported path false report = report ≡ failure (file_failed_line path)
+IsUnreadReported path true report = (cause : UnreadCause) × (report ≡ failure (file_failed_line path ++ cause_text cause))
 
--- the file of a path is told of: it can't be read, or its bytes decide
-abbrev pub ChecksFile : MayRead → Option Parts → (k : ℕ) → Form → (explain : Bool) → (number : ℕ) (path : List ℕ) → Telling → Type 0
-ChecksFile Reads base k form explain number path telling =
-    (Reads number path (Err Device) × IsUnreadTold path explain telling)
-    ⊎ ((bytes : List ℕ) × Reads number path (Ok bytes) × ChecksBytes base k form explain path bytes telling)
+-- the file of a path is reported: it can't be read, or its bytes decide
+abbrev pub ChecksFile : MayRead → Option Parts → (k : ℕ) → Form → (explain : Bool) → (number : ℕ) (path : List ℕ) → Report → Type 0
+ChecksFile Reads base k form explain number path report =
+    (Reads number path (Err Device) × IsUnreadReported path explain report)
+    ⊎ ((bytes : List ℕ) × Reads number path (Ok bytes) × ChecksBytes base k form explain path bytes report)
 
 -- ---- several files
 
--- how each of them is told
+-- how each of them is reported
 abbrev pub form_of : (json : Bool) → Form
 form_of json = if json then Object else Named
 
--- after a file whose telling ended with a status: nothing more where standard output failed; else the other files, and the
+-- after a file whose report ended with a status: nothing more where standard output failed; else the other files, and the
 -- status is the greater of this one and theirs
 abbrev pub ChecksOn : (first : ℕ) → (between : Sinks) → (rest : ℕ → Sinks → Type 0) → (status : ℕ) → (after : Sinks) → Type 0
 ChecksOn first between rest status after =
@@ -98,6 +98,6 @@ abbrev pub ChecksAll : MayRead → Option Parts → (k : ℕ) → Form → (expl
     → (before after : Sinks) → Type 0
 ChecksAll Reads base k form explain number [] status before after = (status ≡ 0) × (after ≡ before)
 ChecksAll Reads base k form explain number (path ∷ paths) status before after =
-    (telling : Telling) × (first : ℕ) × (between : Sinks) × OrMemory (ChecksFile Reads base k form explain number path) telling
-    × Ends telling first before between
+    (report : Report) × (first : ℕ) × (between : Sinks) × OrMemory (ChecksFile Reads base k form explain number path) report
+    × Ends report first before between
     × ChecksOn first between (λ others after. ChecksAll Reads base k form explain (suc number) paths others between after) status after

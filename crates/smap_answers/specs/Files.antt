@@ -4,7 +4,7 @@ use Rattle.std.specs.Option.{IsSomeAnd}
 use Rattle.smap_io.specs.declared.transfer.ReadFailure.{ReadFailure}
 use Rattle.smap_io.specs.declared.transfer.ReadFailure.TheVariants.{Device, Memory}
 use Rattle.smap_answers.specs.Lines.{file_failed_line}
-use Rattle.smap_answers.specs.Outcome.{Telling, failure}
+use Rattle.smap_answers.specs.Outcome.{Report, failure}
 use Rattle.smap_answers.specs.declared.files.Loaded.{Loaded}
 
 -- what reading a file may give, by the number of its path among those that the command names, from 0, and the path: bytes,
@@ -23,11 +23,11 @@ gives_loaded files number path (Ok bytes) = IsSomeAnd (slice_get files number) (
 gives_loaded files number path (Err Device) = IfSome (slice_get files number) (λ file. string_bytes file.path ≢ path)
 gives_loaded files number path (Err Memory) = ⊤
 
--- the file can't be read, and that is told
-abbrev pub IsUnread : MayRead → (number : ℕ) (path : List ℕ) → Telling → Type 0
-IsUnread Reads number path telling = Reads number path (Err Device) × (telling ≡ failure (file_failed_line path))
+-- the file can't be read, and that is reported
+abbrev pub IsUnread : MayRead → (number : ℕ) (path : List ℕ) → Report → Type 0
+IsUnread Reads number path report = Reads number path (Err Device) × (report ≡ failure (file_failed_line path))
 
--- a file can't be read, and that is told; or it is, and its bytes decide
-abbrev pub OfFile : MayRead → (number : ℕ) (path : List ℕ) → (List ℕ → Telling → Type 0) → Telling → Type 0
-OfFile Reads number path Tells telling =
-    IsUnread Reads number path telling ⊎ ((bytes : List ℕ) × Reads number path (Ok bytes) × Tells bytes telling)
+-- a file can't be read, and that is reported; or it is, and its bytes decide
+abbrev pub OfFile : MayRead → (number : ℕ) (path : List ℕ) → (List ℕ → Report → Type 0) → Report → Type 0
+OfFile Reads number path Reports report =
+    IsUnread Reads number path report ⊎ ((bytes : List ℕ) × Reads number path (Ok bytes) × Reports bytes report)

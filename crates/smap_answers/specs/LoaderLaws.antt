@@ -6,9 +6,9 @@ use Rattle.smap_record.specs.MapFile.{IsMapOf, Map}
 use Rattle.smap_record.specs.Record.{MapRecord, record_of}
 use Rattle.smap_store.specs.Loaded.{record_in}
 use Rattle.smap_answers.specs.Files.{MayRead}
-use Rattle.smap_answers.specs.Loader.{FailsToLoad, FailsToRead, IsSameLoader, LoaderSeen, Loads, MayLoad, named_telling}
-use Rattle.smap_answers.specs.Map.{Never, TellsFound, refusal_result}
-use Rattle.smap_answers.specs.Outcome.{OrMemory, Telling, out_of_memory}
+use Rattle.smap_answers.specs.Loader.{FailsToLoad, FailsToRead, IsSameLoader, LoaderSeen, Loads, MayLoad, named_report}
+use Rattle.smap_answers.specs.Map.{Never, ReportsFound, refusal_result}
+use Rattle.smap_answers.specs.Outcome.{OrMemory, Report, out_of_memory}
 use Rattle.smap_answers.specs.Private.Gathering.{IsReadAs, IsReadRefusal}
 use Rattle.smap_answers.specs.Trace.{IsBaseUsed}
 use Rattle.smap_answers.specs.declared.loader.FileLoader.{FileLoader}
@@ -38,16 +38,16 @@ used_is (Some base) url = inl refl
 pub read_unbased : (base : Option Parts) (k : ℕ) (url bytes : List ℕ) (map : Map) → IsMapOf (record_of bytes base k) k map → IsReadAs base k url bytes (Ok map.stated)
 read_unbased base k url bytes map is = (base, used_is base url, is.0)
 
-pub refused_unbased : (base : Option Parts) (k : ℕ) (url path bytes : List ℕ) (telling : Telling)
-    → OrMemory (TellsFound (refusal_result path) (record_of bytes base k) Never) telling → OrMemory (IsReadRefusal base k url path bytes) telling
-refused_unbased base k url path bytes telling (inl memory) = inl memory
-refused_unbased base k url path bytes telling (inr refused) = inr (base, used_is base url, refused)
+pub refused_unbased : (base : Option Parts) (k : ℕ) (url path bytes : List ℕ) (report : Report)
+    → OrMemory (ReportsFound (refusal_result path) (record_of bytes base k) Never) report → OrMemory (IsReadRefusal base k url path bytes) report
+refused_unbased base k url path bytes report (inl memory) = inl memory
+refused_unbased base k url path bytes report (inr refused) = inr (base, used_is base url, refused)
 
 -- ---- why a map can't be had, named
 
-pub fails_named : (Reads : MayRead) (base : Option Parts) (k number : ℕ) (url path : List ℕ) (telling named : Telling)
-    → OrMemory (FailsToRead Reads base k number url path) telling → named_telling path telling named → FailsToLoad Reads base k number url path named
-fails_named Reads base k number url path telling named (inl memory) (inl same) = inl (same ∙ memory)
-fails_named Reads base k number url path telling named (inr fails) (inl same) =
+pub fails_named : (Reads : MayRead) (base : Option Parts) (k number : ℕ) (url path : List ℕ) (report named : Report)
+    → OrMemory (FailsToRead Reads base k number url path) report → named_report path report named → FailsToLoad Reads base k number url path named
+fails_named Reads base k number url path report named (inl memory) (inl same) = inl (same ∙ memory)
+fails_named Reads base k number url path report named (inr fails) (inl same) =
     inr (inr (subst (λ t. FailsToRead Reads base k number url path t) (sym same) fails))
-fails_named Reads base k number url path telling named fails (inr is) = inr (inl is.1)
+fails_named Reads base k number url path report named fails (inr is) = inr (inl is.1)

@@ -1,5 +1,5 @@
 -- What `rewrite` does over files and folders of maps that are read when a trace names them: it gathers what it is over, rewrites
--- the text over a store of maps, and tells what that came to. The status is the greatest of all that was told.
+-- the text over a store of maps, and says what that came to. The status is the greatest of all that was reported.
 use Rattle.std.specs.Prelude.{◌≡◌, ◌⊎◌, ℕ, ◌+◌, ◌-◌, ◌^◌, ◌==◌, Bool, List, [], ◌∷◌, Option, Result, Ok, Err, MatchBool, codes, length, map, max, min}
 use Rattle.std.specs.Prelude.{option_copied}
 use Rattle.std.specs.Fmt.{decimal}
@@ -23,10 +23,10 @@ use Rattle.smap_trace.specs.declared.outcome.RewriteCounts.{RewriteCounts}
 use Rattle.smap_answers.specs.Files.{MayRead}
 use Rattle.smap_answers.specs.Lines.{line_from, memory_line}
 use Rattle.smap_answers.specs.Loader.{LoaderSeen, Loads, MayLoad}
-use Rattle.smap_answers.specs.Outcome.{Telling, answer, fault_telling}
+use Rattle.smap_answers.specs.Outcome.{Report, answer, fault_report}
 use Rattle.smap_answers.specs.SameBytes.{BytesByPath, IsSettled, ReadsSame}
 use Rattle.smap_answers.specs.Sources.{GathersSources}
-use Rattle.smap_answers.specs.Streams.{Ends, IsToldTo, Sinks, Streams}
+use Rattle.smap_answers.specs.Streams.{Ends, IsReportedTo, Sinks, Streams}
 use Rattle.smap_answers.specs.Trace.{argument_of}
 use Rattle.smap_answers.specs.declared.rewrite_from.RewriteRequest.{RewriteRequest}
 use Rattle.smap_answers.specs.declared.rewrite_from.StoreEnd.{StoreEnd}
@@ -65,7 +65,7 @@ store_start sources cache_bytes errors = record {
   words = sources.words;
   locations = sources.locations;
   cache = record { kept = []; most = cache_bytes; read = 0; missing = 0; shortages = 0 };
-  loader = record { errors = errors; status = 0; told = 0; refused = 0 };
+  loader = record { errors = errors; status = 0; reported = 0; refused = 0 };
 }
 
 -- which place begins a text over them
@@ -136,7 +136,7 @@ AnswersByPath Reads base k request sources end before after =
     → RewritesTextBy request.anywhere (stored_maps load sources.words sources.locations) (places_of sources) request.hide_ignored request.limit_bytes
     (devices_seen before.input before.sinks.output) (devices_seen after.input after.sinks.output) counts
 
--- ---- what is told at the end
+-- ---- what is reported at the end
 
 -- what was in the trace
 abbrev pub trace_text : RewriteCounts → List ℕ
@@ -160,30 +160,30 @@ maps_text end = concat (
 abbrev pub summary_line : StoreEnd → RewriteCounts → List ℕ
 summary_line end counts = line_from (codes "ok " ∷ trace_text counts ∷ codes " " ∷ maps_text end ∷ [])
 
--- this is told, or that memory ran out, with this status
-abbrev pub TellsSummary : (line : List ℕ) → (status : ℕ) → (before after : SinkSeen) → Type 0
-TellsSummary line status before after =
-    ((status ≡ 0) × IsToldTo before after line) ⊎ ((status ≡ 3) × IsToldTo before after memory_line)
+-- this is reported, or that memory ran out, with this status
+abbrev pub ReportsSummary : (line : List ℕ) → (status : ℕ) → (before after : SinkSeen) → Type 0
+ReportsSummary line status before after =
+    ((status ≡ 0) × IsReportedTo before after line) ⊎ ((status ≡ 3) × IsReportedTo before after memory_line)
 
--- that memory ran out for some maps is told with this status, where it did
-abbrev pub TellsShortage : (shortages status : ℕ) → (before after : SinkSeen) → Type 0
-TellsShortage shortages status before after =
-    MatchBool (shortages == 0) ((status ≡ 0) × (after ≡ before)) ((status ≡ 3) × IsToldTo before after memory_line)
+-- that memory ran out for some maps is reported with this status, where it did
+abbrev pub ReportsShortage : (shortages status : ℕ) → (before after : SinkSeen) → Type 0
+ReportsShortage shortages status before after =
+    MatchBool (shortages == 0) ((status ≡ 0) × (after ≡ before)) ((status ≡ 3) × IsReportedTo before after memory_line)
 
 -- so is what was done where that is asked; and the status of both
 abbrev pub ClosesWith : StoreEnd → (summary : Bool) → RewriteCounts → (status : ℕ) → (before after : SinkSeen) → Type 0
 ClosesWith end summary counts status before after =
-    (between : SinkSeen) × (short : ℕ) × TellsShortage end.shortages short before between
-    × MatchBool summary ((told : ℕ) × TellsSummary (summary_line end counts) told between after × (status ≡ max short told))
+    (between : SinkSeen) × (short : ℕ) × ReportsShortage end.shortages short before between
+    × MatchBool summary ((reported : ℕ) × ReportsSummary (summary_line end counts) reported between after × (status ≡ max short reported))
     ((status ≡ short) × (after ≡ between))
 
 -- how the run ends, by what rewriting came to, and with which status
 abbrev pub EndsResult : StoreEnd → (summary : Bool) → Result RewriteCounts LineFault → (status : ℕ) → (before after : Sinks) → Type 0
 EndsResult end summary (Ok counts) status before after =
-    (told : ℕ) × (between : Sinks) × (closed : ℕ) × Ends (answer []) told before between × (after.output ≡ between.output)
-    × ClosesWith end summary counts closed between.errors after.errors × (status ≡ max (max end.status told) closed)
+    (reported : ℕ) × (between : Sinks) × (closed : ℕ) × Ends (answer []) reported before between × (after.output ≡ between.output)
+    × ClosesWith end summary counts closed between.errors after.errors × (status ≡ max (max end.status reported) closed)
 EndsResult end summary (Err fault) status before after =
-    (told : ℕ) × Ends (fault_telling fault) told before after × (status ≡ max end.status told)
+    (reported : ℕ) × Ends (fault_report fault) reported before after × (status ≡ max end.status reported)
 
 abbrev pub EndsFrom : StoreEnd → (summary : Bool) → (status : ℕ) → (before after : Sinks) → Type 0
 EndsFrom end summary status before after = EndsResult end summary end.result status before after
@@ -191,7 +191,7 @@ EndsFrom end summary status before after = EndsResult end summary end.result sta
 -- ---- the run
 
 -- over what it gathered, or where that is refused
-abbrev pub RewritesSources : MayRead → Option Parts → (k : ℕ) → RequestSeen → Result MapSources Telling → (status : ℕ) → (before after : Streams) → Type 0
+abbrev pub RewritesSources : MayRead → Option Parts → (k : ℕ) → RequestSeen → Result MapSources Report → (status : ℕ) → (before after : Streams) → Type 0
 RewritesSources Reads base k request (Err refused) status before after = (after.input ≡ before.input) × Ends refused status before.sinks after.sinks
 RewritesSources Reads base k request (Ok sources) status before after =
     (end : StoreEnd) × (between : Streams) × IsOverStore Reads base k request sources end before between
@@ -199,5 +199,5 @@ RewritesSources Reads base k request (Ok sources) status before after =
 
 abbrev pub RewritesFrom : MayRead → Option Parts → (k : ℕ) → RequestSeen → (status : ℕ) → (before after : Streams) → Type 0
 RewritesFrom Reads base k request status before after =
-    (gathered : Result MapSources Telling) × GathersSources Reads base k request.arguments request.list gathered
+    (gathered : Result MapSources Report) × GathersSources Reads base k request.arguments request.list gathered
     × RewritesSources Reads base k request gathered status before after

@@ -38,7 +38,7 @@ IsSettled base k bytes_at load =
     (url path bytes : List ℕ) (stated : MapRecord) → bytes_at path ≡ Some bytes → IsReadAs base k (without_query url) bytes (Ok stated)
     → load url path ≡ Some stated
 
--- ---- what was told
+-- ---- what was reported
 
 -- each map that was looked for in a file was there, and none was refused
 abbrev pub IsSilent : LoaderSeen → Type 0

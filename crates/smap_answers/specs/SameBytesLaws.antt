@@ -1,5 +1,5 @@
 -- Laws of rewriting a trace over files whose paths give the same bytes whenever they are read: what is written and counted
--- is then what the maps of these bytes make of it, however few are remembered, if no trouble was told or counted.
+-- is then what the maps of these bytes make of it, however few are remembered, if no trouble was reported or counted.
 use Rattle.std.specs.Prelude.{◌≡◌, ◌<◌, ◌+◌, ℕ, Bool, true, false, List, [], Option, Some, None, Result, Ok, Err, length}
 use Rattle.std.proofs.Common.{ap, arith, inl, inr, refl, subst, sym, ◌∙◌}
 use Rattle.url.specs.Parts.{Parts}
@@ -23,8 +23,8 @@ use Rattle.smap_trace.specs.declared.outcome.RewriteCounts.{RewriteCounts}
 use Rattle.smap_trace.specs.declared.outcome.Summary.{Summary}
 use Rattle.smap_answers.specs.Files.{MayRead}
 use Rattle.smap_answers.specs.Loader.{FailsToLoad, LoaderSeen, Loads}
-use Rattle.smap_answers.specs.Map.{Never, TellsFound, refusal_result}
-use Rattle.smap_answers.specs.Outcome.{Telling}
+use Rattle.smap_answers.specs.Map.{Never, ReportsFound, refusal_result}
+use Rattle.smap_answers.specs.Outcome.{Report}
 use Rattle.smap_answers.specs.RewriteFrom.{AnswersByPath, IsOverStore, IsStoredRewritten, RequestSeen, RewritesTextBy, places_of, store_start}
 use Rattle.smap_answers.specs.SameBytes.{BytesByPath, IsSettled, IsSilent, ReadsSame, stated_by, stated_in}
 use Rattle.smap_answers.specs.Streams.{Streams}
@@ -56,7 +56,7 @@ module _ {L : Type 0} (Steps : LoadsStep L) (Good : L → Type 0) (load : MapsBy
       (good_before Steps Good load loads_right) (right_after Steps Good load loads_right old.words old.locations) begins most before after old new summary all
       good (right_start load old empty)
 
--- ---- where nothing was told, so no map was refused
+-- ---- where nothing was reported, so no map was refused
 
 -- a base that is given settles the maps
 pub settled_by : (base : Parts) (k : ℕ) (bytes_at : BytesByPath) → IsSettled (Some base) k bytes_at (λ url path. stated_by (Some base) k (bytes_at path))
@@ -69,25 +69,25 @@ settled_by base k bytes_at url path bytes stated is (used, uses, read) =
 
 module _ (Reads : MayRead) (base : Option Parts) (k number : ℕ) (bytes_at : BytesByPath) (same : ReadsSame Reads number bytes_at) (load : MapsByPath)
     (settled : IsSettled base k bytes_at load) where
-  -- what is told of a map that can't be had has a status
-  refused_status : (path : List ℕ) (telling : Telling) (found : Result MapRecord MapRefusal) → TellsFound (refusal_result path) found Never telling
-      → telling.status ≡ 1
-  refused_status path telling (Err refused) told = ap (λ t. t.status) told
-  refused_status path telling (Ok stated) (inl told) = ap (λ t. t.status) told
-  refused_status path telling (Ok stated) (inr never) = absurd never
+  -- what is said of a map that can't be had has a status
+  refused_status : (path : List ℕ) (report : Report) (found : Result MapRecord MapRefusal) → ReportsFound (refusal_result path) found Never report
+      → report.status ≡ 1
+  refused_status path report (Err refused) reported = ap (λ t. t.status) reported
+  refused_status path report (Ok stated) (inl reported) = ap (λ t. t.status) reported
+  refused_status path report (Ok stated) (inr never) = absurd never
 
-  fails_told : (url path : List ℕ) (telling : Telling) → FailsToLoad Reads base k number url path telling → telling.status < 1 → ⊥
-  fails_told url path telling (inl memory) few = let status = ap (λ t. t.status) memory in omega (arith, status, few)
-  fails_told url path telling (inr (inl named)) few = let status = ap (λ t. t.status) named in omega (arith, status, few)
-  fails_told url path telling (inr (inr (inl unread))) few = let status = ap (λ t. t.status) unread.1 in omega (arith, status, few)
-  fails_told url path telling (inr (inr (inr (bytes, read, (used, uses, told))))) few =
-      let status = refused_status path telling (record_of bytes used k) told in omega (arith, status, few)
+  fails_reported : (url path : List ℕ) (report : Report) → FailsToLoad Reads base k number url path report → report.status < 1 → ⊥
+  fails_reported url path report (inl memory) few = let status = ap (λ t. t.status) memory in omega (arith, status, few)
+  fails_reported url path report (inr (inl named)) few = let status = ap (λ t. t.status) named in omega (arith, status, few)
+  fails_reported url path report (inr (inr (inl unread))) few = let status = ap (λ t. t.status) unread.1 in omega (arith, status, few)
+  fails_reported url path report (inr (inr (inr (bytes, read, (used, uses, reported))))) few =
+      let status = refused_status path report (record_of bytes used k) reported in omega (arith, status, few)
 
   loads_settled : (old new : LoaderSeen) (url path : List ℕ) (came : Option (MapRecord × ℕ)) → Loads Reads base k number old url path came new
       → IsSilent new → IsSilent old × (record_in came ≡ load url path)
   loads_settled old new url path None loads silent =
       let status = loads.2.status in
-      absurd (fails_told url path loads.0 loads.1 (omega (arith, status, silent)))
+      absurd (fails_reported url path loads.0 loads.1 (omega (arith, status, silent)))
   loads_settled old new url path (Some (stated, file_bytes)) loads silent =
       let (bytes, read, many, is) = loads.0 in
       (subst IsSilent loads.1 silent, sym (settled url path bytes stated (same path bytes read) is))

@@ -7,7 +7,7 @@ use Rattle.smap_compose.specs.declared.refusal.ComposeRefusal.{ComposeRefusal}
 use Rattle.smap_mappings.specs.Canonical.{canonical_text}
 use Rattle.smap_record.specs.Written.{written}
 use Rattle.smap_answers.specs.Lines.{line_from}
-use Rattle.smap_answers.specs.Outcome.{Telling, answer}
+use Rattle.smap_answers.specs.Outcome.{Report, answer}
 
 -- nothing is left out
 abbrev pub all_written : WriteOptions
@@ -31,19 +31,19 @@ abbrev pub composed_line : Composition → List ℕ
 composed_line composed = line_from (
     written composed.sources composed.names composed.file (canonical_text composed.mappings) ∷ [])
 
-abbrev pub line_told : Result Composition ComposeRefusal → Result Telling ComposeRefusal
-line_told (Err refused) = Err refused
-line_told (Ok whole) = Ok (answer (composed_line whole))
+abbrev pub line_reported : Result Composition ComposeRefusal → Result Report ComposeRefusal
+line_reported (Err refused) = Err refused
+line_reported (Ok whole) = Ok (answer (composed_line whole))
 
--- what is told of what maps come to, or why it is refused
-abbrev pub written_of : WriteOptions → Result Composition ComposeRefusal → Result Telling ComposeRefusal
+-- what is said of what maps come to, or why it is refused
+abbrev pub written_of : WriteOptions → Result Composition ComposeRefusal → Result Report ComposeRefusal
 written_of options (Err refused) = Err refused
-written_of options (Ok whole) = line_told (left_of options whole)
+written_of options (Ok whole) = line_reported (left_of options whole)
 
--- the same, with what is told of a refusal
-abbrev pub telling_or : (refusal_of : ComposeRefusal → Telling) → Result Telling ComposeRefusal → Telling
-telling_or refusal_of (Err refused) = refusal_of refused
-telling_or refusal_of (Ok telling) = telling
+-- the same, with what is said of a refusal
+abbrev pub report_or : (refusal_of : ComposeRefusal → Report) → Result Report ComposeRefusal → Report
+report_or refusal_of (Err refused) = refusal_of refused
+report_or refusal_of (Ok report) = report
 
-abbrev pub written_result : (refusal_of : ComposeRefusal → Telling) → WriteOptions → Result Composition ComposeRefusal → Telling
-written_result refusal_of options made = telling_or refusal_of (written_of options made)
+abbrev pub written_result : (refusal_of : ComposeRefusal → Report) → WriteOptions → Result Composition ComposeRefusal → Report
+written_result refusal_of options made = report_or refusal_of (written_of options made)

@@ -1,8 +1,8 @@
 //! Checking map files: how much each holds.
 ghost use Rattle.std.specs.Prelude.{◌≡◌, ◌≢◌, ◌++◌, false, map, option_copied, string_bytes, IfOk};
-ghost use Rattle.smap_answers.specs.Check.{ChecksAll, ChecksBytes, ChecksFile, IsLineTold, IsObjectTold, IsRefusedTold, IsUnreadTold, IsWhyLine, IsWhyObject, accepted_line, cause_text, form_of};
+ghost use Rattle.smap_answers.specs.Check.{ChecksAll, ChecksBytes, ChecksFile, IsLineReported, IsObjectReported, IsRefusedReported, IsUnreadReported, IsWhyLine, IsWhyObject, accepted_line, cause_text, form_of};
 ghost use Rattle.smap_answers.specs.Lines.{file_failed_line};
-ghost use Rattle.smap_answers.specs.Outcome.{OrMemory, failure_telling, telling_of};
+ghost use Rattle.smap_answers.specs.Outcome.{OrMemory, failure_report, report_of};
 ghost use Rattle.smap_answers.specs.Streams.{sinks_seen};
 ghost use Rattle.smap_record.specs.declared.refusal.MapRefusal.TheVariants.{Memory};
 
@@ -11,14 +11,14 @@ use crate::lines;
 use crate::map::MapReader;
 use crate::outcome::{DONE, Failure, Reply};
 use crate::refusal::refusal_line;
-use crate::telling::tell;
+use crate::reporting::report;
 use smap_explain::explain;
 use smap_io::{ByteSink, ReadFailure};
 use smap_record::{MapFile, MapRefusal};
 use smap_verdicts::{MapCounts, counts_json, explanation_text, map_counts, refusal_json};
 use std::alloc::{AllocError, Global};
 
-/// How a file is told of.
+/// How a file is reported.
 #[derive(Clone, Copy)]
 pub enum Form {
     /// By the counts of its map.
@@ -29,16 +29,16 @@ pub enum Form {
     Object,
 }
 
-/// How files are told of.
+/// How files are reported.
 #[derive(Clone, Copy)]
 pub struct CheckOptions {
-    /// Whether each map is told by a JSON object.
+    /// Whether each map is reported by a JSON object.
     pub json: bool,
-    /// Whether a refusal that is told by a line is followed by why the map is refused.
+    /// Whether a refusal that is reported by a line is followed by why the map is refused.
     pub explain: bool,
 }
 
-/// What is told of the file of this number and path.
+/// What is said of the file of this number and path.
 pub fn answer_check<F: FileReader>(
     alloc: Global,
     maps: &MapReader<'_, F>,
@@ -48,7 +48,7 @@ pub fn answer_check<F: FileReader>(
     explain: bool,
 ) -> Result<Reply, Failure>
     ensures { OrMemory (ChecksFile (F.gives maps.now.files.now) (option_copied maps.now.base)
-        maps.now.interval form explain number path.now) (telling_of result) }
+        maps.now.interval form explain number path.now) (report_of result) }
 {
     match maps.files.read_file(alloc, number, path) {
         Ok(bytes) => answer_bytes(alloc, maps, &bytes, path, form, explain),
@@ -57,10 +57,10 @@ pub fn answer_check<F: FileReader>(
     }
 }
 
-/// Checks the map files at these paths, one after another: each is read, told and let go before the next is read, whether
-/// it is accepted or refused, can't be read, or memory runs out. A file is told by one line; with `json` a map, accepted or
-/// refused, is told by one JSON object. Gives the greatest status of all. Where standard output fails, nothing more is
-/// read. The caller gives a standard output that has not failed.
+/// Checks the map files at these paths, one after another: each is read, reported and let go before the next is read,
+/// whether it is accepted or refused, can't be read, or memory runs out. A file is reported by one line; with `json` a
+/// map, accepted or refused, is reported by one JSON object. Gives the greatest status of all. Where standard output
+/// fails, nothing more is read. The caller gives a standard output that has not failed.
 pub fn check_all<F: FileReader, W: ByteSink, E: ByteSink>(
     alloc: Global,
     maps: &MapReader<'_, F>,
@@ -79,7 +79,7 @@ pub fn check_all<F: FileReader, W: ByteSink, E: ByteSink>(
     let mut status = DONE;
     for (number, path) in paths.iter().enumerate() {
         let outcome = answer_check(alloc, maps, number, path, form, options.explain);
-        status = status.max(tell(&outcome, output, errors));
+        status = status.max(report(&outcome, output, errors));
         if output.failed() {
             break;
         }
@@ -87,14 +87,14 @@ pub fn check_all<F: FileReader, W: ByteSink, E: ByteSink>(
     status
 }
 
-// How each of several files is told of.
+// How each of several files is reported.
 fn form_of(json: bool) -> Form
     ensures { result ≡ form_of json }
 {
     if json { Form::Object } else { Form::Named }
 }
 
-// What is told of the file of these bytes at a path.
+// What is said of the file of these bytes at a path.
 fn answer_bytes<F: FileReader>(
     alloc: Global,
     maps: &MapReader<'_, F>,
@@ -104,7 +104,7 @@ fn answer_bytes<F: FileReader>(
     explain: bool,
 ) -> Result<Reply, Failure>
     ensures { OrMemory (ChecksBytes (option_copied maps.now.base) maps.now.interval form explain
-        path.now bytes.now) (telling_of result) }
+        path.now bytes.now) (report_of result) }
 {
     match MapFile::read(alloc, bytes, maps.base, maps.interval) {
         Ok(map) => Ok(Reply::Text(accepted_line(alloc, path, map_counts(&map), form)?)),
@@ -128,7 +128,7 @@ fn accepted_line(
     }
 }
 
-// Why the map of these bytes is refused. Want of memory is no refusal of the map.
+// Why the map of these bytes is refused. Out of memory is no refusal of the map.
 fn refused_reply(
     alloc: Global,
     path: &str,
@@ -137,8 +137,8 @@ fn refused_reply(
     form: Form,
     explain: bool,
 ) -> Result<Reply, Failure>
-    ensures { OrMemory (λ telling. (refused ≢ Memory)
-        × IsRefusedTold bytes.now path.now form explain refused telling) (telling_of result) }
+    ensures { OrMemory (λ report. (refused ≢ Memory)
+        × IsRefusedReported bytes.now path.now form explain refused report) (report_of result) }
 {
     match form {
         Form::Object => object_reply(alloc, path, bytes, refused),
@@ -152,8 +152,8 @@ fn object_reply(
     bytes: &[u8],
     refused: MapRefusal,
 ) -> Result<Reply, Failure>
-    ensures { OrMemory (λ telling. (refused ≢ Memory)
-        × IsObjectTold bytes.now path.now refused telling) (telling_of result) }
+    ensures { OrMemory (λ report. (refused ≢ Memory)
+        × IsObjectReported bytes.now path.now refused report) (report_of result) }
 {
     if let MapRefusal::Memory = refused {
         return Err(Failure::Memory);
@@ -161,7 +161,7 @@ fn object_reply(
     Ok(Reply::Refused(why_object(alloc, path, bytes, refused)?))
 }
 
-// The object that tells of a refusal, and says why, as a line.
+// The object that reports a refusal, and says why, as a line.
 fn why_object(
     alloc: Global,
     path: &str,
@@ -181,8 +181,8 @@ fn line_failure(
     refused: MapRefusal,
     explain: bool,
 ) -> Failure
-    ensures { OrMemory (λ telling. (refused ≢ Memory)
-        × IsLineTold bytes.now path.now explain refused telling) (failure_telling result) }
+    ensures { OrMemory (λ report. (refused ≢ Memory)
+        × IsLineReported bytes.now path.now explain refused report) (failure_report result) }
 {
     let line = if explain {
         why_line(alloc, path, bytes, refused)
@@ -195,14 +195,14 @@ fn line_failure(
     }
 }
 
-// The line that tells of a refusal, and the lines that say why.
+// The line that reports a refusal, and the lines that say why.
 fn why_line(
     alloc: Global,
     path: &str,
     bytes: &[u8],
     refused: MapRefusal,
 ) -> Result<String, AllocError>
-    ensures told { IfOk result (λ line. IsWhyLine bytes.now path.now refused (string_bytes line)) }
+    ensures reported { IfOk result (λ line. IsWhyLine bytes.now path.now refused (string_bytes line)) }
     ensures not_memory { IfOk result (λ _. refused ≢ Memory) }
 {
     let line = refusal_line(alloc, path, refused)?;
@@ -213,7 +213,7 @@ fn why_line(
 
 // That the file at a path can't be read and, where that is asked, why not.
 fn unread<F: FileReader>(alloc: Global, reader: &F, path: &str, explain: bool) -> Failure
-    ensures { OrMemory (IsUnreadTold path.now explain) (failure_telling result) }
+    ensures { OrMemory (IsUnreadReported path.now explain) (failure_report result) }
 {
     let line = if explain {
         cause_line(alloc, path, reader.unread_cause(path))
@@ -242,6 +242,6 @@ fn cause_text(cause: UnreadCause) -> &'static str
         UnreadCause::Missing => "  there is no such file\n",
         UnreadCause::Folder => "  the path is that of a folder\n",
         UnreadCause::NoPermission => "  the file may not be read: permission is denied\n",
-        UnreadCause::Other => "  the file is there, and reading it failed\n",
+        UnreadCause::Other => "  reading the file failed for another cause\n",
     }
 }

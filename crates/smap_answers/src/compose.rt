@@ -1,8 +1,8 @@
 //! Composing the maps of files.
 ghost use Rattle.std.specs.Prelude.{◌≡◌, MatchResult, option_copied};
-ghost use Rattle.smap_answers.specs.Compose.{TellsComposed, compose_refusal_result, compose_result};
+ghost use Rattle.smap_answers.specs.Compose.{ReportsComposed, compose_refusal_result, compose_result};
 ghost use Rattle.smap_answers.specs.Map.{IsResult};
-ghost use Rattle.smap_answers.specs.Outcome.{OrMemory, failure_telling, reply_telling, telling_of};
+ghost use Rattle.smap_answers.specs.Outcome.{OrMemory, failure_report, reply_report, report_of};
 ghost use Rattle.smap_answers.specs.Written.{written_of};
 ghost use Rattle.smap_compose.specs.Composition.{composed_of};
 ghost use Rattle.smap_mappings.specs.Exact.{GivesOr};
@@ -32,7 +32,7 @@ pub struct TwoMaps<'a> {
 }
 
 /// Reads the maps that the files at the two paths are, the outer one first, and composes them, without what the options
-/// leave out. Where the outer map is refused, the other file is read all the same: one that can't be read is told before
+/// leave out. Where the outer map is refused, the other file is read all the same: one that can't be read is reported before
 /// that.
 pub fn answer_compose<F: FileReader>(
     alloc: Global,
@@ -40,9 +40,9 @@ pub fn answer_compose<F: FileReader>(
     maps: &TwoMaps<'_>,
     options: WriteOptions,
 ) -> Result<Reply, Failure>
-    ensures { OrMemory (TellsComposed (F.gives reader.now) options maps.now.outer.now
+    ensures { OrMemory (ReportsComposed (F.gives reader.now) options maps.now.outer.now
         maps.now.source maps.now.inner.now (option_copied maps.now.base))
-        (telling_of result) }
+        (report_of result) }
 {
     let bytes = file_bytes(alloc, reader, 0, maps.outer)?;
     let outer_map = map_of(alloc, maps.outer, bytes, maps.base, USUAL_INTERVAL);
@@ -61,9 +61,9 @@ fn composed_two(
     options: WriteOptions,
 ) -> Result<Reply, Failure>
     ensures { OrMemory (IsResult (compose_result options outer.now.stated source) inner.now.stated)
-        (telling_of result) }
+        (report_of result) }
 {
-    told(alloc, composed_line(alloc, outer, source, inner, options))
+    reported(alloc, composed_line(alloc, outer, source, inner, options))
 }
 
 // The composed map as a line.
@@ -74,16 +74,16 @@ fn composed_line(
     inner: &MapFile,
     options: WriteOptions,
 ) -> Result<Reply, ComposeRefusal>
-    ensures { GivesOr ComposeRefusal.Memory reply_telling result
+    ensures { GivesOr ComposeRefusal.Memory reply_report result
         (written_of options (composed_of outer.now.stated source inner.now.stated)) }
 {
     written(alloc, compose(alloc, outer, source, inner)?, options)
 }
 
 /// The composed map, or why maps are not composed.
-pub fn told(alloc: Global, made: Result<Reply, ComposeRefusal>) -> Result<Reply, Failure>
-    ensures { MatchResult made (λ reply. telling_of result ≡ reply_telling reply)
-        (λ refusal. OrMemory (λ telling. telling ≡ compose_refusal_result refusal) (telling_of result)) }
+pub fn reported(alloc: Global, made: Result<Reply, ComposeRefusal>) -> Result<Reply, Failure>
+    ensures { MatchResult made (λ reply. report_of result ≡ reply_report reply)
+        (λ refusal. OrMemory (λ report. report ≡ compose_refusal_result refusal) (report_of result)) }
 {
     match made {
         Ok(reply) => Ok(reply),

@@ -1,7 +1,7 @@
 //! Composing the map of a file with those of several of its sources.
 ghost use Rattle.std.specs.Prelude.{◌≡◌, ◌≤◌, length, map, option_copied, IfOk};
-ghost use Rattle.smap_answers.specs.ComposeAll.{TellsAllComposed, TellsInners};
-ghost use Rattle.smap_answers.specs.Outcome.{OrMemory, reply_telling, telling_of};
+ghost use Rattle.smap_answers.specs.ComposeAll.{ReportsAllComposed, ReportsInners};
+ghost use Rattle.smap_answers.specs.Outcome.{OrMemory, reply_report, report_of};
 ghost use Rattle.smap_answers.specs.Private.Inners.{inners_stated};
 ghost use Rattle.smap_answers.specs.Trace.{argument_of};
 ghost use Rattle.smap_answers.specs.Written.{written_of};
@@ -9,7 +9,7 @@ ghost use Rattle.smap_compose.specs.Composition.{all_composed};
 ghost use Rattle.smap_compose.specs.Inners.{stated_inners};
 ghost use Rattle.smap_mappings.specs.Exact.{GivesOr};
 
-use crate::compose::told;
+use crate::compose::reported;
 use crate::files::FileReader;
 use crate::inners::{OuterMap, named_inners, read_inners};
 use crate::map::{MapReader, read_map};
@@ -41,9 +41,9 @@ pub fn answer_compose_all<F: FileReader>(
     maps: &AllMaps<'_>,
     options: WriteOptions,
 ) -> Result<Reply, Failure>
-    ensures { OrMemory (TellsAllComposed (F.gives reader.now) options maps.now.outer.now
+    ensures { OrMemory (ReportsAllComposed (F.gives reader.now) options maps.now.outer.now
         (map argument_of maps.now.words.now) (option_copied maps.now.list) (option_copied maps.now.base))
-        (telling_of result) }
+        (report_of result) }
 {
     let outer_reader = MapReader {
         files: reader,
@@ -62,8 +62,8 @@ fn composed_with<F: FileReader>(
     outer: &MapFile,
     options: WriteOptions,
 ) -> Result<Reply, Failure>
-    ensures { OrMemory (TellsInners (F.gives reader.now) options
-        (map argument_of maps.now.words.now) (option_copied maps.now.list) outer.now.stated) (telling_of result) }
+    ensures { OrMemory (ReportsInners (F.gives reader.now) options
+        (map argument_of maps.now.words.now) (option_copied maps.now.list) outer.now.stated) (report_of result) }
 {
     let Ok(count) = u32::try_from(outer.sources()) else {
         return Err(Failure::Memory);
@@ -71,7 +71,7 @@ fn composed_with<F: FileReader>(
     let counted = OuterMap { map: outer, count };
     let named = named_inners(alloc, reader, &counted, maps.words, maps.list)?;
     let inners = read_inners(alloc, reader, &counted, &named)?;
-    told(alloc, all_line(alloc, outer, &inners, options))
+    reported(alloc, all_line(alloc, outer, &inners, options))
 }
 
 // The composed map as a line.
@@ -82,7 +82,7 @@ fn all_line(
     options: WriteOptions,
 ) -> Result<Reply, ComposeRefusal>
     requires { length inners.now ≤ length outer.now.stated.sources }
-    ensures { GivesOr ComposeRefusal.Memory reply_telling result
+    ensures { GivesOr ComposeRefusal.Memory reply_report result
         (written_of options (all_composed outer.now.stated (inners_stated inners.now))) }
 {
     let lent = lent_inners(alloc, inners)?;

@@ -1,7 +1,7 @@
-//! Telling what a code means.
+//! Saying what a code means.
 ghost use Rattle.std.specs.Prelude.{◌≡◌, option_copied, string_bytes, IfOk};
-ghost use Rattle.smap_answers.specs.Explain.{TellsCalled, TellsCode, no_code_text};
-ghost use Rattle.smap_answers.specs.Outcome.{OrMemory, telling_of};
+ghost use Rattle.smap_answers.specs.Explain.{ReportsCalled, ReportsCode, no_code_text};
+ghost use Rattle.smap_answers.specs.Outcome.{OrMemory, report_of};
 ghost use Rattle.smap_codes.specs.Labels.{label_called, labels};
 
 use crate::outcome::{Failure, Reply};
@@ -11,7 +11,7 @@ use std::alloc::{AllocError, Global};
 
 /// What the code or the name means, what usually causes it and what to do about it; without one, how all codes are called.
 pub fn answer_explain(alloc: Global, code: Option<&str>) -> Result<Reply, Failure>
-    ensures { OrMemory (TellsCode (option_copied code.entry)) (telling_of result) }
+    ensures { OrMemory (ReportsCode (option_copied code.entry)) (report_of result) }
 {
     match code {
         Some(word) => answer_word(alloc, word),
@@ -21,8 +21,8 @@ pub fn answer_explain(alloc: Global, code: Option<&str>) -> Result<Reply, Failur
 
 // What the code or the name means; where there is none, which there are.
 fn answer_word(alloc: Global, word: &str) -> Result<Reply, Failure>
-    ensures { OrMemory (TellsCalled word.now (label_called word.now labels))
-        (telling_of result) }
+    ensures { OrMemory (ReportsCalled word.now (label_called word.now labels))
+        (report_of result) }
 {
     match row_of(word) {
         Some(row) => Ok(Reply::Text(code_text(alloc, row)?)),

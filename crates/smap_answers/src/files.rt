@@ -36,7 +36,7 @@ pub enum UnreadCause {
     Other,
 }
 
-/// The files of the machine, of whose bytes nothing is told.
+/// The files of the machine, of whose bytes nothing is reported.
 impl FileReader for HostRuntime {
     ghost gives = { λ rt number path result. ⊤ };
 

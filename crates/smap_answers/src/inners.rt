@@ -6,9 +6,9 @@ ghost use Rattle.std.specs.Str.Lines.{lines};
 ghost use Rattle.smap_answers.specs.ComposeAll.{NamesBytes, NamesEntry, NamesInners, NamesLines, NamesList, NamesPair, NamesWords};
 ghost use Rattle.smap_answers.specs.ComposeAll.{ReadsInner, ReadsInners, ReadsSource, is_called, pair_of, with_name};
 ghost use Rattle.smap_answers.specs.Lines.{twice_line};
-ghost use Rattle.smap_answers.specs.Outcome.{OrMemory, failure_telling, misuse, out_of_memory};
-ghost use Rattle.smap_answers.specs.Private.Inners.{IsNamed, IsUnnamed, inner_told, inners_told, map_told, pair_seen};
-ghost use Rattle.smap_answers.specs.Private.Sources.{or_told};
+ghost use Rattle.smap_answers.specs.Outcome.{OrMemory, failure_report, misuse, out_of_memory};
+ghost use Rattle.smap_answers.specs.Private.Inners.{IsNamed, IsUnnamed, inner_reported, inners_reported, map_reported, pair_seen};
+ghost use Rattle.smap_answers.specs.Private.Sources.{or_reported};
 ghost use Rattle.smap_answers.specs.Sources.{list_refusal};
 ghost use Rattle.smap_answers.specs.Trace.{argument_of, argument_text};
 ghost use Rattle.smap_locations.specs.Named.{path_under};
@@ -49,7 +49,7 @@ pub fn named_inners<F: FileReader>(
 ) -> Result<NamedPaths, Failure>
     requires counted { outer.now.count ≡ length outer.now.map.now.stated.sources }
     ensures { NamesInners (F.gives reader.now) outer.now.map.now.stated.sources
-        (map argument_of words.now) (option_copied list.entry) (or_told result) }
+        (map argument_of words.now) (option_copied list.entry) (or_reported result) }
 {
     let named = named_words(alloc, outer, words)?;
     match list {
@@ -73,7 +73,7 @@ fn named_words(
 ) -> Result<NamedPaths, Failure>
     requires counted { outer.now.count ≡ length outer.now.map.now.stated.sources }
     ensures { NamesWords outer.now.map.now.stated.sources (map argument_of words.now) []
-        (or_told result) }
+        (or_reported result) }
 {
     let mut named = NamedPaths::new(alloc);
     for (name, path) in words {
@@ -92,7 +92,7 @@ fn with_word(
 ) -> Result<NamedPaths, Failure>
     requires counted { outer.now.count ≡ length outer.now.map.now.stated.sources }
     ensures { NamesPair outer.now.map.now.stated.sources
-        (misuse (twice_line (argument_text name.now path.now))) named name.now path.now (or_told result) }
+        (misuse (twice_line (argument_text name.now path.now))) named name.now path.now (or_reported result) }
 {
     match with_pair(alloc, outer, named, name, path) {
         Ok(named) => Ok(named),
@@ -114,7 +114,7 @@ fn named_list<F: FileReader>(
 ) -> Result<NamedPaths, Failure>
     requires counted { outer.now.count ≡ length outer.now.map.now.stated.sources }
     ensures { NamesList (F.gives reader.now) outer.now.map.now.stated.sources
-        (Some list.now) named (or_told result) }
+        (Some list.now) named (or_reported result) }
 {
     let bytes = file_bytes(alloc, reader, 1, list)?;
     named_bytes(alloc, outer, named, list, &bytes)
@@ -130,7 +130,7 @@ fn named_bytes(
 ) -> Result<NamedPaths, Failure>
     requires counted { outer.now.count ≡ length outer.now.map.now.stated.sources }
     ensures { NamesBytes outer.now.map.now.stated.sources list.now bytes.now named
-        (or_told result) }
+        (or_reported result) }
 {
     let text = list_text(alloc, list, bytes)?;
     named_lines(alloc, outer, named, list, text)
@@ -146,7 +146,7 @@ fn named_lines(
 ) -> Result<NamedPaths, Failure>
     requires counted { outer.now.count ≡ length outer.now.map.now.stated.sources }
     ensures { NamesLines outer.now.map.now.stated.sources list.now 1 (lines text.now) named
-        (or_told result) }
+        (or_reported result) }
 {
     let mut named = named;
     let mut number = 0;
@@ -168,7 +168,7 @@ fn with_line(
 ) -> Result<NamedPaths, Failure>
     requires counted { outer.now.count ≡ length outer.now.map.now.stated.sources }
     ensures { NamesEntry outer.now.map.now.stated.sources list.now number
-        (line_entry line.now) named (or_told result) }
+        (line_entry line.now) named (or_reported result) }
 {
     match entry_of_line(line) {
         Ok(Some((name, path))) => match with_pair(alloc, outer, named, name, path) {
@@ -186,8 +186,8 @@ fn with_line(
 
 // Why a line of a list is refused.
 fn refused_line(alloc: Global, list: &str, line: u64, fault: ListFault) -> Failure
-    ensures { OrMemory (λ telling. telling
-        ≡ list_refusal list.now (record { line = line; fault = fault })) (failure_telling result) }
+    ensures { OrMemory (λ report. report
+        ≡ list_refusal list.now (record { line = line; fault = fault })) (failure_report result) }
 {
     refused_list(alloc, list, ListRefusal { line, fault })
 }
@@ -261,8 +261,8 @@ pub fn read_inners<F: FileReader>(
     named: &NamedPaths,
 ) -> Result<Vec<Option<MapFile>>, Failure>
     requires counted { outer.now.count ≡ length outer.now.map.now.stated.sources }
-    ensures reads { (inners_told result ≡ Err out_of_memory)
-        ⊎ ReadsInners (F.gives reader.now) named.now outer.now.map.now.stated.sources [] (inners_told result) }
+    ensures reads { (inners_reported result ≡ Err out_of_memory)
+        ⊎ ReadsInners (F.gives reader.now) named.now outer.now.map.now.stated.sources [] (inners_reported result) }
     ensures counted { IfOk result (λ inners. length inners.items
         ≡ length outer.now.map.now.stated.sources) }
 {
@@ -287,7 +287,7 @@ fn read_source<F: FileReader>(
     source: &SourceEntry,
 ) -> Result<Option<MapFile>, Failure>
     ensures { ReadsSource (F.gives reader.now) (pair_of named.now (source_of source.now))
-        (inner_told result) }
+        (inner_reported result) }
 {
     match pair_of(named, source) {
         Some((name, path)) => match read_inner(alloc, reader, name, path) {
@@ -325,7 +325,7 @@ fn read_inner<F: FileReader>(
     name: &str,
     path: &str,
 ) -> Result<MapFile, Failure>
-    ensures { ReadsInner (F.gives reader.now) name.now path.now (map_told result) }
+    ensures { ReadsInner (F.gives reader.now) name.now path.now (map_reported result) }
 {
     let maps = MapReader {
         files: reader,

@@ -1,5 +1,5 @@
 //! What the program answers, apart from its arguments: the files that a command names, what it comes to over their bytes and
-//! standard input, and the lines that tell this.
+//! standard input, and the lines that say this.
 //!
 //! ```text
 //! let interval = USUAL_INTERVAL;
@@ -25,20 +25,20 @@ mod outcome;
 mod positions;
 mod raw;
 mod refusal;
+mod reporting;
 mod rewrite_from;
 mod running;
 mod show;
 mod source_list;
 mod sources;
-mod telling;
 mod trace;
 mod written;
 
 pub use files::{FileReader, Loaded, UnreadCause};
 pub use outcome::{Failure, Reply};
 pub use refusal::refusal_line;
+pub use reporting::report;
 pub use running::{run, run_reading};
 pub use smap_command::{
     Command, MOST_BYTES, USUAL_CACHE_BYTES, USUAL_INTERVAL, USUAL_LIMIT_BYTES, WriteOptions,
 };
-pub use telling::tell;

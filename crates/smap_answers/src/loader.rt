@@ -1,8 +1,8 @@
 //! The maps that are read when a text names them.
 ghost use Rattle.std.specs.Prelude.{◌≡◌, option_copied, IfErr, IfOk};
 ghost use Rattle.smap_answers.specs.Lines.{map_memory_line};
-ghost use Rattle.smap_answers.specs.Loader.{FailsToLoad, FailsToRead, IsLoaded, Notes, loader_seen, named_telling};
-ghost use Rattle.smap_answers.specs.Outcome.{OrMemory, failure_telling, failure};
+ghost use Rattle.smap_answers.specs.Loader.{FailsToLoad, FailsToRead, IsLoaded, Notes, loader_seen, named_report};
+ghost use Rattle.smap_answers.specs.Outcome.{OrMemory, failure_report, failure};
 ghost use Rattle.smap_answers.specs.Private.Gathering.{IsReadAs, IsReadRefusal};
 ghost use Rattle.smap_locations.specs.Paths.{without_query};
 
@@ -10,7 +10,7 @@ use crate::files::FileReader;
 use crate::lines;
 use crate::map::{MapReader, file_bytes, map_of};
 use crate::outcome::{Failure, REFUSED};
-use crate::telling::report;
+use crate::reporting::print_error;
 use crate::trace::read_map_at;
 use smap_io::ByteSink;
 use smap_locations::without_query;
@@ -18,20 +18,20 @@ use smap_record::MapFile;
 use smap_store::{LoadedMap, MapLoader};
 use std::alloc::Global;
 
-// How many maps that can't be had are told of.
-const MOST_TOLD: u64 = 100;
+// How many maps that can't be had are reported.
+const MOST_REPORTED: u64 = 100;
 
-/// Reads maps from files, and tells of each that can't be had by a line on standard error: of the first 100 of them.
+/// Reads maps from files, and reports each that can't be had by a line on standard error: of the first 100 of them.
 #[derive(Drop)]
 pub struct FileLoader<'m, 'r, 'e, F: FileReader, E: ByteSink> {
     pub maps: &'m MapReader<'r, F>,
     /// The number under which the files are read, which comes after those of the command's own.
     pub number: usize,
     pub errors: &'e mut E,
-    /// The greatest status of what was told, or would have been.
+    /// The greatest status of what was reported, or would have been.
     pub status: u8,
     /// How many maps could not be had.
-    pub told: u64,
+    pub reported: u64,
     /// How many of them were refused.
     pub refused: u64,
 }
@@ -44,7 +44,7 @@ impl<F: FileReader, E: ByteSink> FileLoader<'_, '_, '_, F, E> {
             url.now path.now loaded.map.stated loaded.file_bytes) }
         ensures failed { IfErr result (λ failure. OrMemory (FailsToRead
             (F.gives self.now.maps.now.files.now) (option_copied self.now.maps.now.base) self.now.maps.now.interval self.now.number
-            url.now path.now) (failure_telling failure)) }
+            url.now path.now) (failure_report failure)) }
     {
         let bytes = file_bytes(alloc, self.maps.files, self.number, path)?;
         let file_bytes = bytes.len() as u64;
@@ -65,7 +65,7 @@ impl<F: FileReader, E: ByteSink> FileLoader<'_, '_, '_, F, E> {
         ensures refused { IfErr result (λ failure. OrMemory
             (IsReadRefusal (option_copied self.now.maps.now.base) self.now.maps.now.interval
             (without_query url.now) path.now bytes.items)
-            (failure_telling failure)) }
+            (failure_report failure)) }
     {
         match str::from_utf8(without_query(url)) {
             Ok(url) => read_map_at(alloc, self.maps, url, path, bytes),
@@ -73,9 +73,9 @@ impl<F: FileReader, E: ByteSink> FileLoader<'_, '_, '_, F, E> {
         }
     }
 
-    // Tells why a map can't be had, and counts that.
+    // Reports why a map can't be had, and counts that.
     fn note(&mut self, failure: &Failure)
-        ensures noted { Notes (loader_seen E.seen self.old) (failure_telling failure.now)
+        ensures noted { Notes (loader_seen E.seen self.old) (failure_report failure.now)
             (loader_seen E.seen self.new) }
         ensures maps { self.new.maps ≡ self.old.maps }
         ensures number { self.new.number ≡ self.old.number }
@@ -86,10 +86,10 @@ impl<F: FileReader, E: ByteSink> FileLoader<'_, '_, '_, F, E> {
         if status == REFUSED {
             self.refused = self.refused.saturating_add(1);
         }
-        if self.told < MOST_TOLD {
-            report(self.errors, failure.bytes());
+        if self.reported < MOST_REPORTED {
+            print_error(self.errors, failure.bytes());
         }
-        self.told = self.told.saturating_add(1);
+        self.reported = self.reported.saturating_add(1);
     }
 }
 
@@ -127,7 +127,7 @@ impl<F: FileReader, E: ByteSink> MapLoader for FileLoader<'_, '_, '_, F, E> {
 // Why the map of the file at a path can't be had: where memory ran out, by a line that names the file, if there is memory
 // for that.
 fn named(alloc: Global, path: &str, failure: Failure) -> Failure
-    ensures { named_telling path.now (failure_telling failure) (failure_telling result) }
+    ensures { named_report path.now (failure_report failure) (failure_report result) }
 {
     match failure {
         Failure::Memory => match lines::map_memory_line(alloc, path) {

@@ -1,8 +1,8 @@
 //! Looking a position up in a map file.
 ghost use Rattle.std.specs.Prelude.{◌≡◌, option_copied, string_bytes, IfOk};
 ghost use Rattle.smap_answers.specs.Lookup.{about_text, lookup_lines, lookup_print};
-ghost use Rattle.smap_answers.specs.Map.{IsLine, TellsMap};
-ghost use Rattle.smap_answers.specs.Outcome.{OrMemory, telling_of};
+ghost use Rattle.smap_answers.specs.Map.{IsLine, ReportsMap};
+ghost use Rattle.smap_answers.specs.Outcome.{OrMemory, report_of};
 
 use crate::files::FileReader;
 use crate::map::{MapReader, read_map};
@@ -13,7 +13,7 @@ use smap_record::MapFile;
 use smap_verdicts::nearest_text;
 use std::alloc::{AllocError, Global};
 
-/// How a position is looked up and told.
+/// How a position is looked up and reported.
 #[derive(Clone, Copy)]
 pub struct LookupOptions {
     /// Whether the first mapping at the position or after it answers, and not the last at it or before it.
@@ -33,10 +33,10 @@ pub fn answer_lookup<F: FileReader>(
     column: u32,
     options: LookupOptions,
 ) -> Result<Reply, Failure>
-    ensures { OrMemory (TellsMap (F.gives maps.now.files.now) 0 path.now
+    ensures { OrMemory (ReportsMap (F.gives maps.now.files.now) 0 path.now
         (option_copied maps.now.base) maps.now.interval
         (IsLine (lookup_print options.after options.json options.explain line column)))
-        (telling_of result) }
+        (report_of result) }
 {
     let map = read_map(alloc, maps, 0, path)?;
     let answer = lookup_print(alloc, &map, line, column, options)?;

@@ -1,8 +1,8 @@
 //! Reading the map that a file is.
 ghost use Rattle.std.specs.Prelude.{option_copied, IfErr, IfOk, Ok};
 ghost use Rattle.smap_answers.specs.Files.{IsUnread};
-ghost use Rattle.smap_answers.specs.Map.{IsStated, Never, TellsFound, TellsMap, refusal_result};
-ghost use Rattle.smap_answers.specs.Outcome.{OrMemory, failure_telling};
+ghost use Rattle.smap_answers.specs.Map.{IsStated, Never, ReportsFound, ReportsMap, refusal_result};
+ghost use Rattle.smap_answers.specs.Outcome.{OrMemory, failure_report};
 ghost use Rattle.smap_record.specs.MapFile.{IsMapOf};
 ghost use Rattle.smap_record.specs.Record.{record_of};
 
@@ -35,8 +35,8 @@ pub fn read_map<F: FileReader>(
     ensures read { IfOk result (λ map. IsStated (F.gives maps.now.files.now) number path.now
         (option_copied maps.now.base) maps.now.interval map.stated) }
     ensures refused { IfErr result (λ failure. OrMemory
-        (TellsMap (F.gives maps.now.files.now) number path.now
-        (option_copied maps.now.base) maps.now.interval Never) (failure_telling failure)) }
+        (ReportsMap (F.gives maps.now.files.now) number path.now
+        (option_copied maps.now.base) maps.now.interval Never) (failure_report failure)) }
 {
     let bytes = file_bytes(alloc, maps.files, number, path)?;
     map_of(alloc, path, bytes, maps.base, maps.interval)
@@ -52,7 +52,7 @@ pub fn file_bytes<F: FileReader>(
     ensures read { IfOk result (λ bytes. F.gives reader.now number path.now (Ok bytes.items)) }
     ensures unread { IfErr result (λ failure. OrMemory
         (IsUnread (F.gives reader.now) number path.now)
-        (failure_telling failure)) }
+        (failure_report failure)) }
 {
     match reader.read_file(alloc, number, path) {
         Ok(bytes) => Ok(bytes),
@@ -71,8 +71,8 @@ pub fn map_of(
 ) -> Result<MapFile, Failure>
     ensures read { IfOk result
         (IsMapOf (record_of bytes.items (option_copied base.entry) interval) interval) }
-    ensures refused { IfErr result (λ failure. OrMemory (TellsFound (refusal_result path.now)
-        (record_of bytes.items (option_copied base.entry) interval) Never) (failure_telling failure)) }
+    ensures refused { IfErr result (λ failure. OrMemory (ReportsFound (refusal_result path.now)
+        (record_of bytes.items (option_copied base.entry) interval) Never) (failure_report failure)) }
 {
     match MapFile::read_owned(alloc, bytes, base, interval) {
         Ok(map) => Ok(map),

@@ -1,7 +1,7 @@
 //! Printing the mappings of a map file.
 ghost use Rattle.std.specs.Prelude.{◌≡◌, false, option_copied};
-ghost use Rattle.smap_answers.specs.Mappings.{MappingsTells, PrintingTells};
-ghost use Rattle.smap_answers.specs.Outcome.{telling_of};
+ghost use Rattle.smap_answers.specs.Mappings.{MappingsReports, PrintingReports};
+ghost use Rattle.smap_answers.specs.Outcome.{report_of};
 ghost use Rattle.smap_positions.specs.Mappings.{mappings_text};
 
 use crate::files::FileReader;
@@ -12,8 +12,8 @@ use smap_positions::print_mappings;
 use smap_record::MapFile;
 use std::alloc::Global;
 
-/// Reads the map that the file at this path is, and prints its mappings, or those of this generated line, from 0, on standard
-/// output. The caller gives one that has not failed.
+/// Reads the map that the file at this path is, and prints its mappings, or those of this generated line, from 0, on
+/// standard output. The caller gives one that has not failed.
 pub fn answer_mappings<F: FileReader, W: ByteSink>(
     alloc: Global,
     maps: &MapReader<'_, F>,
@@ -23,10 +23,10 @@ pub fn answer_mappings<F: FileReader, W: ByteSink>(
     output: &mut W,
 ) -> Result<Reply, Failure>
     requires output_works { (W.seen output.old).failed ≡ false }
-    ensures { MappingsTells (F.gives maps.now.files.now) path.now (option_copied maps.now.base)
+    ensures { MappingsReports (F.gives maps.now.files.now) path.now (option_copied maps.now.base)
         maps.now.interval line json
         (W.seen output.old) (W.seen output.new)
-        (telling_of result) }
+        (report_of result) }
 {
     let map = read_map(alloc, maps, 0, path)?;
     printed_mappings(alloc, &map, line, json, output)
@@ -41,9 +41,9 @@ fn printed_mappings<W: ByteSink>(
     output: &mut W,
 ) -> Result<Reply, Failure>
     requires output_works { (W.seen output.old).failed ≡ false }
-    ensures { PrintingTells (mappings_text json line map.now.stated)
+    ensures { PrintingReports (mappings_text json line map.now.stated)
         (W.seen output.old) (W.seen output.new)
-        (telling_of result) }
+        (report_of result) }
 {
     match print_mappings(alloc, map, line, json, output) {
         Ok(()) => Ok(Reply::Rewritten),

@@ -1,6 +1,6 @@
-//! What a command comes to, and how that is told.
+//! What a command comes to, and how that is reported.
 ghost use Rattle.std.specs.Prelude.{◌≡◌};
-ghost use Rattle.smap_answers.specs.Outcome.{failure_telling, fault_telling, reply_telling};
+ghost use Rattle.smap_answers.specs.Outcome.{failure_report, fault_report, reply_report};
 ghost use Rattle.smap_answers.specs.declared.outcome.Failure.TheVariants.{Memory};
 
 use crate::lines;
@@ -44,8 +44,8 @@ pub enum Failure {
     Unreadable(String),
     /// Standard input failed: status 3.
     InputFailure,
-    /// The trace is rewritten, the positions are answered or the mappings are printed up to this fault: status 1 for an input
-    /// that is too long, and 3 for the others.
+    /// The trace is rewritten, the positions are answered or the mappings are printed up to this fault: status 1 for an
+    /// input that is too long, and 3 for the others.
     Fault(RewriteFault),
     /// Memory ran out: status 3.
     Memory,
@@ -62,7 +62,7 @@ impl From<AllocError> for Failure {
 impl Reply {
     /// The exit status. The call takes no memory.
     pub fn status(&self) -> u8
-        ensures { result ≡ (reply_telling self.now).status }
+        ensures { result ≡ (reply_report self.now).status }
     {
         match self {
             Reply::Refused(_) => REFUSED,
@@ -72,7 +72,7 @@ impl Reply {
 
     /// What the user reads. The call takes no memory.
     pub fn bytes(&self) -> &[u8]
-        ensures { result.now ≡ (reply_telling self.now).text }
+        ensures { result.now ≡ (reply_report self.now).text }
     {
         match self {
             Reply::Text(text) => text.as_bytes(),
@@ -86,7 +86,7 @@ impl Reply {
 impl Failure {
     /// The exit status. The call takes no memory.
     pub fn status(&self) -> u8
-        ensures { result ≡ (failure_telling self.now).status }
+        ensures { result ≡ (failure_report self.now).status }
     {
         match self {
             Failure::Refusal(_) | Failure::Fault(RewriteFault::TooMuch) => REFUSED,
@@ -98,7 +98,7 @@ impl Failure {
 
     /// What the user reads. The call takes no memory.
     pub fn bytes(&self) -> &[u8]
-        ensures { result.now ≡ (failure_telling self.now).text }
+        ensures { result.now ≡ (failure_report self.now).text }
     {
         match self {
             Failure::Refusal(text) => text.as_bytes(),
@@ -114,7 +114,7 @@ impl Failure {
 
 // Why a trace is not rewritten to its end.
 fn fault_line(fault: RewriteFault) -> &'static str
-    ensures { result.now ≡ (fault_telling fault).text }
+    ensures { result.now ≡ (fault_report fault).text }
 {
     match fault {
         RewriteFault::Read => lines::TRACE_UNREAD,

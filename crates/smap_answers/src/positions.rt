@@ -3,8 +3,8 @@ ghost use Rattle.std.specs.Prelude.{◌≡◌, ◌≤◌, ◌+◌, ◌++◌, [],
 ghost use Rattle.std.specs.Prelude.{string_bytes, string_capacity, string_len};
 ghost use Rattle.smap_lines.specs.Editing.{devices_seen};
 ghost use Rattle.smap_answers.specs.Lines.{bad_position_refused_line, long_position_line};
-ghost use Rattle.smap_answers.specs.Outcome.{answer, refusal, telling_of};
-ghost use Rattle.smap_answers.specs.Positions.{AnsweredTells, PositionsTells, summary_telling};
+ghost use Rattle.smap_answers.specs.Outcome.{answer, refusal, report_of};
+ghost use Rattle.smap_answers.specs.Positions.{AnsweredReports, PositionsReports, summary_report};
 ghost use Rattle.smap_answers.specs.Private.Room.{IsRoom};
 
 use crate::files::FileReader;
@@ -33,11 +33,11 @@ pub fn answer_positions<F: FileReader, R: ByteSource, W: ByteSink>(
 ) -> Result<Reply, Failure>
     requires input_works { (R.seen input.old).failed ≡ false }
     requires output_works { (W.seen output.old).failed ≡ false }
-    ensures { PositionsTells (F.gives maps.now.files.now) path.now (option_copied maps.now.base)
+    ensures { PositionsReports (F.gives maps.now.files.now) path.now (option_copied maps.now.base)
         maps.now.interval options.after options.json
         (devices_seen (R.seen input.old) (W.seen output.old))
         (devices_seen (R.seen input.new) (W.seen output.new))
-        (telling_of result) }
+        (report_of result) }
 {
     let map = read_map(alloc, maps, 0, path)?;
     answer_over(alloc, &map, options, input, output)
@@ -53,10 +53,10 @@ fn answer_over<R: ByteSource, W: ByteSink>(
 ) -> Result<Reply, Failure>
     requires input_works { (R.seen input.old).failed ≡ false }
     requires output_works { (W.seen output.old).failed ≡ false }
-    ensures { AnsweredTells map.now.stated options.after options.json
+    ensures { AnsweredReports map.now.stated options.after options.json
         (devices_seen (R.seen input.old) (W.seen output.old))
         (devices_seen (R.seen input.new) (W.seen output.new))
-        (telling_of result) }
+        (report_of result) }
 {
     let Ok(room) = String::with_capacity(alloc, MOST_REFUSAL_BYTES) else {
         return Err(Failure::Memory);
@@ -77,8 +77,8 @@ fn answer_over<R: ByteSource, W: ByteSink>(
 // The line for positions that were answered to their end, where they are refused: put into the room, which takes no memory.
 fn refusing_line(room: String, summary: PositionsSummary) -> Option<String>
     requires { IsRoom room }
-    ensures { MatchOption result (summary_telling summary ≡ answer [])
-        (λ line. summary_telling summary ≡ refusal (string_bytes line)) }
+    ensures { MatchOption result (summary_report summary ≡ answer [])
+        (λ line. summary_report summary ≡ refusal (string_bytes line)) }
 {
     if summary.answered != summary.lines {
         return Some(long_line(room));

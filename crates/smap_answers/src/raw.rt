@@ -7,10 +7,10 @@ ghost use Rattle.smap_mappings.specs.Limits.{most_indices, most_text_bytes};
 ghost use Rattle.smap_mappings.specs.Within.{IsWithin};
 ghost use Rattle.smap_index.specs.Answer.{answer_at_or_before};
 ghost use Rattle.smap_index.specs.Faults.{is_interval};
-ghost use Rattle.smap_answers.specs.Outcome.{OrMemory, telling_of};
+ghost use Rattle.smap_answers.specs.Outcome.{OrMemory, report_of};
 ghost use Rattle.smap_answers.specs.Raw.{answer_line, fault_or_answer, raw_result, text_result};
 ghost use Rattle.smap_answers.specs.Raw.{without_last_line_end};
-ghost use Rattle.smap_answers.specs.Run.{RawTells};
+ghost use Rattle.smap_answers.specs.Run.{RawReports};
 ghost use Rattle.smap_lines.specs.Editing.{devices_seen};
 ghost use Rattle.smap_io.specs.Device.{SinkSeen};
 
@@ -35,9 +35,9 @@ pub fn answer_raw<R: ByteSource>(
 ) -> Result<Reply, Failure>
     requires may_stand { is_interval interval ≡ true }
     requires input_works { (R.seen input.old).failed ≡ false }
-    ensures { (output : SinkSeen) → RawTells line column
+    ensures { (output : SinkSeen) → RawReports line column
         (devices_seen (R.seen input.old) output)
-        (devices_seen (R.seen input.new) output) (telling_of result) }
+        (devices_seen (R.seen input.new) output) (report_of result) }
 {
     // Two bytes more than a text may have: one of them may be the LF that is dropped.
     match read_all(alloc, input, MOST_BYTES + 2) {
@@ -56,8 +56,8 @@ fn answer_bytes(
     interval: u32,
 ) -> Result<Reply, Failure>
     requires { is_interval interval ≡ true }
-    ensures { OrMemory (λ telling. telling ≡ raw_result bytes.items line column)
-        (telling_of result) }
+    ensures { OrMemory (λ report. report ≡ raw_result bytes.items line column)
+        (report_of result) }
 {
     answer_text(alloc, without_last_line_end(bytes), line, column, interval)
 }
@@ -82,8 +82,8 @@ fn answer_text(
     interval: u32,
 ) -> Result<Reply, Failure>
     requires { is_interval interval ≡ true }
-    ensures { OrMemory (λ telling. telling ≡ text_result bytes.items line column)
-        (telling_of result) }
+    ensures { OrMemory (λ report. report ≡ text_result bytes.items line column)
+        (report_of result) }
 {
     if bytes.len() > MOST_BYTES {
         return Err(refused(alloc, lines::TEXT_TOO_LONG));
@@ -104,9 +104,9 @@ fn answer_mappings(
 ) -> Result<Reply, Failure>
     requires short { length (string_bytes text) ≤ most_text_bytes }
     requires may_stand { is_interval interval ≡ true }
-    ensures { OrMemory (λ telling. telling
+    ensures { OrMemory (λ report. report
         ≡ fault_or_answer (first_fault (string_bytes text) most_indices most_indices)
-        (answer_at_or_before (mappings_of (string_bytes text)) line column)) (telling_of result) }
+        (answer_at_or_before (mappings_of (string_bytes text)) line column)) (report_of result) }
 {
     match PackedText::check(text, MOST_INDICES, MOST_INDICES) {
         Ok(packed) => {

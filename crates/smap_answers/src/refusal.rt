@@ -1,8 +1,8 @@
-//! Telling why a map file is refused.
+//! Saying why a map file is refused.
 ghost use Rattle.std.specs.Prelude.{◌≡◌, ◌≢◌, string_bytes, IfOk};
 ghost use Rattle.smap_answers.specs.Lines.{map_refused_line};
 ghost use Rattle.smap_answers.specs.Map.{refusal_result, refused_file};
-ghost use Rattle.smap_answers.specs.Outcome.{OrMemory, failure_telling, refusal};
+ghost use Rattle.smap_answers.specs.Outcome.{OrMemory, failure_report, refusal};
 ghost use Rattle.smap_verdicts.specs.Refusal.{refusal_text};
 ghost use Rattle.smap_record.specs.declared.refusal.MapRefusal.TheVariants.{Memory};
 
@@ -12,10 +12,10 @@ use smap_record::MapRefusal;
 use smap_verdicts::refusal_text;
 use std::alloc::{AllocError, Global};
 
-/// Why the map file at this path is refused. Want of memory is no refusal of the map.
+/// Why the map file at this path is refused. Out of memory is no refusal of the map.
 pub fn refusal_of(alloc: Global, path: &str, refused: MapRefusal) -> Failure
-    ensures { OrMemory (λ telling. (refused ≢ Memory) × (telling ≡ refusal_result path.now refused))
-        (failure_telling result) }
+    ensures { OrMemory (λ report. (refused ≢ Memory) × (report ≡ refusal_result path.now refused))
+        (failure_report result) }
 {
     match refusal_line(alloc, path, refused) {
         Ok(line) => Failure::Refusal(line),
@@ -23,9 +23,9 @@ pub fn refusal_of(alloc: Global, path: &str, refused: MapRefusal) -> Failure
     }
 }
 
-/// The line that tells why the map file at this path is refused, with its LF. Want of memory has none.
+/// The line that says why the map file at this path is refused, with its LF. Out of memory has none.
 pub fn refusal_line(alloc: Global, path: &str, refused: MapRefusal) -> Result<String, AllocError>
-    ensures told { IfOk result (λ line. string_bytes line ≡ map_refused_line path.now
+    ensures reported { IfOk result (λ line. string_bytes line ≡ map_refused_line path.now
         (refusal_text refused)) }
     ensures not_memory { IfOk result (λ _. refused ≢ Memory) }
 {
@@ -36,9 +36,9 @@ pub fn refusal_line(alloc: Global, path: &str, refused: MapRefusal) -> Result<St
     lines::map_refused_line(alloc, path, &refused)
 }
 
-/// A refusal that is told by this line.
+/// A refusal that is reported by this line.
 pub fn refused(alloc: Global, line: &str) -> Failure
-    ensures { OrMemory (λ telling. telling ≡ refusal line.now) (failure_telling result) }
+    ensures { OrMemory (λ report. report ≡ refusal line.now) (failure_report result) }
 {
     match String::from_str(alloc, line) {
         Ok(line) => Failure::Refusal(line),
@@ -48,7 +48,7 @@ pub fn refused(alloc: Global, line: &str) -> Failure
 
 /// The file at this path is refused, in these words.
 pub fn refused_file(alloc: Global, path: &str, words: &str) -> Failure
-    ensures { OrMemory (λ telling. telling ≡ refused_file path.now words.now) (failure_telling result) }
+    ensures { OrMemory (λ report. report ≡ refused_file path.now words.now) (failure_report result) }
 {
     match lines::map_refused_line(alloc, path, words) {
         Ok(line) => Failure::Refusal(line),

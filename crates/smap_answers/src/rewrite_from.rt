@@ -1,6 +1,6 @@
 //! Rewriting the stack trace on standard input over files and folders of maps, which are read when it names them.
 ghost use Rattle.std.specs.Prelude.{◌≡◌, ◌<◌, ◌^◌, false, option_copied, string_bytes, IfErr, IfOk};
-ghost use Rattle.smap_answers.specs.RewriteFrom.{ClosesWith, EndsFrom, IsOverStore, RewritesFrom, RewritesPlacesCounted, RewritesText, RewritesTextFront, TellsShortage, TellsSummary, places_of, request_seen, store_of};
+ghost use Rattle.smap_answers.specs.RewriteFrom.{ClosesWith, EndsFrom, IsOverStore, RewritesFrom, RewritesPlacesCounted, RewritesText, RewritesTextFront, ReportsShortage, ReportsSummary, places_of, request_seen, store_of};
 ghost use Rattle.smap_answers.specs.RewriteFrom.{maps_text, summary_line, trace_text};
 ghost use Rattle.smap_answers.specs.Streams.{sinks_seen, streams_seen};
 ghost use Rattle.smap_lines.specs.Editing.{devices_seen, is_read_fault, is_write_fault};
@@ -14,8 +14,8 @@ use crate::lines;
 use crate::loader::FileLoader;
 use crate::map::MapReader;
 use crate::outcome::{DONE, FAILED, Failure, Reply};
+use crate::reporting::{print_error, report};
 use crate::sources::{MapSources, sources_of};
-use crate::telling::{report, tell};
 use smap_io::{ByteSink, ByteSource};
 use smap_places::{StoredPlaceFinder, rewrite_places_over};
 use smap_store::{MapCache, MapLoader, StoredMaps};
@@ -39,13 +39,13 @@ pub struct RewriteRequest<'a, 'r, F: FileReader> {
     pub cache_bytes: u64,
     /// How many bytes of the trace are taken.
     pub limit_bytes: u64,
-    /// Whether what was done is told at the end.
+    /// Whether what was done is reported at the end.
     pub summary: bool,
 }
 
 /// Reads the maps that are words of the command line, and rewrites the text on standard input over them and over those
-/// that it names itself, and gives the exit status: the greatest of all that was told. The caller gives devices that have
-/// not failed, and takes less than 2^63 bytes.
+/// that it names itself, and gives the exit status: the greatest of all that was reported. The caller gives devices that
+/// have not failed, and takes less than 2^63 bytes.
 pub fn rewrite_from<F: FileReader, R: ByteSource, W: ByteSink, E: ByteSink>(
     alloc: Global,
     request: &RewriteRequest<'_, '_, F>,
@@ -66,7 +66,7 @@ pub fn rewrite_from<F: FileReader, R: ByteSource, W: ByteSink, E: ByteSink>(
             let end = over_store(alloc, request, &sources, input, output, errors);
             finish(alloc, request.summary, &end, output, errors)
         }
-        Err(failure) => tell(&Err(failure), output, errors),
+        Err(failure) => report(&Err(failure), output, errors),
     }
 }
 
@@ -75,7 +75,7 @@ pub fn rewrite_from<F: FileReader, R: ByteSource, W: ByteSink, E: ByteSink>(
 struct StoreEnd {
     // What was in the trace, or why it was not rewritten to its end.
     result: Result<RewriteCounts, RewriteFault>,
-    // The greatest status of what was told of maps.
+    // The greatest status of what was reported of maps.
     status: u8,
     // How many maps were read, those of words too.
     maps: u64,
@@ -111,7 +111,7 @@ fn over_store<F: FileReader, R: ByteSource, W: ByteSink, E: ByteSink>(
         number: request.arguments.len() + 1,
         errors,
         status: DONE,
-        told: 0,
+        reported: 0,
         refused: 0,
     };
     let asked = StoreRun {
@@ -269,7 +269,7 @@ fn rewrite_stored_places<L: MapLoader, R: ByteSource, W: ByteSink>(
     }
 }
 
-// Tells what rewriting came to, and gives the exit status.
+// Reports what rewriting came to, and gives the exit status.
 fn finish<W: ByteSink, E: ByteSink>(
     alloc: Global,
     summary: bool,
@@ -284,18 +284,18 @@ fn finish<W: ByteSink, E: ByteSink>(
 {
     match end.result {
         Ok(counts) => {
-            let told = tell(&Ok(Reply::Rewritten), output, errors);
+            let reported = report(&Ok(Reply::Rewritten), output, errors);
             let closed = close(alloc, summary, end, &counts, errors);
-            end.status.max(told).max(closed)
+            end.status.max(reported).max(closed)
         }
         Err(fault) => {
-            let told = tell(&Err(Failure::Fault(fault)), output, errors);
-            end.status.max(told)
+            let reported = report(&Err(Failure::Fault(fault)), output, errors);
+            end.status.max(reported)
         }
     }
 }
 
-// Tells that memory ran out for some maps, and what was done where that is asked; and gives the status of both.
+// Reports that memory ran out for some maps, and what was done where that is asked; and gives the status of both.
 fn close<E: ByteSink>(
     alloc: Global,
     summary: bool,
@@ -305,42 +305,42 @@ fn close<E: ByteSink>(
 ) -> u8
     ensures { ClosesWith end.now summary counts.now result (E.seen errors.old) (E.seen errors.new) }
 {
-    let short = tell_shortage(end.shortages, errors);
+    let short = report_shortage(end.shortages, errors);
     if !summary {
         return short;
     }
-    let told = tell_summary(alloc, end, counts, errors);
-    short.max(told)
+    let reported = report_summary(alloc, end, counts, errors);
+    short.max(reported)
 }
 
-// Tells that memory ran out for some maps, where it did, and gives the status of that.
-fn tell_shortage<E: ByteSink>(shortages: u64, errors: &mut E) -> u8
-    ensures { TellsShortage shortages result (E.seen errors.old) (E.seen errors.new) }
+// Reports that memory ran out for some maps, where it did, and gives the status of that.
+fn report_shortage<E: ByteSink>(shortages: u64, errors: &mut E) -> u8
+    ensures { ReportsShortage shortages result (E.seen errors.old) (E.seen errors.new) }
 {
     if shortages == 0 {
         return DONE;
     }
-    report(errors, lines::NO_MEMORY.as_bytes());
+    print_error(errors, lines::NO_MEMORY.as_bytes());
     FAILED
 }
 
-// Tells what was done, or that memory ran out, and gives the status of that.
-fn tell_summary<E: ByteSink>(
+// Reports what was done, or that memory ran out, and gives the status of that.
+fn report_summary<E: ByteSink>(
     alloc: Global,
     end: &StoreEnd,
     counts: &RewriteCounts,
     errors: &mut E,
 ) -> u8
-    ensures { TellsSummary (summary_line end.now counts.now) result
+    ensures { ReportsSummary (summary_line end.now counts.now) result
         (E.seen errors.old) (E.seen errors.new) }
 {
     match summary_line(alloc, end, counts) {
         Ok(line) => {
-            report(errors, line.as_bytes());
+            print_error(errors, line.as_bytes());
             DONE
         }
         Err(_) => {
-            report(errors, lines::NO_MEMORY.as_bytes());
+            print_error(errors, lines::NO_MEMORY.as_bytes());
             FAILED
         }
     }

@@ -14,10 +14,10 @@ use crate::map::MapReader;
 use crate::mappings::answer_mappings;
 use crate::positions::answer_positions;
 use crate::raw::answer_raw;
+use crate::reporting::report;
 use crate::rewrite_from::{RewriteRequest, rewrite_from};
 use crate::show::{answer_show, answer_show_with};
 use crate::source_list::{SourceOptions, answer_content, answer_sources};
-use crate::telling::tell;
 use crate::trace::answer_rewrite;
 use crate::written::ALL_WRITTEN;
 use smap_command::{Command, USUAL_INTERVAL};
@@ -47,9 +47,10 @@ pub fn run<R: ByteSource, W: ByteSink, E: ByteSink>(
 }
 
 /// Runs a command over the files that it names, and gives the exit status. Of several files each is let go once its map
-/// is read; one that can't be read is told before any refusal, and the first of them ends the run; but `CheckAll` tells of
-/// each file by itself, and goes on to the next, up to a failure of standard output. The caller gives a command at whose
-/// interval checkpoints may stand and whose numbers of bytes are in their ranges, and devices that have not failed.
+/// is read; one that can't be read is reported before any refusal, and the first of them ends the run; but `CheckAll`
+/// reports each file by itself, and goes on to the next, up to a failure of standard output. The caller gives a command
+/// at whose interval checkpoints may stand and whose numbers of bytes are in their ranges, and devices that have not
+/// failed.
 pub fn run_reading<F: FileReader, R: ByteSource, W: ByteSink, E: ByteSink>(
     alloc: Global,
     reader: &F,
@@ -263,5 +264,5 @@ pub fn run_reading<F: FileReader, R: ByteSource, W: ByteSink, E: ByteSink>(
         }
         Command::Explain { code } => answer_explain(alloc, code.as_deref()),
     };
-    tell(&outcome, output, errors)
+    report(&outcome, output, errors)
 }

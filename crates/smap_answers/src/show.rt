@@ -1,7 +1,7 @@
 //! Writing what a map file states as one regular map.
 ghost use Rattle.std.specs.Prelude.{[], option_copied};
-ghost use Rattle.smap_answers.specs.Map.{IsResult, TellsMap};
-ghost use Rattle.smap_answers.specs.Outcome.{OrMemory, reply_telling, telling_of};
+ghost use Rattle.smap_answers.specs.Map.{IsResult, ReportsMap};
+ghost use Rattle.smap_answers.specs.Outcome.{OrMemory, reply_report, report_of};
 ghost use Rattle.smap_answers.specs.Show.{show_result, show_with_result};
 ghost use Rattle.smap_answers.specs.Written.{written_of};
 ghost use Rattle.smap_command.specs.Limits.{usual_interval};
@@ -26,9 +26,9 @@ pub fn answer_show<F: FileReader>(
     path: &str,
     base: Option<&Url>,
 ) -> Result<Reply, Failure>
-    ensures { OrMemory (TellsMap (F.gives reader.now) 0 path.now (option_copied base.entry)
+    ensures { OrMemory (ReportsMap (F.gives reader.now) 0 path.now (option_copied base.entry)
         usual_interval
-        (IsResult show_result)) (telling_of result) }
+        (IsResult show_result)) (report_of result) }
 {
     let maps = MapReader {
         files: reader,
@@ -40,7 +40,7 @@ pub fn answer_show<F: FileReader>(
 
 // The written map as a line, or that its mappings text would be too long.
 fn written_map(alloc: Global, map: &MapFile) -> Result<Reply, Failure>
-    ensures { OrMemory (IsResult show_result map.now.stated) (telling_of result) }
+    ensures { OrMemory (IsResult show_result map.now.stated) (report_of result) }
 {
     match map.write(alloc) {
         Ok(bytes) => Ok(Reply::Bytes(line_of(bytes)?)),
@@ -58,9 +58,9 @@ pub fn answer_show_with<F: FileReader>(
     base: Option<&Url>,
     options: WriteOptions,
 ) -> Result<Reply, Failure>
-    ensures { OrMemory (TellsMap (F.gives reader.now) 0 path.now (option_copied base.entry)
+    ensures { OrMemory (ReportsMap (F.gives reader.now) 0 path.now (option_copied base.entry)
         usual_interval
-        (IsResult (show_with_result options))) (telling_of result) }
+        (IsResult (show_with_result options))) (report_of result) }
 {
     let maps = MapReader {
         files: reader,
@@ -77,7 +77,7 @@ pub fn answer_show_with<F: FileReader>(
 
 // What the options leave of a map, as a line.
 fn left_of_map(alloc: Global, map: &MapFile, options: WriteOptions) -> Result<Reply, ComposeRefusal>
-    ensures { GivesOr ComposeRefusal.Memory reply_telling result
+    ensures { GivesOr ComposeRefusal.Memory reply_report result
         (written_of options (all_composed map.now.stated [])) }
 {
     written(alloc, compose_all(alloc, map, &[])?, options)

@@ -1,8 +1,8 @@
 //! What a text is rewritten over, where folders and a list of maps are given beside files.
 ghost use Rattle.std.specs.Prelude.{◌≡◌, [], None, Some, map, option_copied, option_map, IfErr, IfOk, IsSomeAnd, OnErr, OnOk};
 ghost use Rattle.smap_answers.specs.Lines.{map_refused_line};
-ghost use Rattle.smap_answers.specs.Outcome.{OrMemory, failure_telling, refusal};
-ghost use Rattle.smap_answers.specs.Private.Sources.{IsFolderRefusal, or_told};
+ghost use Rattle.smap_answers.specs.Outcome.{OrMemory, failure_report, refusal};
+ghost use Rattle.smap_answers.specs.Private.Sources.{IsFolderRefusal, or_reported};
 ghost use Rattle.smap_answers.specs.Sources.{AddsList, GathersSources, NamesFolders, ReadsList};
 ghost use Rattle.smap_answers.specs.Sources.{folder_refusal, list_bytes_refusal, list_refusal, reason_of};
 ghost use Rattle.smap_answers.specs.Trace.{argument_of};
@@ -41,7 +41,7 @@ pub fn sources_of<F: FileReader>(
 ) -> Result<MapSources, Failure>
     ensures { GathersSources (F.gives maps.now.files.now) (option_copied maps.now.base)
         maps.now.interval (map argument_of arguments.now) (option_copied list.entry)
-        (or_told result) }
+        (or_reported result) }
 {
     let locations = folders_of(alloc, arguments)?;
     let words = table_of(alloc, maps, arguments, true)?;
@@ -55,7 +55,7 @@ pub fn sources_of<F: FileReader>(
 // The folders among the arguments.
 fn folders_of(alloc: Global, arguments: &[(String, String)]) -> Result<Locations, Failure>
     ensures { NamesFolders (map argument_of arguments.now) (record { files = []; folders = [] })
-        (or_told result) }
+        (or_reported result) }
 {
     let mut locations = Locations::new(alloc);
     for (prefix, folder) in arguments {
@@ -78,7 +78,7 @@ fn name_folder(
     ensures named { OnOk result (PutsFolder locations.old prefix.now folder.now locations.new) }
     ensures refused { IfErr result (λ failure. OrMemory
         (IsFolderRefusal locations.old prefix.now folder.now)
-        (failure_telling failure)) }
+        (failure_report failure)) }
 {
     match add_folder(alloc, locations, prefix, folder) {
         Ok(()) => Ok(()),
@@ -88,8 +88,8 @@ fn name_folder(
 
 // Why the folder of an argument is refused.
 fn refused_folder(alloc: Global, fault: ListFault, prefix: &str, folder: &str) -> Failure
-    ensures { OrMemory (λ telling. telling ≡ folder_refusal fault prefix.now folder.now)
-        (failure_telling result) }
+    ensures { OrMemory (λ report. report ≡ folder_refusal fault prefix.now folder.now)
+        (failure_report result) }
 {
     let Some(reason) = reason_of(fault) else {
         return Failure::Memory;
@@ -109,7 +109,7 @@ fn with_list<F: FileReader>(
     sources: MapSources,
 ) -> Result<MapSources, Failure>
     ensures { ReadsList (F.gives files.now) number (Some list.now)
-        sources.words sources.locations (or_told result) }
+        sources.words sources.locations (or_reported result) }
 {
     let bytes = file_bytes(alloc, files, number, list)?;
     with_lines(alloc, list, &bytes, sources)
@@ -122,7 +122,7 @@ fn with_lines(
     bytes: &[u8],
     sources: MapSources,
 ) -> Result<MapSources, Failure>
-    ensures { AddsList list.now bytes.now sources.words sources.locations (or_told result) }
+    ensures { AddsList list.now bytes.now sources.words sources.locations (or_reported result) }
 {
     let text = list_text(alloc, list, bytes)?;
     let MapSources {
@@ -139,9 +139,9 @@ fn with_lines(
 pub fn list_text<'a>(alloc: Global, list: &str, bytes: &'a [u8]) -> Result<&'a str, Failure>
     ensures text { IfOk result (λ text. text.now ≡ bytes.now) }
     ensures short { OnOk result (list_bytes_refusal bytes.now ≡ None) }
-    ensures refused { IfErr result (λ failure. OrMemory (λ telling. IsSomeAnd
+    ensures refused { IfErr result (λ failure. OrMemory (λ report. IsSomeAnd
         (list_bytes_refusal bytes.now)
-        (λ reason. telling ≡ refusal (map_refused_line list.now reason))) (failure_telling failure)) }
+        (λ reason. report ≡ refusal (map_refused_line list.now reason))) (failure_report failure)) }
 {
     if bytes.len() > MOST_LIST_BYTES {
         return Err(Failure::Refusal(lines::map_refused_line(alloc, list, "TooLarge")?));
@@ -154,8 +154,8 @@ pub fn list_text<'a>(alloc: Global, list: &str, bytes: &'a [u8]) -> Result<&'a s
 
 /// Why the list at a path is refused.
 pub fn refused_list(alloc: Global, list: &str, refused: ListRefusal) -> Failure
-    ensures { OrMemory (λ telling. telling ≡ list_refusal list.now refused)
-        (failure_telling result) }
+    ensures { OrMemory (λ report. report ≡ list_refusal list.now refused)
+        (failure_report result) }
 {
     let Some(reason) = reason_of(refused.fault) else {
         return Failure::Memory;
@@ -166,7 +166,7 @@ pub fn refused_list(alloc: Global, list: &str, refused: ListRefusal) -> Failure
     }
 }
 
-// Why a folder or a line is refused, in words; none stands for want of memory.
+// Why a folder or a line is refused, in words; none stands for out of memory.
 fn reason_of(fault: ListFault) -> Option<&'static str>
     ensures { option_copied result ≡ reason_of fault }
 {

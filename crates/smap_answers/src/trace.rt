@@ -1,11 +1,11 @@
 //! Rewriting the stack trace on standard input.
 ghost use Rattle.std.specs.Prelude.{◌≡◌, ◌&&◌, [], false, map, option_copied, IfErr, IfOk, None, Ok};
-ghost use Rattle.smap_answers.specs.Outcome.{OrMemory, failure_telling, telling_of};
+ghost use Rattle.smap_answers.specs.Outcome.{OrMemory, failure_report, report_of};
 ghost use Rattle.smap_lines.specs.Editing.{devices_seen};
 ghost use Rattle.smap_answers.specs.Private.Gathering.{IsReadAs, IsReadRefusal, gathered};
 ghost use Rattle.smap_store.specs.MapList.{is_folder};
 ghost use Rattle.smap_answers.specs.Trace.{Gathers, IsBaseUsed, PutsNext};
-ghost use Rattle.smap_answers.specs.Trace.{IsTraceRewritten, RewriteTells, argument_of, rewrite_telling, url_refusal_result};
+ghost use Rattle.smap_answers.specs.Trace.{IsTraceRewritten, RewriteReports, argument_of, rewrite_report, url_refusal_result};
 
 use crate::files::FileReader;
 use crate::lines;
@@ -30,11 +30,11 @@ pub fn answer_rewrite<F: FileReader, R: ByteSource, W: ByteSink>(
 ) -> Result<Reply, Failure>
     requires input_works { (R.seen input.old).failed ≡ false }
     requires output_works { (W.seen output.old).failed ≡ false }
-    ensures { RewriteTells (F.gives maps.now.files.now) (option_copied maps.now.base)
+    ensures { RewriteReports (F.gives maps.now.files.now) (option_copied maps.now.base)
         maps.now.interval (IsTraceRewritten hide_ignored) (map argument_of arguments.now)
         (devices_seen (R.seen input.old) (W.seen output.old))
         (devices_seen (R.seen input.new) (W.seen output.new))
-        (telling_of result) }
+        (report_of result) }
 {
     let table = table_of(alloc, maps, arguments, false)?;
     rewritten(rewrite(alloc, input, output, &table, hide_ignored))
@@ -42,7 +42,7 @@ pub fn answer_rewrite<F: FileReader, R: ByteSource, W: ByteSink>(
 
 // What rewriting a text comes to.
 fn rewritten(end: Result<Summary, RewriteFault>) -> Result<Reply, Failure>
-    ensures { telling_of result ≡ rewrite_telling end }
+    ensures { report_of result ≡ rewrite_report end }
 {
     match end {
         Ok(_) => Ok(Reply::Rewritten),
@@ -113,7 +113,7 @@ pub fn read_map_at<F: FileReader>(
     ensures refused { IfErr result (λ failure. OrMemory
         (IsReadRefusal (option_copied maps.now.base) maps.now.interval
         url.now path.now bytes.items)
-        (failure_telling failure)) }
+        (failure_report failure)) }
 {
     match maps.base {
         Some(base) => map_of(alloc, path, bytes, Some(base), maps.interval),
@@ -137,8 +137,8 @@ fn own_base(alloc: Global, url: &str) -> Result<Option<Url>, AllocError>
 
 // Why a map is not put under a URL.
 fn refused_url(alloc: Global, refusal: TableRefusal, url: &str, path: &str) -> Failure
-    ensures { OrMemory (λ telling. telling ≡ url_refusal_result refusal url.now path.now)
-        (failure_telling result) }
+    ensures { OrMemory (λ report. report ≡ url_refusal_result refusal url.now path.now)
+        (failure_report result) }
 {
     let line = match refusal {
         TableRefusal::BadUrl => lines::bad_url_line(alloc, url, path),

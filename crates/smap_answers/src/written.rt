@@ -1,7 +1,7 @@
 //! Writing a composed map, without what is left out of it.
 ghost use Rattle.std.specs.Prelude.{◌≡◌, ◌++◌, ◌∷◌, [], IfOk};
-ghost use Rattle.smap_answers.specs.Outcome.{reply_telling};
-ghost use Rattle.smap_answers.specs.Written.{left_of, line_told, pruned_where};
+ghost use Rattle.smap_answers.specs.Outcome.{reply_report};
+ghost use Rattle.smap_answers.specs.Written.{left_of, line_reported, pruned_where};
 ghost use Rattle.smap_compose.specs.declared.refusal.ComposeRefusal.TheVariants.{Memory};
 ghost use Rattle.smap_mappings.specs.Exact.{GivesOr};
 
@@ -22,7 +22,7 @@ pub fn written(
     composed: Composed,
     options: WriteOptions,
 ) -> Result<Reply, ComposeRefusal>
-    ensures { GivesOr Memory reply_telling result (line_told (left_of options composed)) }
+    ensures { GivesOr Memory reply_report result (line_reported (left_of options composed)) }
 {
     let left = left_of(alloc, composed, options)?;
     Ok(Reply::Bytes(line_of(left.write(alloc)?)?))

@@ -26,7 +26,7 @@ use Rattle.smap_arguments.specs.CommandLine.{explain, list_rule, lookup, mapping
 use Rattle.smap_arguments.specs.declared.usage.Usage.{Usage}
 use Rattle.smap_arguments.specs.declared.usage.Usage.TheVariants.{Help, Mistake, Memory}
 use Rattle.smap_arguments.specs.Arguments.{HasArguments, HasCommand, HasValue, HasValues}
-use Rattle.smap_arguments.specs.Refusals.{IsNamedRefusal, IsUsageOf, IsRefusalOf, SubcommandTells}
+use Rattle.smap_arguments.specs.Refusals.{IsNamedRefusal, IsUsageOf, IsRefusalOf, SubcommandReports}
 use Rattle.smap_arguments.proofs.Rows.{AreReadRows, Keeps, first_none, flag_at, flag_default_keeps, flag_keeps, given_value, help_keeps}
 use Rattle.smap_arguments.proofs.Rows.{long_option_keeps, more_option_keeps, more_values_keeps, named_option_keeps, no_default_keeps, second_none}
 use Rattle.smap_arguments.proofs.Rows.{settle_keeps, text_value, value_keeps, walk_keeps}
@@ -393,7 +393,7 @@ failed_smap a arguments e usage is_smap fails is =
 
 -- where clap finds no fault in the arguments, but the base or what else a command is given is refused
 pub named_refused : (arguments : List Text) (usage : Usage) → fault_of smap arguments ≡ []
-    → IsNamedRefusal (SubcommandTells (subcommand_of smap arguments)) usage
+    → IsNamedRefusal (SubcommandReports (subcommand_of smap arguments)) usage
     → IsRefusalOf arguments usage
 named_refused arguments (Help text) none refused = absurd refused
 named_refused arguments (Mistake text) none refused = inr (none, refused)

@@ -11,7 +11,7 @@ use Rattle.std.proofs.lemmas.Str.Pattern.{NoCharPasses-char, drop_at_char}
 use Rattle.std.proofs.lemmas.List.{take-append-drop}
 use Rattle.clap.specs.Words.{Row, Text, all_of}
 use Rattle.smap_arguments.specs.Arguments.{ArePairs, IsPair, has_equals_sign, words_of}
-use Rattle.smap_arguments.specs.Refusals.{IsNamedRefusal, TellsNoPair, first_without}
+use Rattle.smap_arguments.specs.Refusals.{IsNamedRefusal, ReportsNoPair, first_without}
 use Rattle.smap_arguments.specs.declared.usage.Usage.{Usage}
 use Rattle.smap_arguments.specs.declared.usage.Usage.TheVariants.{Help, Mistake, Memory}
 
@@ -84,8 +84,8 @@ module _ {A : Type 0} where
 
   -- the argument after these pairs is refused as the first that is none
   pub refused_at : (arguments : List (Bor Text)) (pairs : List (String A × String A)) (i : ℕ) (d : Bor Text) (form : Text) (usage : Usage)
-      → i < length arguments → Zips (take i arguments) pairs → IsNamedRefusal (TellsNoPair form ((get_or arguments i d).now ∷ [])) usage
-      → IsNamedRefusal (TellsNoPair form (map (λ argument. argument.now) arguments)) usage
+      → i < length arguments → Zips (take i arguments) pairs → IsNamedRefusal (ReportsNoPair form ((get_or arguments i d).now ∷ [])) usage
+      → IsNamedRefusal (ReportsNoPair form (map (λ argument. argument.now) arguments)) usage
   refused_at arguments pairs i d form (Help text) low zips refused = refused
   refused_at arguments pairs i d form (Mistake text) low zips refused = (refused.0, first_at arguments pairs i d refused.0 low zips refused.1, refused.2)
   refused_at arguments pairs i d form Memory low zips refused = tt

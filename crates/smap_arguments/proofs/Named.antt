@@ -15,7 +15,7 @@ use Rattle.smap_command.specs.declared.command.Command.{Command}
 use Rattle.smap_arguments.specs.CommandLine.{check, compose, explain, interval_number, lookup, mappings, named, number, positions, raw, rewrite, show, sources}
 use Rattle.smap_arguments.specs.Arguments.{HasArguments, HasCommand, HasValue, HasValueIfGiven, NamedAsksFor, SubcommandAsksFor}
 use Rattle.smap_arguments.specs.Refusals.{IsNamedRefusal}
-use Rattle.smap_arguments.specs.Refusals.{SubcommandTells, TellsOfBase, TellsRefusal}
+use Rattle.smap_arguments.specs.Refusals.{SubcommandReports, ReportsOfBase, ReportsRefusal}
 use Rattle.smap_arguments.specs.declared.usage.Usage.{Usage}
 use Rattle.smap_arguments.specs.declared.usage.Usage.TheVariants.{Help, Mistake, Memory}
 
@@ -45,7 +45,7 @@ found_subcommand m met s is name rows = subcommand_is (subcommand_rows_of m) s.0
     (name_of_rows m ∙ (sym name ∙ ap (option_map (λ (p : Bor Text × Bor ArgMatches). p.0.now)) is))
     (sym rows ∙ ap (option_map (λ (p : Bor Text × Bor ArgMatches). rows_of (found_of p.1.now))) is)
 
--- ---- what it has, asks for and is told
+-- ---- what it has, asks for and is reported
 
 abbrev pub HasArgumentsOf : Option (Text × List Row) → Type 0
 HasArgumentsOf None = ⊥
@@ -58,15 +58,15 @@ module _ (subcommand : Option (Text × List Row)) (name : Text) (rows : List Row
   pub asks_for : (command : Command) → NamedAsksFor name rows command → SubcommandAsksFor subcommand command
   asks_for command asks = (rows, is ∙ ap (λ n. Some (n, rows)) (sym asks.0), asks.1)
 
-  pub tells : (usage : Usage) → IsNamedRefusal (TellsRefusal name rows) usage → IsNamedRefusal (SubcommandTells subcommand) usage
-  tells (Help text) told = told
-  tells (Mistake text) told = (name, rows, is, told)
-  tells Memory told = tt
+  pub reports : (usage : Usage) → IsNamedRefusal (ReportsRefusal name rows) usage → IsNamedRefusal (SubcommandReports subcommand) usage
+  reports (Help text) reported = reported
+  reports (Mistake text) reported = (name, rows, is, reported)
+  reports Memory reported = tt
 
-  pub tells_base : (usage : Usage) → IsNamedRefusal (TellsOfBase rows) usage → IsNamedRefusal (SubcommandTells subcommand) usage
-  tells_base (Help text) told = told
-  tells_base (Mistake text) told = (name, rows, is, inl told)
-  tells_base Memory told = tt
+  pub reports_base : (usage : Usage) → IsNamedRefusal (ReportsOfBase rows) usage → IsNamedRefusal (SubcommandReports subcommand) usage
+  reports_base (Help text) reported = reported
+  reports_base (Mistake text) reported = (name, rows, is, inl reported)
+  reports_base Memory reported = tt
 
 -- ---- a name that is none of the others
 

@@ -170,9 +170,9 @@ AsksForMore rows maps anywhere summary = (has_folder maps || has_further rows an
 
 -- ---- the arguments of `check`
 
--- each file is told by itself, with its path: `--json` is given, or there is not just one path
-abbrev pub TellsEachFile : {A : Type 0} → (paths : List A) → (json : Bool) → Type 0
-TellsEachFile paths json = (json ≡ true) ⊎ (length paths ≢ 1)
+-- each file is reported by itself, with its path: `--json` is given, or there is not just one path
+abbrev pub ReportsEachFile : {A : Type 0} → (paths : List A) → (json : Bool) → Type 0
+ReportsEachFile paths json = (json ≡ true) ⊎ (length paths ≢ 1)
 
 -- ---- the arguments of `show` and `compose`
 
@@ -247,7 +247,7 @@ RowsAskFor rows (Check path base interval explain) = GivesTexts rows (codes "PAT
     × GivesInterval rows interval × GivesFlag rows (codes "json") false × GivesFlag rows (codes "explain") explain
 RowsAskFor rows (CheckAll paths base interval json explain) = GivesTexts rows (codes "PATH") (texts paths.items) × GivesBase rows base
     × GivesInterval rows interval × GivesFlag rows (codes "json") json × GivesFlag rows (codes "explain") explain
-    × TellsEachFile paths.items json
+    × ReportsEachFile paths.items json
 RowsAskFor rows (Show path base) = GivesText rows (codes "PATH") (string_bytes path) × GivesBase rows base
     × GivesFlag rows (codes "prune") false × GivesFlag rows (codes "no-content") false
 RowsAskFor rows (ShowWith path base options) = GivesText rows (codes "PATH") (string_bytes path) × GivesBase rows base

@@ -82,7 +82,7 @@ list_rule long = record (new_rule (codes "LIST")) { long = Some long }
 abbrev pub pairs_rule : Rule
 pairs_rule = record (new_rule (codes "NAME=FILE")) { long = Some (codes "inner"); action = Some Append }
 
--- an option that is a number of bytes, which its name in the help tells
+-- an option that is a number of bytes, which its name in the help says
 abbrev pub bytes_rule : (least : ℕ) → Text → Rule
 bytes_rule least name =
     record (new_rule name) { long = Some name; value_names = 1; parser = Some (bytes_number least) }

@@ -44,7 +44,7 @@ no_pair_line form argument = codes "usage: no " ++ (form ++ (codes ": " ++ shown
 abbrev pub both_flags_line : Text
 both_flags_line = codes "usage: --hide-ignored with --anywhere" ++ 10 ∷ []
 
--- `rewrite` has neither a word nor a list, which is told as clap tells of an argument that is missing
+-- `rewrite` has neither a word nor a list, which is reported as clap reports an argument that is missing
 abbrev pub no_maps_text : Text
 no_maps_text = codes "error: the following required arguments were not provided:" ++ 10 ∷ codes "  <URL=FILE>..." ++ 10 ∷ 10
     ∷ codes "Usage: smap rewrite <URL=FILE>..." ++ 10 ∷ 10 ∷ codes "For more information, try '--help'." ++ 10 ∷ []
@@ -53,7 +53,7 @@ no_maps_text = codes "error: the following required arguments were not provided:
 abbrev pub source_with_inners_line : Text
 source_with_inners_line = codes "usage: SOURCE with --inner or --inners" ++ 10 ∷ []
 
--- the end of what is told where `compose` has no inner map, which is told in clap's way, too
+-- the end of what is reported where `compose` has no inner map, which is reported in clap's way, too
 abbrev pub compose_usage_lines : Text
 compose_usage_lines = codes "  <INNER>" ++ 10 ∷ 10 ∷ codes "Usage: smap compose <OUTER> <SOURCE> <INNER>" ++ 10 ∷ 10
     ∷ codes "For more information, try '--help'." ++ 10 ∷ []
@@ -66,61 +66,61 @@ no_inner_text = codes "error: the following required arguments were not provided
 abbrev pub no_source_text : Text
 no_source_text = codes "error: the following required arguments were not provided:" ++ 10 ∷ codes "  <SOURCE>" ++ 10 ∷ compose_usage_lines
 
--- it is told that the base is no URL: url's definition finds an error in its text, which is not that it is too long
-abbrev pub TellsBadBase : List Row → Text → Type 0
-TellsBadBase rows text = (text ≡ bad_base_line)
+-- it is reported that the base is no URL: url's definition finds an error in its text, which is not that it is too long
+abbrev pub ReportsBadBase : List Row → Text → Type 0
+ReportsBadBase rows text = (text ≡ bad_base_line)
     × ((base : Text) × (error : ParseError) × GivesText rows (codes "URL") base × (parse_url None base ≡ Err error)
     × (¬ (IsOutOfRoom error)))
 
--- it is told that the base is too long: any that is given may be, since no definition of url's says when one is
-abbrev pub TellsLongBase : List Row → Text → Type 0
-TellsLongBase rows text = (text ≡ long_base_line) × ((base : Text) × GivesText rows (codes "URL") base)
+-- it is reported that the base is too long: any that is given may be, since no definition of url's says when one is
+abbrev pub ReportsLongBase : List Row → Text → Type 0
+ReportsLongBase rows text = (text ≡ long_base_line) × ((base : Text) × GivesText rows (codes "URL") base)
 
--- it is told why the base that is given is none
-abbrev pub TellsOfBase : List Row → Text → Type 0
-TellsOfBase rows text = TellsBadBase rows text ⊎ TellsLongBase rows text
+-- it is reported why the base that is given is none
+abbrev pub ReportsOfBase : List Row → Text → Type 0
+ReportsOfBase rows text = ReportsBadBase rows text ⊎ ReportsLongBase rows text
 
 -- the first argument that is no pair
 abbrev pub first_without : List Text → Option Text
 first_without = find (λ argument. not (has_equals_sign argument))
 
--- it is told, with the form that it is to have
-abbrev pub TellsNoPair : (form : Text) → List Text → Text → Type 0
-TellsNoPair form arguments text =
+-- it is reported, with the form that it is to have
+abbrev pub ReportsNoPair : (form : Text) → List Text → Text → Type 0
+ReportsNoPair form arguments text =
     (argument : Text) × (first_without arguments ≡ Some argument) × (text ≡ no_pair_line form argument)
 
 -- the same, of the arguments of that form that clap reads
-abbrev pub TellsBadPair : List Row → (form : Text) → Text → Type 0
-TellsBadPair rows form = TellsNoPair form (words_of rows form)
+abbrev pub ReportsBadPair : List Row → (form : Text) → Text → Type 0
+ReportsBadPair rows form = ReportsNoPair form (words_of rows form)
 
--- it is told that there is neither a word nor a list
-abbrev pub TellsNoMaps : List Row → Text → Type 0
-TellsNoMaps rows text = (text ≡ no_maps_text) × (words_of rows (codes "URL=FILE") ≡ []) × (first_of (codes "LIST") rows ≡ None)
+-- it is reported that there is neither a word nor a list
+abbrev pub ReportsNoMaps : List Row → Text → Type 0
+ReportsNoMaps rows text = (text ≡ no_maps_text) × (words_of rows (codes "URL=FILE") ≡ []) × (first_of (codes "LIST") rows ≡ None)
 
--- it is told that both flags are given, of words that are pairs
-abbrev pub TellsBothFlags : List Row → Text → Type 0
-TellsBothFlags rows text = (text ≡ both_flags_line) × ((pairs : List (String Global × String Global)) × GivesPairs rows (codes "URL=FILE") pairs)
+-- it is reported that both flags are given, of words that are pairs
+abbrev pub ReportsBothFlags : List Row → Text → Type 0
+ReportsBothFlags rows text = (text ≡ both_flags_line) × ((pairs : List (String Global × String Global)) × GivesPairs rows (codes "URL=FILE") pairs)
     × GivesFlag rows (codes "hide-ignored") true × GivesFlag rows (codes "anywhere") true
 
 -- what `rewrite` refuses after its base: a word, that there are no maps, and then its flags
-abbrev pub TellsRewrite : List Row → Text → Type 0
-TellsRewrite rows text = TellsBadPair rows (codes "URL=FILE") text ⊎ TellsNoMaps rows text ⊎ TellsBothFlags rows text
+abbrev pub ReportsRewrite : List Row → Text → Type 0
+ReportsRewrite rows text = ReportsBadPair rows (codes "URL=FILE") text ⊎ ReportsNoMaps rows text ⊎ ReportsBothFlags rows text
 
--- it is told that SOURCE or INNER is given beside maps that are given by the names of their sources, of words that are pairs
-abbrev pub TellsSourceWithInners : List Row → Text → Type 0
-TellsSourceWithInners rows text = (text ≡ source_with_inners_line) × (has_inner rows ≡ true)
+-- it is reported that SOURCE or INNER is given beside maps that are given by the names of their sources, of words that are pairs
+abbrev pub ReportsSourceWithInners : List Row → Text → Type 0
+ReportsSourceWithInners rows text = (text ≡ source_with_inners_line) × (has_inner rows ≡ true)
     × ((pairs : List (String Global × String Global)) × GivesPairs rows (codes "NAME=FILE") pairs
     × HasMaps pairs (first_of (codes "LIST") rows))
 
--- it is told that there is no inner map: SOURCE is missing, or INNER alone
-abbrev pub TellsNoInner : List Row → Text → Type 0
-TellsNoInner rows text = HasNoInners rows
+-- it is reported that there is no inner map: SOURCE is missing, or INNER alone
+abbrev pub ReportsNoInner : List Row → Text → Type 0
+ReportsNoInner rows text = HasNoInners rows
     × (((text ≡ no_source_text) × (one_of (codes "SOURCE") rows ≡ None))
     ⊎ ((text ≡ no_inner_text) × IsSome (one_of (codes "SOURCE") rows) × (first_of (codes "INNER") rows ≡ None)))
 
 -- what `compose` refuses after its base: a word, and then SOURCE and INNER
-abbrev pub TellsCompose : List Row → Text → Type 0
-TellsCompose rows text = TellsBadPair rows (codes "NAME=FILE") text ⊎ TellsSourceWithInners rows text ⊎ TellsNoInner rows text
+abbrev pub ReportsCompose : List Row → Text → Type 0
+ReportsCompose rows text = ReportsBadPair rows (codes "NAME=FILE") text ⊎ ReportsSourceWithInners rows text ⊎ ReportsNoInner rows text
 
 -- `sources` is to write the content of a source and to do something else
 abbrev pub content_with_more_line : Text
@@ -134,50 +134,50 @@ bad_order_line = codes "usage: --sort takes bytes alone" ++ 10 ∷ []
 abbrev pub sort_alone_line : Text
 sort_alone_line = codes "usage: --sort without GENERATED" ++ 10 ∷ []
 
--- it is told that the content of a source is not written with anything else
-abbrev pub TellsContentWithMore : List Row → Text → Type 0
-TellsContentWithMore rows text = (text ≡ content_with_more_line) × IsSome (one_of (codes "INDEX") rows)
+-- it is reported that the content of a source is not written with anything else
+abbrev pub ReportsContentWithMore : List Row → Text → Type 0
+ReportsContentWithMore rows text = (text ≡ content_with_more_line) × IsSome (one_of (codes "INDEX") rows)
     × (GivesFlag rows (codes "json") true ⊎ (has_listing rows ≡ true))
 
--- it is told that there is no such order
-abbrev pub TellsBadOrder : List Row → Text → Type 0
-TellsBadOrder rows text =
+-- it is reported that there is no such order
+abbrev pub ReportsBadOrder : List Row → Text → Type 0
+ReportsBadOrder rows text =
     (text ≡ bad_order_line) × ((order : Text) × GivesText rows (codes "BY") order × (order ≢ codes "bytes"))
 
--- it is told that the generated file is missing
-abbrev pub TellsSortAlone : List Row → Text → Type 0
-TellsSortAlone rows text =
+-- it is reported that the generated file is missing
+abbrev pub ReportsSortAlone : List Row → Text → Type 0
+ReportsSortAlone rows text =
     (text ≡ sort_alone_line) × GivesOrder rows true × (first_of (codes "GENERATED") rows ≡ None)
 
 -- what `sources` refuses after its base: what is asked beside a content, and then its order
-abbrev pub TellsSources : List Row → Text → Type 0
-TellsSources rows text = TellsContentWithMore rows text ⊎ TellsBadOrder rows text ⊎ TellsSortAlone rows text
+abbrev pub ReportsSources : List Row → Text → Type 0
+ReportsSources rows text = ReportsContentWithMore rows text ⊎ ReportsBadOrder rows text ⊎ ReportsSortAlone rows text
 
--- the arguments are told that clap takes, but the command of this name does not: its base or, where that is not refused,
+-- the arguments are reported that clap takes, but the command of this name does not: its base or, where that is not refused,
 -- what else `rewrite`, `compose` and `sources` refuse
-abbrev pub TellsRefusal : (name : Text) → List Row → Text → Type 0
-TellsRefusal name rows text = TellsOfBase rows text
-    ⊎ ((base : Option Parts) × (name ≡ codes "rewrite") × GivesBase rows base × TellsRewrite rows text)
-    ⊎ ((base : Option Parts) × (name ≡ codes "compose") × GivesBase rows base × TellsCompose rows text)
-    ⊎ ((base : Option Parts) × (name ≡ codes "sources") × GivesBase rows base × TellsSources rows text)
+abbrev pub ReportsRefusal : (name : Text) → List Row → Text → Type 0
+ReportsRefusal name rows text = ReportsOfBase rows text
+    ⊎ ((base : Option Parts) × (name ≡ codes "rewrite") × GivesBase rows base × ReportsRewrite rows text)
+    ⊎ ((base : Option Parts) × (name ≡ codes "compose") × GivesBase rows base × ReportsCompose rows text)
+    ⊎ ((base : Option Parts) × (name ≡ codes "sources") × GivesBase rows base × ReportsSources rows text)
 
--- where clap finds no fault, this alone may be told, or memory ran out
+-- where clap finds no fault, this alone may be reported, or memory ran out
 abbrev pub IsNamedRefusal : (Text → Type 0) → Usage → Type 0
-IsNamedRefusal Tells (Help text) = ⊥
-IsNamedRefusal Tells (Mistake text) = Tells (string_bytes text)
-IsNamedRefusal Tells Memory = ⊤
+IsNamedRefusal Reports (Help text) = ⊥
+IsNamedRefusal Reports (Mistake text) = Reports (string_bytes text)
+IsNamedRefusal Reports Memory = ⊤
 
 -- the same, of the subcommand that the arguments name
-abbrev pub SubcommandTells : Option (Text × List Row) → Text → Type 0
-SubcommandTells subcommand text =
-    (name : Text) × (rows : List Row) × (subcommand ≡ Some (name, rows)) × TellsRefusal name rows text
+abbrev pub SubcommandReports : Option (Text × List Row) → Text → Type 0
+SubcommandReports subcommand text =
+    (name : Text) × (rows : List Row) × (subcommand ≡ Some (name, rows)) × ReportsRefusal name rows text
 
--- clap finds a request for help or for the version, or another fault in the arguments; or it finds none, and what is told is
+-- clap finds a request for help or for the version, or another fault in the arguments; or it finds none, and what is reported is
 -- that the base is no URL or too long, an argument no pair, that there are no maps, or that two arguments exclude each other;
 -- or memory ran out
 abbrev pub IsRefusalOf : List Text → Usage → Type 0
 IsRefusalOf arguments (Help text) = (kind : ErrorKind) × IsAmong kind (fault_of smap arguments) × IsRequest kind
 IsRefusalOf arguments (Mistake text) =
     ((kind : ErrorKind) × IsAmong kind (fault_of smap arguments) × (¬ (IsRequest kind)))
-    ⊎ ((fault_of smap arguments ≡ []) × SubcommandTells (subcommand_of smap arguments) (string_bytes text))
+    ⊎ ((fault_of smap arguments ≡ []) × SubcommandReports (subcommand_of smap arguments) (string_bytes text))
 IsRefusalOf arguments Memory = ⊤

@@ -4,7 +4,7 @@ ghost use Rattle.clap.specs.Words.{found_of, rows_of, subcommand_rows_of};
 ghost use Rattle.smap_arguments.specs.CommandLine.{interval_number, named};
 ghost use Rattle.smap_arguments.specs.Arguments.{GivesBase, HasArguments, HasCommand, HasValue, HasValueIfGiven, IsInRange, NamedAsksFor};
 ghost use Rattle.smap_arguments.specs.Arguments.{SubcommandAsksFor, texts};
-ghost use Rattle.smap_arguments.specs.Refusals.{IsNamedRefusal, SubcommandTells, TellsRefusal};
+ghost use Rattle.smap_arguments.specs.Refusals.{IsNamedRefusal, SubcommandReports, ReportsRefusal};
 ghost use Rattle.clap.specs.declared.builder.value_parser.ValueParser.TheVariants as parser;
 
 use crate::rewrite::rewrite_in;
@@ -26,7 +26,7 @@ pub fn command_in(alloc: Global, matches: &ArgMatches<'_>) -> Result<Command, Us
     ensures asked { IfOk result (SubcommandAsksFor (subcommand_rows_of matches.now)) }
     ensures in_range { IfOk result IsInRange }
     ensures refused { IfErr result (IsNamedRefusal
-        (SubcommandTells (subcommand_rows_of matches.now))) }
+        (SubcommandReports (subcommand_rows_of matches.now))) }
 {
     let (name, matches) = matches.subcommand().unwrap();
     let base = base_in(alloc, matches)?;
@@ -45,7 +45,7 @@ fn named_command(
     ensures asked { IfOk result (NamedAsksFor name.now (rows_of (found_of matches.now))) }
     ensures in_range { IfOk result IsInRange }
     ensures refused { IfErr result (IsNamedRefusal
-        (TellsRefusal name.now (rows_of (found_of matches.now)))) }
+        (ReportsRefusal name.now (rows_of (found_of matches.now)))) }
 {
     match name {
         "lookup" => Ok(Command::Lookup {
@@ -93,7 +93,7 @@ fn named_command(
     }
 }
 
-// What `check` is asked: to tell one map or, of several paths or with `--json`, each by a line of its own.
+// What `check` is asked: to report on one map or, of several paths or with `--json`, each by a line of its own.
 fn check_in(
     alloc: Global,
     matches: &ArgMatches<'_>,

@@ -83,7 +83,7 @@ What ends in `/` behind the `=` is a folder: PREFIX=FOLDER/, where PREFIX ends i
 begins with PREFIX is the file FOLDER/REST.map, REST being what the URL has behind PREFIX, without its query and
 fragment. Each line of the file of --maps is a URL and a file, or a prefix and a folder, with one TAB between
 them; empty lines and those that begin with `#` are passed over. Maps of folders and lists are read when the text
-first names them. One that cannot be read is told on standard error, and the rest goes on.
+first names them. One that cannot be read is reported on standard error, and the rest goes on.
 
 Answer: the trace, line by line. In a frame of V8, Firefox or Safari whose URL has a map, the place becomes
 the original one; the rest of the line stays, and so does each other line, byte for byte. With --hide-ignored
@@ -100,7 +100,7 @@ pub const CHECK_NOTES: &str = "\
 Answer: how many sections, sources, names and segments the map has, how many generated lines hold a segment,
 and how many checkpoints its index has.
 
-With several PATHs each is told by a line, in their order: `PATH: ok ..` on standard output, or
+With several PATHs each has a line, in their order: `PATH: ok ..` on standard output, or
 `refused: PATH: ..` or `device: read PATH` on standard error. A file is let go before the next is read, and
 one that is refused or can't be read stops no other. The status is the greatest of all.
 
@@ -152,7 +152,7 @@ Examples:
   smap compose examples/preset-react.min.js.map 0 examples/preset-react.js.map > whole.js.map
   smap compose --inner preset-react.js=examples/preset-react.js.map examples/preset-react.min.js.map > all.map";
 
-pub const EXPLAIN_ABOUT: &str = "Tells what a code of a refusal means, and what to do about it";
+pub const EXPLAIN_ABOUT: &str = "Says what a code of a refusal means, and what to do about it";
 
 pub const EXPLAIN_NOTES: &str = "\
 CODE is a code as `M14`, the name behind it as `Text`, or a word that is printed without a code, as `memory`; in
@@ -187,7 +187,7 @@ pub const LINE_HELP: &str = "Line of the generated file, from 1";
 pub const ONE_LINE_HELP: &str = "Line of the generated file, from 1; without it all lines";
 
 pub const GENERATED_HELP: &str =
-    "Path of the generated file, to tell how many of its bytes each source makes";
+    "Path of the generated file, to count how many of its bytes each source makes";
 
 pub const ORDER_HELP: &str = "Print those that make most first: `bytes`";
 
@@ -244,4 +244,4 @@ output is the same";
 pub const LIMIT_HELP: &str =
     "Refuse a text of more bytes than this, 1 to 9223372036854775807, else 1073741824";
 
-pub const SUMMARY_HELP: &str = "Tell counts on standard error at the end";
+pub const SUMMARY_HELP: &str = "Print counts on standard error at the end";

@@ -13,7 +13,7 @@ pub const LONG_BASE: &str = "usage: base URL too long\n";
 
 pub const BOTH_FLAGS: &str = "usage: --hide-ignored with --anywhere\n";
 
-/// Standard error: `rewrite` has neither a word nor a list. It is told as clap tells of any argument that is missing.
+/// Standard error: `rewrite` has neither a word nor a list. It is reported as clap reports any argument that is missing.
 pub const NO_MAPS: &str = "\
 error: the following required arguments were not provided:
   <URL=FILE>...
@@ -25,7 +25,7 @@ For more information, try '--help'.
 
 pub const SOURCE_WITH_INNERS: &str = "usage: SOURCE with --inner or --inners\n";
 
-/// Standard error: `compose` has neither SOURCE nor a map by its name. It is told as `NO_MAPS` is.
+/// Standard error: `compose` has neither SOURCE nor a map by its name. It is reported as `NO_MAPS` is.
 pub const NO_SOURCE: &str = "\
 error: the following required arguments were not provided:
   <SOURCE>
@@ -36,7 +36,7 @@ Usage: smap compose <OUTER> <SOURCE> <INNER>
 For more information, try '--help'.
 ";
 
-/// Standard error: `compose` has SOURCE without INNER. It is told as `NO_MAPS` is.
+/// Standard error: `compose` has SOURCE without INNER. It is reported as `NO_MAPS` is.
 pub const NO_INNER: &str = "\
 error: the following required arguments were not provided:
   <INNER>

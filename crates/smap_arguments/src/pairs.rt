@@ -2,7 +2,7 @@
 ghost use Rattle.std.specs.Prelude.{◌∷◌, [], IfErr, IfOk, map, string_bytes};
 ghost use Rattle.clap.specs.Words.{found_of, rows_of};
 ghost use Rattle.smap_arguments.specs.Arguments.{ArePairs, GivesPairs, IsPair};
-ghost use Rattle.smap_arguments.specs.Refusals.{IsNamedRefusal, TellsBadPair, TellsNoPair};
+ghost use Rattle.smap_arguments.specs.Refusals.{IsNamedRefusal, ReportsBadPair, ReportsNoPair};
 
 use crate::mistakes::no_pair_line;
 use crate::usage::Usage;
@@ -18,7 +18,7 @@ pub fn pairs_in(
     ensures given { IfOk result (λ pairs. GivesPairs (rows_of (found_of matches.now)) form.now
         pairs.items) }
     ensures refused { IfErr result (IsNamedRefusal
-        (TellsBadPair (rows_of (found_of matches.now)) form.now)) }
+        (ReportsBadPair (rows_of (found_of matches.now)) form.now)) }
 {
     match matches.get_strs(form) {
         Some(words) => pairs_of(alloc, form, words),
@@ -30,7 +30,7 @@ fn pairs_of(alloc: Global, form: &str, arguments: &[&str]) -> Result<Vec<(String
     ensures cut { IfOk result (λ pairs. ArePairs (map (λ argument. argument.now) arguments.now)
         pairs.items) }
     ensures refused { IfErr result (IsNamedRefusal
-        (TellsNoPair form.now (map (λ argument. argument.now) arguments.now))) }
+        (ReportsNoPair form.now (map (λ argument. argument.now) arguments.now))) }
 {
     let mut pairs = Vec::new(alloc);
     for argument in arguments {
@@ -47,7 +47,7 @@ fn pairs_of(alloc: Global, form: &str, arguments: &[&str]) -> Result<Vec<(String
 fn pair_of(alloc: Global, form: &str, argument: &str) -> Result<(String, String), Usage>
     ensures cut { IfOk result (λ pair. IsPair argument.now (string_bytes pair.0)
         (string_bytes pair.1)) }
-    ensures refused { IfErr result (IsNamedRefusal (TellsNoPair form.now (argument.now ∷ []))) }
+    ensures refused { IfErr result (IsNamedRefusal (ReportsNoPair form.now (argument.now ∷ []))) }
 {
     match argument.rsplit_once('=') {
         Some((url, path)) => Ok((

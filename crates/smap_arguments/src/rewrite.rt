@@ -3,7 +3,7 @@ ghost use Rattle.std.specs.Prelude.{◌≡◌, IfErr, IfOk, codes};
 ghost use Rattle.clap.specs.Words.{found_of, rows_of};
 ghost use Rattle.smap_arguments.specs.CommandLine.{named};
 ghost use Rattle.smap_arguments.specs.Arguments.{GivesBase, HasArguments, IsInRange, NamedAsksFor, has_folder};
-ghost use Rattle.smap_arguments.specs.Refusals.{IsNamedRefusal, TellsRewrite};
+ghost use Rattle.smap_arguments.specs.Refusals.{IsNamedRefusal, ReportsRewrite};
 ghost use Rattle.smap_arguments.specs.Private.Further.{GivesFurther, is_given};
 
 use crate::mistakes::{BOTH_FLAGS, NO_MAPS};
@@ -49,7 +49,7 @@ pub fn rewrite_in(
     ensures asked { IfOk result (NamedAsksFor (codes "rewrite") (rows_of (found_of matches.now))) }
     ensures in_range { IfOk result IsInRange }
     ensures refused { IfErr result (IsNamedRefusal
-        (TellsRewrite (rows_of (found_of matches.now)))) }
+        (ReportsRewrite (rows_of (found_of matches.now)))) }
 {
     let maps = pairs_in(alloc, matches, "URL=FILE")?;
     let further = further_in(alloc, matches)?;

@@ -4,7 +4,7 @@ ghost use Rattle.clap.specs.Words.{found_of, rows_of};
 ghost use Rattle.smap_arguments.specs.CommandLine.{named};
 ghost use Rattle.smap_arguments.specs.Arguments.{GivesBase, GivesNumber, GivesOrder, GivesText, HasArguments, IsInRange, NamedAsksFor};
 ghost use Rattle.smap_arguments.specs.Arguments.{has_listing};
-ghost use Rattle.smap_arguments.specs.Refusals.{IsNamedRefusal, TellsBadOrder, TellsContentWithMore, TellsSources};
+ghost use Rattle.smap_arguments.specs.Refusals.{IsNamedRefusal, ReportsBadOrder, ReportsContentWithMore, ReportsSources};
 
 use crate::mistakes::{BAD_ORDER, CONTENT_WITH_MORE, SORT_ALONE};
 use crate::usage::Usage;
@@ -14,7 +14,7 @@ use smap_command::Command;
 use std::alloc::Global;
 use url::Url;
 
-/// What `sources` is asked: to tell of all sources, or to write the content of one.
+/// What `sources` is asked: to print all sources, or to write the content of one.
 pub fn sources_in(
     alloc: Global,
     matches: &ArgMatches<'_>,
@@ -25,7 +25,7 @@ pub fn sources_in(
     ensures asked { IfOk result (NamedAsksFor (codes "sources") (rows_of (found_of matches.now))) }
     ensures in_range { IfOk result IsInRange }
     ensures refused { IfErr result (IsNamedRefusal
-        (TellsSources (rows_of (found_of matches.now)))) }
+        (ReportsSources (rows_of (found_of matches.now)))) }
 {
     let path = text_in(alloc, matches, "MAP")?;
     if let Some(source) = source_in(matches, "INDEX") {
@@ -58,7 +58,7 @@ fn content_in(
     ensures asked { IfOk result (NamedAsksFor (codes "sources") (rows_of (found_of matches.now))) }
     ensures in_range { IfOk result IsInRange }
     ensures refused { IfErr result (IsNamedRefusal
-        (TellsContentWithMore (rows_of (found_of matches.now)))) }
+        (ReportsContentWithMore (rows_of (found_of matches.now)))) }
 {
     if json_in(matches) || has_listing(matches) {
         return Err(Usage::Mistake(String::from_str(alloc, CONTENT_WITH_MORE)?));
@@ -77,7 +77,7 @@ fn has_listing(matches: &ArgMatches<'_>) -> bool
 fn order_in(alloc: Global, matches: &ArgMatches<'_>) -> Result<bool, Usage>
     ensures given { IfOk result (GivesOrder (rows_of (found_of matches.now))) }
     ensures refused { IfErr result (IsNamedRefusal
-        (TellsBadOrder (rows_of (found_of matches.now)))) }
+        (ReportsBadOrder (rows_of (found_of matches.now)))) }
 {
     match matches.get_str("BY") {
         None => Ok(false),

@@ -6,7 +6,7 @@ ghost use Rattle.smap_arguments.specs.CommandLine.{bytes_number, interval_number
 ghost use Rattle.smap_arguments.specs.Arguments.{GivesBase, GivesFlag, GivesInterval, GivesNumber, GivesNumberIfGiven, GivesText};
 ghost use Rattle.smap_arguments.specs.Arguments.{GivesTextIfGiven, GivesTexts, HasValue};
 ghost use Rattle.smap_arguments.specs.Arguments.{HasValueIfGiven, bytes_given};
-ghost use Rattle.smap_arguments.specs.Refusals.{IsNamedRefusal, TellsOfBase};
+ghost use Rattle.smap_arguments.specs.Refusals.{IsNamedRefusal, ReportsOfBase};
 ghost use Rattle.clap.specs.declared.builder.value_parser.ValueParser.TheVariants as parser;
 
 use crate::mistakes::{BAD_BASE, LONG_BASE};
@@ -99,7 +99,7 @@ pub fn flag_in(matches: &ArgMatches<'_>, name: &str) -> bool
 /// None where `--base` is not given.
 pub fn base_in(alloc: Global, matches: &ArgMatches<'_>) -> Result<Option<Url>, Usage>
     ensures given { IfOk result (GivesBase (rows_of (found_of matches.now))) }
-    ensures refused { IfErr result (IsNamedRefusal (TellsOfBase (rows_of (found_of matches.now)))) }
+    ensures refused { IfErr result (IsNamedRefusal (ReportsOfBase (rows_of (found_of matches.now)))) }
 {
     let Some(text) = matches.get_str("URL") else {
         return Ok(None);

@@ -4,7 +4,7 @@ ghost use Rattle.clap.specs.Words.{found_of, rows_of};
 ghost use Rattle.smap_arguments.specs.CommandLine.{named, source_number};
 ghost use Rattle.smap_arguments.specs.Arguments.{GivesBase, GivesOptions, GivesText, HasArguments, HasNoInners, HasValueIfGiven};
 ghost use Rattle.smap_arguments.specs.Arguments.{IsInRange, NamedAsksFor, has_inner};
-ghost use Rattle.smap_arguments.specs.Refusals.{IsNamedRefusal, TellsCompose, TellsNoInner};
+ghost use Rattle.smap_arguments.specs.Refusals.{IsNamedRefusal, ReportsCompose, ReportsNoInner};
 ghost use Rattle.clap.specs.declared.builder.value_parser.ValueParser.TheVariants as parser;
 
 use crate::mistakes::{NO_INNER, NO_SOURCE, SOURCE_WITH_INNERS};
@@ -50,7 +50,7 @@ pub fn compose_in(
     ensures asked { IfOk result (NamedAsksFor (codes "compose") (rows_of (found_of matches.now))) }
     ensures in_range { IfOk result IsInRange }
     ensures refused { IfErr result (IsNamedRefusal
-        (TellsCompose (rows_of (found_of matches.now)))) }
+        (ReportsCompose (rows_of (found_of matches.now)))) }
 {
     let outer = text_in(alloc, matches, "OUTER")?;
     let inners = pairs_in(alloc, matches, "NAME=FILE")?;
@@ -85,7 +85,7 @@ fn one_inner_in(
     ensures asked { IfOk result (NamedAsksFor (codes "compose") (rows_of (found_of matches.now))) }
     ensures in_range { IfOk result IsInRange }
     ensures refused { IfErr result (IsNamedRefusal
-        (TellsNoInner (rows_of (found_of matches.now)))) }
+        (ReportsNoInner (rows_of (found_of matches.now)))) }
 {
     let Some(source) = source_in(matches, "SOURCE") else {
         return Err(Usage::Mistake(String::from_str(alloc, NO_SOURCE)?));

@@ -21,7 +21,7 @@ Commands:
   check      Checks source map files and prints their counts
   show       Writes a source map file as one regular map
   compose    Composes source map files into one regular map
-  explain    Tells what a code of a refusal means, and what to do about it
+  explain    Says what a code of a refusal means, and what to do about it
   raw        Looks a generated position up in the bare mappings text on standard input
   help       Print this message or the help of the given subcommand(s)
 
@@ -55,7 +55,7 @@ Options:
 Answer: how many sections, sources, names and segments the map has, how many generated lines hold a segment,
 and how many checkpoints its index has.
 
-With several PATHs each is told by a line, in their order: `PATH: ok ..` on standard output, or
+With several PATHs each has a line, in their order: `PATH: ok ..` on standard output, or
 `refused: PATH: ..` or `device: read PATH` on standard error. A file is let go before the next is read, and
 one that is refused or can't be read stops no other. The status is the greatest of all.
 
@@ -72,7 +72,7 @@ Examples:
 ";
 
 const EXPLAIN: &str = "\
-Tells what a code of a refusal means, and what to do about it
+Says what a code of a refusal means, and what to do about it
 
 Usage: smap explain [CODE]
 
@@ -156,8 +156,8 @@ const VERSIONS: [&[&str]; 2] = [&["smap", "--version"], &["./smap", "-V"]];
 #[test]
 fn shows_the_version(rt: HostRuntime) -> Result<(), Fail> {
     for arguments in VERSIONS.as_slice() {
-        let told = read(rt.alloc(), arguments)?;
-        assert_eq!(rt; told.as_str(), "help: smap 0.1.0\n", "{arguments:?}");
+        let reported = read(rt.alloc(), arguments)?;
+        assert_eq!(rt; reported.as_str(), "help: smap 0.1.0\n", "{arguments:?}");
     }
     Ok(())
 }

@@ -41,11 +41,13 @@ pub fn read(alloc: Global, arguments: &[&str]) -> Result<String, AllocError> {
         ) => {
             let base = base_text(&base);
             let (flags, explain) = (flags_text(false, json), explain_text(explain));
-            let mut told = format!(in alloc; "check all{base} every {interval}{flags}{explain}")?;
+            let mut reported = format!(in alloc;
+                "check all{base} every {interval}{flags}{explain}"
+            )?;
             for path in paths {
-                told = format!(in alloc; "{told} [{path}]")?;
+                reported = format!(in alloc; "{reported} [{path}]")?;
             }
-            Ok(told)
+            Ok(reported)
         }
         Ok(Command::Explain { code: Some(code) }) => format!(in alloc; "explain {code}"),
         Ok(Command::Explain { code: None }) => String::from_str(alloc, "explain all"),
@@ -140,11 +142,11 @@ pub fn read(alloc: Global, arguments: &[&str]) -> Result<String, AllocError> {
         ) => {
             let base = base_text(&base);
             let hiding = if hide_ignored { " hiding" } else { "" };
-            let mut told = format!(in alloc; "rewrite{base} every {interval}{hiding}")?;
+            let mut reported = format!(in alloc; "rewrite{base} every {interval}{hiding}")?;
             for (url, path) in maps {
-                told = format!(in alloc; "{told} [{url}][{path}]")?;
+                reported = format!(in alloc; "{reported} [{url}][{path}]")?;
             }
-            Ok(told)
+            Ok(reported)
         }
         Ok(
             Command::RewriteFrom {
@@ -162,14 +164,14 @@ pub fn read(alloc: Global, arguments: &[&str]) -> Result<String, AllocError> {
             let base = base_text(&base);
             let flags = rewrite_flags_text(hide_ignored, anywhere, summary);
             let bytes = format!(in alloc; "cache {cache_bytes} limit {limit_bytes}")?;
-            let mut told = format!(in alloc; "from{base} every {interval} {bytes}{flags}")?;
+            let mut reported = format!(in alloc; "from{base} every {interval} {bytes}{flags}")?;
             if let Some(list) = list {
-                told = format!(in alloc; "{told} list {list}")?;
+                reported = format!(in alloc; "{reported} list {list}")?;
             }
             for (url, path) in maps {
-                told = format!(in alloc; "{told} [{url}][{path}]")?;
+                reported = format!(in alloc; "{reported} [{url}][{path}]")?;
             }
-            Ok(told)
+            Ok(reported)
         }
         Ok(
             Command::Compose {
@@ -206,14 +208,14 @@ pub fn read(alloc: Global, arguments: &[&str]) -> Result<String, AllocError> {
         ) => {
             let base = base_text(&base);
             let options = options_text(options);
-            let mut told = format!(in alloc; "compose all {outer}{base}{options}")?;
+            let mut reported = format!(in alloc; "compose all {outer}{base}{options}")?;
             if let Some(list) = list {
-                told = format!(in alloc; "{told} list {list}")?;
+                reported = format!(in alloc; "{reported} list {list}")?;
             }
             for (name, path) in inners {
-                told = format!(in alloc; "{told} [{name}][{path}]")?;
+                reported = format!(in alloc; "{reported} [{name}][{path}]")?;
             }
-            Ok(told)
+            Ok(reported)
         }
         Err(usage) => read_usage(alloc, &usage),
     }
@@ -279,9 +281,9 @@ pub fn assert_shown(
     arguments: &[&str],
     text: &str,
 ) -> Result<(), Fail> {
-    let told = read(alloc, arguments)?;
+    let reported = read(alloc, arguments)?;
     let wanted = format!(in alloc; "help: {text}")?;
-    assert_eq!(rt; told.as_str(), wanted.as_str(), "{arguments:?}");
+    assert_eq!(rt; reported.as_str(), wanted.as_str(), "{arguments:?}");
     Ok(())
 }
 
@@ -292,12 +294,15 @@ pub fn assert_refused(
     arguments: &[&str],
     start: &str,
 ) -> Result<(), Fail> {
-    let told = read(alloc, arguments)?;
+    let reported = read(alloc, arguments)?;
     let wanted = format!(in alloc; "mistake: {start}")?;
-    assert!(rt; told.starts_with(wanted.as_str()), "{arguments:?}: {told}");
     assert!(rt;
-        told.ends_with("\n") && !told.ends_with("\n\n"),
-        "{arguments:?}: {told}"
+        reported.starts_with(wanted.as_str()),
+        "{arguments:?}: {reported}"
+    );
+    assert!(rt;
+        reported.ends_with("\n") && !reported.ends_with("\n\n"),
+        "{arguments:?}: {reported}"
     );
     Ok(())
 }

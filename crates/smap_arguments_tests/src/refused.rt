@@ -2,7 +2,7 @@
 use crate::reading::assert_refused;
 use std::test::Fail;
 
-// Each with the beginning of the text that is told.
+// Each with the beginning of the text that is reported.
 const MISTAKES: [(&[&str], &str); 30] = [
     (
         &["smap", "lookup", "--hide-ignored", "r.map", "1", "1"],

@@ -108,7 +108,7 @@ const REWRITE_COMMANDS: [(&[&str], &str); 19] = [
     ),
 ];
 
-// What is told where there is neither a word nor a list.
+// What is reported where there is neither a word nor a list.
 const NO_MAPS: &str = "\
 error: the following required arguments were not provided:
   <URL=FILE>...
@@ -118,7 +118,7 @@ Usage: smap rewrite <URL=FILE>...
 For more information, try '--help'.
 ";
 
-// Each with the beginning of the text that is told.
+// Each with the beginning of the text that is reported.
 const REWRITE_MISTAKES: [(&[&str], &str); 30] = [
     (
         &["smap", "rewrite", "u=1.map", "--hide-ignored=true"],

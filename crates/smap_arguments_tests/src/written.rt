@@ -134,7 +134,7 @@ const WRITING_COMMANDS: [(&[&str], &str); 22] = [
     ),
 ];
 
-// What is told where OUTER stands alone, and where SOURCE has no INNER.
+// What is reported where OUTER stands alone, and where SOURCE has no INNER.
 const NO_SOURCE: &str = "\
 error: the following required arguments were not provided:
   <SOURCE>
@@ -154,7 +154,7 @@ Usage: smap compose <OUTER> <SOURCE> <INNER>
 For more information, try '--help'.
 ";
 
-// Each with the beginning of the text that is told.
+// Each with the beginning of the text that is reported.
 const WRITING_MISTAKES: [(&[&str], &str); 30] = [
     (&["smap", "compose", "o.map"], NO_SOURCE),
     (&["smap", "compose", "o.map", "0"], NO_INNER),

@@ -12,7 +12,7 @@ pub mod Reason
 pub mod Refusal
 pub mod Shares
 pub mod Tables
-pub mod Telling
+pub mod Report
 pub mod Texts
 pub mod Trace
 pub mod Written

@@ -60,8 +60,8 @@ reason_of (explained.Key facts) = no_reason
 reason_of (explained.Segment facts) = segment_reason facts
 reason_of (explained.Build facts) = no_reason
 
--- this is told of the file of these bytes, which is refused so: the numbers and the sentences of what is known of it
-pub record IsReasonTold (bytes : List ℕ) (why : MapRefusal) (reason : Reason) (text : Option (List ℕ)) : Type 0 where
+-- this is said of the file of these bytes, which is refused so: the numbers and the sentences of what is known of it
+pub record IsReasonReported (bytes : List ℕ) (why : MapRefusal) (reason : Reason) (text : Option (List ℕ)) : Type 0 where
   pub explanation : Explanation
   pub known : IsExplained bytes why explanation
   pub numbers : reason ≡ reason_of explanation

@@ -83,7 +83,7 @@ build_in number section =
     else if number == 4 then Some (builds.PositionRange section)
     else None
 
--- the refusal that has these numbers, if there is one; want of memory is none
+-- the refusal that has these numbers, if there is one; out of memory is none
 unfoldable pub refusal_in : Refusal → Option MapRefusal
 refusal_in refusal =
     if refusal.number == 1 then Some TooLarge

@@ -1,4 +1,4 @@
--- What is told of a source.
+-- What is said of a source.
 use Rattle.std.specs.Prelude.{◌≡◌, ℕ, Bool, true, false, List, [], Option, None, Some, is_some}
 use Rattle.smap_resolve.specs.SourceName.{Name, name_text}
 use Rattle.smap_record.specs.Sources.{StatedSource}
@@ -18,9 +18,9 @@ text_or_none None = []
 text_or_none (Some text) = text
 
 -- its name and its content, where it has them, and whether it is ignored
-pub record IsTold (stated : StatedSource) (told : Source) : Type 0 where
-  pub name : told.name.now ≡ name_or_none stated.name
-  pub content : told.content.now ≡ text_or_none stated.content
-  pub named : told.named ≡ flag (is_some stated.name)
-  pub held : told.held ≡ flag (is_some stated.content)
-  pub ignored : told.ignored ≡ flag stated.ignored
+pub record IsReported (stated : StatedSource) (reported : Source) : Type 0 where
+  pub name : reported.name.now ≡ name_or_none stated.name
+  pub content : reported.content.now ≡ text_or_none stated.content
+  pub named : reported.named ≡ flag (is_some stated.name)
+  pub held : reported.held ≡ flag (is_some stated.content)
+  pub ignored : reported.ignored ≡ flag stated.ignored

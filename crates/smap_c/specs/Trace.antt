@@ -1,4 +1,4 @@
--- What is told of a trace.
+-- What is said of a trace.
 use Rattle.smap_trace.specs.Rewritten.{Counts}
 use Rattle.smap_c.specs.declared.trace.TraceCounts.{TraceCounts}
 

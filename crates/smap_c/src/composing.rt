@@ -125,7 +125,7 @@ pub extern "C" fn smap_compose_all(
         (λ why. refusal.new ≡ compose_number why))) }
     ensures counted { IfSome outer.old.held (λ outside. IfSome inners.old.held (λ maps.
         length outside.stated.sources < length maps → result ≡ 1)) }
-    ensures untold { result ≢ 1 → refusal.new ≡ refusal.old }
+    ensures unreported { result ≢ 1 → refusal.new ≡ refusal.old }
     ensures stays { (outer.new.held ≡ outer.old.held) × (inners.new.held ≡ inners.old.held)
         × (result ≢ 0 → bytes.new.held ≡ bytes.old.held) }
     ensures status { (result ≡ 0) ⊎ (result ≡ 1) ⊎ (result ≡ 3) }

@@ -18,7 +18,7 @@ pub struct Counts {
     pub checkpoints: u64,
 }
 
-/// Tells how much a map holds.
+/// Says how much a map holds.
 #[unsafe(no_mangle)]
 pub extern "C" fn smap_counts(map: &mut MapHandle, counts: &mut Counts) -> u32
     requires { IsSome map.old.held }

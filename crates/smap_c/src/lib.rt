@@ -26,10 +26,10 @@ mod mappings;
 mod read;
 mod reason;
 mod refusal;
+mod report;
 mod shares;
 mod status;
 mod tables;
-mod telling;
 #[cfg(test)]
 mod tests;
 mod texts;

@@ -26,7 +26,7 @@ pub extern "C" fn smap_map_read(
     ensures read { result ≡ 0 → IsSomeAnd map.new.held (IsReadAs bytes.now base.now interval) }
     ensures refused { result ≡ 1 → IsRefusedAs bytes.now base.now interval refusal.new }
     ensures stays { result ≢ 0 → map.new.held ≡ map.old.held }
-    ensures untold { result ≢ 1 → refusal.new ≡ refusal.old }
+    ensures unreported { result ≢ 1 → refusal.new ≡ refusal.old }
     ensures status { (result ≡ 0) ⊎ (result ≡ 1) ⊎ (result ≡ 3) }
 {
     let base = match base_named(alloc, base) {

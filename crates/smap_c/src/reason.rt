@@ -1,6 +1,6 @@
 //! What is known of why a map is refused: the value that is wrong, and sentences.
 ghost use Rattle.std.specs.Prelude.{◌≡◌, ◌≢◌, ◌⊎◌, None, IsSomeAnd};
-ghost use Rattle.smap_c.specs.Reason.{IsReasonTold, measure_reason, reason_of, segment_reason};
+ghost use Rattle.smap_c.specs.Reason.{IsReasonReported, measure_reason, reason_of, segment_reason};
 ghost use Rattle.smap_c.specs.Reason.{column_from_0, no_reason};
 ghost use Rattle.smap_c.specs.Refusal.{refusal_in};
 
@@ -38,8 +38,8 @@ pub extern "C" fn smap_refusal_explain(
     reason: &mut Reason,
     text: &mut BytesHandle,
 ) -> u32
-    ensures told { result ≡ 0 → IsSomeAnd (refusal_in refusal.now)
-        (λ why. IsReasonTold bytes.now why reason.new text.new.held) }
+    ensures reported { result ≡ 0 → IsSomeAnd (refusal_in refusal.now)
+        (λ why. IsReasonReported bytes.now why reason.new text.new.held) }
     ensures refused { result ≡ 1 → refusal_in refusal.now ≡ None }
     ensures stays { result ≢ 0 → (reason.new ≡ reason.old) × (text.new.held ≡ text.old.held) }
     ensures status { (result ≡ 0) ⊎ (result ≡ 1) ⊎ (result ≡ 3) }
@@ -50,10 +50,10 @@ pub extern "C" fn smap_refusal_explain(
     let Ok(explanation) = explain(alloc, bytes, refused) else {
         return NO_MEMORY;
     };
-    let Ok(told) = explanation_text(alloc, &explanation) else {
+    let Ok(reported) = explanation_text(alloc, &explanation) else {
         return NO_MEMORY;
     };
-    if hand_out(alloc, told.into_bytes(), text) != DONE {
+    if hand_out(alloc, reported.into_bytes(), text) != DONE {
         return NO_MEMORY;
     }
     *reason = reason_of(&explanation);

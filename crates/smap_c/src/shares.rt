@@ -29,7 +29,7 @@ pub extern "C" fn smap_bytes_by_source(
         (length held.stated.sources) (joined held.stated.parts) generated.now sources.new unmapped.new) }
     ensures refused { result ≡ 1 → IsTextRefused generated.now refusal.new }
     ensures sound { (number : ℕ) → IsTextRefused generated.now number → result ≡ 1 }
-    ensures untold { result ≢ 1 → refusal.new ≡ refusal.old }
+    ensures unreported { result ≢ 1 → refusal.new ≡ refusal.old }
     ensures stays { (map.new.held ≡ map.old.held)
         × (result ≢ 0 → (sources.new ≡ sources.old) × (unmapped.new ≡ unmapped.old)) }
     ensures status { (result ≡ 0) ⊎ (result ≡ 1) ⊎ (result ≡ 3) }

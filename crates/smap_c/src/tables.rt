@@ -41,7 +41,7 @@ pub extern "C" fn smap_table_add(
     ensures taken { result ≢ 1 → map.new.held ≡ None }
     ensures sound { result ≡ 0 → IsFree table.old.held url.now }
     ensures refused { result ≡ 1 → IsNotAdded table.old.held url.now refusal.new }
-    ensures untold { result ≢ 1 → refusal.new ≡ refusal.old }
+    ensures unreported { result ≢ 1 → refusal.new ≡ refusal.old }
     ensures back { result ≡ 1 → map.new.held ≡ map.old.held }
     ensures stays { result ≢ 0 → table.new.held ≡ table.old.held }
     ensures status { (result ≡ 0) ⊎ (result ≡ 1) ⊎ (result ≡ 3) }

@@ -14,9 +14,9 @@ use crate::look_up::{Found, smap_look_up, smap_look_up_from};
 use crate::many::{Position, smap_look_up_many};
 use crate::read::{smap_map_free, smap_map_read};
 use crate::refusal::numbered;
+use crate::report::{smap_compose_refusal_text, smap_refusal_text, smap_table_refusal_text};
 use crate::status::{DONE, REFUSED};
 use crate::tables::{smap_table_add, smap_table_free, smap_table_new};
-use crate::telling::{smap_compose_refusal_text, smap_refusal_text, smap_table_refusal_text};
 use crate::texts::{Source, Text, smap_file, smap_name, smap_source};
 use crate::trace::{TraceCounts, smap_rewrite, smap_rewrite_anywhere};
 use crate::written::{smap_bytes_free, smap_bytes_text, smap_compose, smap_map_write};
@@ -127,7 +127,7 @@ fn positions_are_looked_up(rt: HostRuntime) -> Result<(), Fail> {
 }
 
 #[test]
-fn counts_are_told(rt: HostRuntime) -> Result<(), Fail> {
+fn counts_are_reported(rt: HostRuntime) -> Result<(), Fail> {
     let alloc = rt.alloc();
     let mut map = read_map(&rt, alloc, MAP, "")?;
     let mut counts = Counts {
@@ -209,16 +209,16 @@ fn maps_are_written_and_composed(rt: HostRuntime) -> Result<(), Fail> {
 }
 
 #[test]
-fn refusals_are_told(rt: HostRuntime) -> Result<(), Fail> {
+fn refusals_are_reported(rt: HostRuntime) -> Result<(), Fail> {
     let alloc = rt.alloc();
     let mut map = no_map(alloc)?;
     let mut refusal = numbered(9, 9);
     let status = smap_map_read(alloc, b"[]", b"", 2, &mut map, &mut refusal);
     assert!(&rt; status == REFUSED && refusal.number == 3);
-    let mut told = no_bytes(alloc)?;
-    assert_eq!(&rt; smap_refusal_text(alloc, &refusal, &mut told), DONE);
+    let mut reported = no_bytes(alloc)?;
+    assert_eq!(&rt; smap_refusal_text(alloc, &refusal, &mut reported), DONE);
     let mut text = Text { text: b"" };
-    assert_eq!(&rt; smap_bytes_text(&mut told, &mut text), DONE);
+    assert_eq!(&rt; smap_bytes_text(&mut reported, &mut text), DONE);
     assert_eq!(&rt; text.text, "M3 NotObject".as_bytes());
     let status = smap_map_read(alloc, MAP.as_bytes(), b"h.test", 2, &mut map, &mut refusal);
     assert!(&rt; status == REFUSED && refusal.number == 0);

@@ -1,6 +1,6 @@
 //! The texts of a map, lent.
 ghost use Rattle.std.specs.Prelude.{◌≡◌, IfSome, IsSome, MatchOption, slice_get};
-ghost use Rattle.smap_c.specs.Texts.{IsTold};
+ghost use Rattle.smap_c.specs.Texts.{IsReported};
 
 use crate::handles::MapHandle;
 use crate::status::{DONE, REFUSED};
@@ -35,8 +35,8 @@ pub extern "C" fn smap_source<'a>(
     source: &mut Source<'a>,
 ) -> u32
     requires { IsSome map.old.held }
-    ensures told { IfSome map.old.held (λ held. MatchOption (slice_get held.stated.sources index)
-        ((result ≡ 1) × (source.new ≡ source.old)) (λ stated. (result ≡ 0) × IsTold stated source.new)) }
+    ensures reported { IfSome map.old.held (λ held. MatchOption (slice_get held.stated.sources index)
+        ((result ≡ 1) × (source.new ≡ source.old)) (λ stated. (result ≡ 0) × IsReported stated source.new)) }
 {
     match map.lend().source(index) {
         Some(entry) => {
@@ -61,7 +61,7 @@ pub extern "C" fn smap_source<'a>(
 #[unsafe(no_mangle)]
 pub extern "C" fn smap_name<'a>(map: &'a mut MapHandle, index: u32, name: &mut Text<'a>) -> u32
     requires { IsSome map.old.held }
-    ensures told { IfSome map.old.held (λ held. MatchOption (slice_get held.stated.names index)
+    ensures reported { IfSome map.old.held (λ held. MatchOption (slice_get held.stated.names index)
         ((result ≡ 1) × (name.new ≡ name.old)) (λ text. (result ≡ 0) × (name.new.text.now ≡ text))) }
 {
     match map.lend().name(index) {
@@ -77,7 +77,7 @@ pub extern "C" fn smap_name<'a>(map: &'a mut MapHandle, index: u32, name: &mut T
 #[unsafe(no_mangle)]
 pub extern "C" fn smap_file<'a>(map: &'a mut MapHandle, file: &mut Text<'a>) -> u32
     requires { IsSome map.old.held }
-    ensures told { IfSome map.old.held (λ held. MatchOption held.stated.file
+    ensures reported { IfSome map.old.held (λ held. MatchOption held.stated.file
         ((result ≡ 1) × (file.new ≡ file.old)) (λ text. (result ≡ 0) × (file.new.text.now ≡ text))) }
 {
     match map.lend().file() {

@@ -124,7 +124,7 @@ pub extern "C" fn smap_rewrite(
     let mut input = Input { left: trace };
     let mut output = Output::new(alloc);
     let outcome = rewrite(alloc, &mut input, &mut output, table.lend(), hide_ignored);
-    told(alloc, outcome, output.bytes, bytes, counts)
+    reported(alloc, outcome, output.bytes, bytes, counts)
 }
 
 /// Rewrites a text: a place `URL:line:column`, wherever it stands in a line, whose URL is in the table and which has an
@@ -158,11 +158,11 @@ pub extern "C" fn smap_rewrite_anywhere(
         table.lend(),
         MOST_TEXT_BYTES,
     );
-    told(alloc, outcome, output.bytes, bytes, counts)
+    reported(alloc, outcome, output.bytes, bytes, counts)
 }
 
-// Hands out what was written and tells what was counted, where a text was rewritten; and its status.
-fn told(
+// Hands out what was written and says what was counted, where a text was rewritten; and its status.
+fn reported(
     alloc: Global,
     outcome: Result<Summary, RewriteFault>,
     written: Vec<u8>,

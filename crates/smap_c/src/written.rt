@@ -57,7 +57,7 @@ pub extern "C" fn smap_compose(
         result ≡ 0 → compose_refusal outside.stated source inside.stated ≡ None)) }
     ensures counted { IfSome outer.old.held (λ outside. IfSome inner.old.held (λ inside.
         IfSome (count_refusal outside.stated source inside.stated) (λ why. result ≡ 1))) }
-    ensures untold { result ≢ 1 → refusal.new ≡ refusal.old }
+    ensures unreported { result ≢ 1 → refusal.new ≡ refusal.old }
     ensures stays { (outer.new.held ≡ outer.old.held) × (inner.new.held ≡ inner.old.held)
         × (result ≢ 0 → bytes.new.held ≡ bytes.old.held) }
     ensures status { (result ≡ 0) ⊎ (result ≡ 1) ⊎ (result ≡ 3) }

@@ -34,12 +34,12 @@ impl<S: ByteSink> KeepingSink<S> {
         let _ = self.kept.extend_from_slice(&bytes[..room.min(bytes.len())]);
     }
 
-    /// Adds the line that says which word tells more of the first refusal that was told, where there is one.
-    pub fn tell_more(&mut self, alloc: Global) {
-        let Ok(told) = String::from_utf8_lossy(alloc, &self.kept) else {
+    /// Adds the line that says which word says more of the first refusal that was reported, where there is one.
+    pub fn report_more(&mut self, alloc: Global) {
+        let Ok(reported) = String::from_utf8_lossy(alloc, &self.kept) else {
             return;
         };
-        let Some(code) = code_in(&told) else {
+        let Some(code) = code_in(&reported) else {
             return;
         };
         if let Ok(line) = format!(in alloc; "smap explain {code} says more\n") {
@@ -71,9 +71,9 @@ impl<S: ByteSink> ByteSink for KeepingSink<S> {
     }
 }
 
-// The code of the first refusal among these lines: the first word after the last `: ` of its line, where that has a row.
-fn code_in(told: &str) -> Option<&'static str> {
-    for line in told.lines() {
+// The code of the first refusal among these lines, where that has a row.
+fn code_in(reported: &str) -> Option<&'static str> {
+    for line in reported.lines() {
         if line.starts_with("refused: ") {
             return code_of_line(line);
         }
@@ -81,7 +81,12 @@ fn code_in(told: &str) -> Option<&'static str> {
     None
 }
 
+// The code and its name stand behind `refused: ` or behind the last `: `, before which a path stands.
 fn code_of_line(line: &str) -> Option<&'static str> {
+    let (_, refusal) = line.split_once(": ")?;
+    if let Some(code) = code_with_name(refusal) {
+        return Some(code);
+    }
     let (_, refusal) = line.rsplit_once(": ")?;
     let word = match refusal.split_once(' ') {
         Some((word, _)) => word,
@@ -89,4 +94,15 @@ fn code_of_line(line: &str) -> Option<&'static str> {
     };
     let row = row_of(word)?;
     Some(row.code)
+}
+
+// The code that this begins with, where a blank and its name follow.
+fn code_with_name(refusal: &str) -> Option<&'static str> {
+    let (word, rest) = refusal.split_once(' ')?;
+    let row = row_of(word)?;
+    if rest.starts_with(row.name) {
+        Some(row.code)
+    } else {
+        None
+    }
 }

@@ -12,7 +12,7 @@ ghost use Rattle.std.specs.Prelude.{IfOk};
 ghost use Rattle.smap_answers.specs.Run.{IsRunnable};
 
 use hint::KeepingSink;
-use smap_answers::{Failure, Reply, run_reading, tell};
+use smap_answers::{Failure, Reply, report, run_reading};
 pub use smap_arguments::{Usage, parse};
 pub use smap_command::Command;
 use smap_io::FromStd;
@@ -35,10 +35,10 @@ fn main(rt: HostRuntime) -> ExitCode {
             &mut output,
             &mut errors,
         ),
-        Err(outcome) => tell(&outcome, &mut output, &mut errors),
+        Err(outcome) => report(&outcome, &mut output, &mut errors),
     };
     if is_terminal {
-        errors.tell_more(rt.alloc());
+        errors.report_more(rt.alloc());
     }
     ExitCode::from(status)
 }

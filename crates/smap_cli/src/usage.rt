@@ -1,14 +1,14 @@
 //! What the program comes to where the arguments give no command.
 ghost use Rattle.std.specs.Prelude.{◌≡◌};
-ghost use Rattle.smap_answers.specs.Outcome.{telling_of};
-ghost use Rattle.smap_cli.specs.Usage.{telling_of_usage};
+ghost use Rattle.smap_answers.specs.Outcome.{report_of};
+ghost use Rattle.smap_cli.specs.Usage.{report_of_usage};
 
 use smap_answers::{Failure, Reply};
 use smap_arguments::Usage;
 
 /// What the program comes to.
 pub fn outcome_of(usage: Usage) -> Result<Reply, Failure>
-    ensures { telling_of result ≡ telling_of_usage usage }
+    ensures { report_of result ≡ report_of_usage usage }
 {
     match usage {
         Usage::Help(text) => Ok(Reply::Text(text)),

@@ -90,7 +90,7 @@ trace_labels =
     ∷ label (codes "X3") (codes "TooMuch")
     ∷ label (codes "X4") (codes "Memory") ∷ []
 
--- what is told by a word alone
+-- what is reported by a word alone
 abbrev pub word_labels : List Label
 word_labels =
     label (codes "TextTooLong") (codes "TextTooLong")

@@ -1,4 +1,4 @@
--- What is told of a code.
+-- What is said of a code.
 use Rattle.std.specs.Prelude.{◌++◌, ◌∷◌, List, [], codes, if◌then◌else◌, ℕ}
 use Rattle.std.specs.Str.{bytes_eq}
 use Rattle.smap_codes.specs.Labels.{Label, label_of}

@@ -1,4 +1,4 @@
-//! A code, and what is told of it.
+//! A code, and what is said of it.
 ghost use Rattle.std.specs.Prelude.{◌≡◌, string_bytes, IfOk};
 ghost use Rattle.smap_codes.specs.Labels.{label_of};
 ghost use Rattle.smap_codes.specs.Texts.{code_text, title};

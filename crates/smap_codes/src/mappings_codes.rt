@@ -1,10 +1,10 @@
-//! The faults of a `mappings` text, of which the first one is told.
+//! The faults of a `mappings` text, of which the first one is reported.
 ghost use Rattle.std.specs.Prelude.{◌≡◌, map};
 ghost use Rattle.smap_codes.specs.Labels.{label_of, mappings_labels};
 
 use crate::code::Code;
 
-/// The faults of a `mappings` text, of which the first one is told.
+/// The faults of a `mappings` text, of which the first one is reported.
 pub fn mappings_rows() -> &'static [Code]
     ensures { map label_of result.now ≡ mappings_labels }
 {

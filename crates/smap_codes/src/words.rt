@@ -1,10 +1,10 @@
-//! What is told by a word alone.
+//! What is reported by a word alone.
 ghost use Rattle.std.specs.Prelude.{◌≡◌, map};
 ghost use Rattle.smap_codes.specs.Labels.{label_of, word_labels};
 
 use crate::code::Code;
 
-/// What is told by a word alone.
+/// What is reported by a word alone.
 pub fn word_rows() -> &'static [Code]
     ensures { map label_of result.now ≡ word_labels }
 {
@@ -62,6 +62,6 @@ const REFUSED: Code = Code {
     code: "refused",
     name: "refused",
     meaning: "A map, a mappings text, a list or a trace is not accepted. Status 1.",
-    cause: "The code that stands with it tells.",
+    cause: "The code that stands with it says which.",
     remedy: "Give the code to `smap explain`.",
 };

@@ -59,7 +59,9 @@ const C4: Code = Code {
     code: "C4",
     name: "NoSource",
     meaning: "The outer map has no source of the name that follows.",
-    cause: "The name is written otherwise in the map, or was resolved against another base.",
+    cause: "\
+        The name is written otherwise in the map, or was resolved against another base. Or the map \
+        leads to the sources already, since the bundler read the maps of its inputs.",
     remedy: "See with `smap show OUTER` how the sources are called, and write the name so.",
 };
 

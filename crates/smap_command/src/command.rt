@@ -29,9 +29,9 @@ pub enum Command {
         interval: u32,
         explain: bool,
     },
-    /// Checks the source maps in the files at these paths, one after another, each told by itself, with its path: by a line
-    /// or, with `json`, by a JSON object. Their sources are resolved against the base. With `explain` each refusal is
-    /// followed by why the map is refused; an object tells that always.
+    /// Checks the source maps in the files at these paths, one after another, each reported by itself, with its path: by
+    /// a line or, with `json`, by a JSON object. Their sources are resolved against the base. With `explain` each
+    /// refusal is followed by why the map is refused; an object says that always.
     CheckAll {
         paths: Vec<String>,
         base: Option<Url>,
@@ -81,9 +81,10 @@ pub enum Command {
         line: Option<u32>,
         json: bool,
     },
-    /// Prints the sources of the source map in the file at this path, a line each, with how many segments each has. Where
-    /// the path of its generated file is given, each is told with how many of that file's bytes it makes; with `by_bytes`
-    /// those that make most come first. The sources are resolved against the base. With `json` each line is a JSON object.
+    /// Prints the sources of the source map in the file at this path, a line each, with how many segments each has.
+    /// Where the path of its generated file is given, each is reported with how many of that file's bytes it makes; with
+    /// `by_bytes` those that make most come first. The sources are resolved against the base. With `json` each line is a
+    /// JSON object.
     Sources {
         path: String,
         base: Option<Url>,
@@ -111,7 +112,7 @@ pub enum Command {
     /// the folder that their maps are in; and the pairs on the lines of the file `list`, where there is one. A map's
     /// sources are resolved as for `Rewrite`. With `hide_ignored` the lines of frames from sources that a map says to pass
     /// over are dropped; with `anywhere`, which excludes that, places are rewritten wherever they stand in the text. With
-    /// `summary` counts are told at the end.
+    /// `summary` counts are reported at the end.
     RewriteFrom {
         maps: Vec<(String, String)>,
         list: Option<String>,
@@ -152,8 +153,8 @@ pub enum Command {
         base: Option<Url>,
         options: WriteOptions,
     },
-    /// Tells what a code of a refusal means, what usually causes it and what to do about it; without one, how all codes are
-    /// called.
+    /// Reports what a code of a refusal means, what usually causes it and what to do about it; without one, how all
+    /// codes are called.
     Explain {
         code: Option<String>,
     },

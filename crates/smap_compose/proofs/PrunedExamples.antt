@@ -70,8 +70,8 @@ other_contents_stay :
 unfolding mapped_at called map_of
 other_contents_stay = refl
 
--- what a look-up tells of a source is the text of its name and its content
-told_by_name :
+-- what a look-up reports a source is the text of its name and its content
+reported_by_name :
     named_answer (map_of [] (called (codes "a") (Some (codes "1")) ∷ []) (codes "x" ∷ []))
     (Found 5 (record { source = 0; line = 2; column = 3; name = Some 0 }))
     ≡ Some (
@@ -85,4 +85,4 @@ told_by_name :
           }),
     )
 unfolding called map_of
-told_by_name = refl
+reported_by_name = refl

@@ -100,57 +100,57 @@ module _ (whole : Composition) where
 
   -- ---- what an origin leads to
 
-  source_told : (i : ℕ) → i < length whole.sources → sources_used i ≡ true
+  source_reported : (i : ℕ) → i < length whole.sources → sources_used i ≡ true
       → option_map named_source (slice_get (sources_left whole) (place_left is_same_source sources_used whole.sources i))
       ≡ option_map named_source (slice_get whole.sources i)
-  source_told i inside used =
+  source_reported i inside used =
       let source = there_is whole.sources i inside in
       let one = place_has is_same_source same_source_equivalence sources_used whole.sources i source.0 source.1 used in
       ap (option_map named_source) one.1 ∙ ap Some (sym (same_named (named_source source.0) (named_source one.0) one.2))
       ∙ ap (option_map named_source) (sym source.1)
 
-  name_told : (i : ℕ) → i < length whole.names → names_used i ≡ true
+  name_reported : (i : ℕ) → i < length whole.names → names_used i ≡ true
       → slice_get (names_left whole) (place_left bytes_eq names_used whole.names i) ≡ slice_get whole.names i
-  name_told i inside used =
+  name_reported i inside used =
       let name = there_is whole.names i inside in
       let one = place_has bytes_eq nat_list_eq_equiv names_used whole.names i name.0 name.1 used in
       one.1 ∙ ap Some (sym (same_texts name.0 one.0 one.2)) ∙ sym name.1
 
-  maybe_name_told : (name : Option ℕ) → IfSome name (IsIndexWithin (length whole.names)) → IfSome name (λ name. names_used name ≡ true)
+  maybe_name_reported : (name : Option ℕ) → IfSome name (IsIndexWithin (length whole.names)) → IfSome name (λ name. names_used name ≡ true)
       → option_and_then (slice_get (names_left whole)) (option_map (place_left bytes_eq names_used whole.names) name)
       ≡ option_and_then (slice_get whole.names) name
-  maybe_name_told None within used = refl
-  maybe_name_told (Some name) within used = name_told name within.named used
+  maybe_name_reported None within used = refl
+  maybe_name_reported (Some name) within used = name_reported name within.named used
 
-  told : (origin : Origin) → IsKnownOrigin origin → named_origin (pruned whole) (pruned_origin whole origin) ≡ named_origin whole origin
-  told origin known =
-      same_named_origins (source_told origin.source known.within.source.named known.source_used)
-      (maybe_name_told origin.name known.within.name known.name_used)
+  reported : (origin : Origin) → IsKnownOrigin origin → named_origin (pruned whole) (pruned_origin whole origin) ≡ named_origin whole origin
+  reported origin known =
+      same_named_origins (source_reported origin.source known.within.source.named known.source_used)
+      (maybe_name_reported origin.name known.within.name known.name_used)
     where
       same_named_origins : {s s' : _} {n n' : _} → s ≡ s' → n ≡ n'
           → ◌≡◌ {A = NamedOrigin} (record { source = s; line = origin.line; column = origin.column; name = n })
           (record { source = s'; line = origin.line; column = origin.column; name = n' })
       same_named_origins sources names = rw (sources, names) refl
 
-  told_with : (column : ℕ) (origin : Option Origin) → IfSome origin IsKnownOrigin
+  reported_with : (column : ℕ) (origin : Option Origin) → IfSome origin IsKnownOrigin
       → named_answer (pruned whole) (answer_with_origin (λ origin. Some (pruned_origin whole origin)) (answer_with column origin))
       ≡ named_answer whole (answer_with column origin)
-  told_with column None known = refl
-  told_with column (Some origin) known = ap (λ named. Some (column, Some named)) (told origin known)
+  reported_with column None known = refl
+  reported_with column (Some origin) known = ap (λ named. Some (column, Some named)) (reported origin known)
 
-  told_last : (last : Option Mapping) → IfSome last IsKnown
+  reported_last : (last : Option Mapping) → IfSome last IsKnown
       → named_answer (pruned whole) (answer_with_origin (λ origin. Some (pruned_origin whole origin)) (answer_of_last last))
       ≡ named_answer whole (answer_of_last last)
-  told_last None known = refl
-  told_last (Some mapping) known = told_with mapping.column mapping.origin known.origin
+  reported_last None known = refl
+  reported_last (Some mapping) known = reported_with mapping.column mapping.origin known.origin
 
-  pub answers_told : All (IsWithin (length whole.sources) (length whole.names)) whole.mappings → (line column : ℕ)
+  pub answers_reported : All (IsWithin (length whole.sources) (length whole.names)) whole.mappings → (line column : ℕ)
       → named_answer (pruned whole) (answer_at_or_before (pruned whole).mappings line column)
       ≡ named_answer whole (answer_at_or_before whole.mappings line column)
   unfolding answer_at_or_before
-  answers_told within line column =
+  answers_reported within line column =
       ap (named_answer (pruned whole)) (answer_alike (λ origin. Some (pruned_origin whole origin)) line column whole.mappings)
-      ∙ told_last (last_or None (filter (is_on_line_at_or_before line column) whole.mappings))
+      ∙ reported_last (last_or None (filter (is_on_line_at_or_before line column) whole.mappings))
       (last_of_all IsKnown None (filter (is_on_line_at_or_before line column) whole.mappings) tt
       (All-filter (is_on_line_at_or_before line column) IsKnown whole.mappings (all_known within)))
 

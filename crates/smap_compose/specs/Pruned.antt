@@ -92,7 +92,7 @@ pruned whole = record {
   file = whole.file;
 }
 
--- ---- what a look-up tells of a map
+-- ---- what a look-up reports a map
 
 -- an origin by what its indices stand for
 pub record NamedOrigin : Type 0 where

@@ -83,12 +83,12 @@ fn one_followed(
     followed_mappings(alloc, outer, &inners)
 }
 
-/// Composes a map with the maps of its sources, all at once: at place `s` that of source `s`, where it has one. A mapping of
-/// the outer map whose source has an inner map gets the origin that this answers, as `compose` says; every other stays. So
-/// it is composing with one after another, from the least source on. Each mapping costs at most one look-up. The sources of an
-/// inner map stand after those of the outer map and of the inner maps before it, and so do its names. Where the outer
-/// source's name is no URL, a source of its map that is called by a relative path is called by that path as it goes on from
-/// the folder of the outer source.
+/// Composes a map with the maps of its sources, all at once: at place `s` that of source `s`, where it has one. A
+/// mapping of the outer map whose source has an inner map gets the origin that this answers, as `compose` says; every
+/// other stays. So it is composing with one after another, from the least source on. Each mapping costs at most one
+/// look-up. The sources of an inner map stand after those of the outer map and of the inner maps before it, and so do
+/// its names. Where the outer source's name is no URL, a source of its map that is called by a relative path is called
+/// by that path as it goes on from the folder of the outer source.
 pub fn compose_all(
     alloc: Global,
     outer: &MapFile,

@@ -35,7 +35,7 @@ pub fn answers_keep_their_mappings()
         ≡ answer_with_origin origin_of (answer_at_or_before list line column) }
 {}
 
-/// Of a map without what its mappings do not have, every look-up tells the same: of the source the text of its name, its
+/// Of a map without what its mappings do not have, every look-up says the same: of the source the text of its name, its
 /// content and its mark, and the name. The mappings' indices name sources and names that the map has.
 pub fn pruned_maps_answer_alike()
     ensures { (whole : Composition) (line column : ℕ) →

@@ -30,7 +30,7 @@ use std::alloc::{AllocError, Global};
 impl Composed {
     /// Leaves out the sources and names that no mapping has. Of sources that are the same in the text of their name, in
     /// content and in mark, the first that a mapping has stands for all, and so it is with names. The others keep their
-    /// order. A look-up tells the same as before, by the text of the source's name, its content, its mark and the name.
+    /// order. A look-up says the same as before, by the text of the source's name, its content, its mark and the name.
     /// C2, `TooLarge`, may come, since an index may take more digits where others are smaller.
     pub fn prune(self, alloc: Global) -> Result<Composed, ComposeRefusal>
         ensures pruned { GivesOr Memory (λ composed. composed) result

@@ -1,5 +1,5 @@
 -- What the bytes of a file begin as, by the marks of the kinds of files that are taken for source maps by mistake. The
--- kinds are asked in one order, and the first that holds is told.
+-- kinds are asked in one order, and the first that holds is reported.
 use Rattle.std.specs.Prelude.{ℕ, ◌-◌, List, [], ◌∷◌, Bool, ◌==◌, ◌&&◌, ◌||◌, not, nat_lt, nat_eq, is_some, if◌then◌else◌, length, drop, position, unwrap_or, slice_index, codes}
 use Rattle.std.specs.List.{starts_with}
 use Rattle.memchr.specs.Find.{matches, first_of}

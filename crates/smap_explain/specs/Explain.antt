@@ -52,20 +52,20 @@ abbrev pub stated_mappings : Members → ℕ → Option StatedMappings
 stated_mappings entries section = option_and_then stated_in (section_map entries section)
 
 -- what is known of the first faulty segment of these mappings; nothing where none is faulty
-abbrev pub IsFaultyTold : ℕ → StatedMappings → Option SegmentFacts → Type 0
-IsFaultyTold section stated facts =
+abbrev pub IsFaultyReported : ℕ → StatedMappings → Option SegmentFacts → Type 0
+IsFaultyReported section stated facts =
     MatchOption facts (first_faulty stated.text stated.sources stated.names ≡ None)
     (IsSegmentExplained section stated.text stated.sources stated.names)
 
 -- and of those of a section of a map with these members
-abbrev pub IsSegmentTold : ℕ → Members → Option SegmentFacts → Type 0
-IsSegmentTold section entries facts = MatchOption (stated_mappings entries section) (facts ≡ None) (λ stated. IsFaultyTold section stated facts)
+abbrev pub IsSegmentReported : ℕ → Members → Option SegmentFacts → Type 0
+IsSegmentReported section entries facts = MatchOption (stated_mappings entries section) (facts ≡ None) (λ stated. IsFaultyReported section stated facts)
 
 -- ---- the file
 
 -- where the file is an object, this holds of its members, and else nothing is known
 abbrev pub OfObject : {A : Type 0} → List ℕ → (Members → Option A → Type 0) → Option A → Type 0
-OfObject bytes Told facts = MatchOption (result_ok (members_in bytes)) (facts ≡ None) (λ entries. Told entries facts)
+OfObject bytes Reported facts = MatchOption (result_ok (members_in bytes)) (facts ≡ None) (λ entries. Reported entries facts)
 
 -- what is known of an index that is not built of the sections of the file
 abbrev pub build_facts_of : List ℕ → BuildRefusal → Option BuildFacts
@@ -84,42 +84,42 @@ build_explained facts = option_map_or kinds.Build facts kinds.Nothing
 -- ---- by the refusal
 
 -- where reading stopped is left open
-pub record IsNotJsonTold (bytes : List ℕ) (explanation : Explanation) : Type 0 where
+pub record IsNotJsonReported (bytes : List ℕ) (explanation : Explanation) : Type 0 where
   pub facts : NotJsonFacts
-  pub told : explanation ≡ kinds.NotJson facts
+  pub reported : explanation ≡ kinds.NotJson facts
   pub begins : facts.begins_as ≡ begins_as bytes
 
-pub record IsNotObjectTold (bytes : List ℕ) (explanation : Explanation) : Type 0 where
+pub record IsNotObjectReported (bytes : List ℕ) (explanation : Explanation) : Type 0 where
   pub value : Found
-  pub told : explanation ≡ kinds.NotObject value
+  pub reported : explanation ≡ kinds.NotObject value
   pub stands : found_seen value ≡ found (value_of_file bytes)
 
-pub record IsKeyTold (bytes : List ℕ) (refusal : MapRefusal) (explanation : Explanation) : Type 0 where
+pub record IsKeyReported (bytes : List ℕ) (refusal : MapRefusal) (explanation : Explanation) : Type 0 where
   pub facts : Option KeyFacts
-  pub told : explanation ≡ key_explained facts
+  pub reported : explanation ≡ key_explained facts
   pub stands : option_map key_seen facts ≡ option_and_then (λ entries. key_facts entries refusal) (result_ok (members_in bytes))
 
-pub record IsTextTold (bytes : List ℕ) (section : ℕ) (explanation : Explanation) : Type 0 where
+pub record IsTextReported (bytes : List ℕ) (section : ℕ) (explanation : Explanation) : Type 0 where
   pub facts : Option SegmentFacts
-  pub told : explanation ≡ segment_explained facts
-  pub stands : OfObject bytes (IsSegmentTold section) facts
+  pub reported : explanation ≡ segment_explained facts
+  pub stands : OfObject bytes (IsSegmentReported section) facts
 
 -- this is known of why the file of these bytes is refused so
 unfoldable pub IsExplained : List ℕ → MapRefusal → Explanation → Type 0
 IsExplained bytes refusals.TooLarge explanation = explanation ≡ kinds.TooLarge
-IsExplained bytes refusals.NotJson explanation = IsNotJsonTold bytes explanation
-IsExplained bytes refusals.NotObject explanation = IsNotObjectTold bytes explanation
-IsExplained bytes refusals.Version explanation = IsKeyTold bytes refusals.Version explanation
-IsExplained bytes refusals.Sections explanation = IsKeyTold bytes refusals.Sections explanation
-IsExplained bytes (refusals.SectionOffset number) explanation = IsKeyTold bytes (refusals.SectionOffset number) explanation
-IsExplained bytes (refusals.Nested number) explanation = IsKeyTold bytes (refusals.Nested number) explanation
-IsExplained bytes refusals.Sources explanation = IsKeyTold bytes refusals.Sources explanation
-IsExplained bytes refusals.Names explanation = IsKeyTold bytes refusals.Names explanation
-IsExplained bytes refusals.SourcesContent explanation = IsKeyTold bytes refusals.SourcesContent explanation
-IsExplained bytes refusals.IgnoreList explanation = IsKeyTold bytes refusals.IgnoreList explanation
-IsExplained bytes refusals.FileOrRoot explanation = IsKeyTold bytes refusals.FileOrRoot explanation
-IsExplained bytes refusals.Mappings explanation = IsKeyTold bytes refusals.Mappings explanation
-IsExplained bytes (refusals.Text section fault) explanation = IsTextTold bytes section explanation
+IsExplained bytes refusals.NotJson explanation = IsNotJsonReported bytes explanation
+IsExplained bytes refusals.NotObject explanation = IsNotObjectReported bytes explanation
+IsExplained bytes refusals.Version explanation = IsKeyReported bytes refusals.Version explanation
+IsExplained bytes refusals.Sections explanation = IsKeyReported bytes refusals.Sections explanation
+IsExplained bytes (refusals.SectionOffset number) explanation = IsKeyReported bytes (refusals.SectionOffset number) explanation
+IsExplained bytes (refusals.Nested number) explanation = IsKeyReported bytes (refusals.Nested number) explanation
+IsExplained bytes refusals.Sources explanation = IsKeyReported bytes refusals.Sources explanation
+IsExplained bytes refusals.Names explanation = IsKeyReported bytes refusals.Names explanation
+IsExplained bytes refusals.SourcesContent explanation = IsKeyReported bytes refusals.SourcesContent explanation
+IsExplained bytes refusals.IgnoreList explanation = IsKeyReported bytes refusals.IgnoreList explanation
+IsExplained bytes refusals.FileOrRoot explanation = IsKeyReported bytes refusals.FileOrRoot explanation
+IsExplained bytes refusals.Mappings explanation = IsKeyReported bytes refusals.Mappings explanation
+IsExplained bytes (refusals.Text section fault) explanation = IsTextReported bytes section explanation
 IsExplained bytes (refusals.Build refusal) explanation = explanation ≡ build_explained (build_facts_of bytes refusal)
 IsExplained bytes refusals.Url explanation = explanation ≡ kinds.Nothing
 IsExplained bytes refusals.Memory explanation = explanation ≡ kinds.Nothing

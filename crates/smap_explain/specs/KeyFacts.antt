@@ -1,5 +1,5 @@
 -- What stands at the key for which a map file is refused, and what may stand there (ECMA-426, Source map format and Index
--- source map). A key at null counts as absent, and is told as null.
+-- source map). A key at null counts as absent, and is reported as null.
 use Rattle.std.specs.Prelude.{ℕ, Option, Some, None, Bool, false, is_some, is_none, if◌then◌else◌, option_map, option_and_then, position, slice_get, codes}
 use Rattle.std.specs.Option.{option_map_or, option_or}
 use Rattle.serde_json.specs.Data.{Data, Members}
@@ -12,7 +12,7 @@ use Rattle.smap_explain.specs.Found.{FoundSeen, found, found_seen}
 use Rattle.smap_explain.specs.Rule.{asked_key, key_of, key_text, most_in, rule_of, wrong_in}
 use Rattle.smap_explain.specs.Sections.{entry_at, field_of, list_in, map_of, section_map}
 use Rattle.smap_explain.specs.declared.explanation.Key.{Key}
-use Rattle.smap_explain.specs.declared.explanation.Key.TheVariants as told
+use Rattle.smap_explain.specs.declared.explanation.Key.TheVariants as shown
 use Rattle.smap_explain.specs.declared.explanation.KeyFacts.{KeyFacts}
 use Rattle.smap_explain.specs.declared.key_place.KeyPlace.{KeyPlace}
 use Rattle.smap_explain.specs.declared.rule.MapKey.{MapKey}
@@ -20,7 +20,7 @@ use Rattle.smap_explain.specs.declared.rule.MapKey.TheVariants as keys
 use Rattle.smap_explain.specs.declared.rule.Wrong.{Wrong}
 use Rattle.smap_explain.specs.declared.rule.Wrong.TheVariants as wrongs
 
--- ---- what is told
+-- ---- what is reported
 
 -- a `KeyFacts`, its text as its bytes
 pub record KeySeen : Type 0 where
@@ -34,8 +34,8 @@ abbrev pub key_seen : KeyFacts → KeySeen
 key_seen facts = record { place = place_of facts; found = found_seen facts.found }
 
 -- what stands at a place, or that nothing does
-abbrev pub key_told : KeyPlace → Option Data → KeySeen
-key_told place value = record { place = place; found = found value }
+abbrev pub key_reported : KeyPlace → Option Data → KeySeen
+key_reported place value = record { place = place; found = found value }
 
 -- a key of the outer object
 abbrev pub at_key : Key → KeyPlace
@@ -56,11 +56,11 @@ in_offset key section = record { key = key; section = Some section; index = None
 -- ---- the outer object
 
 abbrev pub version_facts : Members → KeySeen
-version_facts entries = key_told (at_key told.Version) (get_member (codes "version") entries)
+version_facts entries = key_reported (at_key shown.Version) (get_member (codes "version") entries)
 
 -- `file`, where it is no text
 abbrev pub wrong_file : Data → Option KeySeen
-wrong_file value = if is_some (as_str value) then None else Some (key_told (at_key told.File) (Some value))
+wrong_file value = if is_some (as_str value) then None else Some (key_reported (at_key shown.File) (Some value))
 
 abbrev pub file_facts : Members → Option KeySeen
 file_facts entries = option_and_then wrong_file (field_of (codes "file") entries)
@@ -75,16 +75,16 @@ abbrev pub first_without_map : Data → Option ℕ
 first_without_map sections = option_and_then (position has_no_map) (list_in sections)
 
 abbrev pub map_facts : ℕ → Members → KeySeen
-map_facts number section = key_told (in_section told.Map number) (get_member (codes "map") section)
+map_facts number section = key_reported (in_section shown.Map number) (get_member (codes "map") section)
 
 -- an entry that has no map: what stands at `map`, or the entry itself, where it is no object
 abbrev pub entry_facts : ℕ → Data → KeySeen
 entry_facts number section =
-    option_map_or (map_facts number) (as_object section) (key_told (at_item told.Sections number) (Some section))
+    option_map_or (map_facts number) (as_object section) (key_reported (at_item shown.Sections number) (Some section))
 
 -- the first entry that has no map; where there is none, the list itself, or what stands there in its stead
 abbrev pub sections_where : Data → Option ℕ → Option KeySeen
-sections_where sections None = Some (key_told (at_key told.Sections) (Some sections))
+sections_where sections None = Some (key_reported (at_key shown.Sections) (Some sections))
 sections_where sections (Some number) = option_map (entry_facts number) (entry_at number sections)
 
 abbrev pub list_facts : Data → Option KeySeen
@@ -107,19 +107,19 @@ has_line offset = is_some (coordinate_in (codes "line") offset)
 abbrev pub coordinate_facts : ℕ → Members → KeySeen
 coordinate_facts number offset =
     if has_line offset
-    then key_told (in_offset told.OffsetColumn number) (get_member (codes "column") offset)
-    else key_told (in_offset told.OffsetLine number) (get_member (codes "line") offset)
+    then key_reported (in_offset shown.OffsetColumn number) (get_member (codes "column") offset)
+    else key_reported (in_offset shown.OffsetLine number) (get_member (codes "line") offset)
 
 abbrev pub section_offset_facts : ℕ → Members → KeySeen
 section_offset_facts number section =
     option_map_or (coordinate_facts number) (object_at (codes "offset") section)
-    (key_told (in_section told.Offset number) (get_member (codes "offset") section))
+    (key_reported (in_section shown.Offset number) (get_member (codes "offset") section))
 
 abbrev pub offset_facts : Members → ℕ → Option KeySeen
 offset_facts entries number = option_map (section_offset_facts number) (section_entry entries number)
 
 abbrev pub nested_map_facts : ℕ → Members → KeySeen
-nested_map_facts number map = key_told (in_section told.NestedSections number) (get_member (codes "sections") map)
+nested_map_facts number map = key_reported (in_section shown.NestedSections number) (get_member (codes "sections") map)
 
 abbrev pub nested_facts : Members → ℕ → Option KeySeen
 nested_facts entries number = option_map (nested_map_facts number) (section_map entries number)
@@ -145,7 +145,7 @@ wrong_at key map (wrongs.Item index) = item_at key map index
 
 -- what is wrong at a key of a map
 abbrev pub wrong_facts : Option ℕ → MapKey → Members → Option KeySeen
-wrong_facts section key map = option_map (λ wrong. key_told (wrong_place section key map wrong) (wrong_at key map wrong)) (wrong_in key map)
+wrong_facts section key map = option_map (λ wrong. key_reported (wrong_place section key map wrong) (wrong_at key map wrong)) (wrong_in key map)
 
 -- and at the key that is asked
 abbrev pub asked_facts : Option ℕ → MapKey → Members → Option KeySeen

@@ -6,7 +6,7 @@ use Rattle.serde_json.specs.Find.{as_str}
 use Rattle.smap_record.specs.Json.{number_below, text_or_null}
 use Rattle.smap_explain.specs.Sections.{count_at, field_of, list_in}
 use Rattle.smap_explain.specs.declared.explanation.Key.{Key}
-use Rattle.smap_explain.specs.declared.explanation.Key.TheVariants as told
+use Rattle.smap_explain.specs.declared.explanation.Key.TheVariants as shown
 use Rattle.smap_explain.specs.declared.rule.ItemRule.{ItemRule}
 use Rattle.smap_explain.specs.declared.rule.ItemRule.TheVariants as items
 use Rattle.smap_explain.specs.declared.rule.MapKey.{MapKey}
@@ -27,15 +27,15 @@ key_text OldIgnoreList = codes "x_google_ignoreList"
 key_text SourceRoot = codes "sourceRoot"
 key_text Mappings = codes "mappings"
 
--- as it is told
+-- as it is reported
 abbrev pub key_of : MapKey → Key
-key_of Sources = told.Sources
-key_of Names = told.Names
-key_of SourcesContent = told.SourcesContent
-key_of IgnoreList = told.IgnoreList
-key_of OldIgnoreList = told.OldIgnoreList
-key_of SourceRoot = told.SourceRoot
-key_of Mappings = told.Mappings
+key_of Sources = shown.Sources
+key_of Names = shown.Names
+key_of SourcesContent = shown.SourcesContent
+key_of IgnoreList = shown.IgnoreList
+key_of OldIgnoreList = shown.OldIgnoreList
+key_of SourceRoot = shown.SourceRoot
+key_of Mappings = shown.Mappings
 
 -- the key may not be absent
 abbrev pub is_needed : MapKey → Bool

@@ -61,7 +61,7 @@ measure_sums NameIndex before sources names sums = Some (measured Name sums.name
 measure_sums other before sources names sums = None
 
 abbrev pub measure_after : FaultKind → FaultySegment → ℕ → ℕ → Option Measure
-measure_after kind told sources names = option_and_then (measure_sums kind told.before.column sources names) told.after
+measure_after kind reported sources names = option_and_then (measure_sums kind reported.before.column sources names) reported.after
 
 -- how many numbers there are
 abbrev pub measure_count : List ℤ → Measure
@@ -69,17 +69,17 @@ measure_count numbers = measured Numbers (capped (length numbers)) None None
 
 -- what is wrong with a segment of these bytes that spell these numbers, if they do
 abbrev pub measure_kind : FaultKind → List ℕ → FaultySegment → Option (List ℤ) → ℕ → ℕ → Option Measure
-measure_kind BadDigit bytes told numbers sources names = option_map (λ byte. measured Digit (pos byte) None None) (first_bad_digit bytes)
-measure_kind Unended bytes told numbers sources names = None
-measure_kind TooLong bytes told numbers sources names =
+measure_kind BadDigit bytes reported numbers sources names = option_map (λ byte. measured Digit (pos byte) None None) (first_bad_digit bytes)
+measure_kind Unended bytes reported numbers sources names = None
+measure_kind TooLong bytes reported numbers sources names =
     option_map (λ digits. measured Digits (capped digits) (Some (pos 1)) (Some (pos 7))) (long_number_digits bytes)
-measure_kind TooLarge bytes told numbers sources names = option_map (λ magnitude. ranged Magnitude (capped magnitude)) (large_magnitude bytes)
-measure_kind NegativeZero bytes told numbers sources names = None
-measure_kind FieldCount bytes told numbers sources names = option_map measure_count numbers
-measure_kind kind bytes told numbers sources names = measure_after kind told sources names
+measure_kind TooLarge bytes reported numbers sources names = option_map (λ magnitude. ranged Magnitude (capped magnitude)) (large_magnitude bytes)
+measure_kind NegativeZero bytes reported numbers sources names = None
+measure_kind FieldCount bytes reported numbers sources names = option_map measure_count numbers
+measure_kind kind bytes reported numbers sources names = measure_after kind reported sources names
 
-abbrev pub measure_told : List ℕ → FaultySegment → Option (List ℤ) → ℕ → ℕ → Option Measure
-measure_told bytes told numbers sources names = measure_kind told.fault.kind bytes told numbers sources names
+abbrev pub measure_reported : List ℕ → FaultySegment → Option (List ℤ) → ℕ → ℕ → Option Measure
+measure_reported bytes reported numbers sources names = measure_kind reported.fault.kind bytes reported numbers sources names
 
 -- ---- the segment
 
@@ -117,18 +117,18 @@ segment_seen facts = record {
 }
 
 -- what is known of the segment of these bytes
-abbrev pub facts_told : ℕ → List ℕ → FaultySegment → ℕ → ℕ → SegmentSeen
-facts_told section bytes told sources names = record {
+abbrev pub facts_reported : ℕ → List ℕ → FaultySegment → ℕ → ℕ → SegmentSeen
+facts_reported section bytes reported sources names = record {
   section = section;
-  fault = told.fault;
+  fault = reported.fault;
   text = excerpt bytes;
-  column = column_after told.before.column (fields_of bytes);
+  column = column_after reported.before.column (fields_of bytes);
   numbers = fields_of bytes;
-  measure = measure_told bytes told (fields_of bytes) sources names;
+  measure = measure_reported bytes reported (fields_of bytes) sources names;
 }
 
 -- this is what is known of the text's first faulty segment
 pub record IsSegmentExplained (section : ℕ) (text : List ℕ) (sources names : ℕ) (facts : SegmentFacts) : Type 0 where
-  pub told : FaultySegment
-  pub is_first : IsFirstFaulty text sources names told
-  pub is_told : segment_seen facts ≡ facts_told section (slice_range text told.fault.byte told.end) told sources names
+  pub reported : FaultySegment
+  pub is_first : IsFirstFaulty text sources names reported
+  pub is_reported : segment_seen facts ≡ facts_reported section (slice_range text reported.fault.byte reported.end) reported sources names

@@ -6,7 +6,7 @@ ghost use Rattle.smap_mappings.specs.Limits.{most_text_bytes};
 ghost use Rattle.smap_record.specs.FileText.{value_of_file};
 ghost use Rattle.smap_record.specs.Record.{members_in};
 ghost use Rattle.smap_explain.specs.Beginning.{begins_as};
-ghost use Rattle.smap_explain.specs.Explain.{IsExplained, IsKeyTold, IsSegmentTold, IsTextTold, OfObject, build_explained, build_facts_of, in_limits, key_explained, segment_explained, stated, stated_in, stated_mappings};
+ghost use Rattle.smap_explain.specs.Explain.{IsExplained, IsKeyReported, IsSegmentReported, IsTextReported, OfObject, build_explained, build_facts_of, in_limits, key_explained, segment_explained, stated, stated_in, stated_mappings};
 ghost use Rattle.smap_explain.specs.Found.{found, found_seen};
 ghost use Rattle.smap_explain.specs.KeyFacts.{key_facts, key_seen};
 ghost use Rattle.smap_explain.specs.Private.Explain.{mappings_seen};
@@ -120,7 +120,7 @@ fn key_explanation(
     bytes: &[u8],
     refusal: MapRefusal,
 ) -> Result<Explanation, AllocError>
-    ensures { IfOk result (IsKeyTold bytes.now refusal) }
+    ensures { IfOk result (IsKeyReported bytes.now refusal) }
 {
     Ok(key_explained(key_facts_of(alloc, bytes, refusal)?))
 }
@@ -140,20 +140,20 @@ fn segment_facts_of(
     bytes: &[u8],
     section: u64,
 ) -> Result<Option<SegmentFacts>, AllocError>
-    ensures { IfOk result (λ facts. OfObject bytes.now (IsSegmentTold section) facts) }
+    ensures { IfOk result (λ facts. OfObject bytes.now (IsSegmentReported section) facts) }
 {
     match object_of(alloc, bytes)? {
-        Some(members) => segment_told(alloc, &members, section),
+        Some(members) => segment_reported(alloc, &members, section),
         None => Ok(None),
     }
 }
 
-fn segment_told(
+fn segment_reported(
     alloc: Global,
     members: &Map<String, Value>,
     section: u64,
 ) -> Result<Option<SegmentFacts>, AllocError>
-    ensures { IfOk result (λ facts. IsSegmentTold section (members_view members.now.entries) facts) }
+    ensures { IfOk result (λ facts. IsSegmentReported section (members_view members.now.entries) facts) }
 {
     match stated_mappings(members, section) {
         Some(
@@ -215,7 +215,7 @@ fn in_limits(text: &str, sources: u64, names: u64) -> Option<Mappings<'_>>
 }
 
 fn text_explanation(alloc: Global, bytes: &[u8], section: u64) -> Result<Explanation, AllocError>
-    ensures { IfOk result (IsTextTold bytes.now section) }
+    ensures { IfOk result (IsTextReported bytes.now section) }
 {
     Ok(segment_explained(segment_facts_of(alloc, bytes, section)?))
 }

@@ -25,7 +25,7 @@ pub enum Explanation {
 #[derive(Drop)]
 pub struct NotJsonFacts {
     pub begins_as: Beginning,
-    /// Where reading stopped, where the JSON reader tells that.
+    /// Where reading stopped, where the JSON reader says that.
     pub stop: Option<Stop>,
 }
 
@@ -55,7 +55,7 @@ pub enum Beginning {
 /// Where the reader of a JSON text stopped.
 #[derive(Drop)]
 pub struct Stop {
-    /// The line, from 1, and the byte of it, from 1, as the reader tells them, after a byte order mark and a guard line.
+    /// The line, from 1, and the byte of it, from 1, as the reader gives them, after a byte order mark and a guard line.
     pub line: u64,
     pub column: u64,
     /// The byte of the file, from 0.

@@ -2,7 +2,7 @@
 ghost use Rattle.std.specs.Prelude.{◌≡◌, map, option_copied, option_map, position, IfOk};
 ghost use Rattle.std.specs.Option.{option_or};
 ghost use Rattle.serde_json.specs.View.{members_view, view};
-ghost use Rattle.smap_explain.specs.KeyFacts.{asked_facts, at_item, at_key, coordinate_facts, entry_facts, file_facts, first_without_map, first_wrong, has_line, has_no_map, has_wrong, in_offset, in_section, index_of, is_wrong, item_at, key_facts, key_seen, key_told, list_facts, map_at, map_key_facts, nested_facts, offset_facts, section_entry, section_offset_facts, sections_facts, wrong_at, wrong_facts, wrong_in_section, wrong_in_sections, wrong_place};
+ghost use Rattle.smap_explain.specs.KeyFacts.{asked_facts, at_item, at_key, coordinate_facts, entry_facts, file_facts, first_without_map, first_wrong, has_line, has_no_map, has_wrong, in_offset, in_section, index_of, is_wrong, item_at, key_facts, key_seen, key_reported, list_facts, map_at, map_key_facts, nested_facts, offset_facts, section_entry, section_offset_facts, sections_facts, wrong_at, wrong_facts, wrong_in_section, wrong_in_sections, wrong_place};
 ghost use Rattle.smap_explain.specs.declared.rule.MapKey.TheVariants.{SourceRoot};
 
 use crate::explanation::{Key, KeyFacts};
@@ -36,7 +36,7 @@ pub fn key_facts(
     match refusal {
         MapRefusal::Version => {
             let version = member(members, "version");
-            Ok(Some(key_told(alloc, at_key(Key::Version), version)?))
+            Ok(Some(key_reported(alloc, at_key(Key::Version), version)?))
         }
         MapRefusal::Sections => sections_facts(alloc, members),
         MapRefusal::SectionOffset(number) => offset_facts(alloc, members, number),
@@ -58,9 +58,13 @@ pub fn key_facts(
 }
 
 // What stands at a place.
-fn key_told(alloc: Global, place: KeyPlace, value: Option<&Value>) -> Result<KeyFacts, AllocError>
+fn key_reported(
+    alloc: Global,
+    place: KeyPlace,
+    value: Option<&Value>,
+) -> Result<KeyFacts, AllocError>
     ensures { IfOk result (λ facts. key_seen facts
-        ≡ key_told place (option_map view (option_copied value.entry))) }
+        ≡ key_reported place (option_map view (option_copied value.entry))) }
 {
     let found = found_in(alloc, value)?;
     Ok(KeyFacts {
@@ -138,7 +142,7 @@ fn list_facts(alloc: Global, sections: &Value) -> Result<Option<KeyFacts>, Alloc
             Some(section) => Ok(Some(entry_facts(alloc, section, number)?)),
             None => Ok(None),
         },
-        None => Ok(Some(key_told(alloc, at_key(Key::Sections), Some(sections))?)),
+        None => Ok(Some(key_reported(alloc, at_key(Key::Sections), Some(sections))?)),
     }
 }
 
@@ -171,8 +175,8 @@ fn entry_facts(alloc: Global, section: &Value, number: u64) -> Result<KeyFacts, 
     ensures { IfOk result (λ facts. key_seen facts ≡ entry_facts number (view section.now)) }
 {
     match section.as_object() {
-        Some(members) => key_told(alloc, in_section(Key::Map, number), member(members, "map")),
-        None => key_told(alloc, at_item(Key::Sections, number), Some(section)),
+        Some(members) => key_reported(alloc, in_section(Key::Map, number), member(members, "map")),
+        None => key_reported(alloc, at_item(Key::Sections, number), Some(section)),
     }
 }
 
@@ -212,7 +216,7 @@ fn section_offset_facts(
 {
     match object_at(section, "offset") {
         Some(offset) => coordinate_facts(alloc, offset, number),
-        None => key_told(
+        None => key_reported(
             alloc,
             in_section(Key::Offset, number),
             member(section, "offset"),
@@ -230,10 +234,10 @@ fn coordinate_facts(
 {
     if has_line(offset) {
         let column = member(offset, "column");
-        key_told(alloc, in_offset(Key::OffsetColumn, number), column)
+        key_reported(alloc, in_offset(Key::OffsetColumn, number), column)
     } else {
         let line = member(offset, "line");
-        key_told(alloc, in_offset(Key::OffsetLine, number), line)
+        key_reported(alloc, in_offset(Key::OffsetLine, number), line)
     }
 }
 
@@ -262,7 +266,7 @@ fn nested_facts(
     match section_map(members, number) {
         Some(map) => {
             let place = in_section(Key::NestedSections, number);
-            Ok(Some(key_told(alloc, place, member(map, "sections"))?))
+            Ok(Some(key_reported(alloc, place, member(map, "sections"))?))
         }
         None => Ok(None),
     }
@@ -292,7 +296,7 @@ fn file_facts(alloc: Global, members: &Map<String, Value>) -> Result<Option<KeyF
     };
     match file.as_str() {
         Some(_) => Ok(None),
-        None => Ok(Some(key_told(alloc, at_key(Key::File), Some(file))?)),
+        None => Ok(Some(key_reported(alloc, at_key(Key::File), Some(file))?)),
     }
 }
 
@@ -400,7 +404,7 @@ fn asked_facts(
         return Ok(None);
     };
     let place = wrong_place(section, key, map, wrong);
-    Ok(Some(key_told(alloc, place, wrong_at(key, map, wrong))?))
+    Ok(Some(key_reported(alloc, place, wrong_at(key, map, wrong))?))
 }
 
 fn wrong_place(

@@ -115,7 +115,7 @@ pub fn key_text(key: MapKey) -> &'static str
     }
 }
 
-/// The key, as it is told.
+/// The key, as it is reported.
 pub fn key_of(key: MapKey) -> Key
     ensures { result ≡ key_of key }
 {

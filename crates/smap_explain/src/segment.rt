@@ -3,7 +3,7 @@ ghost use Rattle.std.specs.Prelude.{◌≡◌, ◌≤◌, None, IfOk, length, op
 ghost use Rattle.std.specs.Option.{MatchOption};
 ghost use Rattle.smap_mappings.specs.Faults.{first_faulty};
 ghost use Rattle.smap_mappings.specs.Limits.{most_text_bytes};
-ghost use Rattle.smap_explain.specs.Segment.{IsSegmentExplained, capped, column_after, excerpt, facts_told, first_below_zero, first_past_limit, measure_after, measure_told, measured, ranged, segment_seen};
+ghost use Rattle.smap_explain.specs.Segment.{IsSegmentExplained, capped, column_after, excerpt, facts_reported, first_below_zero, first_past_limit, measure_after, measure_reported, measured, ranged, segment_seen};
 
 use crate::explanation::{Measure, Quantity, SegmentFacts};
 use smap_mappings::{
@@ -27,33 +27,33 @@ pub fn segment_facts(
         (IsSegmentExplained section text.now sources names)) }
 {
     let bytes = text.as_bytes();
-    let Some(told) = faulty_segment(bytes, sources, names) else {
+    let Some(reported) = faulty_segment(bytes, sources, names) else {
         return Ok(None);
     };
-    let segment = &bytes[told.fault.byte as usize..told.end as usize];
-    let facts = facts_told(alloc, section, segment, &told, sources, names)?;
+    let segment = &bytes[reported.fault.byte as usize..reported.end as usize];
+    let facts = facts_reported(alloc, section, segment, &reported, sources, names)?;
     Ok(Some(facts))
 }
 
 // What is known of this segment.
-fn facts_told(
+fn facts_reported(
     alloc: Global,
     section: u64,
     segment: &[u8],
-    told: &FaultySegment,
+    reported: &FaultySegment,
     sources: u32,
     names: u32,
 ) -> Result<SegmentFacts, AllocError>
     ensures { IfOk result (λ facts. segment_seen facts
-        ≡ facts_told section segment.now told.now sources names) }
+        ≡ facts_reported section segment.now reported.now sources names) }
 {
     let text = excerpt(alloc, segment)?;
     let numbers = segment_numbers(alloc, segment)?;
-    let column = column_after(told.before.column, &numbers);
-    let measure = measure_told(segment, told, &numbers, sources, names);
+    let column = column_after(reported.before.column, &numbers);
+    let measure = measure_reported(segment, reported, &numbers, sources, names);
     Ok(SegmentFacts {
         section,
-        fault: told.fault,
+        fault: reported.fault,
         text,
         column,
         numbers,
@@ -85,17 +85,17 @@ fn column_after(before: u32, numbers: &Option<Vec<i32>>) -> Option<u64>
 }
 
 // What is wrong with the segment, as far as that is a value.
-fn measure_told(
+fn measure_reported(
     segment: &[u8],
-    told: &FaultySegment,
+    reported: &FaultySegment,
     numbers: &Option<Vec<i32>>,
     sources: u32,
     names: u32,
 ) -> Option<Measure>
-    ensures { result ≡ measure_told segment.now told.now
+    ensures { result ≡ measure_reported segment.now reported.now
         (option_map (λ list. list.items) numbers.now) sources names }
 {
-    match told.fault.kind {
+    match reported.fault.kind {
         FaultKind::BadDigit => {
             let byte = first_bad_digit(segment)?;
             Some(measured(Quantity::Digit, i64::from(byte), None, None))
@@ -118,20 +118,25 @@ fn measure_told(
         | FaultKind::PastLimit
         | FaultKind::ColumnFalls
         | FaultKind::SourceIndex
-        | FaultKind::NameIndex => measure_after(told.fault.kind, told, sources, names),
+        | FaultKind::NameIndex => measure_after(reported.fault.kind, reported, sources, names),
     }
 }
 
 // What is wrong with the running values after it.
-fn measure_after(kind: FaultKind, told: &FaultySegment, sources: u32, names: u32) -> Option<Measure>
-    ensures { result ≡ measure_after kind told.now sources names }
+fn measure_after(
+    kind: FaultKind,
+    reported: &FaultySegment,
+    sources: u32,
+    names: u32,
+) -> Option<Measure>
+    ensures { result ≡ measure_after kind reported.now sources names }
 {
-    let after = told.after?;
+    let after = reported.after?;
     match kind {
         FaultKind::Negative => first_below_zero(&after),
         FaultKind::PastLimit => first_past_limit(&after),
         FaultKind::ColumnFalls => {
-            let least = i64::from(told.before.column);
+            let least = i64::from(reported.before.column);
             Some(measured(
                 Quantity::Column,
                 after.column,

@@ -6,11 +6,11 @@ use serde_json::Error;
 use smap_record::json_text;
 use std::alloc::{AllocError, Global};
 
-/// How many bytes of the text are told before the stop, and how many from it on.
+/// How many bytes of the text are shown before the stop, and how many from it on.
 const AROUND: usize = 20;
 
 /// Where reading the file of these bytes stopped with this error, with the text about it; nothing where the reader doesn't
-/// tell.
+/// say.
 pub fn stop_of(alloc: Global, bytes: &[u8], error: &Error) -> Result<Option<Stop>, AllocError> {
     let (line, column) = (error.line(), error.column());
     if line == 0 {

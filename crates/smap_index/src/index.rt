@@ -64,7 +64,7 @@ impl Index {
 
     /// Builds the index of these parts, with a checkpoint at the segments of number 0, `k`, 2`k` and so on of each
     /// line of a part. The caller gives at most 65,536 parts. Their first fault is refused; that memory ran out is
-    /// told only where they have none. Each text is read once. After a refusal the parts are dropped.
+    /// reported only where they have none. Each text is read once. After a refusal the parts are dropped.
     pub fn build(alloc: Global, parts: Vec<Part>, k: u32) -> Result<Index, BuildRefusal>
         requires few { length parts.items ≤ most_parts }
         ensures { IsExactOr BuildRefusal.Memory result (build_fault parts.items k)

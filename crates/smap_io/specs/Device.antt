@@ -1,14 +1,14 @@
--- What a contract sees of a device, and what a call does to the bytes that it tells: those that a source has left, and those
--- that a sink has taken. A device that tells none has `None`.
+-- What a contract sees of a device, and what a call does to the bytes that it shows: those that a source has left, and those
+-- that a sink has taken. A device that shows none has `None`.
 use Rattle.std.specs.Prelude.{◌≡◌, ℕ, ◌≤◌, Bool, List, ◌++◌, length, Option}
 use Rattle.std.specs.Io.KnownBytes.{prepend_known, append_known}
 
--- of a source: the bytes that it has left, where it tells them, and whether a call has failed
+-- of a source: the bytes that it has left, where it shows them, and whether a call has failed
 pub record SourceSeen : Type 0 where
   pub left : Option (List ℕ)
   pub failed : Bool
 
--- of a sink: the bytes that it has taken, where it tells them, whether it was flushed after the last of them, and whether
+-- of a sink: the bytes that it has taken, where it shows them, whether it was flushed after the last of them, and whether
 -- a call has failed
 pub record SinkSeen : Type 0 where
   pub taken : Option (List ℕ)

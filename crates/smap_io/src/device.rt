@@ -9,7 +9,7 @@ pub struct DeviceFault;
 
 /// Where bytes come from.
 pub trait ByteSource {
-    // What a contract sees of it: the bytes that reads will give from here on, where it tells them, and whether a call
+    // What a contract sees of it: the bytes that reads will give from here on, where it shows them, and whether a call
     // has failed.
     ghost seen: { Self → SourceSeen };
 
@@ -34,7 +34,7 @@ pub trait ByteSource {
 
 /// Where bytes go.
 pub trait ByteSink {
-    // What a contract sees of it: the bytes that writes have brought so far, where it tells them, whether it was flushed
+    // What a contract sees of it: the bytes that writes have brought so far, where it shows them, whether it was flushed
     // after its last byte, which the last write or flush decides, and whether a call has failed.
     ghost seen: { Self → SinkSeen };
 

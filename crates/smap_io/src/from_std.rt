@@ -6,7 +6,7 @@ ghost use Rattle.smap_io.specs.FromStd.{inner_of, has_failed, is_flushed};
 use crate::device::{ByteSink, ByteSource, DeviceFault};
 use std::io::{Read, Write};
 
-/// A device over a reader or a writer of std. It asks that one once a call and tells no bytes. Each
+/// A device over a reader or a writer of std. It asks that one once a call and shows no bytes. Each
 /// error is a failure, an interrupted call too, and so is a write that takes nothing of some bytes. A
 /// write of no bytes that takes none is no failure.
 #[derive(Drop)]
@@ -50,7 +50,7 @@ impl<R: Read> ByteSource for FromStd<R> {
         ensures no_failure { OnOk result (has_failed self.new ≡ has_failed self.old) }
         ensures failure { OnErr result (has_failed self.new ≡ true) }
 
-        // Where the reader tells its bytes, they are what passed.
+        // Where the reader shows its bytes, they are what passed.
         ensures hands_on { ReadConsumes
             (R.remaining (inner_of self.old)) (R.remaining (inner_of self.new)) result room.new }
     {
@@ -76,7 +76,7 @@ impl<W: Write> ByteSink for FromStd<W> {
         ensures no_failure { OnOk result (has_failed self.new ≡ has_failed self.old) }
         ensures failure { OnErr result (has_failed self.new ≡ true) }
 
-        // Where the writer tells its bytes, they are what passed.
+        // Where the writer shows its bytes, they are what passed.
         ensures hands_on { WriteAppends
             (W.contents (inner_of self.old)) (W.contents (inner_of self.new)) result bytes.now }
     {
@@ -94,7 +94,7 @@ impl<W: Write> ByteSink for FromStd<W> {
         ensures failure { OnErr result (has_failed self.new ≡ true) }
         ensures unflushed { OnErr result (is_flushed self.new ≡ false) }
 
-        // Where the writer tells its bytes, they stay.
+        // Where the writer shows its bytes, they stay.
         ensures hands_on { Keeps
             (W.contents (inner_of self.old)) (W.contents (inner_of self.new)) }
     {

@@ -1,4 +1,4 @@
-//! Devices that tell their failures: where bytes come from, and where they go.
+//! Devices that show their failures: where bytes come from, and where they go.
 //!
 //! A [`ByteSource`] gives bytes and a [`ByteSink`] takes them, some at each call. A call moves
 //! exactly the bytes that it counts; or it fails and moves none, and `failed` says so from then on.

@@ -22,8 +22,8 @@ pub trait LineEditor {
     // How many lines it can take at least.
     ghost room: { Self → ℕ };
 
-    /// Puts one of the texts that a line may become, which comes without its LF, into the output; and is told whether an LF
-    /// ends it.
+    /// Puts one of the texts that a line may become, which comes without its LF, into the output; and learns
+    /// whether an LF ends it.
     fn edit<W: ByteSink>(
         &mut self,
         line: &[u8],

@@ -49,7 +49,7 @@ impl OpenLine {
         })
     }
 
-    /// Hands the line on, to which these bytes and an LF belong too: edited, or as it is where it is too long; and tells
+    /// Hands the line on, to which these bytes and an LF belong too: edited, or as it is where it is too long; and says
     /// whether it is.
     pub fn end<E: LineEditor, W: ByteSink>(
         &mut self,

@@ -31,7 +31,7 @@ fn files_begin_as_what_they_are(rt: HostRuntime) -> Result<(), Fail> {
 
 // The second segment of the second line has its column before that of the first.
 #[test]
-fn the_first_faulty_segment_is_told(rt: HostRuntime) -> Result<(), Fail> {
+fn the_first_faulty_segment_is_reported(rt: HostRuntime) -> Result<(), Fail> {
     let faulty = faulty_segment(b"AAAA;KAAA,DACA", 1, 0).ok_or("no fault")?;
     assert!(&rt; faulty.fault.byte == 10 && faulty.fault.line == 1 && faulty.end == 14);
     assert!(&rt; faulty.fault.kind == FaultKind::ColumnFalls && faulty.before.column == 5);
@@ -48,7 +48,7 @@ const OVERLAPPING: &[u8] =
     br#"{"version":3,"sections":[{"offset":{"line":0,"column":0},"map":{"sources":["a.js"],"mappings":"AAAA,WAAA"}},{"offset":{"line":0,"column":10},"map":{"sources":["b.js"],"mappings":"AAAA"}}]}"#;
 
 #[test]
-fn a_mapping_past_the_next_section_is_told(rt: HostRuntime) -> Result<(), Fail> {
+fn a_mapping_past_the_next_section_is_reported(rt: HostRuntime) -> Result<(), Fail> {
     let parts = file_parts(rt.alloc(), OVERLAPPING)?;
     let facts = build_facts(rt.alloc(), &parts, BuildRefusal::SectionOverlap(1))?;
     let facts = facts.ok_or("no facts")?;
@@ -63,7 +63,7 @@ fn a_mapping_past_the_next_section_is_told(rt: HostRuntime) -> Result<(), Fail> 
 }
 
 #[test]
-fn mappings_about_a_position_are_told(rt: HostRuntime) -> Result<(), Fail> {
+fn mappings_about_a_position_are_reported(rt: HostRuntime) -> Result<(), Fail> {
     let bytes = br#"{"version":3,"sources":["a.js"],"mappings":"AAAA,KAAA;;EAAA"}"#;
     let map = MapFile::read(rt.alloc(), bytes, None, 64)?;
     let about = mappings_about(rt.alloc(), &map, 0, 4);
@@ -79,7 +79,7 @@ fn mappings_about_a_position_are_told(rt: HostRuntime) -> Result<(), Fail> {
 
 // The third segment names source 7 of 5.
 #[test]
-fn a_source_that_there_is_not_is_told(rt: HostRuntime) -> Result<(), Fail> {
+fn a_source_that_there_is_not_is_reported(rt: HostRuntime) -> Result<(), Fail> {
     let facts = segment_facts(rt.alloc(), 2, "AAAA;IAAA,GOAC", 5, 0)?.ok_or("no facts")?;
     assert!(&rt; facts.section == 2 && facts.fault.line == 1 && facts.text.as_str() == "GOAC");
     assert!(&rt; facts.column == Some(8));
@@ -104,7 +104,7 @@ const MISSPELLED: &[(&str, Quantity, i64)] = &[
 ];
 
 #[test]
-fn segments_that_are_not_spelled_right_are_told(rt: HostRuntime) -> Result<(), Fail> {
+fn segments_that_are_not_spelled_right_are_reported(rt: HostRuntime) -> Result<(), Fail> {
     for (text, quantity, value) in MISSPELLED {
         let facts = segment_facts(rt.alloc(), 0, text, 1, 0)?.ok_or("no facts")?;
         let measure = facts.measure.ok_or("no measure")?;

@@ -38,7 +38,7 @@ fn fault_text(alloc: Global, text: &str) -> Result<String, AllocError> {
 }
 
 #[test]
-fn each_fault_is_told(rt: HostRuntime) -> Result<(), Fail> {
+fn each_fault_is_reported(rt: HostRuntime) -> Result<(), Fail> {
     for (text, wanted) in FAULTS {
         assert_same(&rt, text, &fault_text(rt.alloc(), text)?, wanted);
     }

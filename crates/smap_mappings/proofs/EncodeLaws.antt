@@ -75,11 +75,11 @@ length_or_refusal true n fault is = is
 length_or_refusal false n fault is = is
 
 -- a list without a fault has a length, or is too long
-pub told : (list : List Mapping) (o : Option ℕ) → list_fault list ≡ None
+pub reported : (list : List Mapping) (o : Option ℕ) → list_fault list ≡ None
     → o ≡ cond (ltb most_text_bytes (length (canonical_text list))) None (Some (length (canonical_text list)))
     → MatchResult (ok_or o TooLong) (λ _. encode_fault list ≡ None) (λ refusal. encode_fault list ≡ Some refusal)
 unfolding encode_fault
-told list o none is =
+reported list o none is =
     let P : Option ℕ → Type 0 = λ o. MatchResult (ok_or o TooLong) (λ _. encode_fault list ≡ None) (λ refusal. encode_fault list ≡ Some refusal) in
     subst P (sym is) (length_or_refusal (is_text_too_long list) (length (canonical_text list)) (encode_fault list)
     (ap (λ first. option_or first (cond (is_text_too_long list) (Some TooLong) None)) none))

@@ -1,4 +1,4 @@
--- What is told of the first faulty segment of a text (ECMA-426, Mappings structure).
+-- What is said of the first faulty segment of a text (ECMA-426, Mappings structure).
 use Rattle.std.specs.Prelude.{◌≡◌, ℕ, List, [], ◌∷◌, ◌++◌, Option, Some, None, is_some, if◌then◌else◌, slice_range}
 use Rattle.std.specs.Option.{option_map}
 use Rattle.smap_mappings.specs.Mappings.{RunningValues, delta_of, values_on}
@@ -18,13 +18,13 @@ values_past faulty = values_on faulty.segment.line (faulty.before ++ delta_of fa
 abbrev pub known_values_past : FaultyPlace → Option RunningValues
 known_values_past faulty = if is_some (spelling_fault faulty.segment.bytes) then None else Some (values_past faulty)
 
--- the text's first faulty segment for this many sources and names, and what is told of it
-pub record IsFirstFaulty (text : List ℕ) (sources names : ℕ) (told : FaultySegment) : Type 0 where
+-- the text's first faulty segment for this many sources and names, and what is said of it
+pub record IsFirstFaulty (text : List ℕ) (sources names : ℕ) (found : FaultySegment) : Type 0 where
   pub faulty : FaultyPlace
   pub is_first : first_faulty text sources names ≡ Some faulty
-  pub fault : told.fault ≡ fault_of faulty
-  pub bytes : slice_range text told.fault.byte told.end ≡ faulty.segment.bytes
-  pub place : told.before.place ≡ faulty.segment.place
-  pub line : told.before.line ≡ faulty.segment.line
-  pub before : values_at told.before ≡ values_before faulty
-  pub after : option_map values_in told.after ≡ known_values_past faulty
+  pub fault : found.fault ≡ fault_of faulty
+  pub bytes : slice_range text found.fault.byte found.end ≡ faulty.segment.bytes
+  pub place : found.before.place ≡ faulty.segment.place
+  pub line : found.before.line ≡ faulty.segment.line
+  pub before : values_at found.before ≡ values_before faulty
+  pub after : option_map values_in found.after ≡ known_values_past faulty

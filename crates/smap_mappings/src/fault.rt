@@ -1,6 +1,6 @@
 //! What is wrong with a text.
 
-/// What is wrong with a segment, in the order in which the kinds are asked: the least that holds is told. A kind from
+/// What is wrong with a segment, in the order in which the kinds are asked: the least that holds is reported. A kind from
 /// `FieldCount` on is asked only where every number is spelled right, one from `Negative` on only where the number of
 /// fields is right.
 #[derive(Clone, Copy, Debug, PartialEq, Eq)]

@@ -35,9 +35,9 @@ pub fn faulty_segment(bytes: &[u8], sources: u32, names: u32) -> Option<FaultySe
     ensures first { MatchOption result
         (first_faulty bytes.now sources names ≡ None)
         (IsFirstFaulty bytes.now sources names) }
-    ensures fault { first_fault bytes.now sources names ≡ option_map (λ told. told.fault) result }
-    ensures extent { IfSome result (λ told.
-        (told.fault.byte ≤ told.end) × (told.end ≤ length bytes.now)) }
+    ensures fault { first_fault bytes.now sources names ≡ option_map (λ found. found.fault) result }
+    ensures extent { IfSome result (λ found.
+        (found.fault.byte ≤ found.end) × (found.end ≤ length bytes.now)) }
 {
     match count_segments(bytes, sources, names) {
         Ok(_) => None,

@@ -114,7 +114,7 @@ impl PackedText {
     }
 
     /// The state at a place between two segments of this text, with the running values there. The caller gives a place
-    /// and values that stand between two segments: a cursor that a state of this text told, or one worked out from it.
+    /// and values that stand between two segments: a cursor that a state of this text gave, or one worked out from it.
     #[inline(always)]
     pub fn state_at(&self, cursor: Cursor) -> State
         requires { IsBetween self.now cursor }

@@ -75,7 +75,7 @@ impl<S: UrlSeeker, M: Maps> PlaceRewriter<'_, '_, S, M> {
 }
 
 // Puts the bytes of a text from byte `from` on that stand before a place, and what becomes of it where its URL has this
-// map; and tells whether it is replaced.
+// map; and says whether it is replaced.
 fn put_place<W: ByteSink>(
     alloc: Global,
     map: Option<&MapFile>,

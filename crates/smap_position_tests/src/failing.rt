@@ -41,7 +41,7 @@ fn answers_come_up_to_a_fault(rt: HostRuntime) -> Result<(), Fail> {
 }
 
 #[test]
-fn a_refused_map_is_told_before_any_answer(rt: HostRuntime) -> Result<(), Fail> {
+fn a_refused_map_is_reported_before_any_answer(rt: HostRuntime) -> Result<(), Fail> {
     let devices = Devices(Device(1, 1), Device(1, 1), SOUND);
     let left = run_positions(rt.alloc(), "[]", INPUT.as_bytes(), Asked::Text, 64, devices)?;
     assert_same(&rt, "[]", &left, "1||refused: m.map: M3 NotObject\n");

@@ -43,7 +43,7 @@ excerpt_value excerpt = array (
     item (string (before_first (λ byte. nat_eq byte 10) excerpt))
     (item (string (after_first (λ byte. nat_eq byte 10) excerpt)) no_items))
 
--- the members that tell where a mapping comes from
+-- the members that say where a mapping comes from
 abbrev pub origin_members : Origin → Option StatedSource → (name : Option (List ℕ)) → Members
 origin_members origin source name =
     member (codes "name") (value_of_text name)

@@ -40,7 +40,7 @@ totals_lines unmapped total =
 
 -- ---- as JSON
 
--- what is told of each source
+-- what is said of each source
 abbrev pub row_members : SourceRow → Option StatedSource → Members
 row_members row source =
     member (codes "content") (boolean (has_content source))

@@ -1,4 +1,4 @@
-//! What a map answers for a position, and what the map tells of the source and the name in it.
+//! What a map answers for a position, and what the map reports the source and the name in it.
 ghost use Rattle.std.specs.Prelude.{◌≡◌, ◌+◌, option_and_then, option_map, slice_get, string_bytes, IfOk};
 ghost use Rattle.smap_record.specs.Sources.{source_of};
 ghost use Rattle.smap_positions.specs.Lookup.{answer_excerpt, is_ignored, lookup_answer, source_excerpt, source_name};

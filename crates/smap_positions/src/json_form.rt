@@ -113,7 +113,7 @@ pub fn put_ignored<O: Output>(entry: Option<&SourceEntry>, output: &mut O)
     output.put(bool_text(is_ignored(entry)));
 }
 
-// Puts the members that tell where a mapping comes from, behind others, and the end of the object.
+// Puts the members that say where a mapping comes from, behind others, and the end of the object.
 fn put_origin_members<O: Output>(
     entry: Option<&SourceEntry>,
     name: Option<&str>,

@@ -130,7 +130,7 @@ fn put_front<O: Output>(bytes: Option<u64>, output: &mut O)
     }
 }
 
-// Puts what is told of each source, and the end of its object.
+// Puts what is said of each source, and the end of its object.
 fn put_members<O: Output>(entry: Option<&SourceEntry>, row: &SourceRow, output: &mut O)
     ensures { O.Puts output.old output.new (members_text false
         (row_members row.now (option_map (λ entry. source_of entry.now) entry.entry))) }

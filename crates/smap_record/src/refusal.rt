@@ -10,7 +10,7 @@ use std::alloc::{AllocError, AllocFailed};
 use thiserror::Error;
 
 /// Why a map file is refused (ECMA-426, Source map format; that every fault refuses the whole file, the order and the
-/// limits are this project's own). The first cause that holds is told: they are asked in this order, save that `file`
+/// limits are this project's own). The first cause that holds is reported: they are asked in this order, save that `file`
 /// is asked before `sources`, and that out of memory may stand in place of what would come later. A key at null
 /// counts as absent. Section numbers count from 0. The numbers from M1 on are the refusals' own. The texts that are
 /// derived here are for Rust callers: the program prints lines of its own, with the refusal's number and its parts.

@@ -121,7 +121,7 @@ const REFUSED: Held = &[
     ),
 ];
 
-// The path of each, and what is told of it.
+// The path of each, and what is said of it.
 const REFUSALS: &[(&str, &str)] = &[
     (
         "offset",

@@ -67,14 +67,14 @@ const ALL: &str = "\
     refused\n\
 ";
 
-// What is told of a fault, and of a word that stands alone.
+// What is said of a fault, and of a word that stands alone.
 const SOURCE_INDEX: &str =
     "F10 SourceIndex\n  means: The segment names a source that the list `sources` does not have.\n  causes: The list was cut, or `mappings` comes from another map.\n  to do: Give the map the whole list, or the mappings that belong to it.\n";
 
 const MEMORY: &str =
     "memory\n  means: Memory ran out. Status 3.\n  causes: A map is large, or many maps are held at once.\n  to do: Give the process more memory, or fewer maps at once. `rewrite` keeps fewer with `--cache`.\n";
 
-// Codes and names, and what is told of them.
+// Codes and names, and what is said of them.
 const CODES: &[(&str, &str)] = &[
     ("F10", SOURCE_INDEX),
     ("f10", SOURCE_INDEX),
@@ -85,8 +85,8 @@ const CODES: &[(&str, &str)] = &[
 
 #[test]
 fn codes_are_explained(rt: HostRuntime) -> Result<(), Fail> {
-    for (code, told) in CODES {
-        let wanted = format!(in rt.alloc(); "0|{told}|")?;
+    for (code, reported) in CODES {
+        let wanted = format!(in rt.alloc(); "0|{reported}|")?;
         assert_same(
             &rt,
             code,
@@ -129,7 +129,7 @@ fn words_that_are_no_code_are_refused(rt: HostRuntime) -> Result<(), Fail> {
 }
 
 #[test]
-fn an_output_that_fails_is_told(rt: HostRuntime) -> Result<(), Fail> {
+fn an_output_that_fails_is_reported(rt: HostRuntime) -> Result<(), Fail> {
     let devices = Devices(SOUND, Device(5, 2), SOUND);
     let left = run_explain(rt.alloc(), Some("F10"), devices)?;
     assert_same(&rt, "F10", &left, "3|F10 S|device: write\n");

@@ -3,7 +3,7 @@ use crate::same::assert_same;
 use smap_runs::{ALL_SOUND, Held, commands, run_over_held};
 use std::test::Fail;
 
-// Maps that are refused: the path and the text of each, and what is told.
+// Maps that are refused: the path and the text of each, and what is reported.
 const REFUSED: &[(&str, &str, &str)] = &[
     (
         "cut",
@@ -179,10 +179,10 @@ const REFUSED: &[(&str, &str, &str)] = &[
 
 #[test]
 fn refusals_are_explained(rt: HostRuntime) -> Result<(), Fail> {
-    for (path, text, told) in REFUSED {
+    for (path, text, reported) in REFUSED {
         let command = commands::check_explained(String::from_str(rt.alloc(), path)?);
         let left = run_over_held(rt.alloc(), &command, &[(*path, *text)], ALL_SOUND)?;
-        let wanted = format!(in rt.alloc(); "1||{told}")?;
+        let wanted = format!(in rt.alloc(); "1||{reported}")?;
         assert_same(&rt, path, &left, &wanted);
     }
     Ok(())
@@ -198,10 +198,10 @@ const HELD: Held = &[
 ];
 
 const CHECKED: &str =
-    "3|a.map: ok sections 1 sources 1 names 0 segments 3 lines 2 checkpoints 2\n|refused: b.map: M3 NotObject\n  the JSON value is a list, of which the length is 0, and must be an object\ndevice: read folder\n  the path is that of a folder\ndevice: read shut\n  the file may not be read: permission is denied\ndevice: read none\n  there is no such file\ndevice: read broken\n  the file is there, and reading it failed\n";
+    "3|a.map: ok sections 1 sources 1 names 0 segments 3 lines 2 checkpoints 2\n|refused: b.map: M3 NotObject\n  the JSON value is a list, of which the length is 0, and must be an object\ndevice: read folder\n  the path is that of a folder\ndevice: read shut\n  the file may not be read: permission is denied\ndevice: read none\n  there is no such file\ndevice: read broken\n  reading the file failed for another cause\n";
 
 #[test]
-fn causes_are_told_of_each_file(rt: HostRuntime) -> Result<(), Fail> {
+fn causes_are_reported_of_each_file(rt: HostRuntime) -> Result<(), Fail> {
     let mut paths = Vec::new(rt.alloc());
     for path in ["a.map", "b.map", "folder", "shut", "none", "broken"] {
         paths.push(String::from_str(rt.alloc(), path)?)?;
@@ -212,7 +212,7 @@ fn causes_are_told_of_each_file(rt: HostRuntime) -> Result<(), Fail> {
     Ok(())
 }
 
-// Generated lines and columns, and what is told of them.
+// Generated lines and columns, and what is said of them.
 const LOOKED_UP: &[(u32, u32, &str)] = &[
     (
         1,
@@ -237,7 +237,7 @@ const LOOKED_UP: &[(u32, u32, &str)] = &[
 ];
 
 #[test]
-fn the_nearest_mappings_are_told(rt: HostRuntime) -> Result<(), Fail> {
+fn the_nearest_mappings_are_reported(rt: HostRuntime) -> Result<(), Fail> {
     for (line, column, wanted) in LOOKED_UP {
         let path = String::from_str(rt.alloc(), "a.map")?;
         let command = commands::lookup_explained(path, *line, *column);

@@ -13,7 +13,7 @@ use std::test::Fail;
 
 const APP: &str = r#"{"version":3,"sources":["a.ts"],"mappings":"AAAA,CAAC"}"#;
 
-// Maps, what `check` tells of each, and how many checkpoints each has at each of the intervals.
+// Maps, what `check` prints of each, and how many checkpoints each has at each of the intervals.
 const ACCEPTED: &[(&str, &str, &[u64])] = &[
     (
         APP,

@@ -1,4 +1,4 @@
-//! The words and lists that name the maps of sources for `compose`, and what is told first of several refusals.
+//! The words and lists that name the maps of sources for `compose`, and what is reported first of several refusals.
 use crate::same::assert_same;
 use smap_runs::{ALL_SOUND, AskedAll, Held, Words, commands, loaded, run_compose_all, run_over};
 use smap_vectors::OUTER;
@@ -153,7 +153,7 @@ const NAMED: &[(&str, Words, Option<&str>, &str)] = &[
         Some("blank.list"),
         "2||usage: blank.list line 2: no TAB\n",
     ),
-    // Of two inner maps that of the source before is told.
+    // Of two inner maps that of the source before is reported.
     (
         "o.map",
         &[("y.js", "bad.map"), ("x.js", "none.map")],

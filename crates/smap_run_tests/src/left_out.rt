@@ -7,7 +7,7 @@ use smap_vectors::{INNER, NamedMap, OUTER};
 use std::alloc::{AllocError, Global};
 use std::test::Fail;
 
-// What the program leaves where this is written, or where this is what it tells.
+// What the program leaves where this is written, or where this is what it shows.
 fn left_of(alloc: Global, wanted: &str) -> Result<String, AllocError> {
     if wanted.starts_with("{") {
         ["0|", wanted, "\n|"].concat(alloc)

@@ -1,4 +1,4 @@
-//! Files that are written first and read then: their bytes, what a command makes of them, and which one is told where
+//! Files that are written first and read then: their bytes, what a command makes of them, and which one is reported where
 //! some can't be read.
 ghost use Rattle.std.specs.Prelude.{IfOk};
 ghost use Rattle.smap_answers.specs.Run.{IsRunnable};
@@ -166,7 +166,7 @@ fn each_argument_of_rewrite_has_its_file(rt: HostRuntime) -> Result<(), Fail> {
     Ok(())
 }
 
-// Of two files, of which `there` alone is a map and `bad` is refused, and no other exists, the one that is told.
+// Of two files, of which `there` alone is a map and `bad` is refused, and no other exists, the one that is reported.
 const UNREAD: &[(&str, &str, &str)] = &[
     ("first", "second", "first"),
     ("second", "first", "second"),
@@ -176,24 +176,24 @@ const UNREAD: &[(&str, &str, &str)] = &[
     ("first", "bad", "first"),
 ];
 
-// What is told of a file of this name.
-fn told_text(alloc: Global, folder: &str, name: &str) -> Result<String, AllocError> {
+// What is said of a file of this name.
+fn reported_text(alloc: Global, folder: &str, name: &str) -> Result<String, AllocError> {
     format!(in alloc; "3||device: read {folder}/{name}\n")
 }
 
 #[test]
-fn the_first_unreadable_file_is_told(rt: HostRuntime) -> Result<(), Fail> {
+fn the_first_unreadable_file_is_reported(rt: HostRuntime) -> Result<(), Fail> {
     let folder = new_folder(&rt)?;
     for (name, text) in [("there", OUTER), ("bad", "{")] {
         let path = path_in(rt.alloc(), &folder, name)?;
         fs::write(&rt, path.as_str(), text)?;
     }
-    for (first, second, told) in UNREAD {
-        let wanted = told_text(rt.alloc(), &folder, told)?;
+    for (first, second, reported) in UNREAD {
+        let wanted = reported_text(rt.alloc(), &folder, reported)?;
         let composed = left_by_compose(&rt, &folder, first, second)?;
-        assert_same(&rt, told, &composed, &wanted);
+        assert_same(&rt, reported, &composed, &wanted);
         let rewritten = left_by_rewrite(&rt, &folder, (first, second), b"")?;
-        assert_same(&rt, told, &rewritten, &wanted);
+        assert_same(&rt, reported, &rewritten, &wanted);
     }
     fs::remove_dir_all(&rt, folder.as_str())?;
     Ok(())

@@ -32,7 +32,7 @@ impl FileReader for HeldFiles<'_> {
         Err(ReadFailure::Device)
     }
 
-    // The path tells why, where it is one of these words.
+    // The path says why, where it is one of these words.
     fn unread_cause(&self, path: &str) -> UnreadCause {
         match path {
             "folder" => UnreadCause::Folder,
@@ -78,15 +78,18 @@ pub fn run_over_read<F: FileReader>(
 ) -> Result<String, AllocError>
     requires { IsRunnable command.now }
 {
-    let Devices(Device(reads, read_fails), Device(writes, write_fails), Device(tells, tell_fails)) =
-        devices;
+    let Devices(
+        Device(reads, read_fails),
+        Device(writes, write_fails),
+        Device(reports, report_fails),
+    ) = devices;
     let (output, errors) = (
         Vec::with_capacity(alloc, MOST_TAKEN)?,
         Vec::with_capacity(alloc, MOST_TAKEN)?,
     );
     let mut input = MemorySource::new(input.to_vec(alloc)?, reads.max(1), read_fails);
     let mut output = MemorySink::new(output, writes.max(1), write_fails);
-    let mut errors = MemorySink::new(errors, tells.max(1), tell_fails);
+    let mut errors = MemorySink::new(errors, reports.max(1), report_fails);
     let status = run_reading(alloc, reader, command, &mut input, &mut output, &mut errors);
     left_text(alloc, status, output.bytes(), errors.bytes())
 }

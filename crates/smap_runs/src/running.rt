@@ -18,14 +18,21 @@ pub fn run_over(
 ) -> Result<String, AllocError>
     requires { IsRunnable command.now }
 {
-    let Devices(Device(reads, read_fails), Device(writes, write_fails), Device(tells, tell_fails)) =
-        devices;
-    if reads == 0 || writes == 0 || tells == 0 {
+    let Devices(
+        Device(reads, read_fails),
+        Device(writes, write_fails),
+        Device(reports, report_fails),
+    ) = devices;
+    if reads == 0 || writes == 0 || reports == 0 {
         return String::from_str(alloc, "a device that moves nothing");
     }
     let mut input = MemorySource::new(input.to_vec(alloc)?, reads, read_fails);
     let mut output = MemorySink::new(Vec::with_capacity(alloc, MOST_TAKEN)?, writes, write_fails);
-    let mut errors = MemorySink::new(Vec::with_capacity(alloc, MOST_TAKEN)?, tells, tell_fails);
+    let mut errors = MemorySink::new(
+        Vec::with_capacity(alloc, MOST_TAKEN)?,
+        reports,
+        report_fails,
+    );
     let status = run(alloc, command, files, &mut input, &mut output, &mut errors);
     left_text(alloc, status, output.bytes(), errors.bytes())
 }

@@ -1,4 +1,4 @@
--- What is told of each source of a map: how many segments it has, and how much of the generated text it makes.
+-- What is said of each source of a map: how many segments it has, and how much of the generated text it makes.
 use Rattle.std.specs.Prelude.{◌≡◌, ℕ, ◌-◌, Bool, true, false, List, Option, Some, None, count_by, map, option_map, unwrap_or}
 use Rattle.std.specs.Ordering.{nat_cmp}
 use Rattle.std.specs.List.{range_with_len}

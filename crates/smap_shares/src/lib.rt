@@ -1,5 +1,5 @@
-//! How much of a generated file each source of its map makes. A character of the file comes from the source that a look-up at
-//! the character answers, a line end from none.
+//! How much of a generated file each source of its map makes. A character of the file comes from the source that a
+//! look-up at the character answers, a line end from none.
 //!
 //! ```text
 //! let segments = segments_by_source(alloc, &map)?;

@@ -1,4 +1,4 @@
-//! What is told of each source of a map.
+//! What is said of each source of a map.
 ghost use Rattle.std.specs.Prelude.{◌≡◌, ◌<◌, length, map, option_copied, slice_index, IfOk, OnOk};
 ghost use Rattle.std.specs.List.{range_with_len};
 ghost use Rattle.smap_index.specs.Parts.{joined};
@@ -25,7 +25,7 @@ pub struct SourceTable {
     pub unmapped: u64,
 }
 
-/// What is told of the sources of a map, with the bytes of the generated text that each makes, where it is given. The rows
+/// What is said of the sources of a map, with the bytes of the generated text that each makes, where it is given. The rows
 /// stand by index or, `by_bytes`, those with the most bytes first, and of those with as many the one of the least index.
 pub fn source_table(
     alloc: Global,

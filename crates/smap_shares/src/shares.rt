@@ -34,9 +34,9 @@ impl BytesBySource {
 }
 
 /// How many bytes of the generated text of a map each source makes: a mapping owns the text from its column to the next
-/// mapping of its line, or to the line's end. What stands before a line's first mapping, line ends, and what mappings without
-/// an origin own come from none. Of mappings at one position the last owns; one past its line's end owns nothing, and one
-/// between the two units of a character begins behind it. Lines end in LF, CR LF, CR, U+2028 or U+2029.
+/// mapping of its line, or to the line's end. What stands before a line's first mapping, line ends, and what mappings
+/// without an origin own come from none. Of mappings at one position the last owns; one past its line's end owns
+/// nothing, and one between the two units of a character begins behind it. Lines end in LF, CR LF, CR, U+2028 or U+2029.
 pub fn bytes_by_source(
     alloc: Global,
     map: &MapFile,

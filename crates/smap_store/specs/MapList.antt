@@ -82,7 +82,7 @@ pub record IsTaken (words : List (List ℕ × MapRecord)) (old : LocationsSeen) 
   pub faultless : line_fault words old line ≡ None
   pub puts : MatchBool (is_passed_over line) (new ≡ old) (Puts old (entry_of line) new)
 
--- a line is refused: for this fault, or for want of memory, where it has none
+-- a line is refused: for this fault, or, where it has none, since memory ran out
 abbrev pub IsRefused : List (List ℕ × MapRecord) → LocationsSeen → (line : List ℕ) → ListFault → Type 0
 IsRefused words locations line fault =
     (line_fault words locations line ≡ Some fault)

@@ -8,7 +8,7 @@ pub struct ListRefusal {
     pub fault: ListFault,
 }
 
-/// Why a line is not taken. The first that holds, in this order, is told.
+/// Why a line is not taken. The first that holds, in this order, is reported.
 #[derive(Clone, Copy, Debug, PartialEq, Eq)]
 pub enum ListFault {
     /// It has no TAB.

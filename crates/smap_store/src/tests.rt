@@ -138,7 +138,7 @@ const REFUSED: [(&str, u64, ListFault); 8] = [
 ];
 
 #[test]
-fn the_first_bad_line_is_told(rt: HostRuntime) -> Result<(), Fail> {
+fn the_first_bad_line_is_reported(rt: HostRuntime) -> Result<(), Fail> {
     let alloc = rt.alloc();
     let words = words(alloc)?;
     for (text, line, fault) in REFUSED {

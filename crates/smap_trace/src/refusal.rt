@@ -1,6 +1,6 @@
 //! Why a map is not put into a table.
 
-/// Of `Table::add`, which hands the URL and the map back. The first two are told before the third.
+/// Of `Table::add`, which hands the URL and the map back. The first two are reported before the third.
 #[derive(Clone, Copy, Debug, PartialEq, Eq)]
 pub enum TableRefusal {
     /// A1: the URL is empty, holds a CR or an LF, or begins with `async ` or `eval at `.

@@ -119,12 +119,12 @@ fn assert_unwritten(
     let front = rewritten
         .get(..moved_before(call, rewritten.len()))
         .unwrap_or("?");
-    let told = if call <= rewritten.len().div_ceil(10) as u64 {
+    let reported = if call <= rewritten.len().div_ceil(10) as u64 {
         "device: X2 Write"
     } else {
         "device: write"
     };
-    let wanted = format!(in alloc; "3|{front}|{told}\n")?;
+    let wanted = format!(in alloc; "3|{front}|{reported}\n")?;
     assert_same(
         rt,
         trace,

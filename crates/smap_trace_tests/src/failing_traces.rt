@@ -92,7 +92,7 @@ fn each_write_may_fail(rt: HostRuntime) -> Result<(), Fail> {
 }
 
 // The read, the write and the call of the error stream that fail, where each moves ten bytes a call, and what is left.
-const UNTOLD: &[((u64, u64, u64), &str)] = &[
+const UNREPORTED: &[((u64, u64, u64), &str)] = &[
     ((1, 0, 1), "3||"),
     ((1, 0, 2), "3||device: X1"),
     ((1, 1, 0), "3||device: X1 Read\n"),
@@ -107,8 +107,8 @@ const UNTOLD: &[((u64, u64, u64), &str)] = &[
 
 #[test]
 fn an_error_stream_that_fails_changes_no_status(rt: HostRuntime) -> Result<(), Fail> {
-    for ((read, write, tell), wanted) in UNTOLD {
-        let devices = Devices(Device(10, *read), Device(10, *write), Device(10, *tell));
+    for ((read, write, report), wanted) in UNREPORTED {
+        let devices = Devices(Device(10, *read), Device(10, *write), Device(10, *report));
         for interval in INTERVALS {
             let left = left_by(rt.alloc(), *interval, devices)?;
             assert_same(&rt, wanted, &left, wanted);

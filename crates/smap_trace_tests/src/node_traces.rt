@@ -43,7 +43,7 @@ fn arguments(alloc: Global) -> Result<Vec<Argument>, AllocError> {
     Ok(arguments)
 }
 
-// What is left of a trace: status 0, this text of the rows, and nothing told.
+// What is left of a trace: status 0, this text of the rows, and nothing reported.
 fn left_of(alloc: Global, text: &str) -> Result<String, AllocError> {
     let text = plain(alloc, text)?;
     ["0|", &text, "|"].concat(alloc)

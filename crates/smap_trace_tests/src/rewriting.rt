@@ -263,7 +263,7 @@ fn sources_are_resolved_against_a_base_or_the_url(rt: HostRuntime) -> Result<(),
     Ok(())
 }
 
-// Words that are refused, and what is told. A word's map is read before the word is put into the table, and a word
+// Words that are refused, and what is reported. A word's map is read before the word is put into the table, and a word
 // before the next one's map is read.
 const REFUSED: &[(&[Argument], &str)] = &[
     (&[("", "app.map", MAP)], "2||usage: A1 BadUrl: =app.map\n"),

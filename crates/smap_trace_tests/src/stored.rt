@@ -75,7 +75,7 @@ const ROWS: &[(Words, Option<&str>, &str, &str)] = &[
         "at https://ex.test/js/app.js:1:1\nat https://ex.test/lib/b.js:1:1\nat https://ex.test/js/ignored.js:1:1\n",
         "3|at https://ex.test/js/b.ts:1:1\nat https://ex.test/lib/a.ts:1:1\nat https://ex.test/js/ignored.js:1:1\n|device: read other/ignored.js.map\n",
     ),
-    // A map that can't be read or is refused is told once, and its frames stay. The status is the greatest of all.
+    // A map that can't be read or is refused is reported once, and its frames stay. The status is the greatest of all.
     (
         JS,
         None,
@@ -190,7 +190,7 @@ fn maps_are_read_when_a_trace_names_them(rt: HostRuntime) -> Result<(), Fail> {
     Ok(())
 }
 
-// Where frames of sources that a map says to pass over are hidden, and what was done is told.
+// Where frames of sources that a map says to pass over are hidden, and what was done is reported.
 const HIDING: AskedFrom = AskedFrom {
     hide_ignored: true,
     anywhere: false,
@@ -212,7 +212,7 @@ const SUMMARIES: &[(&str, &str)] = &[
 ];
 
 #[test]
-fn what_was_done_is_told(rt: HostRuntime) -> Result<(), Fail> {
+fn what_was_done_is_reported(rt: HostRuntime) -> Result<(), Fail> {
     for (trace, wanted) in SUMMARIES {
         let bytes = trace.as_bytes();
         let left = run_stored(rt.alloc(), JS, None, FILES, &HIDING, bytes, ALL_SOUND)?;
@@ -300,7 +300,7 @@ fn the_status_is_the_greatest_of_all(rt: HostRuntime) -> Result<(), Fail> {
     Ok(())
 }
 
-// Where places are rewritten anywhere, and what was done is told.
+// Where places are rewritten anywhere, and what was done is reported.
 const PLACES: AskedFrom = AskedFrom {
     hide_ignored: false,
     anywhere: true,

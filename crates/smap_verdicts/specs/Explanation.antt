@@ -1,4 +1,4 @@
--- What is told of a refused map file in sentences, each in an indented line.
+-- What is said of a refused map file in sentences, each in an indented line.
 use Rattle.std.specs.Prelude.{ℕ, true, false, Option, None, Some, List, [], ◌∷◌, codes, string_bytes}
 use Rattle.std.specs.Fmt.{decimal}
 use Rattle.smap_explain.specs.declared.explanation.Beginning.{Beginning}

@@ -1,4 +1,4 @@
--- What is told of what stands at a key of a map file, in a sentence.
+-- What is said of what stands at a key of a map file, in a sentence.
 use Rattle.std.specs.Prelude.{ℕ, Option, None, Some, List, [], ◌∷◌, codes}
 use Rattle.std.specs.Fmt.{decimal}
 use Rattle.smap_explain.specs.declared.explanation.Explanation.{Explanation}

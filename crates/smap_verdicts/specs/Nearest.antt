@@ -1,4 +1,4 @@
--- What is told of the mappings about a generated position, in sentences. Lines and columns print from 1.
+-- What is said of the mappings about a generated position, in sentences. Lines and columns print from 1.
 use Rattle.std.specs.Prelude.{ℕ, ◌+◌, ◌||◌, ◌==◌, Bool, false, List, [], ◌∷◌, Option, None, Some, codes, if◌then◌else◌}
 use Rattle.std.specs.Fmt.{decimal}
 use Rattle.std.specs.Option.{option_map_or}

@@ -1,4 +1,4 @@
--- What is told of a faulty segment, in sentences. Lines and columns count from 0 in what a segment says, and print from 1.
+-- What is said of a faulty segment, in sentences. Lines and columns count from 0 in what a segment says, and print from 1.
 use Rattle.std.specs.Prelude.{ℕ, zero, suc, ◌+◌, ℤ, pos, negsuc, ◌+ℤ◌, Bool, false, Option, None, Some, List, [], ◌∷◌, codes, string_bytes, if◌then◌else◌, nat_le, ◌&&◌, encode_utf8, unsigned_abs}
 use Rattle.std.specs.List.{flat_map}
 use Rattle.std.specs.Int.{saturate_signed, w64}

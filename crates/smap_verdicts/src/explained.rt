@@ -1,4 +1,4 @@
-//! What is told of a refused map file in sentences.
+//! What is said of a refused map file in sentences.
 ghost use Rattle.std.specs.Prelude.{◌≡◌, string_bytes, IfOk};
 ghost use Rattle.smap_verdicts.specs.Keys.{asked_of, explanation_text, key_name, key_place_text, key_text};
 ghost use Rattle.smap_verdicts.specs.Keys.{number_after};

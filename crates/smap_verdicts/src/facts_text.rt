@@ -1,4 +1,4 @@
-//! What is told of a file that is no JSON and of an index that is not built, in sentences.
+//! What is said of a file that is no JSON and of an index that is not built, in sentences.
 ghost use Rattle.std.specs.Prelude.{◌≡◌, string_bytes, IfOk};
 ghost use Rattle.smap_verdicts.specs.Explanation.{at_text, before_text, beginning_text, build_text, found_text};
 ghost use Rattle.smap_verdicts.specs.Explanation.{mapping_text, not_json_text, section_text};

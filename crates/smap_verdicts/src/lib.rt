@@ -1,4 +1,4 @@
-//! What is told of a map file, as text and as JSON: how much it holds, or why it is refused.
+//! What is said of a map file, as text and as JSON: how much it holds, or why it is refused.
 //!
 //! ```text
 //! match MapFile::read(alloc, bytes, None, 64) {

@@ -1,4 +1,4 @@
-//! What is told of the mappings about a generated position.
+//! What is said of the mappings about a generated position.
 ghost use Rattle.std.specs.Prelude.{◌≡◌, false, string_bytes, IfOk};
 ghost use Rattle.std.specs.Option.{option_map_or};
 ghost use Rattle.smap_explain.specs.Build.{place_of};

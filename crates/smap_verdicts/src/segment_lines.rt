@@ -1,4 +1,4 @@
-//! What is told of a faulty segment, in sentences.
+//! What is said of a faulty segment, in sentences.
 ghost use Rattle.std.specs.Prelude.{◌≡◌, ◌++◌, take, string_bytes, IfOk, flat_map};
 ghost use Rattle.smap_verdicts.specs.Segment.{column_text, next_number, numbers_text, numbers_where};
 ghost use Rattle.smap_verdicts.specs.Segment.{place_text, segment_text, unmeasured, wrong_text};

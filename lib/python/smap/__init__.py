@@ -6,14 +6,14 @@
             print(source_map.source(answer.source).name, answer.line + 1, answer.column + 1)
 
 Lines, columns, sources and names count from 0, columns in UTF-16 code units. The library is within the package. `python -m
-smap` tells its version and where it lies.
+smap` prints its version and where it lies.
 """
 
 from ._answers import Answer, Counts, Mapping, Source
 from ._composing import compose_all
 from ._maps import SourceMap, compose
 from ._smap import version as __version__
-from ._told import Refused
+from ._reported import Refused
 from ._traces import Rewriter
 
 __all__ = ["Answer", "Counts", "Mapping", "Refused", "Rewriter", "Source", "SourceMap", "__version__", "compose",

@@ -1,4 +1,4 @@
-"""Tells the version of the library, and where it lies."""
+"""Prints the version of the library, and where it lies."""
 
 from . import __version__, _smap
 

@@ -6,7 +6,7 @@ from typing import Callable, Dict, List, Mapping, Optional, Tuple, Union
 
 from . import _given, _smap
 from ._maps import SourceMap
-from ._told import Refused, refused_composition, refused_source
+from ._reported import Refused, refused_composition, refused_source
 
 # The map of a source.
 Given = Union[_given.FileData, SourceMap]

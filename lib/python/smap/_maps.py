@@ -7,7 +7,7 @@ from typing import List, Optional, Tuple, Type, TypeVar, Union
 
 from . import _given, _smap
 from ._answers import Source
-from ._told import BAD_BASE, Refused, refused_base, refused_composition, refused_generated, refused_map
+from ._reported import BAD_BASE, Refused, refused_base, refused_composition, refused_generated, refused_map
 
 # Of the answers of a look-up among many: seven numbers of 32 bits each.
 _ANSWER_BYTES = 7 * 4
@@ -85,10 +85,10 @@ class SourceMap(_smap.Map):
     def bytes_by_source(self, generated: _given.FileData) -> Tuple[List[int], int]:
         """How many bytes of the generated file come from each source, in the order of the sources, and how many from none.
         The file is given as a map is. Raises `Refused` where it is not UTF-8 or too large."""
-        told = self._bytes_by_source(_given.file_bytes(generated, "a generated file"))
-        if isinstance(told, int):
-            raise refused_generated(told, _given.file_name(generated))
-        return told
+        reported = self._bytes_by_source(_given.file_bytes(generated, "a generated file"))
+        if isinstance(reported, int):
+            raise refused_generated(reported, _given.file_name(generated))
+        return reported
 
     def write(self) -> bytes:
         """The map as the text of one regular map."""

@@ -6,7 +6,7 @@ from typing import Callable, Dict, Mapping, Optional, Set, Union
 
 from . import _given, _smap
 from ._maps import SourceMap
-from ._told import Refused, refused_url
+from ._reported import Refused, refused_url
 
 # What a table takes under a URL.
 Given = Union[_given.FileData, SourceMap]
@@ -80,10 +80,10 @@ class Rewriter(_smap.Table):
         if self._load is not None:
             with self._asking:
                 self._ask(self._load, held)
-        told = self._rewrite(held, bool(hide_ignored), bool(anywhere))
-        if told is None:
+        reported = self._rewrite(held, bool(hide_ignored), bool(anywhere))
+        if reported is None:
             raise Refused("refused: X3 TooMuch", 3)
-        text, (lines, places, mapped, hidden) = told
+        text, (lines, places, mapped, hidden) = reported
         self.counts = {"lines": lines, "places": places, "mapped": mapped} if anywhere else {
             "lines": lines, "frames": places, "mapped": mapped, "hidden": hidden}
         return text

@@ -1,5 +1,5 @@
 #!/usr/bin/env node
-// Chooses of seen.json, which record.js writes, a line of each form that an engine printed, for lines.txt; and tells where
+// Chooses of seen.json, which record.js writes, a line of each form that an engine printed, for lines.txt; and says where
 // the place that is read of a line is another than the engine itself has for it.
 //
 //   node tests/vectors/engines/choose.js

@@ -8,26 +8,26 @@ use Rattle.smap_record.specs.MapFile.{Map}
 use Rattle.smap_record.specs.Record.{MapRecord}
 use Rattle.smap_record.specs.Sources.{StatedSource}
 use Rattle.smap_answers.specs.ComposeAll.{is_called}
-use Rattle.smap_answers.specs.Outcome.{Telling, failure_telling}
+use Rattle.smap_answers.specs.Outcome.{Report, failure_report}
 use Rattle.smap_answers.specs.declared.inners.PairFault.{PairFault}
 use Rattle.smap_answers.specs.declared.inners.PairFault.TheVariants.{Twice, NoSource, Memory}
 use Rattle.smap_answers.specs.declared.outcome.Failure.{Failure}
 
 -- what a call that reads a map gives
-abbrev pub map_told : Result Map Failure → Result MapRecord Telling
-map_told (Ok read) = Ok read.stated
-map_told (Err failure) = Err (failure_telling failure)
+abbrev pub map_reported : Result Map Failure → Result MapRecord Report
+map_reported (Ok read) = Ok read.stated
+map_reported (Err failure) = Err (failure_report failure)
 
-abbrev pub inner_told : Result (Option Map) Failure → Result (Option MapRecord) Telling
-inner_told (Ok inner) = Ok (option_map (λ (read : Map). read.stated) inner)
-inner_told (Err failure) = Err (failure_telling failure)
+abbrev pub inner_reported : Result (Option Map) Failure → Result (Option MapRecord) Report
+inner_reported (Ok inner) = Ok (option_map (λ (read : Map). read.stated) inner)
+inner_reported (Err failure) = Err (failure_report failure)
 
 abbrev pub inners_stated : List (Option Map) → List (Option MapRecord)
 inners_stated inners = map (option_map (λ (read : Map). read.stated)) inners
 
-abbrev pub inners_told : Result (Vec (Option Map) Global) Failure → Result (List (Option MapRecord)) Telling
-inners_told (Ok inners) = Ok (inners_stated inners.items)
-inners_told (Err failure) = Err (failure_telling failure)
+abbrev pub inners_reported : Result (Vec (Option Map) Global) Failure → Result (List (Option MapRecord)) Report
+inners_reported (Ok inners) = Ok (inners_stated inners.items)
+inners_reported (Err failure) = Err (failure_report failure)
 
 abbrev pub pair_seen : Option (Bor (List ℕ) × Bor (List ℕ)) → Option (List ℕ × List ℕ)
 pair_seen None = None

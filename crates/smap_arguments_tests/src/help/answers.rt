@@ -95,7 +95,7 @@ Usage: smap sources [OPTIONS] <MAP> [GENERATED]
 
 Arguments:
   <MAP>        Path of the source map file
-  [GENERATED]  Path of the generated file, to tell how many of its bytes each source makes
+  [GENERATED]  Path of the generated file, to count how many of its bytes each source makes
 
 Options:
       --base <URL>       URL against which the names of sources are resolved

@@ -17,7 +17,7 @@ Options:
       --cache <BYTES>  Keep maps of folders and lists up to this many bytes of their files, else 1073741824; the
                        output is the same
       --limit <BYTES>  Refuse a text of more bytes than this, 1 to 9223372036854775807, else 1073741824
-      --summary        Tell counts on standard error at the end
+      --summary        Print counts on standard error at the end
   -h, --help           Print help
 
 Each URL=FILE is the URL of a generated file, as frames of the trace name it, and the path of that file's
@@ -28,7 +28,7 @@ What ends in `/` behind the `=` is a folder: PREFIX=FOLDER/, where PREFIX ends i
 begins with PREFIX is the file FOLDER/REST.map, REST being what the URL has behind PREFIX, without its query and
 fragment. Each line of the file of --maps is a URL and a file, or a prefix and a folder, with one TAB between
 them; empty lines and those that begin with `#` are passed over. Maps of folders and lists are read when the text
-first names them. One that cannot be read is told on standard error, and the rest goes on.
+first names them. One that cannot be read is reported on standard error, and the rest goes on.
 
 Answer: the trace, line by line. In a frame of V8, Firefox or Safari whose URL has a map, the place becomes
 the original one; the rest of the line stays, and so does each other line, byte for byte. With --hide-ignored

@@ -30,14 +30,14 @@ fn a_refusal_is_explained(rt: HostRuntime) -> Result<(), Fail> {
         has_most: 9,
         has_column: 9,
     };
-    let mut told = no_bytes(alloc)?;
-    let status = smap_refusal_explain(alloc, bytes, &refusal, &mut reason, &mut told);
+    let mut reported = no_bytes(alloc)?;
+    let status = smap_refusal_explain(alloc, bytes, &refusal, &mut reason, &mut reported);
     assert!(&rt; status == DONE && reason.has_value == 1 && reason.value == 0);
     assert!(&rt; reason.has_least == 1 && reason.least == 0);
     assert!(&rt; reason.has_most == 1 && reason.most == -1);
     assert!(&rt; reason.has_column == 1 && reason.generated_column == 2);
     let mut text = Text { text: b"" };
-    assert_eq!(&rt; smap_bytes_text(&mut told, &mut text), DONE);
+    assert_eq!(&rt; smap_bytes_text(&mut reported, &mut text), DONE);
     assert_eq!(&rt;
         text.text,
         "  segment \"EACA\" at line 1, column 3, numbers 2, 0, 1, 0\n  source index 0, and the map has 0 sources\n".as_bytes()

@@ -12,8 +12,8 @@ use std::test::Fail;
 // At 0:0 a mapping of source 0, at 0:3 of source 1, at 0:5 of none, at 2:1 of source 1, and at 3:99 of source 0.
 const MAP: &str = r#"{"version":3,"sources":["a","b","c"],"mappings":"AAAA,GCAA,E;;CAAA;mGDAA"}"#;
 
-// "abc" comes from source 0. From source 1 come U+00E4, of two bytes, and "e", and behind U+1F600, within which its mapping stands,
-// "z". The last mapping stands past the end of its line.
+// "abc" comes from source 0. From source 1 come U+00E4, of two bytes, and "e", and behind U+1F600, within which its
+// mapping stands, "z". The last mapping stands past the end of its line.
 const GENERATED: &str = "abc\u{e4}efg\nxyz\n\u{1f600}z\nq";
 
 // A place for each source of a map, with a 9.

@@ -1,4 +1,4 @@
--- What `url`'s answer tells of a text.
+-- What `url`'s answer reports a text.
 use Rattle.std.specs.Prelude.{Option, None, Some, Result, Ok, Err}
 use Rattle.url.specs.declared.error.ParseError.TheVariants.{Overflow, OutOfMemory}
 use Rattle.url.specs.Parser.{Parsed}
@@ -6,7 +6,7 @@ use Rattle.url.specs.Parts.{Parts}
 use Rattle.smap_resolve.specs.declared.refusal.ResolveRefusal.{ResolveRefusal}
 use Rattle.smap_resolve.specs.declared.refusal.ResolveRefusal.TheVariants.{UrlTooLong, Memory}
 
--- its URL, or none where it does not parse; where there was no room for the URL, nothing is told
+-- its URL, or none where it does not parse; where there was no room for the URL, nothing is reported
 abbrev pub parsed_url : Parsed Parts → Result (Option Parts) ResolveRefusal
 parsed_url (Ok url) = Ok (Some url)
 parsed_url (Err Overflow) = Err UrlTooLong

@@ -1,7 +1,7 @@
 use Rattle.std.proofs.lemmas.Result.{err_from_is_err_and}
 use Rattle.std.specs.Prelude.{map, option_copied}
 use Rattle.smap_answers.specs.Trace.{argument_of}
-use Rattle.smap_answers.proofs.ComposeLaws.{told_or}
+use Rattle.smap_answers.proofs.ComposeLaws.{reported_or}
 use Rattle.smap_answers.proofs.InnersLaws.{inners_composed, inners_failed}
 use Rattle.smap_answers.proofs.compose_all.composed_with.Goals as goal
 
@@ -15,4 +15,4 @@ pub returns : goal.returns
 returns g c =
     inners_composed (g.F.FileReader.gives c.args.reader.now) c.args.options (map argument_of c.args.maps.now.words.now)
     (option_copied c.args.maps.now.list) c.args.outer.now.stated c.in_ok-named.named c.in_ok-named.ensures _ _ c.in_ok-inners.ensures.reads
-    (told_or c.all_line.result _ _ c.told.ensures (rw c.deref.ensures.value at c.all_line.ensures))
+    (reported_or c.all_line.result _ _ c.reported.ensures (rw c.deref.ensures.value at c.all_line.ensures))

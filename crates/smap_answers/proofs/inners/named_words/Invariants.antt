@@ -2,7 +2,7 @@ use Rattle.std.proofs.Common.{[], map, drop}
 use Rattle.std.specs.Prelude.{Result}
 use Rattle.smap_locations.specs.Named.{Named}
 use Rattle.smap_answers.specs.ComposeAll.{NamesWords}
-use Rattle.smap_answers.specs.Outcome.{Telling}
+use Rattle.smap_answers.specs.Outcome.{Report}
 use Rattle.smap_answers.specs.Trace.{argument_of}
 use Rattle.smap_answers.proofs.inners.named_words.Given as goal
 
@@ -10,5 +10,5 @@ use Rattle.smap_answers.proofs.inners.named_words.Given as goal
 abbrev pub invariant-loop-name : goal.invariant-loop-name
 invariant-loop-name l =
     let sources = l.fn.outer.map.now.stated.sources in
-    (result : Result Named Telling) → NamesWords sources (map argument_of (drop l.name-index l.words)) l.named result
+    (result : Result Named Report) → NamesWords sources (map argument_of (drop l.name-index l.words)) l.named result
     → NamesWords sources (map argument_of l.words) [] result

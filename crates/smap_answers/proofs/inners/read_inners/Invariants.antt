@@ -2,7 +2,7 @@ use Rattle.std.proofs.Common.{◌≡◌, [], drop, length}
 use Rattle.std.specs.Prelude.{List, Option, Result}
 use Rattle.smap_record.specs.Record.{MapRecord}
 use Rattle.smap_answers.specs.ComposeAll.{ReadsInners}
-use Rattle.smap_answers.specs.Outcome.{Telling}
+use Rattle.smap_answers.specs.Outcome.{Report}
 use Rattle.smap_answers.specs.Private.Inners.{inners_stated}
 use Rattle.smap_answers.proofs.inners.read_inners.Given as goal
 
@@ -13,6 +13,6 @@ invariant-loop-i g l =
     let sources = l.fn.outer.map.now.stated.sources in
     record {
       many : length l.inners.items ≡ l.i;
-      reads : (result : Result (List (Option MapRecord)) Telling) → ReadsInners Reads l.named (drop l.i sources) (inners_stated l.inners.items) result
+      reads : (result : Result (List (Option MapRecord)) Report) → ReadsInners Reads l.named (drop l.i sources) (inners_stated l.inners.items) result
           → ReadsInners Reads l.named sources [] result;
     }

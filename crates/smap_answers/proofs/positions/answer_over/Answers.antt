@@ -11,7 +11,7 @@ returns-in-Err-flush g c = record {
   output_failed = c.in-Err-flush.ensures.failure;
   flushed = λ one. absurd (cc);
   untouched = λ none. absurd (cc);
-  told = refl;
+  reported = refl;
 }
 
 pub returns-in_default : goal.returns-in_default

@@ -1,5 +1,5 @@
 use Rattle.std.proofs.Common.{refl, rules, arith, ◌∙◌, inl}
-use Rattle.smap_answers.specs.Outcome.{telling_of}
+use Rattle.smap_answers.specs.Outcome.{report_of}
 use Rattle.smap_answers.proofs.RunLaws.{raw_input, raw_of_failure, raw_of_input, some_input}
 use Rattle.smap_answers.proofs.raw.answer_raw.Goals as goal
 
@@ -12,7 +12,7 @@ returns-in-Ok g c output =
       input = read.0;
       is_input = read.1;
       unwritten = refl;
-      is_telling = raw_of_input c.args.line c.args.column read.0 _ (telling_of c.answer_bytes.result) (c.in-Ok.ensures.no_failure ∙ c.requires.input_works)
+      is_report = raw_of_input c.args.line c.args.column read.0 _ (report_of c.answer_bytes.result) (c.in-Ok.ensures.no_failure ∙ c.requires.input_works)
           (rw (← read.2) c.answer_bytes.ensures);
     }
 
@@ -23,7 +23,7 @@ returns-in-Err-Device g c output =
       input = input.0;
       is_input = input.1;
       unwritten = refl;
-      is_telling = raw_of_failure c.args.line c.args.column input.0 _ (c.in-Err-Device.ensures.device (search rules));
+      is_report = raw_of_failure c.args.line c.args.column input.0 _ (c.in-Err-Device.ensures.device (search rules));
     }
 
 pub returns-in-Err-Memory : goal.returns-in-Err-Memory
@@ -33,5 +33,5 @@ returns-in-Err-Memory g c output =
       input = input.0;
       is_input = input.1;
       unwritten = refl;
-      is_telling = raw_of_input c.args.line c.args.column input.0 _ _ (c.in-Err-Memory.ensures.memory (search rules) ∙ c.requires.input_works) (inl refl);
+      is_report = raw_of_input c.args.line c.args.column input.0 _ _ (c.in-Err-Memory.ensures.memory (search rules) ∙ c.requires.input_works) (inl refl);
     }

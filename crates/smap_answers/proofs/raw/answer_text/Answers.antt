@@ -6,7 +6,7 @@ use Rattle.std.proofs.lemmas.Bool.{false≢true}
 use Rattle.smap_mappings.specs.Faults.{first_fault}
 use Rattle.smap_mappings.specs.Mappings.{mappings_of}
 use Rattle.smap_index.specs.Answer.{answer_at_or_before}
-use Rattle.smap_answers.specs.Outcome.{OrMemory, telling_of}
+use Rattle.smap_answers.specs.Outcome.{OrMemory, report_of}
 use Rattle.smap_answers.specs.Raw.{fault_or_answer}
 use Rattle.smap_answers.proofs.RawLaws.{text_is_utf8, text_not_utf8}
 use Rattle.smap_mappings.specs.Limits.{most_indices, most_text_bytes}
@@ -19,7 +19,7 @@ returns-in-Ok c =
     let is_text = subst IsUtf8 items (IsUtf8-string_bytes c.in-Ok.text) in
     rw (text_is_utf8 c.args.bytes.items c.args.line c.args.column short is_text)
     (subst (λ bytes. OrMemory (λ t. t ≡ fault_or_answer (first_fault bytes most_indices most_indices)
-    (answer_at_or_before (mappings_of bytes) c.args.line c.args.column)) (telling_of c.answer_mappings.result)) items c.answer_mappings.ensures)
+    (answer_at_or_before (mappings_of bytes) c.args.line c.args.column)) (report_of c.answer_mappings.result)) items c.answer_mappings.ensures)
 
 pub returns : goal.returns
 returns c =

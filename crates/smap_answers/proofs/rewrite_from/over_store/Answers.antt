@@ -23,7 +23,7 @@ returns-clause-over g c =
       words = c.args.sources.now.words;
       locations = c.args.sources.now.locations;
       cache = cache;
-      loader = record { errors = seen c.args.errors.now; status = 0; told = 0; refused = 0 };
+      loader = record { errors = seen c.args.errors.now; status = 0; reported = 0; refused = 0 };
     } in
     let last : StoredSeen LoaderSeen = store_of c.args.sources.now c.rewrite_text-result.new.cache (loader_seen seen c.rewrite_text-result.new.loader) in
     let rewritten = rewritten_from gives seen _ _ _ refl c.args.sources.now request.anywhere request.hide_ignored request.limit_bytes before after c.rewrite_text-result.result

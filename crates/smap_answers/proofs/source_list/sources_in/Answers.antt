@@ -4,8 +4,8 @@ use Rattle.std.specs.Str.{IsUtf8}
 use Rattle.std.proofs.lemmas.Bool.{false≢true}
 use Rattle.std.proofs.lemmas.Str.{IsUtf8-string_bytes}
 use Rattle.smap_record.specs.Limits.{most_file_bytes}
-use Rattle.smap_answers.specs.Outcome.{OrMemory, telling_of}
-use Rattle.smap_answers.specs.SourceList.{IsSourcesTold}
+use Rattle.smap_answers.specs.Outcome.{OrMemory, report_of}
+use Rattle.smap_answers.specs.SourceList.{IsSourcesReported}
 use Rattle.smap_answers.proofs.SourceListLaws.{of_no_text, of_text}
 use Rattle.smap_answers.proofs.source_list.sources_in.Goals as goal
 
@@ -13,10 +13,10 @@ pub returns-in-Ok : goal.returns-in-Ok
 returns-in-Ok c =
     let items : string_bytes c.in-Ok.text ≡ c.args.bytes.items = ap (λ (v : Vec ℕ Global). v.items) c.in-Ok.ensures.ok in
     let short : length c.args.bytes.items ≤ most_file_bytes = omega (arith, c.len.ensures) in
-    of_text c.args.options.by_bytes c.args.options.json c.args.path.now c.args.map.now.stated c.args.bytes.items (telling_of c.told_sources.result) short
+    of_text c.args.options.by_bytes c.args.options.json c.args.path.now c.args.map.now.stated c.args.bytes.items (report_of c.reported_sources.result) short
     (subst IsUtf8 items (IsUtf8-string_bytes c.in-Ok.text))
-    (subst (λ bytes. OrMemory (IsSourcesTold c.args.options.by_bytes c.args.options.json (Some bytes) c.args.map.now.stated) (telling_of c.told_sources.result))
-    (c.deref.ensures ∙ items) c.told_sources.ensures)
+    (subst (λ bytes. OrMemory (IsSourcesReported c.args.options.by_bytes c.args.options.json (Some bytes) c.args.map.now.stated) (report_of c.reported_sources.result))
+    (c.deref.ensures ∙ items) c.reported_sources.ensures)
 
 pub returns : goal.returns
 returns c =

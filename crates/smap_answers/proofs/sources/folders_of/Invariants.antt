@@ -1,7 +1,7 @@
 use Rattle.std.proofs.Common.{[], map, drop}
 use Rattle.std.specs.Prelude.{Result}
 use Rattle.smap_locations.specs.Locations.{LocationsSeen}
-use Rattle.smap_answers.specs.Outcome.{Telling}
+use Rattle.smap_answers.specs.Outcome.{Report}
 use Rattle.smap_answers.specs.Sources.{NamesFolders}
 use Rattle.smap_answers.specs.Trace.{argument_of}
 use Rattle.smap_answers.proofs.sources.folders_of.Given as goal
@@ -9,5 +9,5 @@ use Rattle.smap_answers.proofs.sources.folders_of.Given as goal
 -- what the arguments that are left come to after those so far, all of them come to
 abbrev pub invariant-loop-prefix : goal.invariant-loop-prefix
 invariant-loop-prefix l =
-    (result : Result LocationsSeen Telling) → NamesFolders (map argument_of (drop l.prefix-index l.arguments)) l.locations result
+    (result : Result LocationsSeen Report) → NamesFolders (map argument_of (drop l.prefix-index l.arguments)) l.locations result
     → NamesFolders (map argument_of l.arguments) (record { files = []; folders = [] }) result

@@ -1,6 +1,6 @@
 use Rattle.std.proofs.Common.{[], map, drop, option_copied}
 use Rattle.std.specs.Prelude.{Ok, Result}
-use Rattle.smap_answers.specs.Outcome.{Telling}
+use Rattle.smap_answers.specs.Outcome.{Report}
 use Rattle.smap_answers.specs.Private.Gathering.{gathered}
 use Rattle.smap_answers.specs.Trace.{Gathers, Maps, argument_of}
 use Rattle.smap_answers.proofs.trace.table_of.Given as goal
@@ -10,6 +10,6 @@ abbrev pub invariant-loop-number : goal.invariant-loop-number
 invariant-loop-number g l =
     let Reads = g.F.FileReader.gives l.fn.maps.files.now in
     let base = option_copied l.fn.maps.base in
-    (result : Result Maps Telling) → Gathers l.fn.passes_folders Reads base l.fn.maps.interval l.number (gathered l.table)
+    (result : Result Maps Report) → Gathers l.fn.passes_folders Reads base l.fn.maps.interval l.number (gathered l.table)
     (map argument_of (drop l.number l.arguments)) result
     → Gathers l.fn.passes_folders Reads base l.fn.maps.interval 0 (Ok []) (map argument_of l.arguments) result

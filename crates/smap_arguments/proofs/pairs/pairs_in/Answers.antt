@@ -5,7 +5,7 @@ use Rattle.std.proofs.lemmas.Result.{IfOk-weaker}
 use Rattle.clap.specs.Words.{all_of, found_of, rows_of}
 use Rattle.clap.proofs.WalkLemmas.{raw_values-rows}
 use Rattle.smap_arguments.specs.Arguments.{ArePairs}
-use Rattle.smap_arguments.specs.Refusals.{IsNamedRefusal, TellsNoPair}
+use Rattle.smap_arguments.specs.Refusals.{IsNamedRefusal, ReportsNoPair}
 use Rattle.smap_arguments.proofs.Cuts.{no_words, words_given}
 use Rattle.smap_arguments.proofs.pairs.pairs_in.Goals as goal
 
@@ -25,7 +25,7 @@ returns-in-Some-clause-refused c =
     sym (raw_values-rows (found_of c.args.matches.now) c.args.form.now)
     ∙ (sym c.get_strs.ensures ∙ ap (option_map (λ (s : Bor (List (Bor (List ℕ)))). map (λ v. v.now) s.now)) c.in-Some.is) in
     let words = words_given rows c.args.form.now _ all in
-    subst (λ w. IfErr c.pairs_of.result (IsNamedRefusal (TellsNoPair c.args.form.now w))) (sym words) c.pairs_of.ensures.refused
+    subst (λ w. IfErr c.pairs_of.result (IsNamedRefusal (ReportsNoPair c.args.form.now w))) (sym words) c.pairs_of.ensures.refused
 
 pub returns-in-None-clause-given : goal.returns-in-None-clause-given
 returns-in-None-clause-given c =

@@ -5,7 +5,7 @@ use Rattle.smap_mappings.specs.Encode.{mapping_fault, list_fault}
 use Rattle.smap_mappings.specs.Writing.{IsLengthOf}
 use Rattle.smap_mappings.specs.declared.mapping.Mapping.{Mapping}
 use Rattle.smap_mappings.specs.declared.last_values.LastValues.{LastValues}
-use Rattle.smap_mappings.proofs.EncodeLaws.{nowhere, one_more_taken, refused_here, passed_here, none_at_all, told}
+use Rattle.smap_mappings.proofs.EncodeLaws.{nowhere, one_more_taken, refused_here, passed_here, none_at_all, reported}
 use Rattle.smap_mappings.proofs.canonical.text_length.Goals as goal
 use Rattle.smap_mappings.proofs.canonical.text_length.Goals.{After-last}
 
@@ -41,4 +41,4 @@ returns c =
     let all = take_all c.loop-i.i list (omega arith) in
     let none = none_at_all list c.loop-i.i (omega arith) c.loop-i.invariant.faultless in
     let P : List Mapping → Type 0 = λ list. IsLengthOf list c.loop-i.length in
-    rw c.ok_or.ensures.value (told list c.bytes.result none (c.bytes.ensures list (subst P all c.loop-i.invariant.found)))
+    rw c.ok_or.ensures.value (reported list c.bytes.result none (c.bytes.ensures list (subst P all c.loop-i.invariant.found)))

@@ -1,8 +1,8 @@
-//! Telling why something is refused.
+//! Saying why something is refused.
 ghost use Rattle.std.specs.Prelude.{◌≡◌, ◌≢◌, ◌⊎◌, None, Some, IsSomeAnd, MatchOption};
 ghost use Rattle.smap_verdicts.specs.Refusal.{refusal_text};
 ghost use Rattle.smap_c.specs.Refusal.{refusal_in};
-ghost use Rattle.smap_c.specs.Telling.{compose_refusal_text, table_refusal_text};
+ghost use Rattle.smap_c.specs.Report.{compose_refusal_text, table_refusal_text};
 
 use crate::handles::BytesHandle;
 use crate::refusal::{Refusal, refusal_in};
@@ -12,7 +12,7 @@ use crate::written::hand_out;
 use smap_verdicts::refusal_text;
 use std::alloc::Global;
 
-/// Writes what the program tells of this refusal of a map, without the map's path: the number and the name of the
+/// Writes what the program says of this refusal of a map, without the map's path: the number and the name of the
 /// refusal, and then its parts, with no LF. No text is written where no refusal of a map has these numbers.
 #[unsafe(no_mangle)]
 pub extern "C" fn smap_refusal_text(
@@ -39,7 +39,7 @@ pub extern "C" fn smap_refusal_text(
 #[unsafe(no_mangle)]
 pub extern "C" fn smap_compose_refusal_text(number: u32, text: &mut Text<'_>) -> u32
     ensures { MatchOption (compose_refusal_text number) ((result ≡ 1) × (text.new ≡ text.old))
-        (λ told. (result ≡ 0) × (text.new.text.now ≡ told)) }
+        (λ reported. (result ≡ 0) × (text.new.text.now ≡ reported)) }
 {
     text.text = match number {
         1 => b"C1 SourceIndex",
@@ -53,7 +53,7 @@ pub extern "C" fn smap_compose_refusal_text(number: u32, text: &mut Text<'_>) ->
 #[unsafe(no_mangle)]
 pub extern "C" fn smap_table_refusal_text(number: u32, text: &mut Text<'_>) -> u32
     ensures { MatchOption (table_refusal_text number) ((result ≡ 1) × (text.new ≡ text.old))
-        (λ told. (result ≡ 0) × (text.new.text.now ≡ told)) }
+        (λ reported. (result ≡ 0) × (text.new.text.now ≡ reported)) }
 {
     text.text = match number {
         1 => b"A1 BadUrl",

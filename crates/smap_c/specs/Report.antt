@@ -1,4 +1,4 @@
--- What is told of the refusals that are a number alone.
+-- What is said of the refusals that are a number alone.
 use Rattle.std.specs.Prelude.{ℕ, ◌==◌, List, Option, None, Some, codes, if◌then◌else◌}
 
 -- that two maps are not composed

@@ -1,8 +1,8 @@
-//! Telling the user what a command comes to.
+//! Printing for the user what a command comes to.
 ghost use Rattle.std.specs.Prelude.{◌≡◌, false, true, OnErr, OnOk};
 ghost use Rattle.smap_io.specs.Device.{Takes, TakesFront};
-ghost use Rattle.smap_answers.specs.Outcome.{telling_of};
-ghost use Rattle.smap_answers.specs.Streams.{Ends, IsToldTo, sinks_seen};
+ghost use Rattle.smap_answers.specs.Outcome.{report_of};
+ghost use Rattle.smap_answers.specs.Streams.{Ends, IsReportedTo, sinks_seen};
 
 use crate::lines;
 use crate::outcome::{FAILED, Failure, Reply};
@@ -11,14 +11,14 @@ use smap_io::{ByteSink, DeviceFault, write_all};
 /// Writes the text of what a command comes to to the stream that it is for and flushes that, and gives the exit status.
 /// Where standard output fails, standard error says so. A failure of standard error is passed over. The caller gives a
 /// standard output that has not failed where there is an answer for it. The call takes no memory.
-pub fn tell<W: ByteSink, E: ByteSink>(
+pub fn report<W: ByteSink, E: ByteSink>(
     outcome: &Result<Reply, Failure>,
     output: &mut W,
     errors: &mut E,
 ) -> u8
-    requires output_works { (telling_of outcome.now).is_answer ≡ true
+    requires output_works { (report_of outcome.now).is_answer ≡ true
         → (W.seen output.old).failed ≡ false }
-    ensures { Ends (telling_of outcome.now) result
+    ensures { Ends (report_of outcome.now) result
         (sinks_seen (W.seen output.old) (E.seen errors.old))
         (sinks_seen (W.seen output.new) (E.seen errors.new)) }
 {
@@ -26,12 +26,12 @@ pub fn tell<W: ByteSink, E: ByteSink>(
         Ok(reply) => match print(output, reply.bytes()) {
             Ok(()) => reply.status(),
             Err(_) => {
-                report(errors, lines::OUTPUT_FAILED.as_bytes());
+                print_error(errors, lines::OUTPUT_FAILED.as_bytes());
                 FAILED
             }
         },
         Err(failure) => {
-            report(errors, failure.bytes());
+            print_error(errors, failure.bytes());
             failure.status()
         }
     }
@@ -51,9 +51,9 @@ fn print<W: ByteSink>(output: &mut W, text: &[u8]) -> Result<(), DeviceFault>
     output.flush()
 }
 
-/// Tells the text to the user, and passes over a failure of the device.
-pub fn report<E: ByteSink>(errors: &mut E, text: &[u8])
-    ensures { IsToldTo (E.seen errors.old) (E.seen errors.new) text.now }
+/// Prints the text for the user, and passes over a failure of the device.
+pub fn print_error<E: ByteSink>(errors: &mut E, text: &[u8])
+    ensures { IsReportedTo (E.seen errors.old) (E.seen errors.new) text.now }
 {
     let _ = print(errors, text);
 }
