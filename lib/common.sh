@@ -3,7 +3,7 @@
 # the top.
 
 # The kit that everything is proved with, as `rt version` prints it.
-wanted_kit='rattle-kit-13b logic dac8208d650f15bf'
+wanted_kit='rattle-kit-13f logic dac8208d650f15bf'
 
 # The version, as `smap --version` has it.
 # shellcheck disable=SC2034
