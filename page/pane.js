@@ -68,6 +68,7 @@ class Pane {
   // ---- rows: a line is one, or where lines are wrapped one for each `across` cells of it
 
   resize() {
+    const kept = this.kept();
     // Bars that come and go would change the room while it is measured.
     this.scroller.style.overflow = this.wraps ? 'hidden scroll' : 'scroll';
     const { clientWidth: width, clientHeight: height } = this.scroller;
@@ -77,6 +78,7 @@ class Pane {
     this.begin = this.gutter + PAD;
     this.across = this.wraps ? Math.max(8, Math.floor((width - this.begin) / this.cell)) : Infinity;
     this.layRows();
+    if (kept) this.top += (this.seatOf(kept.line, kept.column).row - kept.row) * LINE_HEIGHT;
     this.wide = this.wraps ? width : this.begin + Math.ceil(Math.max(this.widest + 4, this.past) * this.cell);
     this.high = this.rows * LINE_HEIGHT + 2 * TOP;
     this.spacer.style.width = `${Math.min(this.wide, MOST_PIXELS)}px`;
@@ -90,6 +92,15 @@ class Pane {
     this.canvas.style.height = `${height}px`;
     this.scrollTo(this.left, this.top);
     this.draw();
+  }
+
+  // The caret, which stays where it is seen when lines are wrapped anew.
+  kept() {
+    const { caret, rowsOf } = this;
+    if (!this.wraps || !caret || !rowsOf || rowsOf.text !== this.text || caret.line >= this.lines) return null;
+    const { row } = this.seatOf(caret.line, caret.column);
+    const y = row * LINE_HEIGHT - this.top;
+    return y >= 0 && y < this.height ? { ...caret, row } : null;
   }
 
   layRows() {

@@ -59,9 +59,8 @@ class Page:
 
     def sources(self) -> Tuple[List[int], int]:
         """How many bytes smap says of each source, and of none."""
-        command = [self.smap, "sources", "--json", self.map_path, self.text_path]
-        lines = subprocess.run(command, stdout=subprocess.PIPE, check=True).stdout.decode().rstrip("\n").split("\n")
-        *said, all_of_them = map(json.loads, lines)
+        run = subprocess.run([self.smap, "sources", "--json", self.map_path, self.text_path], stdout=subprocess.PIPE, check=True)
+        *said, all_of_them = map(json.loads, run.stdout.decode().rstrip("\n").split("\n"))
         owned = {source["sourceIndex"]: source["bytes"] for source in said}
         return [owned.get(i, 0) for i in range(len(self.shown["sources"]))], all_of_them["unmapped"]
 

@@ -52,8 +52,11 @@ def try_hidden(browser: browsers.Browser, page: Page, checks: Checks) -> None:
     browser.settle()
     press_button(browser, "#see-text")
     insist_drawn("another size")
-    browser.resize(browsers.SIZE)
-    insist_drawn("the first size again")
+    checks.insist("whether the chosen place is in view at another size", is_seen(browser, "generated", 2, 4472), True)
+    for size in ((1000, 900), browsers.SIZE):
+        browser.resize(size)
+        insist_drawn(f"the size {size}")
+        checks.insist(f"whether the chosen place is in view at {size}", is_seen(browser, "generated", 2, 4472), True)
     light = browser.run(ORIGINAL)
     press_button(browser, "#see-areas")
     browser.prefer(True)
