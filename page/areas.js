@@ -3,12 +3,16 @@
 const DEEPEST = 40;
 const HEAD = 19;
 const LEAST = 3;
+// The page's style has these sizes too.
+const LABEL_HEIGHT = 18;
+const LABEL_EDGES = 12;
+const LABEL_GAP = 8;
+const LEAST_NAME = 48;
 
 // The pieces of a source's name: its host, its folders and its file.
 function piecesOf(name) {
-  const host = /^([a-z][a-z0-9+.-]*:\/\/[^/]*)\/(.*)$/is.exec(name);
+  const host = /^((?:[a-z][a-z0-9+.-]*:)?\/\/[^/]*)\/(.*)$/is.exec(name);
   const rest = (host ? host[2] : name).split('/');
-  if (!host && rest.length > 1 && rest[0] === '') rest[0] = '/';
   const pieces = host ? [host[1], ...rest] : rest;
   return pieces.length > DEEPEST ? [...pieces.slice(0, DEEPEST - 1), pieces.slice(DEEPEST - 1).join('/')] : pieces;
 }
@@ -34,10 +38,10 @@ function treeOf(sources) {
   const closed = (node) => {
     while (node !== top && node.files.length === 0 && node.folders.size === 1) {
       const [only] = node.folders.values();
-      Object.assign(node, { name: `${node.name.replace(/\/$/, '')}/${only.name}`, folders: only.folders, files: only.files });
+      Object.assign(node, { name: `${node.name}/${only.name}`, folders: only.folders, files: only.files });
     }
     const children = [...[...node.folders.values()].map(closed), ...node.files];
-    return { name: node.name, bytes: node.bytes, source: -1, children: children.sort((a, b) => b.bytes - a.bytes) };
+    return { name: node.name || '/', bytes: node.bytes, source: -1, children: children.sort((a, b) => b.bytes - a.bytes) };
   };
   return closed(top);
 }
@@ -133,8 +137,9 @@ class Areas {
       }
       const button = document.createElement('button');
       const isFolder = Boolean(child.children);
-      const hasHead = isFolder && width > 46 && height > HEAD + 16;
-      const whole = isFolder ? child.name : child.source < 0 ? child.name : this.nameOf(child.source);
+      const label = labelOf(visible(child.name), this.share(child.bytes), isFolder, width, height);
+      const hasHead = isFolder && label && width > 46 && height > HEAD + 16;
+      const whole = child.source < 0 ? child.name : this.nameOf(child.source);
       const reported = `${visible(whole)}, ${this.share(child.bytes)}`;
       Object.assign(button.style, { left: `${x}px`, top: `${y}px`, width: `${width}px`, height: `${height}px` });
       button.title = reported;
@@ -142,7 +147,7 @@ class Areas {
       button.className = isFolder ? 'folder' : child.source < 0 ? 'area unmapped' : 'area';
       nodes.append(button);
       if (isFolder) {
-        if (hasHead) button.append(labelOf(visible(child.name), this.share(child.bytes)));
+        if (hasHead) button.append(label);
         button.addEventListener('click', () => this.enter([...way, child]));
         const inset = Math.min(2, width / 8, height / 8);
         const head = hasHead ? HEAD : inset;
@@ -156,15 +161,27 @@ class Areas {
         button.style.backgroundColor = colourOf(this.rankOf(child.source), colours.tint * 2);
         button.addEventListener('click', () => this.open(child.source));
       }
-      if (width > 34 && height > 17) button.append(labelOf(visible(child.name), height > 36 ? this.share(child.bytes) : ''));
+      if (label) button.append(label);
     });
   }
 }
 
-function labelOf(name, share) {
+// The name and the share of an area, as far as they can be read there, or null. Beside the name of a folder stands its share.
+function labelOf(name, share, isFolder, width, height) {
+  const room = width - LABEL_EDGES;
+  const wide = labelWidth(name, isFolder);
+  if (height < LABEL_HEIGHT || room < Math.min(wide, LEAST_NAME)) return null;
   const label = document.createElement('span');
   label.className = 'label';
   label.append(Object.assign(document.createElement('b'), { textContent: name }));
-  if (share) label.append(Object.assign(document.createElement('i'), { textContent: share }));
+  const left = isFolder ? room - wide - LABEL_GAP : height < 2 * LABEL_HEIGHT ? 0 : room;
+  const shown = [share, share.split(' · ')[1]].find((text) => labelWidth(text) <= left);
+  if (shown) label.append(Object.assign(document.createElement('i'), { textContent: shown }));
   return label;
+}
+
+const ruler = document.createElement('canvas').getContext('2d');
+function labelWidth(text, isBold = false) {
+  ruler.font = `${isBold ? 600 : 500} 12px ${getComputedStyle(document.body).fontFamily}`;
+  return Math.ceil(ruler.measureText(text).width);
 }

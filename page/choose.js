@@ -6,7 +6,7 @@ function pointAt(index, other) {
   const wanted = index >= 0 ? map.source[index] : -1;
   if (other === panes.original) {
     if (wanted >= 0) {
-      if (!preview) preview = { open, left: panes.original.left, top: panes.original.top };
+      if (!preview) preview = { open, seen: panes.original.seen() };
       openSource(wanted);
       panes.original.reveal(map.originalLine[index], map.originalColumn[index]);
     } else if (index < 0) leavePreview();
@@ -19,10 +19,10 @@ function pointAt(index, other) {
 // Back to the source that was open before something was pointed at, and to where it was.
 function leavePreview() {
   if (!preview) return;
-  const { open: before, left, top } = preview;
+  const { open: before, seen } = preview;
   preview = null;
   openSource(before);
-  panes.original.scrollTo(left, top);
+  panes.original.seeAgain(seen);
 }
 
 // Says where the counterpart is, where it isn't in view.
@@ -41,6 +41,7 @@ function choose(index, { in: other } = {}) {
   chosen = index;
   preview = null;
   const origin = index >= 0 && map.source[index] >= 0;
+  if (!origin) panes.original.letGo();
   if (origin && other !== panes.generated) {
     openSource(map.source[index]);
     panes.original.caret = { line: map.originalLine[index], column: map.originalColumn[index] };
@@ -68,8 +69,7 @@ function letGo() {
   chosen = -1;
   pointed = -1;
   asked = null;
-  panes.generated.caret = null;
-  panes.original.caret = null;
+  for (const pane of Object.values(panes)) pane.letGo();
   redraw();
   report();
 }
@@ -79,26 +79,41 @@ function redraw() {
   panes.original.later();
 }
 
-// What `smap lookup` says of a mapping.
+// What `smap lookup` says of a mapping, in parts.
+function partsOf(index) {
+  const source = index < 0 ? -1 : map.source[index];
+  if (source < 0) return { place: index < 0 ? 'none' : 'unmapped' };
+  return {
+    path: nameOf(source),
+    place: `:${map.originalLine[index] + 1}:${map.originalColumn[index] + 1}`,
+    name: map.name[index] < 0 ? '' : ` name ${names[map.name[index]]}`,
+    mark: ignored.has(source) ? ' ignored' : '',
+  };
+}
+
 function answerOf(index) {
-  if (index < 0) return 'none';
-  const source = map.source[index];
-  if (source < 0) return 'unmapped';
-  const name = map.name[index] < 0 ? '' : ` name ${names[map.name[index]]}`;
-  const place = `${nameOf(source)}:${map.originalLine[index] + 1}:${map.originalColumn[index] + 1}`;
-  return `${place}${name}${ignored.has(source) ? ' ignored' : ''}`;
+  return Object.values(partsOf(index)).join('');
+}
+
+// Each part has a width of its own: a long path is cut, and not what stands behind it.
+function showAnswer(parts) {
+  const shown = Object.entries(parts).filter(([, text]) => text);
+  $('answer').replaceChildren(...shown.map(([part, text]) => isolated(part, visible(text))));
+  $('answer').title = $('answer').textContent;
 }
 
 // The line at the bottom: what is pointed at, or else what is chosen.
 function report() {
+  const isText = !$('texts').hidden;
   const isPointed = pointed >= 0;
   const index = isPointed ? pointed : chosen;
   let at = null;
-  if (isPointed) at = { line: lineOf(map, index), column: map.column[index] };
-  else if (asked) at = asked;
+  if (isText && isPointed) at = { line: lineOf(map, index), column: map.column[index] };
+  else if (isText && asked) at = asked;
   $('asked').textContent = at ? `${at.line + 1}:${at.column + 1}` : '';
   $('arrow').textContent = at ? '→' : '';
-  $('answer').textContent = at ? visible(answerOf(index)) : '';
-  $('answer').title = $('answer').textContent;
-  $('note').textContent = at ? (isPointed ? '' : asked.note) : 'Point at either text. ? shows the keys.';
+  showAnswer(at ? partsOf(index) : {});
+  const start = isText ? 'Point at either text.' : 'Click an area or a folder to open it.';
+  $('note').textContent = at ? (isPointed ? '' : asked.note) : `${start} ? shows the keys.`;
+  $('note').title = $('note').textContent;
 }

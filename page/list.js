@@ -64,11 +64,20 @@ class List {
     const to = Math.min(this.shown.length, Math.ceil((this.element.scrollTop + this.element.clientHeight) / ROW) + 2);
     const rows = [];
     for (let i = from; i < to; i += 1) rows.push(this.row(i));
-    this.rows.replaceChildren(...rows);
+    this.rows.replaceChildren(...(rows.length > 0 ? rows : [this.nothing()]));
     const active = this.shown[this.active];
     if (active && this.active >= from && this.active < to) {
       this.element.setAttribute('aria-activedescendant', `source-${active.index}`);
     } else this.element.removeAttribute('aria-activedescendant');
+  }
+
+  nothing() {
+    const element = document.createElement('p');
+    element.className = 'nothing';
+    element.setAttribute('role', 'option');
+    element.setAttribute('aria-disabled', 'true');
+    element.textContent = this.all.length > 0 ? 'No source has this in its name.' : 'The map has no sources.';
+    return element;
   }
 
   row(i) {

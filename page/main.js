@@ -41,9 +41,20 @@ function openFromList(index) {
   } else redraw();
 }
 
+// What the address has behind `#`: as it stands there where it has a wrong escape.
+function behindHash() {
+  const written = location.hash.slice(1);
+  try {
+    return decodeURIComponent(written);
+  } catch {
+    return written;
+  }
+}
+
 // To the next mapping, or the one before, in the order of a pane.
 function step(by) {
   const isOriginal = document.activeElement === panes.original.scroller;
+  see('text');
   leavePreview();
   pointed = -1;
   if (isOriginal && open >= 0) {
@@ -62,6 +73,7 @@ function step(by) {
 
 // Wraps the lines of a pane, or no longer.
 function wrap(name) {
+  see('text');
   const pane = panes[name];
   pane.wrap(!pane.wraps);
   $(name).querySelector('.wrap').setAttribute('aria-pressed', String(pane.wraps));
@@ -69,11 +81,19 @@ function wrap(name) {
 
 function see(view) {
   const isText = view === 'text';
+  if (isText !== $('texts').hidden) return;
   $('texts').hidden = !isText;
   $('areas-view').hidden = isText;
   $('see-text').setAttribute('aria-pressed', String(isText));
   $('see-areas').setAttribute('aria-pressed', String(!isText));
-  if (!isText) areas.draw();
+  drawView();
+  report();
+}
+
+// The view that is seen, measured anew. What is hidden has no size, and is measured when it is seen again.
+function drawView() {
+  if ($('texts').hidden) areas.draw();
+  else for (const pane of Object.values(panes)) pane.resize();
 }
 
 const list = new List($('list'), { open: openFromList, share, rankOf });
@@ -114,9 +134,9 @@ function start() {
 }
 
 function redrawAll() {
-  for (const pane of Object.values(panes)) pane.resize();
+  drawView();
   list.draw();
-  if (!$('areas-view').hidden) areas.draw();
+  paintSwatch();
 }
 
 function listen() {
@@ -151,7 +171,7 @@ function listen() {
     act();
   });
   document.addEventListener('copy', (event) => {
-    const isOwn = event.target instanceof HTMLInputElement || !asked || String(getSelection());
+    const isOwn = event.target instanceof HTMLInputElement || !asked || $('texts').hidden || String(getSelection());
     if (isOwn) return;
     event.clipboardData.setData('text/plain', `${$('asked').textContent} ${$('answer').textContent}`);
     event.preventDefault();
@@ -161,12 +181,12 @@ function listen() {
     readColours();
     redrawAll();
   });
-  window.addEventListener('hashchange', () => go(decodeURIComponent(location.hash.slice(1))));
+  window.addEventListener('hashchange', () => go(behindHash()));
 }
 
 start();
 listen();
-if (location.hash.length > 1) go(decodeURIComponent(location.hash.slice(1)));
+if (location.hash.length > 1) go(behindHash());
 for (const pane of Object.values(panes)) pane.draw();
 document.documentElement.dataset.ready = performance.now().toFixed(1);
 

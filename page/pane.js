@@ -55,6 +55,7 @@ class Pane {
     this.text = text;
     this.caret = null;
     this.widest = text ? text.longest : 0;
+    this.past = 0;
     this.left = 0;
     this.top = 0;
     this.resize();
@@ -67,6 +68,7 @@ class Pane {
   // ---- rows: a line is one, or where lines are wrapped one for each `across` cells of it
 
   resize() {
+    const kept = this.kept();
     // Bars that come and go would change the room while it is measured.
     this.scroller.style.overflow = this.wraps ? 'hidden scroll' : 'scroll';
     const { clientWidth: width, clientHeight: height } = this.scroller;
@@ -76,7 +78,8 @@ class Pane {
     this.begin = this.gutter + PAD;
     this.across = this.wraps ? Math.max(8, Math.floor((width - this.begin) / this.cell)) : Infinity;
     this.layRows();
-    this.wide = this.wraps ? width : this.begin + Math.ceil((this.widest + 4) * this.cell);
+    if (kept) this.top += (this.seatOf(kept.line, kept.column).row - kept.row) * LINE_HEIGHT;
+    this.wide = this.wraps ? width : this.begin + Math.ceil(Math.max(this.widest + 4, this.past) * this.cell);
     this.high = this.rows * LINE_HEIGHT + 2 * TOP;
     this.spacer.style.width = `${Math.min(this.wide, MOST_PIXELS)}px`;
     this.spacer.style.height = `${Math.min(this.high, MOST_PIXELS)}px`;
@@ -89,6 +92,15 @@ class Pane {
     this.canvas.style.height = `${height}px`;
     this.scrollTo(this.left, this.top);
     this.draw();
+  }
+
+  // The caret, which stays where it is seen when lines are wrapped anew.
+  kept() {
+    const { caret, rowsOf } = this;
+    if (!this.wraps || !caret || !rowsOf || rowsOf.text !== this.text || caret.line >= this.lines) return null;
+    const { row } = this.seatOf(caret.line, caret.column);
+    const y = row * LINE_HEIGHT - this.top;
+    return y >= 0 && y < this.height ? { ...caret, row } : null;
   }
 
   layRows() {
@@ -152,7 +164,7 @@ class Pane {
     const { row, cell } = this.seatOf(line, column);
     const x = this.begin + cell * this.cell;
     const y = TOP + row * LINE_HEIGHT;
-    if (!this.wraps && x + 40 > this.wide) this.widen(cell + 8);
+    this.reach(this.wraps || cell < this.widest ? 0 : Math.ceil(cell) + 12);
     let { left, top } = this;
     const most = this.width - Math.min(80, this.width / 4);
     if (!this.wraps && (x - left < this.begin || x - left > most)) left = x < most ? 0 : x - (this.width * 2) / 3;
@@ -160,9 +172,28 @@ class Pane {
     if (left !== this.left || top !== this.top) this.scrollTo(left, top);
   }
 
-  widen(cells) {
-    this.widest = Math.ceil(cells);
+  // Makes room for a place past the end of its line, for as long as that is what is shown.
+  reach(past) {
+    if (past === this.past) return;
+    this.past = past;
     this.resize();
+  }
+
+  letGo() {
+    this.caret = null;
+    this.reach(0);
+  }
+
+  // What `seeAgain` brings back.
+  seen() {
+    const { caret, past, left, top } = this;
+    return { caret, past, left, top };
+  }
+
+  seeAgain({ caret, past, left, top }) {
+    this.caret = caret;
+    this.reach(past);
+    this.scrollTo(left, top);
   }
 
   // The line and column under a point of the page, or null.
@@ -277,7 +308,10 @@ class Pane {
     // Of a line with wide characters it is known only here how wide it is.
     const wide = rows.filter(({ line }) => !this.wraps && !this.text.isSimpleLine(line));
     const widest = wide.reduce((most, { line }) => Math.max(most, this.text.cellsOf(line)), 0);
-    if (widest > this.widest) this.widen(widest);
+    if (widest > this.widest) {
+      this.widest = widest;
+      this.resize();
+    }
   }
 
   // The rows that are seen, each with its line, the part of it that is seen, and where its line's cell 0 would be.

@@ -108,23 +108,35 @@ function originalAt(place, last = -1) {
   return order[at];
 }
 
+// A text whose direction is its own, in an element of a class.
+function isolated(className, text) {
+  const element = Object.assign(document.createElement('span'), { className });
+  element.append(Object.assign(document.createElement('bdi'), { textContent: text }));
+  return element;
+}
+
+// The colour beside the name of the source that is open.
+function paintSwatch() {
+  const swatch = $('original').querySelector('.swatch');
+  swatch.hidden = open < 0;
+  if (open >= 0) swatch.style.backgroundColor = colourOf(rankOf(open), 0.85);
+}
+
 // Puts a source into its pane, if it isn't there.
 function openSource(index) {
   if (open === index) return;
   open = index;
   const pane = $('original');
   const name = pane.querySelector('.name');
-  const swatch = pane.querySelector('.swatch');
   const empty = pane.querySelector('.empty');
   name.replaceChildren();
-  swatch.hidden = index < 0;
+  paintSwatch();
   if (index < 0) {
     panes.original.show(null);
     empty.textContent = 'Point at the generated text, or choose a source.';
     return;
   }
-  swatch.style.backgroundColor = colourOf(rankOf(index), 0.85);
-  name.append(visible(nameOf(index)));
+  name.append(isolated('path', visible(nameOf(index))));
   name.title = visible(nameOf(index));
   if (ignored.has(index)) name.append(' ', Object.assign(document.createElement('em'), { textContent: 'ignored' }));
   const { text, order } = sourceOf(index);

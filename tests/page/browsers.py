@@ -16,6 +16,7 @@ from pathlib import Path
 from typing import Any, Dict, List, Tuple
 
 SIZE = (1440, 900)
+SCHEME = "layout.css.prefers-color-scheme.content-override"
 KEYS = {"Enter": "\ue007", "Escape": "\ue00c", "Tab": "\ue004", "Home": "\ue011", "Down": "\ue015", "Control": "\ue009"}
 
 
@@ -39,6 +40,12 @@ class Browser:
         raise NotImplementedError
 
     def picture(self) -> bytes:
+        raise NotImplementedError
+
+    def resize(self, size: Tuple[int, int]) -> None:
+        raise NotImplementedError
+
+    def prefer(self, is_dark: bool) -> None:
         raise NotImplementedError
 
     def move(self, x: float, y: float, is_click: bool = False) -> None:
@@ -100,11 +107,8 @@ class Chromium(Browser):
         options.set_capability("goog:loggingPrefs", {"browser": "ALL"})
         self.driver = webdriver.Chrome(options=options, service=Service(str(shutil.which("chromedriver"))))
         self.actions = Command.W3C_ACTIONS
-        scheme = {"name": "prefers-color-scheme", "value": "dark" if is_dark else "light"}
-        self.driver.execute_cdp_cmd("Emulation.setEmulatedMedia", {"features": [scheme]})
-        width, height = size
-        sizes = {"width": width, "height": height, "deviceScaleFactor": 1, "mobile": False}
-        self.driver.execute_cdp_cmd("Emulation.setDeviceMetricsOverride", sizes)
+        self.prefer(is_dark)
+        self.resize(size)
 
     def go(self, url: str) -> None:
         self.driver.get(url)
@@ -117,6 +121,15 @@ class Chromium(Browser):
 
     def picture(self) -> bytes:
         return self.driver.get_screenshot_as_png()
+
+    def resize(self, size: Tuple[int, int]) -> None:
+        width, height = size
+        sizes = {"width": width, "height": height, "deviceScaleFactor": 1, "mobile": False}
+        self.driver.execute_cdp_cmd("Emulation.setDeviceMetricsOverride", sizes)
+
+    def prefer(self, is_dark: bool) -> None:
+        scheme = {"name": "prefers-color-scheme", "value": "dark" if is_dark else "light"}
+        self.driver.execute_cdp_cmd("Emulation.setEmulatedMedia", {"features": [scheme]})
 
     def complaints(self) -> List[str]:
         """What the browser wrote into its console."""
@@ -137,7 +150,7 @@ class Firefox(Browser):
         self.profile = tempfile.mkdtemp()
         preferences = {
             "marionette.port": port,
-            "layout.css.prefers-color-scheme.content-override": 0 if is_dark else 1,
+            SCHEME: 0 if is_dark else 1,
             "app.update.disabledForTesting": True,
             "browser.shell.checkDefaultBrowser": False,
             "browser.startup.homepage_override.mstone": "ignore",
@@ -149,7 +162,9 @@ class Firefox(Browser):
         }
         lines = [f"user_pref({json.dumps(key)}, {json.dumps(value)});\n" for key, value in preferences.items()]
         Path(self.profile, "user.js").write_text("".join(lines))
-        command = ["firefox-esr", "--headless", "--marionette", "--no-remote", "--profile", self.profile]
+        # `prefer` sets what no page may set.
+        options = ["--headless", "--marionette", "--remote-allow-system-access", "--no-remote"]
+        command = ["firefox-esr", *options, "--profile", self.profile]
         quiet = {"stdin": subprocess.DEVNULL, "stdout": subprocess.DEVNULL, "stderr": subprocess.DEVNULL}
         screen = {"MOZ_HEADLESS_WIDTH": "1600", "MOZ_HEADLESS_HEIGHT": "1200"}
         self.process = subprocess.Popen(command, env={**os.environ, **screen}, **quiet)
@@ -158,13 +173,7 @@ class Firefox(Browser):
         self.file = self.socket.makefile("rb")
         self.read()
         self.ask("WebDriver:NewSession", {"capabilities": {"alwaysMatch": {}}})
-        # The window has a size of its own around that of the page.
-        width, height = SIZE
-        for _ in range(2):
-            outer = self.ask("WebDriver:GetWindowRect", {})
-            inner = self.run("return [innerWidth, innerHeight]")
-            sizes = {"width": outer["width"] + width - inner[0], "height": outer["height"] + height - inner[1]}
-            self.ask("WebDriver:SetWindowRect", sizes)
+        self.resize(SIZE)
 
     def connect(self, port: int) -> socket.socket:
         for _ in range(300):
@@ -203,6 +212,19 @@ class Firefox(Browser):
 
     def picture(self) -> bytes:
         return base64.b64decode(self.ask("WebDriver:TakeScreenshot", {"full": False, "hash": False})["value"])
+
+    def resize(self, size: Tuple[int, int]) -> None:
+        # The window has a size of its own around that of the page.
+        for _ in range(2):
+            outer = self.ask("WebDriver:GetWindowRect", {})
+            inner = self.run("return [innerWidth, innerHeight]")
+            sizes = {"width": outer["width"] + size[0] - inner[0], "height": outer["height"] + size[1] - inner[1]}
+            self.ask("WebDriver:SetWindowRect", sizes)
+
+    def prefer(self, is_dark: bool) -> None:
+        self.ask("Marionette:SetContext", {"value": "chrome"})
+        self.run("Services.prefs.setIntPref(arguments[0], arguments[1])", SCHEME, 0 if is_dark else 1)
+        self.ask("Marionette:SetContext", {"value": "content"})
 
     def complaints(self) -> List[str]:
         return []

@@ -78,6 +78,26 @@ def marked(folder: Path) -> Pair:
     return write(folder, "marked.js", {**map_file, "mappings": maps.encode(mappings)}, "a();b();c();d();\n\n  e();\n")
 
 
+def placed(folder: Path) -> Pair:
+    """A source with a long path, one in each kind of folder, and a place far past the end of its line."""
+    long = "webpack://project/./packages/application/src/components/checkout/receipt/formatting/currencies/european/" * 2
+    sources = [
+        f"{long}ReceiptTotalsFormatter.tsx", "file:///srv/www/a.js", "webpack:///./src/b.js", "//host/c.js", "/opt/d.js",
+        "https://example.test/js/lib/e.js", "own/src/f.js", "g.js",
+    ]
+    mappings: List[maps.Mapping] = [(4 * i, i, 0, 0, 0) for i in range(len(sources))]
+    mappings.append((4 * len(sources), 0, 0, 100000))
+    map_file = {
+        "version": 3,
+        "sources": sources,
+        "sourcesContent": ["first();\nsecond();\n"] * len(sources),
+        "names": ["first"],
+        "ignoreList": [0],
+    }
+    text = "".join(f"{letter}();" for letter in "abcdefghi") + "\n"
+    return write(folder, "placed.js", {**map_file, "mappings": maps.encode([mappings])}, text)
+
+
 def bundle(folder: Path, examples: Path, size: int) -> Pair:
     """A line of so many bytes."""
     map_file, text = maps.repeated(examples / "receipt.min.js.map", examples / "receipt.min.js", size)

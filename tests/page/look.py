@@ -16,6 +16,7 @@ import files
 from guards import try_contrast, try_hostile, try_large
 from pages import Checks, Page, asked, opened, press_button
 from texts import try_bytes, try_field, try_keys, try_marks, try_pointing, try_positions, try_preview
+from views import NARROW, try_filter, try_folders, try_hash, try_hidden, try_labels, try_line, try_none, try_room
 
 SIZE = 5000000
 
@@ -24,11 +25,20 @@ def size_of(picture: bytes) -> Tuple[int, int]:
     return int.from_bytes(picture[16:20], "big"), int.from_bytes(picture[20:24], "big")
 
 
-def keep(browser: browsers.Browser, to: Path, name: str, checks: Checks) -> None:
+def keep(browser: browsers.Browser, to: Path, name: str, checks: Checks, size: Tuple[int, int] = browsers.SIZE) -> None:
     browser.settle()
     picture = browser.picture()
     (to / name).write_bytes(picture)
-    checks.insist(f"the size of {name}", size_of(picture), browsers.SIZE)
+    checks.insist(f"the size of {name}", size_of(picture), size)
+
+
+def keep_narrow(browser: browsers.Browser, page: Page, to: Path, start: str, checks: Checks) -> None:
+    browser.resize(NARROW)
+    opened(browser, page, "#1:1")
+    keep(browser, to, f"{start}-narrow.png", checks, NARROW)
+    press_button(browser, "#see-areas")
+    keep(browser, to, f"{start}-narrow-areas.png", checks, NARROW)
+    browser.resize(browsers.SIZE)
 
 
 def keep_views(browser: browsers.Browser, pages: Dict[str, Page], to: Path, scheme: str, checks: Checks) -> None:
@@ -47,6 +57,11 @@ def keep_views(browser: browsers.Browser, pages: Dict[str, Page], to: Path, sche
     keep(browser, to, f"{start}-hostile-areas.png", checks)
     opened(browser, pages["marked"], "#1:9")
     keep(browser, to, f"{start}-marks.png", checks)
+    keep_narrow(browser, pages["placed"], to, start, checks)
+    opened(browser, pages["placed"], "#1:1")
+    keep(browser, to, f"{start}-placed.png", checks)
+    press_button(browser, "#see-areas")
+    keep(browser, to, f"{start}-placed-areas.png", checks)
     opened(browser, pages["bundle"], "#1:2500000")
     keep(browser, to, f"{start}-bundle.png", checks)
     press_button(browser, "#generated .wrap")
@@ -87,6 +102,7 @@ def main() -> int:
             "index": Page(program, (examples / "bundle.js.map", examples / "bundle.js"), folder),
             "hostile": Page(program, files.hostile(folder), folder),
             "marked": Page(program, files.marked(folder), folder),
+            "placed": Page(program, files.placed(folder), folder),
             "empty": Page(program, files.empty(folder), folder),
             "bundle": Page(program, files.bundle(folder, examples, SIZE), folder),
         }
@@ -95,7 +111,7 @@ def main() -> int:
             begin = time.monotonic()
             browser = kind()
             try:
-                for name in ("receipt", "index", "hostile", "marked", "empty"):
+                for name in ("receipt", "index", "hostile", "marked", "placed", "empty"):
                     checks.about = f"{kind.name}, {name}"
                     took = opened(browser, pages[name])
                     if name == "receipt":
@@ -107,12 +123,19 @@ def main() -> int:
                         try_pointing(browser, pages[name], checks, 20)
                 checks.about = f"{kind.name}, receipt"
                 opened(browser, pages["receipt"])
+                try_hidden(browser, pages["receipt"], checks)
+                try_none(browser, pages["receipt"], checks)
                 try_preview(browser, pages["receipt"], checks)
                 try_field(browser, pages["receipt"], checks)
                 try_keys(browser, pages["receipt"], checks)
+                try_hash(browser, pages["receipt"], checks)
                 checks.about = f"{kind.name}, marked"
                 opened(browser, pages["marked"])
                 try_marks(browser, pages["marked"], checks)
+                checks.about = f"{kind.name}, placed"
+                opened(browser, pages["placed"])
+                for tried in (try_folders, try_room, try_line, try_filter):
+                    tried(browser, pages["placed"], checks)
                 checks.insist("what the browser complains of", browser.complaints(), [])
                 checks.about = f"{kind.name}, hostile"
                 opened(browser, pages["hostile"])
@@ -120,6 +143,7 @@ def main() -> int:
                 try_hostile(browser, pages["hostile"], checks)
                 checks.about = f"{kind.name}, bundle"
                 print(f"{kind.name}: {try_large(browser, pages['bundle'], pages['receipt'], checks)}")
+                try_labels(browser, pages["bundle"], checks)
                 checks.about = f"{kind.name}, pictures"
                 keep_views(browser, pages, pictures, "light", checks)
             finally:

@@ -57,6 +57,13 @@ class Page:
         self.text = self.text_path.read_bytes().decode()
         self.mapped = mapped(self)
 
+    def sources(self) -> Tuple[List[int], int]:
+        """How many bytes smap says of each source, and of none."""
+        run = subprocess.run([self.smap, "sources", "--json", self.map_path, self.text_path], stdout=subprocess.PIPE, check=True)
+        *said, all_of_them = map(json.loads, run.stdout.decode().rstrip("\n").split("\n"))
+        owned = {source["sourceIndex"]: source["bytes"] for source in said}
+        return [owned.get(i, 0) for i in range(len(self.shown["sources"]))], all_of_them["unmapped"]
+
     def answers(self, places: List[Tuple[int, int]]) -> List[str]:
         """What smap says of positions."""
         asked = "".join(f"{line}:{column}\n" for line, column in places)

@@ -23,6 +23,7 @@ def hidden_views(browser: browsers.Browser) -> List[bool]:
 def try_bytes(browser: browsers.Browser, page: Page, checks: Checks) -> None:
     owned, unmapped = maps.bytes_by_source(page.shown, page.text)
     reported = browser.run("return smapPage.bytes()")
+    checks.insist("the bytes by smap", (reported["sources"], reported["unmapped"]), page.sources())
     checks.insist("the bytes of the sources", reported["sources"], owned)
     checks.insist("the unmapped bytes", reported["unmapped"], unmapped)
     checks.insist("all bytes", sum(reported["sources"]) + reported["unmapped"], page.text_path.stat().st_size)
