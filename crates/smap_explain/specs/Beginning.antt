@@ -1,6 +1,6 @@
 -- What the bytes of a file begin as, by the marks of the kinds of files that are taken for source maps by mistake. The
 -- kinds are asked in one order, and the first that holds is reported.
-use Rattle.std.specs.Prelude.{ℕ, ◌-◌, List, [], ◌∷◌, Bool, ◌==◌, ◌&&◌, ◌||◌, not, nat_lt, nat_eq, is_some, if◌then◌else◌, length, drop, position, unwrap_or, slice_index, codes}
+use Rattle.std.specs.Prelude.{ℕ, ◌+◌, ◌-◌, List, [], ◌∷◌, Bool, ◌==◌, ◌&&◌, ◌||◌, not, nat_lt, nat_le, nat_eq, is_some, if◌then◌else◌, length, drop, position, unwrap_or, slice_index, codes}
 use Rattle.std.specs.List.{starts_with}
 use Rattle.memchr.specs.Find.{matches, first_of}
 use Rattle.smap_record.specs.FileText.{json_text, without_mark}
@@ -21,10 +21,20 @@ is_zip bytes = starts_with nat_eq bytes (0x50 ∷ 0x4B ∷ 3 ∷ 4 ∷ []) || st
 abbrev pub has_wide_mark : List ℕ → Bool
 has_wide_mark bytes = starts_with nat_eq bytes (0xFF ∷ 0xFE ∷ []) || starts_with nat_eq bytes (0xFE ∷ 0xFF ∷ [])
 
--- one of the first two bytes is 0, as in ASCII text of UTF-16
-abbrev pub has_wide_character : List ℕ → Bool
-has_wide_character bytes =
-    nat_lt 1 (length bytes) && (if slice_index bytes 0 == 0 then not (slice_index bytes 1 == 0) else slice_index bytes 1 == 0)
+-- a character of ASCII as two bytes, the lower one first, stands at this place
+abbrev pub is_low_first : List ℕ → ℕ → Bool
+is_low_first bytes at = not (slice_index bytes at == 0) && slice_index bytes (at + 1) == 0
+
+-- or the higher one first
+abbrev pub is_high_first : List ℕ → ℕ → Bool
+is_high_first bytes at = slice_index bytes at == 0 && not (slice_index bytes (at + 1) == 0)
+
+-- the first two characters are such ones, or the only one is, as in ASCII text of UTF-16
+abbrev pub has_wide_characters : List ℕ → Bool
+has_wide_characters bytes =
+    if length bytes == 2 then is_low_first bytes 0 || is_high_first bytes 0
+    else nat_le 4 (length bytes)
+    && (is_low_first bytes 0 && is_low_first bytes 2 || is_high_first bytes 0 && is_high_first bytes 2)
 
 -- ---- texts
 
@@ -72,15 +82,15 @@ abbrev pub text_begins_as : List ℕ → Beginning
 text_begins_as bytes =
     if is_html (without_blanks (without_mark bytes)) then Html
     else (if is_data_url (without_blanks (without_mark bytes)) then DataUrl
-    else (if names_a_map bytes then Script
     else (if is_json (without_blanks (json_text bytes)) then Json
+    else (if names_a_map bytes then Script
     else Other)))
 
 -- what the bytes of a file begin as
 unfoldable pub begins_as : List ℕ → Beginning
 begins_as bytes =
-    if length bytes == 0 then Nothing
+    if length (without_blanks (without_mark bytes)) == 0 then Nothing
     else (if is_gzip bytes then Gzip
     else (if is_zip bytes then Zip
-    else (if has_wide_mark bytes || has_wide_character bytes then Utf16
+    else (if has_wide_mark bytes || has_wide_characters bytes then Utf16
     else text_begins_as bytes)))

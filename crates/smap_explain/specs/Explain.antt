@@ -1,5 +1,5 @@
 -- Why the map file of these bytes is refused so: the facts that go with the refusal (ECMA-426, Source map format).
-use Rattle.std.specs.Prelude.{◌≡◌, ℕ, List, Option, None, Some, codes, length, nat_le, ◌&&◌, if◌then◌else◌, option_and_then, option_map}
+use Rattle.std.specs.Prelude.{◌≡◌, ℕ, List, Option, None, Some, IfSome, codes, length, nat_le, ◌&&◌, if◌then◌else◌, option_and_then, option_map}
 use Rattle.std.specs.Option.{MatchOption, option_map_or}
 use Rattle.std.specs.Result.{result_ok}
 use Rattle.serde_json.specs.Data.{Members}
@@ -16,6 +16,7 @@ use Rattle.smap_explain.specs.Found.{found, found_seen}
 use Rattle.smap_explain.specs.KeyFacts.{key_facts, key_seen}
 use Rattle.smap_explain.specs.Sections.{count_at, mappings_text, section_map}
 use Rattle.smap_explain.specs.Segment.{IsSegmentExplained}
+use Rattle.smap_explain.specs.Stop.{IsStopIn}
 use Rattle.smap_explain.specs.declared.explanation.BuildFacts.{BuildFacts}
 use Rattle.smap_explain.specs.declared.explanation.Explanation.{Explanation}
 use Rattle.smap_explain.specs.declared.explanation.Explanation.TheVariants as kinds
@@ -83,11 +84,12 @@ build_explained facts = option_map_or kinds.Build facts kinds.Nothing
 
 -- ---- by the refusal
 
--- where reading stopped is left open
+-- at which byte reading stopped is left open
 pub record IsNotJsonReported (bytes : List ℕ) (explanation : Explanation) : Type 0 where
   pub facts : NotJsonFacts
   pub reported : explanation ≡ kinds.NotJson facts
   pub begins : facts.begins_as ≡ begins_as bytes
+  pub stops : IfSome facts.stop (IsStopIn bytes)
 
 pub record IsNotObjectReported (bytes : List ℕ) (explanation : Explanation) : Type 0 where
   pub value : Found

@@ -3,6 +3,7 @@ use Rattle.std.specs.Prelude.{ℕ, List, Option, Bool, length, string_bytes}
 use Rattle.std.specs.Option.{option_map_or}
 use Rattle.serde_json.specs.Data.{Data, null, boolean, number, string, array, object, Num}
 use Rattle.serde_json.specs.Find.{as_u64}
+use Rattle.smap_explain.specs.Excerpt.{excerpt}
 use Rattle.smap_explain.specs.Sections.{listed}
 use Rattle.smap_explain.specs.declared.explanation.Found.{Found}
 use Rattle.smap_explain.specs.declared.explanation.Found.TheVariants as kinds
@@ -37,7 +38,7 @@ abbrev pub value_found : Data → FoundSeen
 value_found null = null_found
 value_found (boolean value) = boolean_found value
 value_found (number value) = number_found value
-value_found (string value) = text value
+value_found (string value) = text (excerpt value)
 value_found (array items) = list (length (listed items))
 value_found (object entries) = object_found
 

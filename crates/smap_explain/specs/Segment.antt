@@ -1,7 +1,7 @@
 -- What is known of the first faulty segment of a mappings text (ECMA-426, Mappings structure): its text, its numbers, and the
 -- value for which it is refused, with what that may be.
-use Rattle.std.specs.Prelude.{◌≡◌, ℕ, ◌+◌, List, Option, Some, None, option_map, option_and_then, if◌then◌else◌, length, min, take, slice_get, slice_range, string_bytes, ℤ, pos, negsuc, ◌+ℤ◌, ◌-ℤ◌}
-use Rattle.std.specs.Str.Lossy.{utf8_lossy}
+use Rattle.std.specs.Prelude.{◌≡◌, ℕ, ◌+◌, ◌-◌, List, Option, Some, None, option_map, option_and_then, if◌then◌else◌, length, min, take, slice_get, slice_range, string_bytes, ℤ, pos, negsuc, ◌+ℤ◌, ◌-ℤ◌}
+use Rattle.std.specs.Option.{option_map_or}
 use Rattle.smap_mappings.specs.Accepted.{is_below_zero, is_past_limit}
 use Rattle.smap_mappings.specs.Faulty.{IsFirstFaulty}
 use Rattle.smap_mappings.specs.Limits.{limit}
@@ -13,6 +13,7 @@ use Rattle.smap_mappings.specs.declared.fault.FaultKind.TheVariants.{BadDigit, U
 use Rattle.smap_mappings.specs.declared.fault.FaultKind.TheVariants.{PastLimit, ColumnFalls, SourceIndex, NameIndex}
 use Rattle.smap_mappings.specs.declared.faulty.FaultySegment.{FaultySegment}
 use Rattle.smap_mappings.specs.declared.sums.RunningSums.{RunningSums}
+use Rattle.smap_explain.specs.Excerpt.{excerpt}
 use Rattle.smap_explain.specs.declared.explanation.Measure.{Measure}
 use Rattle.smap_explain.specs.declared.explanation.Quantity.{Quantity}
 use Rattle.smap_explain.specs.declared.explanation.Quantity.TheVariants.{Digit, Digits, Magnitude, Numbers, Column, Source, OriginalLine, OriginalColumn, Name}
@@ -83,9 +84,13 @@ measure_reported bytes reported numbers sources names = measure_kind reported.fa
 
 -- ---- the segment
 
--- its first 80 bytes, or as many as there are, with U+FFFD for what is cut of a character
-abbrev pub excerpt : List ℕ → List ℕ
-excerpt bytes = utf8_lossy (take (min (length bytes) 80) bytes)
+-- the first 8 of its numbers, or as many as there are
+abbrev pub first_numbers : List ℤ → List ℤ
+first_numbers numbers = take (min (length numbers) 8) numbers
+
+-- how many there are beyond these
+abbrev pub more_numbers : Option (List ℤ) → ℕ
+more_numbers numbers = option_map_or (λ list. length list - 8) numbers 0
 
 -- a column, from 1, where it is not before the line
 abbrev pub column_from_one : ℤ → Option ℕ
@@ -104,6 +109,7 @@ pub record SegmentSeen : Type 0 where
   pub text : List ℕ
   pub column : Option ℕ
   pub numbers : Option (List ℤ)
+  pub more : ℕ
   pub measure : Option Measure
 
 abbrev pub segment_seen : SegmentFacts → SegmentSeen
@@ -113,6 +119,7 @@ segment_seen facts = record {
   text = string_bytes facts.text;
   column = facts.column;
   numbers = option_map (λ numbers. numbers.items) facts.numbers;
+  more = facts.more;
   measure = facts.measure;
 }
 
@@ -123,7 +130,8 @@ facts_reported section bytes reported sources names = record {
   fault = reported.fault;
   text = excerpt bytes;
   column = column_after reported.before.column (fields_of bytes);
-  numbers = fields_of bytes;
+  numbers = option_map first_numbers (fields_of bytes);
+  more = more_numbers (fields_of bytes);
   measure = measure_reported bytes reported (fields_of bytes) sources names;
 }
 

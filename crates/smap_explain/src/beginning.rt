@@ -1,6 +1,6 @@
 //! What the bytes of a file begin as.
-ghost use Rattle.std.specs.Prelude.{◌≡◌, ◌≤◌, ◌||◌};
-ghost use Rattle.smap_explain.specs.Beginning.{begins_as, has_bytes, has_wide_character, has_wide_mark, is_blank, is_data_url, is_gzip, is_html, is_json, is_letter, is_zip, names_a_map, text_begins_as, without_blanks};
+ghost use Rattle.std.specs.Prelude.{◌≡◌, ◌≤◌, ◌<◌, ◌+◌, ◌||◌, length};
+ghost use Rattle.smap_explain.specs.Beginning.{begins_as, has_bytes, has_wide_characters, has_wide_mark, is_blank, is_data_url, is_gzip, is_high_first, is_html, is_json, is_letter, is_low_first, is_zip, names_a_map, text_begins_as, without_blanks};
 ghost use Rattle.smap_record.specs.FileText.{without_mark};
 
 use crate::explanation::Beginning;
@@ -12,7 +12,7 @@ use smap_record::json_text;
 pub fn begins_as(bytes: &[u8]) -> Beginning
     ensures { result ≡ begins_as bytes.now }
 {
-    if bytes.is_empty() {
+    if without_blanks(without_mark(bytes)).is_empty() {
         return Beginning::Nothing;
     }
     if is_gzip(bytes) {
@@ -38,11 +38,11 @@ fn text_begins_as(bytes: &[u8]) -> Beginning
     if is_data_url(text) {
         return Beginning::DataUrl;
     }
-    if names_a_map(bytes) {
-        return Beginning::Script;
-    }
     if is_json(without_blanks(json_text(bytes))) {
         return Beginning::Json;
+    }
+    if names_a_map(bytes) {
+        return Beginning::Script;
     }
     Beginning::Other
 }
@@ -60,9 +60,9 @@ fn is_zip(bytes: &[u8]) -> bool
 }
 
 fn is_utf16(bytes: &[u8]) -> bool
-    ensures { result ≡ (has_wide_mark bytes.now || has_wide_character bytes.now) }
+    ensures { result ≡ (has_wide_mark bytes.now || has_wide_characters bytes.now) }
 {
-    has_wide_mark(bytes) || has_wide_character(bytes)
+    has_wide_mark(bytes) || has_wide_characters(bytes)
 }
 
 fn has_wide_mark(bytes: &[u8]) -> bool
@@ -71,17 +71,32 @@ fn has_wide_mark(bytes: &[u8]) -> bool
     bytes.starts_with(&[0xFF, 0xFE]) || bytes.starts_with(&[0xFE, 0xFF])
 }
 
-fn has_wide_character(bytes: &[u8]) -> bool
-    ensures { result ≡ has_wide_character bytes.now }
+// Whether the first two characters are ASCII in UTF-16, or the only one is.
+fn has_wide_characters(bytes: &[u8]) -> bool
+    ensures { result ≡ has_wide_characters bytes.now }
 {
-    if bytes.len() < 2 {
+    if bytes.len() == 2 {
+        return is_low_first(bytes, 0) || is_high_first(bytes, 0);
+    }
+    if bytes.len() < 4 {
         return false;
     }
-    if bytes[0] == 0 {
-        bytes[1] != 0
-    } else {
-        bytes[1] == 0
-    }
+    is_low_first(bytes, 0) && is_low_first(bytes, 2)
+        || is_high_first(bytes, 0) && is_high_first(bytes, 2)
+}
+
+fn is_low_first(bytes: &[u8], at: usize) -> bool
+    requires { at + 1 < length bytes.now }
+    ensures { result ≡ is_low_first bytes.now at }
+{
+    bytes[at] != 0 && bytes[at + 1] == 0
+}
+
+fn is_high_first(bytes: &[u8], at: usize) -> bool
+    requires { at + 1 < length bytes.now }
+    ensures { result ≡ is_high_first bytes.now at }
+{
+    bytes[at] == 0 && bytes[at + 1] != 0
 }
 
 // The bytes after a byte order mark of UTF-8, where one stands there.

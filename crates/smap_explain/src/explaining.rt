@@ -10,6 +10,7 @@ ghost use Rattle.smap_explain.specs.Explain.{IsExplained, IsKeyReported, IsSegme
 ghost use Rattle.smap_explain.specs.Found.{found, found_seen};
 ghost use Rattle.smap_explain.specs.KeyFacts.{key_facts, key_seen};
 ghost use Rattle.smap_explain.specs.Private.Explain.{mappings_seen};
+ghost use Rattle.smap_explain.specs.Stop.{IsStopIn};
 
 use crate::beginning::begins_as;
 use crate::build::build_facts;
@@ -55,7 +56,8 @@ pub fn explain(alloc: Global, bytes: &[u8], refusal: MapRefusal) -> Result<Expla
 
 // What a file that is no JSON text begins as, and where reading it stops.
 fn not_json_facts(alloc: Global, bytes: &[u8]) -> Result<NotJsonFacts, AllocError>
-    ensures { IfOk result (λ facts. facts.begins_as ≡ begins_as bytes.now) }
+    ensures { IfOk result (λ facts. (facts.begins_as ≡ begins_as bytes.now)
+        × IfSome facts.stop (IsStopIn bytes.now)) }
 {
     let stop = match file_value(alloc, bytes)? {
         Ok(_) => None,

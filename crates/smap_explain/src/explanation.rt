@@ -32,22 +32,22 @@ pub struct NotJsonFacts {
 /// What the bytes of a file begin as.
 #[derive(Clone, Copy, PartialEq, Eq)]
 pub enum Beginning {
-    /// There are none.
+    /// There are none, or only blanks.
     Nothing,
     /// A file that is packed with gzip.
     Gzip,
     /// A zip archive.
     Zip,
-    /// UTF-16, with its byte order mark, or ASCII text in it.
+    /// UTF-16, by its byte order mark, or by two characters of ASCII.
     Utf16,
-    /// A page of HTML.
+    /// HTML or XML.
     Html,
     /// A `data:` URL.
     DataUrl,
-    /// A JavaScript text that names its source map.
-    Script,
     /// A JSON text, which then breaks off or goes on as none.
     Json,
+    /// A JavaScript text that names its source map.
+    Script,
     /// None of these.
     Other,
 }
@@ -55,11 +55,13 @@ pub enum Beginning {
 /// Where the reader of a JSON text stopped.
 #[derive(Drop)]
 pub struct Stop {
-    /// The line, from 1, and the byte of it, from 1, as the reader gives them, after a byte order mark and a guard line.
+    /// The line of the file, from 1, and the byte of it, from 1.
     pub line: u64,
     pub column: u64,
     /// The byte of the file, from 0.
     pub byte: u64,
+    /// Whether a longer file that begins so could be read, as where this one was cut.
+    pub is_cut: bool,
     /// The text about it: at most 20 bytes before it and at most 20 from it on.
     pub before: String,
     pub after: String,
@@ -76,6 +78,7 @@ pub enum Found {
     Whole(u64),
     /// Any other number.
     Number,
+    /// A text: its first 80 bytes, or as many as it has, with U+FFFD for a character that is cut.
     Text(String),
     /// A list of this many items.
     List(u64),
@@ -134,8 +137,10 @@ pub struct SegmentFacts {
     pub text: String,
     /// The generated column, from 1, where the segment spells a number for it and it is not before the line.
     pub column: Option<u64>,
-    /// The numbers that the segment spells, where each is spelled right.
+    /// The first 8 numbers that the segment spells, or as many as it has, where each is spelled right.
     pub numbers: Option<Vec<i32>>,
+    /// How many numbers it spells beyond these.
+    pub more: u64,
     /// What is wrong with the segment, as far as that is a value.
     pub measure: Option<Measure>,
 }

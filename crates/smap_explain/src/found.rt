@@ -3,6 +3,7 @@ ghost use Rattle.std.specs.Prelude.{◌≡◌, option_copied, option_map, IfOk};
 ghost use Rattle.serde_json.specs.View.{number_view, view};
 ghost use Rattle.smap_explain.specs.Found.{found, found_seen, number_found, value_found};
 
+use crate::excerpt::excerpt;
 use crate::explanation::Found;
 use serde_json::{Number, Value};
 use std::alloc::{AllocError, Global};
@@ -25,7 +26,7 @@ fn found_value(alloc: Global, value: &Value) -> Result<Found, AllocError>
         Value::Null => Ok(Found::Null),
         Value::Bool(value) => Ok(Found::Boolean(*value)),
         Value::Number(value) => Ok(found_number(value)),
-        Value::String(text) => Ok(Found::Text(String::from_str(alloc, text.as_str())?)),
+        Value::String(text) => Ok(Found::Text(excerpt(alloc, text.as_bytes())?)),
         Value::Array(items) => Ok(Found::List(items.len() as u64)),
         Value::Object(_) => Ok(Found::Object),
     }

@@ -3,6 +3,7 @@
 
 mod beginning;
 mod build;
+mod excerpt;
 mod explaining;
 mod explanation;
 mod found;

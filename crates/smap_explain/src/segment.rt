@@ -1,10 +1,11 @@
 //! The first faulty segment of a mappings text.
-ghost use Rattle.std.specs.Prelude.{◌≡◌, ◌≤◌, None, IfOk, length, option_map, string_bytes};
+ghost use Rattle.std.specs.Prelude.{◌≡◌, ◌≤◌, None, IfOk, length, option_map};
 ghost use Rattle.std.specs.Option.{MatchOption};
 ghost use Rattle.smap_mappings.specs.Faults.{first_faulty};
 ghost use Rattle.smap_mappings.specs.Limits.{most_text_bytes};
-ghost use Rattle.smap_explain.specs.Segment.{IsSegmentExplained, capped, column_after, excerpt, facts_reported, first_below_zero, first_past_limit, measure_after, measure_reported, measured, ranged, segment_seen};
+ghost use Rattle.smap_explain.specs.Segment.{IsSegmentExplained, capped, column_after, facts_reported, first_below_zero, first_numbers, first_past_limit, measure_after, measure_reported, measured, more_numbers, ranged, segment_seen};
 
+use crate::excerpt::excerpt;
 use crate::explanation::{Measure, Quantity, SegmentFacts};
 use smap_mappings::{
     FaultKind, FaultySegment, LIMIT, RunningSums, faulty_segment, first_bad_digit, large_magnitude,
@@ -56,17 +57,34 @@ fn facts_reported(
         fault: reported.fault,
         text,
         column,
-        numbers,
+        numbers: first_numbers(alloc, &numbers)?,
+        more: more_numbers(&numbers),
         measure,
     })
 }
 
-// The first 80 bytes, with a mark for what is cut of a character.
-fn excerpt(alloc: Global, segment: &[u8]) -> Result<String, AllocError>
-    ensures { IfOk result (λ text. string_bytes text ≡ excerpt segment.now) }
+// The first 8 of the numbers, where there are some.
+fn first_numbers(alloc: Global, numbers: &Option<Vec<i32>>) -> Result<Option<Vec<i32>>, AllocError>
+    ensures { IfOk result (λ front. option_map (λ list. list.items) front
+        ≡ option_map first_numbers (option_map (λ list. list.items) numbers.now)) }
 {
-    let end = segment.len().min(80);
-    String::from_utf8_lossy(alloc, &segment[..end])
+    match numbers {
+        Some(numbers) => {
+            let end = numbers.len().min(8);
+            Ok(Some(numbers[..end].to_vec(alloc)?))
+        }
+        None => Ok(None),
+    }
+}
+
+// How many numbers there are beyond these.
+fn more_numbers(numbers: &Option<Vec<i32>>) -> u64
+    ensures { result ≡ more_numbers (option_map (λ list. list.items) numbers.now) }
+{
+    match numbers {
+        Some(numbers) => numbers.len().saturating_sub(8) as u64,
+        None => 0,
+    }
 }
 
 // The column after the first number, from 1, where there is one and it is not before the line.

@@ -1,10 +1,12 @@
 //! What is known of why a map is refused, and of the mappings about a position.
+use crate::same::assert_same;
 use smap_explain::{
-    Beginning, Explanation, Found, Quantity, begins_as, build_facts, mappings_about, segment_facts,
+    Beginning, Explanation, Found, Quantity, begins_as, build_facts, explain, mappings_about,
+    segment_facts,
 };
 use smap_mappings::{FaultKind, faulty_segment, segment_numbers};
-use smap_record::{BuildRefusal, MapFile, file_parts};
-use smap_verdicts::explanation_text;
+use smap_record::{BuildRefusal, MapFile, MapRefusal, file_parts};
+use smap_verdicts::{explanation_text, refusal_json};
 use std::test::Fail;
 
 // The first bytes of files, and what they begin as.
@@ -18,7 +20,18 @@ const FILES: &[(&[u8], Beginning)] = &[
     (b"DATA:application/json,%7B", Beginning::DataUrl),
     (b"f();\n//# sourceMappingURL=f.js.map", Beginning::Script),
     (b")]}'\n{\"version\":", Beginning::Json),
+    (
+        b"{\"sourcesContent\":[\"//# sourceMappingURL=",
+        Beginning::Json,
+    ),
     (b"map", Beginning::Other),
+    (b" \r\n\t", Beginning::Nothing),
+    (b"\xef\xbb\xbf", Beginning::Nothing),
+    (b"<?xml version=\"1.0\"?><svg/>", Beginning::Html),
+    (b"\x00{\x00\"", Beginning::Utf16),
+    (b"{\x00", Beginning::Utf16),
+    (b"\x00asm\x01\x00\x00\x00", Beginning::Other),
+    (b"\x00\x01\x00\x00", Beginning::Other),
 ];
 
 #[test]
@@ -26,6 +39,85 @@ fn files_begin_as_what_they_are(rt: HostRuntime) -> Result<(), Fail> {
     for (bytes, wanted) in FILES {
         assert!(&rt; begins_as(bytes) == *wanted, "{bytes:?}");
     }
+    Ok(())
+}
+
+// Files that are no JSON, and what is said of them.
+const SAID: &[(&[u8], &str)] = &[
+    (
+        b"\x1f\x8b\x08\x00",
+        "  the file is packed with gzip\n  reading stopped at byte 1 (line 1, column 2): ..? » \u{fffd}??..\n",
+    ),
+    (
+        b"PK\x03\x04",
+        "  the file is a zip archive\n  reading stopped at byte 0 (line 1, column 1): .. » PK??..\n",
+    ),
+    (
+        b"{\x00\"\x00",
+        "  the file is UTF-16, and JSON is UTF-8\n  reading stopped at byte 1 (line 1, column 2): ..{ » ?\"?..\n",
+    ),
+    (
+        b"data:application/json,%7B",
+        "  the file is a data: URL, not the map that it holds\n  reading stopped at byte 0 (line 1, column 1): .. » data:application/jso..\n",
+    ),
+    (
+        b"f();\n//# sourceMappingURL=f.js.map",
+        "  the file is JavaScript with a sourceMappingURL: the map is the file that this names\n  reading stopped at byte 0 (line 1, column 1): .. » f();?//# sourceMappi..\n",
+    ),
+    (
+        b"map",
+        "  the file is no JSON text, and of no kind that is often taken for a map\n  reading stopped at byte 0 (line 1, column 1): .. » map..\n",
+    ),
+];
+
+#[test]
+fn files_are_said_to_be_what_they_are(rt: HostRuntime) -> Result<(), Fail> {
+    for (bytes, wanted) in SAID {
+        let explanation = explain(rt.alloc(), bytes, MapRefusal::NotJson)?;
+        let said = explanation_text(rt.alloc(), &explanation)?;
+        assert_same(&rt, "a file", &said, wanted);
+    }
+    let large = explanation_text(rt.alloc(), &Explanation::TooLarge)?;
+    assert_same(
+        &rt,
+        "a large file",
+        &large,
+        "  the file has more than 67,108,864 bytes, which is the most that a map may have\n",
+    );
+    Ok(())
+}
+
+// Maps with a wrong value at a key, and what is said of them as JSON.
+const WRONG: &[(&[u8], MapRefusal, &str)] = &[
+    (
+        br#"{"version":2}"#,
+        MapRefusal::Version,
+        r#"{"found":"the number 2","key":"version","name":"Version","ok":false,"path":"m.map","refusal":"M4"}"#,
+    ),
+    (
+        br#"{"version":3,"sources":["a",1],"mappings":""}"#,
+        MapRefusal::Sources,
+        r#"{"found":"the number 1","item":1,"key":"sources","name":"Sources","ok":false,"path":"m.map","refusal":"M8"}"#,
+    ),
+];
+
+#[test]
+fn values_at_keys_are_reported_as_json(rt: HostRuntime) -> Result<(), Fail> {
+    for (bytes, refusal, wanted) in WRONG {
+        let explanation = explain(rt.alloc(), bytes, *refusal)?;
+        let json = refusal_json(rt.alloc(), "m.map", *refusal, &explanation)?;
+        assert_same(&rt, "a map", &json, wanted);
+    }
+    Ok(())
+}
+
+// A segment of nine numbers, of which eight are reported.
+#[test]
+fn numbers_past_the_eighth_are_counted(rt: HostRuntime) -> Result<(), Fail> {
+    let facts = segment_facts(rt.alloc(), 0, "ACEGIKMOQ", 1, 0)?.ok_or("no facts")?;
+    let numbers = facts.numbers.as_ref().ok_or("no numbers")?;
+    assert_eq!(&rt; numbers.as_slice(), [0, 1, 2, 3, 4, 5, 6, 7].as_slice());
+    assert!(&rt; facts.more == 1 && facts.measure.ok_or("no measure")?.value == 9);
     Ok(())
 }
 
@@ -89,9 +181,11 @@ fn a_source_that_there_is_not_is_reported(rt: HostRuntime) -> Result<(), Fail> {
     assert!(&rt; measure.quantity == Quantity::Source && measure.value == 7);
     assert!(&rt; measure.least == Some(0) && measure.most == Some(4));
     let text = explanation_text(rt.alloc(), &Explanation::Segment(facts))?;
-    assert!(&rt;
-        text.as_str()
-            .contains("source index 7, and the map has 5 sources")
+    assert_same(
+        &rt,
+        "a source that there is not",
+        &text,
+        "  segment \"GOAC\" of section 2 at line 2, column 8 of that section, numbers 3, 7, 0, 1\n  source index 7, and the map has 5 sources\n",
     );
     Ok(())
 }

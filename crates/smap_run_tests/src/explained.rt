@@ -8,12 +8,47 @@ const REFUSED: &[(&str, &str, &str)] = &[
     (
         "cut",
         r#"{"#,
-        "refused: cut: M2 NotJson\n  the file begins as JSON\n  reading stopped at byte 1 (line 1, column 1): ..{ » ..\n",
+        "refused: cut: M2 NotJson\n  the file begins as JSON\n  reading stopped at byte 1 (line 1, column 2): ..{ » ..; the file ends too early, as one that was cut does\n",
+    ),
+    (
+        "comma",
+        r#"{"version":3,}"#,
+        "refused: comma: M2 NotJson\n  the file begins as JSON\n  reading stopped at byte 13 (line 1, column 14): ..{\"version\":3, » }..\n",
+    ),
+    (
+        "cut text",
+        r#"{"sourcesContent":["//# sourceMappingURL=a"#,
+        "refused: cut text: M2 NotJson\n  the file begins as JSON\n  reading stopped at byte 19 (line 1, column 20): ..{\"sourcesContent\":[ » \"//# sourceMappingUR..; the file ends too early, as one that was cut does\n",
+    ),
+    (
+        "comment",
+        r#"{"version":3,"x":"//# sourceMappingURL=a",}"#,
+        "refused: comment: M2 NotJson\n  the file begins as JSON\n  reading stopped at byte 42 (line 1, column 43): ..sourceMappingURL=a\", » }..\n",
+    ),
+    (
+        "lines",
+        "{\"a\":1,\n",
+        "refused: lines: M2 NotJson\n  the file begins as JSON\n  reading stopped at byte 8 (line 2, column 1): ..{\"a\":1,? » ..; the file ends too early, as one that was cut does\n",
+    ),
+    (
+        "guarded",
+        ")]}'\n\n{\"a\":\n\n x}",
+        "refused: guarded: M2 NotJson\n  the file begins as JSON\n  reading stopped at byte 14 (line 5, column 2): ..?{\"a\":??  » x}..\n",
+    ),
+    (
+        "closed",
+        "[1}\n",
+        "refused: closed: M2 NotJson\n  the file begins as JSON\n  reading stopped at byte 4 (line 2, column 1): ..[1}? » ..\n",
+    ),
+    (
+        "nothing",
+        r#""#,
+        "refused: nothing: M2 NotJson\n  the file holds nothing\n  reading stopped at byte 0 (line 1, column 1): .. » ..; the file ends too early, as one that was cut does\n",
     ),
     (
         "page",
         r#"<!DOCTYPE html>"#,
-        "refused: page: M2 NotJson\n  the file is a page of HTML\n  reading stopped at byte 0 (line 1, column 1): .. » <!DOCTYPE html>..\n",
+        "refused: page: M2 NotJson\n  the file is HTML or XML\n  reading stopped at byte 0 (line 1, column 1): .. » <!DOCTYPE html>..\n",
     ),
     (
         "list",
@@ -29,6 +64,16 @@ const REFUSED: &[(&str, &str, &str)] = &[
         "three",
         r#"{"version":"3"}"#,
         "refused: three: M4 Version\n  `version` is the text \"3\", and the key must hold the number 3\n",
+    ),
+    (
+        "point",
+        r#"{"version":3.0}"#,
+        "refused: point: M4 Version\n  `version` is a number that is not written as a whole one from 0 to 18446744073709551615, and the key must hold the number 3\n",
+    ),
+    (
+        "long",
+        r#"{"version":"abcdefghijabcdefghijabcdefghijabcdefghijabcdefghijabcdefghijabcdefghijabcdefghijabcdefghij"}"#,
+        "refused: long: M4 Version\n  `version` is the text \"abcdefghijabcdefghijabcdefghijabcdefghijabcdefghijabcdefghijabcdefghijabcdefghij\", and the key must hold the number 3\n",
     ),
     (
         "object",
@@ -88,7 +133,12 @@ const REFUSED: &[(&str, &str, &str)] = &[
     (
         "older",
         r#"{"version":3,"sources":["a"],"x_google_ignoreList":[-1],"mappings":""}"#,
-        "refused: older: M11 IgnoreList\n  `x_google_ignoreList`, item 0 is a number that is not whole, or negative, or too large, and the key may hold a list of indices of sources; the greatest is 0\n",
+        "refused: older: M11 IgnoreList\n  `x_google_ignoreList`, item 0 is a number that is not written as a whole one from 0 to 18446744073709551615, and the key may hold a list of indices of sources; the greatest is 0\n",
+    ),
+    (
+        "no sources",
+        r#"{"version":3,"sources":[],"ignoreList":[0],"mappings":""}"#,
+        "refused: no sources: M11 IgnoreList\n  `ignoreList`, item 0 is the number 0, and the key may hold a list of indices of sources; the map has no sources\n",
     ),
     (
         "file",
@@ -136,6 +186,11 @@ const REFUSED: &[(&str, &str, &str)] = &[
         "refused: F6: M14 Text 0 F6 FieldCount line 1 byte 0\n  segment \"AAA\" at line 1, column 1, numbers 0, 0, 0\n  3 numbers, and a segment has 1, 4 or 5\n",
     ),
     (
+        "many",
+        r#"{"version":3,"sources":["a"],"mappings":"ACAAAAAAAAAAAAAAAAAA"}"#,
+        "refused: many: M14 Text 0 F6 FieldCount line 1 byte 0\n  segment \"ACAAAAAAAAAAAAAAAAAA\" at line 1, column 1, numbers 0, 1, 0, 0, 0, 0, 0, 0 and 12 more\n  20 numbers, and a segment has 1, 4 or 5\n",
+    ),
+    (
         "F7",
         r#"{"version":3,"sources":["a"],"mappings":"KDAA"}"#,
         "refused: F7: M14 Text 0 F7 Negative line 1 byte 0\n  segment \"KDAA\" at line 1, column 6, numbers 5, -1, 0, 0\n  source index -1, and the least is 0\n",
@@ -159,6 +214,11 @@ const REFUSED: &[(&str, &str, &str)] = &[
         "F11",
         r#"{"version":3,"sources":["a"],"mappings":"AAAAC"}"#,
         "refused: F11: M14 Text 0 F11 NameIndex line 1 byte 0\n  segment \"AAAAC\" at line 1, column 1, numbers 0, 0, 0, 0, 1\n  name index 1, and the map has 0 names\n",
+    ),
+    (
+        "second",
+        r#"{"version":3,"sections":[{"offset":{"line":0,"column":0},"map":{"sources":["a"],"mappings":""}},{"offset":{"line":4,"column":0},"map":{"sources":["a"],"mappings":"AAAA,CCAA"}}]}"#,
+        "refused: second: M14 Text 1 F10 SourceIndex line 1 byte 5\n  segment \"CCAA\" of section 1 at line 1, column 2 of that section, numbers 1, 1, 0, 0\n  source index 1, and the map has 1 source\n",
     ),
     (
         "order",

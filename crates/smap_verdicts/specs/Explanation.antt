@@ -1,5 +1,5 @@
 -- What is said of a refused map file in sentences, each in an indented line.
-use Rattle.std.specs.Prelude.{ℕ, true, false, Option, None, Some, List, [], ◌∷◌, codes, string_bytes}
+use Rattle.std.specs.Prelude.{ℕ, Bool, true, false, if◌then◌else◌, Option, None, Some, List, [], ◌∷◌, codes, string_bytes}
 use Rattle.std.specs.Fmt.{decimal}
 use Rattle.smap_explain.specs.declared.explanation.Beginning.{Beginning}
 use Rattle.smap_explain.specs.declared.explanation.Beginning.TheVariants as begins
@@ -16,11 +16,11 @@ use Rattle.smap_verdicts.specs.Texts.{text_from}
 
 -- what the file begins as
 abbrev pub beginning_text : Beginning → List ℕ
-beginning_text begins.Nothing = codes "the file is empty"
+beginning_text begins.Nothing = codes "the file holds nothing"
 beginning_text begins.Gzip = codes "the file is packed with gzip"
 beginning_text begins.Zip = codes "the file is a zip archive"
 beginning_text begins.Utf16 = codes "the file is UTF-16, and JSON is UTF-8"
-beginning_text begins.Html = codes "the file is a page of HTML"
+beginning_text begins.Html = codes "the file is HTML or XML"
 beginning_text begins.DataUrl = codes "the file is a data: URL, not the map that it holds"
 beginning_text begins.Script = codes "the file is JavaScript with a sourceMappingURL: the map is the file that this names"
 beginning_text begins.Json = codes "the file begins as JSON"
@@ -36,12 +36,16 @@ stop_place_text stop = text_from (
 abbrev pub place_mark : List ℕ
 place_mark = 32 ∷ 194 ∷ 187 ∷ 32 ∷ []
 
+-- that the file ends too early
+abbrev pub cut_text : Bool → List ℕ
+cut_text is_cut = if is_cut then codes "; the file ends too early, as one that was cut does" else []
+
 -- and the text about it
 unfoldable pub stop_text : Option Stop → List ℕ
 stop_text None = []
 stop_text (Some stop) = text_from (
     stop_place_text stop ∷ codes ".." ∷ shown (string_bytes stop.before) ∷ place_mark
-    ∷ shown (string_bytes stop.after) ∷ codes "..\n" ∷ [])
+    ∷ shown (string_bytes stop.after) ∷ codes ".." ∷ cut_text stop.is_cut ∷ codes "\n" ∷ [])
 
 unfoldable pub not_json_text : NotJsonFacts → List ℕ
 not_json_text facts = text_from (codes "  " ∷ beginning_text facts.begins_as ∷ codes "\n" ∷ stop_text facts.stop ∷ [])
@@ -54,7 +58,7 @@ found_text founds.Null = codes "null"
 found_text (founds.Boolean true) = codes "true"
 found_text (founds.Boolean false) = codes "false"
 found_text (founds.Whole n) = text_from (codes "the number " ∷ decimal n ∷ [])
-found_text founds.Number = codes "a number that is not whole, or negative, or too large"
+found_text founds.Number = codes "a number that is not written as a whole one from 0 to 18446744073709551615"
 found_text (founds.Text text) = text_from (codes "the text \"" ∷ shown (string_bytes text) ∷ codes "\"" ∷ [])
 found_text (founds.List n) = text_from (codes "a list, of which the length is " ∷ decimal n ∷ [])
 found_text founds.Object = codes "an object"

@@ -1,5 +1,5 @@
 -- What is said of what stands at a key of a map file, in a sentence.
-use Rattle.std.specs.Prelude.{ℕ, Option, None, Some, List, [], ◌∷◌, codes}
+use Rattle.std.specs.Prelude.{ℕ, Bool, true, false, ◌&&◌, if◌then◌else◌, Option, None, Some, is_none, is_some, List, [], ◌∷◌, codes}
 use Rattle.std.specs.Fmt.{decimal}
 use Rattle.smap_explain.specs.declared.explanation.Explanation.{Explanation}
 use Rattle.smap_explain.specs.declared.explanation.Explanation.TheVariants as explained
@@ -57,10 +57,25 @@ key_place_text facts = text_from (
     codes "  `" ∷ key_name facts.key ∷ codes "`" ∷ number_after (codes " of section ") facts.section
     ∷ number_after (codes ", item ") facts.index ∷ [])
 
+-- an index of sources that are to be named
+abbrev pub is_index : Key → Bool
+is_index keys.IgnoreList = true
+is_index keys.OldIgnoreList = true
+is_index other = false
+
+-- the item is an index of a source, and there is none
+abbrev pub has_no_source : KeyFacts → Bool
+has_no_source facts = is_index facts.key && is_some facts.index && is_none facts.most
+
+-- the greatest number that may stand there, or that none may
+unfoldable pub most_text : KeyFacts → List ℕ
+most_text facts =
+    if has_no_source facts then codes "; the map has no sources" else number_after (codes "; the greatest is ") facts.most
+
 unfoldable pub key_text : KeyFacts → List ℕ
 key_text facts = text_from (
     key_place_text facts ∷ codes " is " ∷ found_text facts.found ∷ codes ", and " ∷ asked_of facts.key
-    ∷ number_after (codes "; the greatest is ") facts.most ∷ codes "\n" ∷ [])
+    ∷ most_text facts ∷ codes "\n" ∷ [])
 
 -- all that is known of why a file is refused
 unfoldable pub explanation_text : Explanation → List ℕ

@@ -1,5 +1,5 @@
 -- What is said of a faulty segment, in sentences. Lines and columns count from 0 in what a segment says, and print from 1.
-use Rattle.std.specs.Prelude.{ℕ, zero, suc, ◌+◌, ℤ, pos, negsuc, ◌+ℤ◌, Bool, false, Option, None, Some, List, [], ◌∷◌, codes, string_bytes, if◌then◌else◌, nat_le, ◌&&◌, encode_utf8, unsigned_abs}
+use Rattle.std.specs.Prelude.{ℕ, zero, suc, ◌+◌, ◌==◌, ℤ, pos, negsuc, ◌+ℤ◌, Bool, false, Option, None, Some, List, [], ◌∷◌, codes, string_bytes, if◌then◌else◌, nat_le, ◌&&◌, encode_utf8, unsigned_abs}
 use Rattle.std.specs.List.{flat_map}
 use Rattle.std.specs.Int.{saturate_signed, w64}
 use Rattle.std.specs.declared.vec.Vec.{Vec}
@@ -129,18 +129,32 @@ numbers_text [] = []
 numbers_text (first ∷ others) = text_from (
     codes ", numbers " ∷ signed_decimal first ∷ flat_map next_number others ∷ [])
 
+-- how many more there are
+unfoldable pub more_text : ℕ → List ℕ
+more_text zero = []
+more_text (suc n) = text_from (codes " and " ∷ decimal (suc n) ∷ codes " more" ∷ [])
+
 -- and where there are none
 abbrev pub numbers_where : Option (Vec ℤ Global) → List ℕ
 numbers_where None = []
 numbers_where (Some numbers) = numbers_text numbers.items
 
+-- the section, where it is not the first
+unfoldable pub of_section : ℕ → List ℕ
+of_section zero = []
+of_section (suc n) = text_from (codes " of section " ∷ decimal (suc n) ∷ [])
+
+-- then lines and columns are those of the section
+abbrev pub of_its_own : ℕ → List ℕ
+of_its_own section = if section == 0 then [] else codes " of that section"
+
 -- the segment, where it stands and what it spells
 unfoldable pub place_text : SegmentFacts → List ℕ
 place_text facts = text_from (
-    codes "  segment \"" ∷ shown (string_bytes facts.text) ∷ codes "\" at line " ∷ decimal (facts.fault.line + 1)
-    ∷ column_text facts.column ∷ [])
+    codes "  segment \"" ∷ shown (string_bytes facts.text) ∷ codes "\"" ∷ of_section facts.section
+    ∷ codes " at line " ∷ decimal (facts.fault.line + 1) ∷ column_text facts.column ∷ of_its_own facts.section ∷ [])
 
 -- all of it
 unfoldable pub segment_text : SegmentFacts → List ℕ
 segment_text facts = text_from (
-    place_text facts ∷ numbers_where facts.numbers ∷ codes "\n" ∷ wrong_text facts.fault.kind facts.measure ∷ [])
+    place_text facts ∷ numbers_where facts.numbers ∷ more_text facts.more ∷ codes "\n" ∷ wrong_text facts.fault.kind facts.measure ∷ [])

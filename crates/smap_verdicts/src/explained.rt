@@ -1,7 +1,7 @@
 //! What is said of a refused map file in sentences.
 ghost use Rattle.std.specs.Prelude.{◌≡◌, string_bytes, IfOk};
-ghost use Rattle.smap_verdicts.specs.Keys.{asked_of, explanation_text, key_name, key_place_text, key_text};
-ghost use Rattle.smap_verdicts.specs.Keys.{number_after};
+ghost use Rattle.smap_verdicts.specs.Keys.{asked_of, explanation_text, has_no_source, is_index};
+ghost use Rattle.smap_verdicts.specs.Keys.{key_name, key_place_text, key_text, most_text, number_after};
 
 use crate::facts_text::{build_text, found_text, not_json_text};
 use crate::segment_lines::segment_text;
@@ -38,8 +38,37 @@ fn key_text(alloc: Global, facts: &KeyFacts) -> Result<String, AllocError>
     let place = key_place_text(alloc, facts)?;
     let found = found_text(alloc, &facts.found)?;
     let asked = asked_of(facts.key);
-    let most = number_after(alloc, "; the greatest is ", facts.most)?;
+    let most = most_text(alloc, facts)?;
     format!(in alloc; "{place} is {found}, and {asked}{most}\n")
+}
+
+// The greatest number that may stand there, or that none may.
+#[tactic(auto, unfolding(crate::specs::Keys::most_text))]
+fn most_text(alloc: Global, facts: &KeyFacts) -> Result<String, AllocError>
+    ensures { IfOk result (λ text. string_bytes text ≡ most_text facts.now) }
+{
+    if has_no_source(facts) {
+        format!(in alloc; "; the map has no sources")
+    } else {
+        number_after(alloc, "; the greatest is ", facts.most)
+    }
+}
+
+// Whether the item is an index of a source, and there is none.
+fn has_no_source(facts: &KeyFacts) -> bool
+    ensures { result ≡ has_no_source facts.now }
+{
+    is_index(facts.key) && facts.index.is_some() && facts.most.is_none()
+}
+
+fn is_index(key: Key) -> bool
+    ensures { result ≡ is_index key }
+{
+    match key {
+        Key::IgnoreList => true,
+        Key::OldIgnoreList => true,
+        _ => false,
+    }
 }
 
 // The key, its section and its item.

@@ -1,6 +1,6 @@
 //! What is said of a file that is no JSON and of an index that is not built, in sentences.
 ghost use Rattle.std.specs.Prelude.{◌≡◌, string_bytes, IfOk};
-ghost use Rattle.smap_verdicts.specs.Explanation.{at_text, before_text, beginning_text, build_text, found_text};
+ghost use Rattle.smap_verdicts.specs.Explanation.{at_text, before_text, beginning_text, build_text, cut_text, found_text};
 ghost use Rattle.smap_verdicts.specs.Explanation.{mapping_text, not_json_text, section_text};
 ghost use Rattle.smap_verdicts.specs.Explanation.{stop_place_text, stop_text};
 
@@ -23,11 +23,11 @@ fn beginning_text(begins_as: Beginning) -> &'static str
     ensures { result.now ≡ beginning_text begins_as }
 {
     match begins_as {
-        Beginning::Nothing => "the file is empty",
+        Beginning::Nothing => "the file holds nothing",
         Beginning::Gzip => "the file is packed with gzip",
         Beginning::Zip => "the file is a zip archive",
         Beginning::Utf16 => "the file is UTF-16, and JSON is UTF-8",
-        Beginning::Html => "the file is a page of HTML",
+        Beginning::Html => "the file is HTML or XML",
         Beginning::DataUrl => "the file is a data: URL, not the map that it holds",
         Beginning::Script =>
             "the file is JavaScript with a sourceMappingURL: the map is the file that this names",
@@ -47,9 +47,21 @@ fn stop_text(alloc: Global, stop: &Option<Stop>) -> Result<String, AllocError>
             let place = stop_place_text(alloc, stop)?;
             let before = shown(alloc, &stop.before)?;
             let after = shown(alloc, &stop.after)?;
-            format!(in alloc; "{place}..{before} » {after}..\n")
+            let cut = cut_text(stop.is_cut);
+            format!(in alloc; "{place}..{before} » {after}..{cut}\n")
         }
         None => Ok(String::new(alloc)),
+    }
+}
+
+// That the file ends too early.
+fn cut_text(is_cut: bool) -> &'static str
+    ensures { result.now ≡ cut_text is_cut }
+{
+    if is_cut {
+        "; the file ends too early, as one that was cut does"
+    } else {
+        ""
     }
 }
 
@@ -74,7 +86,9 @@ pub fn found_text(alloc: Global, found: &Found) -> Result<String, AllocError>
         Found::Boolean(false) => format!(in alloc; "false"),
         Found::Whole(number) => format!(in alloc; "the number {number}"),
         Found::Number => {
-            format!(in alloc; "a number that is not whole, or negative, or too large")
+            format!(in alloc;
+                "a number that is not written as a whole one from 0 to 18446744073709551615"
+            )
         }
         Found::Text(text) => {
             let text = shown(alloc, text)?;

@@ -1,7 +1,7 @@
 //! What is said of a faulty segment, in sentences.
 ghost use Rattle.std.specs.Prelude.{◌≡◌, ◌++◌, take, string_bytes, IfOk, flat_map};
-ghost use Rattle.smap_verdicts.specs.Segment.{column_text, next_number, numbers_text, numbers_where};
-ghost use Rattle.smap_verdicts.specs.Segment.{place_text, segment_text, unmeasured, wrong_text};
+ghost use Rattle.smap_verdicts.specs.Segment.{column_text, more_text, next_number, numbers_text, numbers_where};
+ghost use Rattle.smap_verdicts.specs.Segment.{of_its_own, of_section, place_text, segment_text, unmeasured, wrong_text};
 
 use crate::measure_text::measure_text;
 use crate::shown::shown;
@@ -17,7 +17,8 @@ pub fn segment_text(alloc: Global, facts: &SegmentFacts) -> Result<String, Alloc
     let place = place_text(alloc, facts)?;
     let numbers = numbers_where(alloc, &facts.numbers)?;
     let wrong = wrong_text(alloc, facts.fault.kind, facts.measure)?;
-    format!(in alloc; "{place}{numbers}\n{wrong}")
+    let more = more_text(alloc, facts.more)?;
+    format!(in alloc; "{place}{numbers}{more}\n{wrong}")
 }
 
 // The segment and where it stands.
@@ -28,7 +29,26 @@ fn place_text(alloc: Global, facts: &SegmentFacts) -> Result<String, AllocError>
     let segment = shown(alloc, &facts.text)?;
     let line = u64::from(facts.fault.line) + 1;
     let column = column_text(alloc, facts.column)?;
-    format!(in alloc; "  segment \"{segment}\" at line {line}{column}")
+    let (section, own) = (of_section(alloc, facts.section)?, of_its_own(facts.section));
+    format!(in alloc; "  segment \"{segment}\"{section} at line {line}{column}{own}")
+}
+
+// The section, where it is not the first.
+#[tactic(auto, unfolding(crate::specs::Segment::of_section))]
+fn of_section(alloc: Global, section: u64) -> Result<String, AllocError>
+    ensures { IfOk result (λ text. string_bytes text ≡ of_section section) }
+{
+    match section {
+        0 => Ok(String::new(alloc)),
+        section => format!(in alloc; " of section {section}"),
+    }
+}
+
+// Then lines and columns are those of the section.
+fn of_its_own(section: u64) -> &'static str
+    ensures { result.now ≡ of_its_own section }
+{
+    if section == 0 { "" } else { " of that section" }
 }
 
 // The column, where it is known.
@@ -62,6 +82,17 @@ fn numbers_text(alloc: Global, numbers: &[i32]) -> Result<String, AllocError>
             format!(in alloc; ", numbers {first}{others}")
         }
         None => Ok(String::new(alloc)),
+    }
+}
+
+// How many more there are.
+#[tactic(auto, unfolding(crate::specs::Segment::more_text))]
+fn more_text(alloc: Global, more: u64) -> Result<String, AllocError>
+    ensures { IfOk result (λ text. string_bytes text ≡ more_text more) }
+{
+    match more {
+        0 => Ok(String::new(alloc)),
+        more => format!(in alloc; " and {more} more"),
     }
 }
 
