@@ -85,6 +85,7 @@ const ROWS = [
   ['A source in no folder.', ...placed('a.js', ['../src/a.ts', 'b.ts', 'x/../c.ts'])],
   ['An absolute path.', ...placed('/srv/build/a.js', ['../src/a.ts', '../../b.ts', '../../../c.ts', 'd.ts', '/srv/e.ts'])],
   ['A URL.', ...placed('https://ex.test/js/build/a.js', ['../src/a.ts', '/b.ts', './c.ts', 'webpack:///d.ts'])],
+  ['A URL without its scheme.', ...placed('//host/build/a.js', ['../src/a.ts', '../../../b.ts', 'c.ts'])],
   ['A URL without a host.', ...placed('webpack:///src/a.js', ['./lib/a.ts', '../b.ts'])],
   ['The URL of a file.', ...placed('file:///srv/build/a.js', ['../src/a.ts', '/b.ts'])],
   ['A sourceRoot of the inner map, in the folder.', ...placed('build/a.js', ['a.ts', '../b.ts'], { sourceRoot: 'src' })],

@@ -1,6 +1,6 @@
 -- What the sources of an inner map are called in a composed map (this project's own): where the outer source's name is no
 -- URL, a name that is a relative path goes on from the folder of the outer source.
-use Rattle.std.specs.Prelude.{ℕ, ◌-◌, ◌==◌, ◌||◌, ◌&&◌, Bool, false, not, List, [], ◌∷◌, ◌++◌, Option, Some, None, codes, length, take, if◌then◌else◌, option_map, slice_get}
+use Rattle.std.specs.Prelude.{ℕ, ◌-◌, ◌==◌, ◌||◌, ◌&&◌, Bool, false, not, List, [], ◌∷◌, ◌++◌, Option, Some, None, codes, drop, get_or, length, take, if◌then◌else◌, option_map, slice_get}
 use Rattle.std.specs.Option.{option_map_or}
 use Rattle.std.specs.Bool.{nat_eq}
 use Rattle.std.specs.Char.{is_ascii_alphabetic, is_ascii_alphanumeric}
@@ -30,6 +30,10 @@ has_scheme (byte ∷ text) = is_ascii_alphabetic byte && ends_scheme text
 abbrev pub is_rooted : List ℕ → Bool
 is_rooted path = starts_with nat_eq path (codes "/")
 
+-- a URL without its scheme, whose host stands behind `//`
+abbrev pub has_host : List ℕ → Bool
+has_host path = starts_with nat_eq path (codes "//")
+
 -- a path that goes on from a folder
 abbrev pub is_relative : List ℕ → Bool
 is_relative text = not (length text == 0) && not (is_rooted text) && not (has_scheme text)
@@ -40,9 +44,13 @@ is_relative text = not (length text == 0) && not (is_rooted text) && not (has_sc
 abbrev pub pieces_of_path : List ℕ → List (List ℕ)
 pieces_of_path path = slice_split (λ byte. byte == 47) path
 
--- those of the folder that a file is in
+-- the first of them that make a host with its `//`: two empty ones and the host
+abbrev pub host_pieces : (path : List ℕ) → ℕ
+host_pieces path = if has_host path then 3 else 0
+
+-- those of the folder that a file is in, behind its host
 abbrev pub folder_of : (path : List ℕ) → List (List ℕ)
-folder_of path = take (length (pieces_of_path path) - 1) (pieces_of_path path)
+folder_of path = drop (host_pieces path) (take (length (pieces_of_path path) - 1) (pieces_of_path path))
 
 -- a piece for the folder that is reached already
 abbrev pub stays : (piece : List ℕ) → Bool
@@ -76,9 +84,14 @@ abbrev pub joined_pieces : List (List ℕ) → List ℕ
 joined_pieces [] = []
 joined_pieces (piece ∷ pieces) = piece ++ behind_slashes pieces
 
+-- what stands before the pieces: a host and the root of its folders, or the root, or nothing
+abbrev pub root_of : (file : List ℕ) → List ℕ
+root_of file =
+    (if has_host file then codes "//" ++ get_or (pieces_of_path file) 2 [] else []) ++ (if is_rooted file then codes "/" else [])
+
 -- the path
 abbrev pub path_from : (file text : List ℕ) → List ℕ
-path_from file text = (if is_rooted file then codes "/" else []) ++ joined_pieces (pieces_from file text)
+path_from file text = root_of file ++ joined_pieces (pieces_from file text)
 
 -- ---- names
 

@@ -1,9 +1,9 @@
 //! What the sources of an inner map are called in a composed map.
-ghost use Rattle.std.specs.Prelude.{◌≡◌, ◌++◌, [], codes, if◌then◌else◌, option_copied, option_map, map, string_bytes, IfOk, OnOk};
+ghost use Rattle.std.specs.Prelude.{◌≡◌, ◌++◌, drop, option_copied, option_map, map, string_bytes, IfOk, OnOk};
 ghost use Rattle.std.specs.List.{fold};
 ghost use Rattle.smap_resolve.specs.SourceName.{name_of};
-ghost use Rattle.smap_compose.specs.InnerNames.{can_go_back, ends_scheme, has_scheme, is_relative, is_rooted, is_scheme_byte, name_from_outer};
-ghost use Rattle.smap_compose.specs.InnerNames.{behind_slashes, joined_pieces, one_further, path_from, pieces_of_path};
+ghost use Rattle.smap_compose.specs.InnerNames.{can_go_back, ends_scheme, folder_of, has_host, has_scheme, is_relative, is_rooted, is_scheme_byte, name_from_outer};
+ghost use Rattle.smap_compose.specs.InnerNames.{behind_slashes, host_pieces, joined_pieces, one_further, path_from, pieces_of_path, root_of};
 
 use smap_record::SourceName;
 use std::alloc::{AllocError, Global};
@@ -41,6 +41,13 @@ fn is_rooted(path: &str) -> bool
     path.as_bytes().starts_with(b"/")
 }
 
+// Whether a text is a URL without its scheme, whose host stands behind `//`.
+fn has_host(path: &str) -> bool
+    ensures { result ≡ has_host path.now }
+{
+    path.as_bytes().starts_with(b"//")
+}
+
 // Whether a text begins with the scheme of a URL, or a drive's letter, and `:`.
 fn has_scheme(text: &str) -> bool
     ensures { result ≡ has_scheme text.now }
@@ -73,15 +80,58 @@ fn is_scheme_byte(byte: u8) -> bool
 fn path_from(alloc: Global, file: &str, text: &str) -> Result<String, AllocError>
     ensures { IfOk result (λ path. string_bytes path ≡ path_from file.now text.now) }
 {
-    let rooted = is_rooted(file);
     let before = pieces_of_path(alloc, file)?;
     let behind = pieces_of_path(alloc, text)?;
     let mut pieces = Vec::with_capacity(alloc, before.len() + behind.len())?;
-    if let Some((_, folder)) = before.split_last() {
-        go_on(rooted, &mut pieces, folder)?;
+    enter_folder(file, &mut pieces, &before)?;
+    go_on(is_rooted(file), &mut pieces, &behind)?;
+    let root = root_of(alloc, file, &before)?;
+    joined_path(root, &pieces)
+}
+
+// How many of the pieces of a file make a host with its `//`.
+fn host_pieces(file: &str) -> usize
+    ensures { result ≡ host_pieces file.now }
+{
+    if has_host(file) { 3 } else { 0 }
+}
+
+// Goes on by those pieces of a file that stand behind its host and before its own name.
+fn enter_folder<'a>(
+    file: &str,
+    pieces: &mut Vec<&'a str>,
+    of_file: &[&'a str],
+) -> Result<(), AllocError>
+    requires { map (λ piece. piece.now) of_file.now ≡ pieces_of_path file.now }
+    ensures { OnOk result (map (λ piece. piece.now) pieces.new.items
+        ≡ fold (one_further (is_rooted file.now)) (map (λ piece. piece.now) pieces.old.items)
+        (folder_of file.now)) }
+{
+    let Some((_, folder)) = of_file.split_last() else {
+        return Ok(());
+    };
+    match folder.get(host_pieces(file)..) {
+        Some(behind) => go_on(is_rooted(file), pieces, behind),
+        None => Ok(()),
     }
-    go_on(rooted, &mut pieces, &behind)?;
-    joined_path(alloc, rooted, &pieces)
+}
+
+// What stands before the pieces: the host of a file, whose pieces these are, or the root, or nothing.
+fn root_of(alloc: Global, file: &str, pieces: &[&str]) -> Result<String, AllocError>
+    requires { map (λ piece. piece.now) pieces.now ≡ pieces_of_path file.now }
+    ensures { IfOk result (λ root. string_bytes root ≡ root_of file.now) }
+{
+    let mut root = String::new(alloc);
+    if has_host(file) {
+        root.push_str("//")?;
+        if let Some(host) = pieces.get(2) {
+            root.push_str(host)?;
+        }
+    }
+    if is_rooted(file) {
+        root.push('/')?;
+    }
+    Ok(root)
 }
 
 fn pieces_of_path<'a>(alloc: Global, path: &'a str) -> Result<Vec<&'a str>, AllocError>
@@ -137,15 +187,12 @@ fn can_go_back(pieces: &[&str]) -> bool
     }
 }
 
-// The path of these pieces.
-fn joined_path(alloc: Global, rooted: bool, pieces: &[&str]) -> Result<String, AllocError>
+// The path of these pieces behind a root.
+fn joined_path(root: String, pieces: &[&str]) -> Result<String, AllocError>
     ensures { IfOk result (λ path. string_bytes path
-        ≡ (if rooted then codes "/" else []) ++ joined_pieces (map (λ piece. piece.now) pieces.now)) }
+        ≡ string_bytes root ++ joined_pieces (map (λ piece. piece.now) pieces.now)) }
 {
-    let mut path = String::new(alloc);
-    if rooted {
-        path.push('/')?;
-    }
+    let mut path = root;
     if let Some((first, others)) = pieces.split_first() {
         path.push_str(first)?;
         push_behind(&mut path, others)?;

@@ -60,7 +60,7 @@ fn assert_has(rt: &impl Abort, alloc: Global, left: &str, wanted: &str) -> Resul
 
 #[test]
 fn chains_of_two_compose_as_by_others(rt: HostRuntime) -> Result<(), Fail> {
-    assert_eq!(rt; chains_of_two().len(), 26);
+    assert_eq!(rt; chains_of_two().len(), 27);
     for (outer, inners, wanted) in chains_of_two() {
         assert_has(
             &rt,

@@ -136,6 +136,15 @@ const CHAINS_OF_TWO: &[ChainOfTwo] = &[
         )],
         "0,0,https://ex.test/js/src/a.ts,0,1 0,4,https://ex.test/b.ts,3,1 0,8,https://ex.test/js/build/c.ts,6,1 0,12,webpack:///d.ts,9,1",
     ),
+    // A URL without its scheme.
+    (
+        r#"{"version":3,"sources":["//host/build/a.js"],"mappings":"AAAE,IACA,IACA"}"#,
+        &[(
+            "//host/build/a.js",
+            r#"{"version":3,"sources":["../src/a.ts","../../../b.ts","c.ts"],"mappings":"EAAC;ECGA;ECGA"}"#,
+        )],
+        "0,0,//host/src/a.ts,0,1 0,4,//host/b.ts,3,1 0,8,//host/build/c.ts,6,1",
+    ),
     // A URL without a host.
     (
         r#"{"version":3,"sources":["webpack:///src/a.js"],"mappings":"AAAE,IACA"}"#,
