@@ -23,10 +23,9 @@ use Rattle.smap_answers.specs.Files.{MayRead}
 use Rattle.smap_answers.specs.Lines.{map_refused_line, no_source_named_line, twice_line}
 use Rattle.smap_answers.specs.Map.{Never, ReportsFound, refusal_result}
 use Rattle.smap_answers.specs.Outcome.{OrMemory, Report, misuse, out_of_memory, refusal}
-use Rattle.smap_answers.specs.Private.Gathering.{IsReadAs, IsReadRefusal}
 use Rattle.smap_answers.specs.Private.Inners.{IsNamed, inners_stated}
 use Rattle.smap_answers.specs.Sources.{list_bytes_refusal}
-use Rattle.smap_answers.specs.Trace.{argument_text}
+use Rattle.smap_answers.specs.Trace.{argument_text, base_of}
 
 -- ---- a pair
 
@@ -95,14 +94,14 @@ bytes_named sources list bytes old result fine names =
 
 -- what a file gives, or why it is refused
 pub inner_read : (Reads : MayRead) (name path bytes : List ℕ) (stated : MapRecord) → Reads 2 path (Ok bytes)
-    → IsReadAs None usual_interval name bytes (Ok stated) → ReadsInner Reads name path (Ok stated)
-inner_read Reads name path bytes stated reads (used, is, read) =
-    inr (bytes, reads, inr (used, is, subst (λ found. GivesFound path found (Ok stated)) (sym read) (inr refl)))
+    → record_of bytes (base_of None name) usual_interval ≡ Ok stated → ReadsInner Reads name path (Ok stated)
+inner_read Reads name path bytes stated reads read = inr (bytes, reads, inr (subst (λ found. GivesFound path found (Ok stated)) (sym read) (inr refl)))
 
 pub inner_refused : (Reads : MayRead) (name path bytes : List ℕ) (report : Report) → Reads 2 path (Ok bytes)
-    → OrMemory (IsReadRefusal None usual_interval name path bytes) report → ReadsInner Reads name path (Err report)
+    → OrMemory (ReportsFound (refusal_result path) (record_of bytes (base_of None name) usual_interval) Never) report
+    → ReadsInner Reads name path (Err report)
 inner_refused Reads name path bytes report reads (inl no_memory) = inr (bytes, reads, inl (ap Err no_memory))
-inner_refused Reads name path bytes report reads (inr (used, is, refused)) = inr (bytes, reads, inr (used, is, go (record_of bytes used usual_interval) refused))
+inner_refused Reads name path bytes report reads (inr refused) = inr (bytes, reads, inr (go (record_of bytes (base_of None name) usual_interval) refused))
   where
     go : (found : Result MapRecord MapRefusal) → ReportsFound (refusal_result path) found Never report → GivesFound path found (Err report)
     go (Err why) reported = ap Err reported

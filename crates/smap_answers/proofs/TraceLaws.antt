@@ -10,8 +10,8 @@ use Rattle.smap_trace.specs.declared.refusal.TableRefusal.TheVariants.{Memory}
 use Rattle.smap_answers.specs.Files.{IsUnread, MayRead}
 use Rattle.smap_answers.specs.Map.{Never, ReportsFound, refusal_result}
 use Rattle.smap_answers.specs.Outcome.{OrMemory, Report, out_of_memory}
-use Rattle.smap_answers.specs.Private.Gathering.{IsReadAs, IsReadRefusal, gathered}
-use Rattle.smap_answers.specs.Trace.{Gathers, Maps, Puts, PutsFound, PutsMap, PutsNext, url_refusal_result}
+use Rattle.smap_answers.specs.Private.Gathering.{gathered}
+use Rattle.smap_answers.specs.Trace.{Gathers, Maps, Puts, PutsFound, PutsMap, PutsNext, base_of, url_refusal_result}
 use Rattle.smap_answers.specs.declared.outcome.Failure.{Failure}
 use Rattle.url.specs.Parts.{Parts}
 
@@ -37,18 +37,18 @@ puts_refused maps url path stated (Some first) refused report result given is (i
 
 -- it gives a map, which the table takes or refuses
 pub puts_read : (base : Option Parts) (k : ℕ) (maps : Maps) (url path bytes : List ℕ) (stated : MapRecord) (result : Result Maps Report)
-    → IsReadAs base k url bytes (Ok stated)
+    → record_of bytes (base_of base url) k ≡ Ok stated
     → (result ≡ Err out_of_memory) ⊎ Puts maps url path stated (url_refusal maps url) result → PutsMap base k maps url path bytes result
 puts_read base k maps url path bytes stated result read (inl no_memory) = inl no_memory
 puts_read base k maps url path bytes stated result read (inr puts) =
-    inr (read.0, read.1, subst (λ found. PutsFound maps url path found result) (sym read.2) (inr puts))
+    inr (subst (λ found. PutsFound maps url path found result) (sym read) (inr puts))
 
 -- or it is refused
 pub puts_unread : (base : Option Parts) (k : ℕ) (maps : Maps) (url path bytes : List ℕ) (report : Report)
-    → OrMemory (IsReadRefusal base k url path bytes) report
+    → OrMemory (ReportsFound (refusal_result path) (record_of bytes (base_of base url) k) Never) report
     → PutsMap base k maps url path bytes (Err report)
 puts_unread base k maps url path bytes report (inl no_memory) = inl (ap Err no_memory)
-puts_unread base k maps url path bytes report (inr (used, is, refused)) = inr (used, is, go (record_of bytes used k) refused)
+puts_unread base k maps url path bytes report (inr refused) = inr (go (record_of bytes (base_of base url) k) refused)
   where
     go : (found : Result MapRecord MapRefusal) → ReportsFound (refusal_result path) found Never report → PutsFound maps url path found (Err report)
     go (Err why) reported = ap Err reported

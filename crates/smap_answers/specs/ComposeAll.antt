@@ -24,7 +24,7 @@ use Rattle.smap_answers.specs.Lines.{map_refused_line, no_source_named_line, twi
 use Rattle.smap_answers.specs.Map.{ReportsMap, refusal_result}
 use Rattle.smap_answers.specs.Outcome.{OrMemory, Report, misuse, out_of_memory, refusal}
 use Rattle.smap_answers.specs.Sources.{list_bytes_refusal, list_refusal}
-use Rattle.smap_answers.specs.Trace.{IsBaseUsed, argument_text}
+use Rattle.smap_answers.specs.Trace.{argument_text, base_of}
 use Rattle.smap_answers.specs.Written.{written_result}
 
 -- ---- which sources have an inner map
@@ -97,7 +97,7 @@ abbrev pub ReadsInner : MayRead → (name path : List ℕ) → Result MapRecord 
 ReadsInner Reads name path result =
     ((report : Report) × OrMemory (IsUnread Reads 2 path) report × (result ≡ Err report))
     ⊎ ((bytes : List ℕ) × Reads 2 path (Ok bytes)
-    × ((result ≡ Err out_of_memory) ⊎ ((used : Option Parts) × IsBaseUsed None name used × GivesFound path (record_of bytes used usual_interval) result)))
+    × ((result ≡ Err out_of_memory) ⊎ GivesFound path (record_of bytes (base_of None name) usual_interval) result))
 
 abbrev pub with_name : (name : List ℕ) → (path : Option (List ℕ)) → Option (List ℕ × List ℕ)
 with_name name None = None

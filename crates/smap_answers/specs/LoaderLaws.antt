@@ -10,7 +10,7 @@ use Rattle.smap_answers.specs.Loader.{FailsToLoad, FailsToRead, IsSameLoader, Lo
 use Rattle.smap_answers.specs.Map.{Never, ReportsFound, refusal_result}
 use Rattle.smap_answers.specs.Outcome.{OrMemory, Report, out_of_memory}
 use Rattle.smap_answers.specs.Private.Gathering.{IsReadAs, IsReadRefusal}
-use Rattle.smap_answers.specs.Trace.{IsBaseUsed}
+use Rattle.smap_answers.specs.Trace.{IsBaseUsed, base_of}
 use Rattle.smap_answers.specs.declared.loader.FileLoader.{FileLoader}
 
 module _ (Reads : MayRead) (base : Option Parts) (k number : ℕ) where
@@ -42,6 +42,17 @@ pub refused_unbased : (base : Option Parts) (k : ℕ) (url path bytes : List ℕ
     → OrMemory (ReportsFound (refusal_result path) (record_of bytes base k) Never) report → OrMemory (IsReadRefusal base k url path bytes) report
 refused_unbased base k url path bytes report (inl memory) = inl memory
 refused_unbased base k url path bytes report (inr refused) = inr (base, used_is base url, refused)
+
+-- and one whose URL is a text has that which is given, or its URL
+
+pub read_based : (base : Option Parts) (k : ℕ) (url bytes : List ℕ) (map : Map) → IsMapOf (record_of bytes (base_of base url) k) k map
+    → IsReadAs base k url bytes (Ok map.stated)
+read_based base k url bytes map is = (base_of base url, inl refl, is.0)
+
+pub refused_based : (base : Option Parts) (k : ℕ) (url path bytes : List ℕ) (report : Report)
+    → OrMemory (ReportsFound (refusal_result path) (record_of bytes (base_of base url) k) Never) report → OrMemory (IsReadRefusal base k url path bytes) report
+refused_based base k url path bytes report (inl memory) = inl memory
+refused_based base k url path bytes report (inr refused) = inr (base_of base url, inl refl, refused)
 
 -- ---- why a map can't be had, named
 

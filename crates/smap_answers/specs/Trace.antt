@@ -42,7 +42,7 @@ abbrev pub base_of : Option Parts → (url : List ℕ) → Option Parts
 base_of (Some base) url = Some base
 base_of None url = url_in (parse_url None url)
 
--- it is that, or there is none, since the URL that frames name is too long; when that is so, `url` decides
+-- it is that; or there is none where none is given, as for a URL that is no text
 abbrev pub IsBaseUsed : Option Parts → (url : List ℕ) → Option Parts → Type 0
 IsBaseUsed base url used = (used ≡ base_of base url) ⊎ ((base ≡ None) × (used ≡ None))
 
@@ -70,8 +70,7 @@ PutsFound maps url path (Ok stated) result =
 -- the map that these bytes are, with checkpoints at the interval k, goes into the table, unless memory runs out
 abbrev pub PutsMap : Option Parts → (k : ℕ) → Maps → (url path bytes : List ℕ) → Result Maps Report → Type 0
 PutsMap base k maps url path bytes result =
-    (result ≡ Err out_of_memory)
-    ⊎ ((used : Option Parts) × IsBaseUsed base url used × PutsFound maps url path (record_of bytes used k) result)
+    (result ≡ Err out_of_memory) ⊎ PutsFound maps url path (record_of bytes (base_of base url) k) result
 
 -- the same after the arguments before: where one was refused, that stays
 abbrev pub PutsNext : Option Parts → (k : ℕ) → Result Maps Report → (url path bytes : List ℕ) → Result Maps Report → Type 0

@@ -1,10 +1,13 @@
 //! Rewriting the stack trace on standard input.
 ghost use Rattle.std.specs.Prelude.{◌≡◌, ◌&&◌, [], false, map, option_copied, IfErr, IfOk, None, Ok};
+ghost use Rattle.smap_answers.specs.Map.{Never, ReportsFound, refusal_result};
 ghost use Rattle.smap_answers.specs.Outcome.{OrMemory, failure_report, report_of};
 ghost use Rattle.smap_lines.specs.Editing.{devices_seen};
-ghost use Rattle.smap_answers.specs.Private.Gathering.{IsReadAs, IsReadRefusal, gathered};
+ghost use Rattle.smap_answers.specs.Private.Gathering.{gathered};
+ghost use Rattle.smap_record.specs.MapFile.{IsMapOf};
+ghost use Rattle.smap_record.specs.Record.{record_of};
 ghost use Rattle.smap_store.specs.MapList.{is_folder};
-ghost use Rattle.smap_answers.specs.Trace.{Gathers, IsBaseUsed, PutsNext};
+ghost use Rattle.smap_answers.specs.Trace.{Gathers, PutsNext, base_of};
 ghost use Rattle.smap_answers.specs.Trace.{IsTraceRewritten, RewriteReports, argument_of, rewrite_report, url_refusal_result};
 
 use crate::files::FileReader;
@@ -108,12 +111,11 @@ pub fn read_map_at<F: FileReader>(
     path: &str,
     bytes: Vec<u8>,
 ) -> Result<MapFile, Failure>
-    ensures read { IfOk result (λ map. IsReadAs (option_copied maps.now.base) maps.now.interval
-        url.now bytes.items (Ok map.stated)) }
-    ensures refused { IfErr result (λ failure. OrMemory
-        (IsReadRefusal (option_copied maps.now.base) maps.now.interval
-        url.now path.now bytes.items)
-        (failure_report failure)) }
+    ensures read { IfOk result (IsMapOf (record_of bytes.items
+        (base_of (option_copied maps.now.base) url.now) maps.now.interval) maps.now.interval) }
+    ensures refused { IfErr result (λ failure. OrMemory (ReportsFound (refusal_result path.now)
+        (record_of bytes.items (base_of (option_copied maps.now.base) url.now) maps.now.interval)
+        Never) (failure_report failure)) }
 {
     match maps.base {
         Some(base) => map_of(alloc, path, bytes, Some(base), maps.interval),
@@ -124,13 +126,13 @@ pub fn read_map_at<F: FileReader>(
     }
 }
 
-// The URL that frames name, where it is one and not too long.
+// The URL that frames name, where it is one. For one of more than 4 GB memory counts as run out.
 fn own_base(alloc: Global, url: &str) -> Result<Option<Url>, AllocError>
-    ensures { IfOk result (IsBaseUsed None url.now) }
+    ensures { IfOk result (λ own. own ≡ base_of None url.now) }
 {
     match Url::parse(alloc, url) {
         Ok(url) => Ok(Some(url)),
-        Err(ParseError::OutOfMemory) => Err(AllocError),
+        Err(ParseError::OutOfMemory | ParseError::Overflow) => Err(AllocError),
         Err(_) => Ok(None),
     }
 }

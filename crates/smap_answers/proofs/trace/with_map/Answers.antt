@@ -7,4 +7,4 @@ returns-in-Err g c =
     let url_is : string_bytes c.in_ok-owned.owned ≡ c.args.url.now = c.in_ok-owned.ensures.ok in
     let refused = rw url_is at c.in-Err.ensures.refused in
     puts_after _ _ _ _ _ _ _ _ c.in_ok-table.was
-    (puts_read _ _ _ _ _ _ _ _ c.in_ok-map.ensures.read (puts_refused _ _ _ _ _ _ _ _ refl refused c.refused_url.ensures))
+    (puts_read _ _ _ _ _ _ _ _ c.in_ok-map.ensures.read.0 (puts_refused _ _ _ _ _ _ _ _ refl refused c.refused_url.ensures))
