@@ -106,8 +106,8 @@ class TraceMap {
       open(map);
       return map;
     }
-    this.handle = readAt(given.mapBytes(map), given.mapUrl(mapUrl), given.interval(interval));
-    this.given = map;
+    this.given = given.steady(map);
+    this.handle = readAt(given.mapBytes(this.given), given.mapUrl(mapUrl), given.interval(interval));
     this.made = new Map();
     this.sourceTexts = [];
     this.nameTexts = [];

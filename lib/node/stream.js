@@ -1,6 +1,7 @@
 'use strict';
 // Traces and logs, rewritten as they come.
 const { Transform } = require('stream');
+const { steady } = require('./given.js');
 const { counted, open, rewriting, rewritten, tooMuch } = require('./table.js');
 
 const LF = 10;
@@ -31,7 +32,7 @@ class RewriteStream extends Transform {
   }
 
   _transform(chunk, encoding, done) {
-    this.#reported(() => this.#take(chunk), done);
+    this.#reported(() => this.#take(steady(chunk)), done);
   }
 
   _flush(done) {

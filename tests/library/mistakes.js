@@ -279,6 +279,34 @@ function bytes() {
   for (const bad of [7, null, undefined, {}, [text]]) refuses('TypeError', () => map.bytesBySource(bad), /`generated` must be a text or a Uint8Array/);
 }
 
+// Bytes that another thread could change are copied, for each call that reads some.
+function shared() {
+  const sharing = (text) => {
+    const bytes = new Uint8Array(new SharedArrayBuffer(Buffer.byteLength(text)));
+    bytes.set(Buffer.from(text));
+    return bytes;
+  };
+  refuses('TypeError', () => addon.read(sharing(small), Buffer.alloc(0), 64, new Float64Array(6)), /shared/);
+  for (const url of [undefined, 'dist/a.js', 'https://e.test/a.js']) {
+    const given = sharing(small);
+    const map = new smap.TraceMap(given, url);
+    given.fill(0);
+    same([map.sources, map.bytesBySource(sharing('x'))], [['a.js'], { sources: [1], unmapped: 0 }]);
+  }
+  const trace = sharing('f@a.min.js:1:11\nf@b.min.js:1:11\n');
+  const load = (url) => {
+    trace.fill(0);
+    return url === 'a.min.js' ? sharing(small) : null;
+  };
+  const wanted = 'f@a.js:2:5\nf@b.min.js:1:11\n';
+  same(String(smap.rewrite(new smap.Table({}, { load }), trace)), wanted);
+  const outer = new smap.TraceMap(small);
+  same(smap.composeAll(outer, { 'a.js': sharing(small) }), smap.composeAll(outer, { 'a.js': small }));
+  const stream = new smap.RewriteStream(new smap.Table({ 'a.min.js': sharing(small) }));
+  stream.write(sharing('f@a.min.js:1:11\n'));
+  same(String(stream.read()), 'f@a.js:2:5\n');
+}
+
 function intervals() {
   for (const interval of [1, 64, 4096, undefined]) same(new smap.TraceMap(small, null, interval).names, ['n']);
   for (const interval of [0, -1, -far + 64, 4097, far - 1, far, far + 64, 2 ** 53, Infinity, -Infinity]) {
@@ -520,6 +548,7 @@ paths();
 members();
 decodedMaps();
 bytes();
+shared();
 intervals();
 compositions(process.argv[2]);
 composingAll();
