@@ -254,8 +254,10 @@ function decodedMaps() {
   const far = [[[0, 0, most, 0], [most, 0, 0, most]]];
   same(smap.decodedMappings(new smap.TraceMap(given(far))), far);
   same(smap.encodedMappings(new smap.TraceMap(given(far))), 'AA+/////DA,+/////DA//////D+/////D');
-  const bad = [[[0.5]], [[-1]], [[most + 1]], [['0']], [[NaN]], [[]], [[0, 0]], [[0, 0, 0]], [[0, 0, 0, 0, 0, 0]], [7], ['AAAA'], [null]].map((line) => [line]);
-  for (const mappings of [...bad, [7], ['AAAA'], [null]]) refuses('TypeError', () => new smap.TraceMap(given(mappings)), /^decoded `mappings` must be lines of segments/);
+  const bad = [[[0.5]], [[-1]], [[most + 1]], [['0']], [[NaN]], [[]], [[0, 0]], [[0, 0, 0]], [[0, 0, 0, 0, 0, 0]], [7], ['AAAA'], [null], Array(1), [, [0]], Array(5)].map((line) => [line]);
+  const holes = [[[0, 0, 0, 0]]];
+  holes[5] = [[0, 0, 1, 0]];
+  for (const mappings of [...bad, [7], ['AAAA'], [null], holes, Array(2 ** 32 - 1)]) refuses('TypeError', () => new smap.TraceMap(given(mappings)), /^decoded `mappings` must be lines of segments/);
   refuses('Refused', () => new smap.TraceMap(given([[[5], [3]]])), /F9 ColumnFalls/, { fault: 9 });
   refuses('Refused', () => new smap.TraceMap(given([[[0, 1, 0, 0]]])), /F10 SourceIndex/, { fault: 10 });
   refuses('Refused', () => new smap.TraceMap(JSON.stringify(given(lines))), /M13 Mappings/, { number: 13 });
