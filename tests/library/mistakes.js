@@ -167,6 +167,15 @@ function paths() {
     ['dist/a.js.map', undefined, '//e.test/../b.ts', '//e.test/../b.ts'],
     ['dist/a.js.map', undefined, 'b.vue?x=../y#z/..', 'dist/b.vue?x=../y#z/..'],
     ['dist/a.js.map', 'src', null, null],
+    ['//e.test/js/o.map', undefined, 'b.ts', '//e.test/js/b.ts'],
+    ['//e.test/js/o.map', undefined, '../../../b.ts', '//e.test/b.ts'],
+    ['//e.test/js/o.map', 'src', '/b.ts', '//e.test/js/src/b.ts'],
+    ['//e.test/js/o.map', undefined, '/x/../b.ts', '//e.test/b.ts'],
+    ['//e.test', undefined, 'b.ts', '//e.test/b.ts'],
+    ['///js/o.map', undefined, 'b.ts', '/js/b.ts'],
+    ['dist/o.map?v=/2/3', undefined, 'b.ts', 'dist/b.ts'],
+    ['dist/o.map#/', undefined, '../b.ts?/x', 'b.ts?/x'],
+    ['//e.test?/o.map', undefined, 'b.ts', '//e.test/b.ts'],
   ];
   for (const [path, sourceRoot, source, name] of rows) {
     const regular = { version: 3, sourceRoot, sources: ['c.ts', source], names: [], mappings: 'ACAA' };
