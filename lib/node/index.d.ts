@@ -122,7 +122,10 @@ export class TraceMap implements SourceMapMembers {
 }
 
 /** A map or an index map: both are read alike. */
-export function AnyMap(map: string | Uint8Array | object, mapUrl?: string | URL | null): TraceMap;
+export const AnyMap: {
+  (map: string | Uint8Array | object, mapUrl?: string | URL | null): TraceMap;
+  new (map: string | Uint8Array | object, mapUrl?: string | URL | null): TraceMap;
+};
 export function presortedDecodedMap(map: object, mapUrl?: string | URL | null): TraceMap;
 
 export interface Needle {
