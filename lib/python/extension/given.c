@@ -98,12 +98,12 @@ bool bytes_of(PyObject *value, struct given *given) {
     const void *bytes = NULL;
     Py_ssize_t length = 0;
     if (PyObject_AsReadBuffer(value, &bytes, &length) < 0) return false;
-    given->steady = true;
-    if (!PyBytes_Check(value)) {
-        PyObject *read_only = PyObject_GetAttrString(value, "readonly");
-        if (!read_only) return false;
-        given->steady = read_only == Py_True;
-        Py_DECREF(read_only);
+    given->steady = PyBytes_Check(value);
+    if (PyMemoryView_Check(value)) {
+        PyObject *viewed = PyObject_GetAttrString(value, "obj");
+        if (!viewed) return false;
+        given->steady = PyBytes_Check(viewed);
+        Py_DECREF(viewed);
     }
     given->bytes = length && bytes ? bytes : (const void *)nothing;
     given->length = (size_t)length;
