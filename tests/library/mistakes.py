@@ -55,8 +55,15 @@ class Whole:
         return self.number
 
 
+class Misnamed(type):
+    """The type of types whose name is no text."""
+
+    __name__ = property(lambda cls: (1, 2))
+
+
 def places():
     with SourceMap(SMALL) as small:
+        refuses(TypeError, lambda: small.look_up(Misnamed("A", (), {})(), 0), "line is a whole number, not (1, 2)")
         for column in (10, 203, FAR - 1, FAR, FAR + 3, FAR + 203, 2**64, 2**64 + 3):
             same(small.look_up(0, column), LAST)
             same(small.look_up(1, column), None)

@@ -53,7 +53,7 @@ static bool refuse_number(PyObject *value, const char *what) {
     if (!PyErr_ExceptionMatches(PyExc_TypeError)) return false;
     PyErr_Clear();
     PyObject *name = PyObject_GetAttrString((PyObject *)Py_TYPE(value), "__name__");
-    if (name) PyErr_Format(PyExc_TypeError, "%s is a whole number, not %U", what, name);
+    if (name) PyErr_Format(PyExc_TypeError, "%s is a whole number, not %S", what, name);
     Py_XDECREF(name);
     return false;
 }
