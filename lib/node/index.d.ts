@@ -28,7 +28,7 @@ export class Refused extends Error {
   section?: number;
   /** Where the faulty segment begins in the mappings, from 0. */
   byte?: number;
-  /** The URL under which a table was to have the map, or the name of the source that it was to be of. */
+  /** The `mapUrl`, the URL under which a table was to have the map, or the name of the source that it was to be of. */
   url?: string;
   /** The value for which a segment of the mappings is refused, as the map has it: lines, columns and indices from 0. */
   value?: number;

@@ -189,7 +189,9 @@ function paths() {
       map.close();
     }
   }
-  refuses('Refused', () => new smap.TraceMap('no JSON', 'a.js'), /^refused: M2 NotJson\n/, { number: 2 });
+  for (const url of ['a.js', 'https://e.test/a.js']) {
+    refuses('Refused', () => new smap.TraceMap('no JSON', url), new RegExp(`^refused: ${url}: M2 NotJson\n`), { number: 2, url });
+  }
   refuses('Refused', () => new smap.TraceMap(small, 'a.js', 0), /M15 Build B1 Interval/);
 }
 

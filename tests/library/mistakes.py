@@ -86,7 +86,7 @@ def places():
             same(look_up(Whole(0), Whole(10)), LAST)
             refuses(KeyError, lambda: look_up(0, Whole(None)), "no number")
             for words in ((), (0,), (0, 10, 0)):
-                refuses(TypeError, lambda: look_up(*words))
+                refuses(TypeError, lambda: look_up(*words), f"{look_up.__name__}() ")
             refuses(TypeError, lambda: look_up(0, row=10))
 
 
@@ -150,6 +150,7 @@ def maps(folder):
     refuses(TypeError, lambda: SourceMap(array("I", [0])), "32 bits")
     refuses(FileNotFoundError, lambda: SourceMap(folder / "none.map"))
     refuses(Refused, lambda: SourceMap(other), f"refused: {other}: M2 NotJson", number=2, url=None)
+    refuses(Refused, lambda: SourceMap(other, "https://e.test/"), f"refused: {other}: M2 NotJson", url="https://e.test/")
     refuses(Refused, lambda: SourceMap(str(path)), "refused: M2 NotJson", number=2)
     unnamed = Path(os.fsdecode(os.fsencode(folder) + b"/\xff.map"))
     unnamed.write_bytes(b"[]")
@@ -191,6 +192,8 @@ def bases():
     for base in ("", "no URL", "a.js", "/a.js", "\udc80"):
         refuses(Refused, lambda: SourceMap(SMALL, base=base), "the base is no URL", repr(base), number=0)
     refuses(Refused, lambda: SourceMap(SMALL, base="x" * 100000), "the base is no URL", "99800 characters more", number=0)
+    url = "https://e.test/a.map"
+    refuses(Refused, lambda: SourceMap(b"{}", base=url), f"refused: {url}: M4 Version\n", number=4, url=url)
     for base in (7, b"https://e.test/", Path("a")):
         refuses(TypeError, lambda: SourceMap(SMALL, base=base), "base is a str", type(base).__name__)
     # No base of a test is so long.
