@@ -10,7 +10,7 @@ import tempfile
 from array import array
 from pathlib import Path
 
-from smap import Answer, Mapping, Refused, Rewriter, SourceMap, compose, compose_all
+from smap import Answer, Mapping, Refused, Rewriter, SourceMap, _smap, compose, compose_all
 from smap._answers import Refusal
 from smap._reported import refused_map
 
@@ -264,6 +264,9 @@ def composing_all():
         refuses(ValueError, lambda: compose_all(first, {"x/a.js": inner, 1: inner}), "source 1 has two maps")
         for source in (False, 0.0, None, b"x/a.js"):
             refuses(TypeError, lambda: compose_all(first, {source: inner}), "source", type(source).__name__)
+        for inners in ({Whole(0): second}, {False: second}, {0: 7}):
+            refuses(TypeError, lambda: _smap.compose_all(first, inners, False, False), "source")
+        same(sources(compose_all(first, {Whole(0): second})), all_of("s.ts"))
         for given in (7, None, []):
             refuses(TypeError, lambda: compose_all(first, {0: given}), "bytes, a str or a Path", type(given).__name__)
         for given in (7, SMALL, None):
