@@ -199,6 +199,17 @@ function paths() {
   refuses('Refused', () => new smap.TraceMap(small, 'a.js', 0), /M15 Build B1 Interval/);
 }
 
+// Half of a surrogate pair that stands alone has no bytes.
+function halves() {
+  for (const half of ['\ud83d', '\ude00\ud83d', '\ufffd\ud83d']) {
+    const calls = [() => new smap.TraceMap(small.replace('a.js', half)), () => new smap.TraceMap(small, half), () => new smap.Table({ [half]: small })];
+    for (const call of calls) refuses('TypeError', call, /half of a surrogate pair alone$/);
+  }
+  const whole = '\u{1f600}\ufffd';
+  same(new smap.TraceMap(small.replace('a.js', whole), `${whole}/b.js`).resolvedSources, [`${whole}/${whole}`]);
+  same(String(smap.rewrite(new smap.Table({ [whole]: small }), `f@${whole}:1:11`)), 'f@a.js:2:5');
+}
+
 // What trace-mapping has too, of maps that are worked out by hand.
 function members() {
   const map = new smap.TraceMap({
@@ -562,6 +573,7 @@ maps();
 reasons();
 bases();
 paths();
+halves();
 members();
 decodedMaps();
 bytes();
