@@ -388,6 +388,10 @@ function composingAll() {
   same(sources(smap.composeAll(map, new Map([['x/a.js', second]]))), allOf('s.ts', 's.ts'));
   same(sources(smap.composeAll(map, [[0, map]])), allOf('x/x/a.js', 'x/x/a.js', 'https://e.test/y/b.js'));
   isOpen();
+  // A map that was read before has the names of then.
+  same(sources(smap.composeAll(map, [[2, second]])), allOf('../s.ts'));
+  const elsewhere = new smap.TraceMap(inner, 'https://f.test/y/b.js');
+  same(sources(smap.composeAll(map, { 'x/a.js': elsewhere })), allOf('https://f.test/s.ts', 'https://f.test/s.ts'));
   same(sources(smap.composeAll(map, [[2, inner]], { prune: true })), ['x/a.js', 'https://e.test/s.ts']);
   for (const source of [3, -1, -far, far - 1, far, 2 ** 53, Infinity]) {
     for (const load of [undefined, () => null]) {

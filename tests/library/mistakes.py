@@ -253,6 +253,9 @@ def composing_all():
         same(sources(compose_all(first, {"x/a.js": second})), all_of("s.ts", "s.ts"))
         same(sources(compose_all(first, {0: first})), all_of("x/x/a.js", "x/x/a.js", "https://e.test/y/b.js"))
         same(second.look_up(0, 0), Answer(0, 0, 0, 0, None))
+        # A map that was read before has the names of then.
+        same(sources(compose_all(first, {2: second})), all_of("../s.ts"))
+        same(sources(compose_all(first, {"x/a.js": SourceMap(inner, "https://f.test/y/b.js")})), all_of(*["https://f.test/s.ts"] * 2))
         same(sources(compose_all(first, {2: inner}, prune=True)), ["x/a.js", "https://e.test/s.ts"])
         for source in (3, -1, -FAR, FAR - 1, FAR, 2**64):
             for load in (None, lambda name: None):
