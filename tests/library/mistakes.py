@@ -155,6 +155,8 @@ def maps(folder):
     unnamed = Path(os.fsdecode(os.fsencode(folder) + b"/\xff.map"))
     unnamed.write_bytes(b"[]")
     refuses(Refused, lambda: SourceMap(unnamed), "\ufffd.map: M3 NotObject", number=3)
+    for held in (bytearray(SMALL), mmap.mmap(-1, 9), "x", None):
+        refuses(TypeError, lambda: _smap.frame_urls(held), "no bytes and no memoryview")
 
 
 def reasons(folder):

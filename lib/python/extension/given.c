@@ -94,16 +94,27 @@ bool index_of(PyObject *value, const char *what, uint32_t *index) {
     return true;
 }
 
+/* The bytes of a memoryview, which are steady where they are those of `bytes`. */
+static bool bytes_viewed(PyObject *view, const void **bytes, Py_ssize_t *length, bool *steady) {
+    PyObject *viewed = PyObject_GetAttrString(view, "obj");
+    if (!viewed) return false;
+    *steady = PyBytes_CheckExact(viewed);
+    Py_DECREF(viewed);
+    return PyObject_AsReadBuffer(view, bytes, length) == 0;
+}
+
 bool bytes_of(PyObject *value, struct given *given) {
     const void *bytes = NULL;
     Py_ssize_t length = 0;
-    if (PyObject_AsReadBuffer(value, &bytes, &length) < 0) return false;
-    given->steady = PyBytes_Check(value);
-    if (PyMemoryView_Check(value)) {
-        PyObject *viewed = PyObject_GetAttrString(value, "obj");
-        if (!viewed) return false;
-        given->steady = PyBytes_Check(viewed);
-        Py_DECREF(viewed);
+    if (PyBytes_Check(value)) {
+        bytes = PyBytes_AsString(value);
+        length = PyBytes_Size(value);
+        given->steady = true;
+    } else if (!PyMemoryView_Check(value)) {
+        PyErr_SetString(PyExc_TypeError, "no bytes and no memoryview");
+        return false;
+    } else if (!bytes_viewed(value, &bytes, &length, &given->steady)) {
+        return false;
     }
     given->bytes = length && bytes ? bytes : (const void *)nothing;
     given->length = (size_t)length;
