@@ -1,6 +1,6 @@
 'use strict';
 // Checks what was given: what no call of the library may get is refused here, and never read as something else.
-const { isUint8Array, isUint32Array, isAnyArrayBuffer } = require('util').types;
+const { isUint8Array, isUint32Array, isAnyArrayBuffer, isSharedArrayBuffer } = require('util').types;
 const { parsed } = require('./json.js');
 const { encode } = require('./vlq.js');
 
@@ -55,10 +55,24 @@ function positions(value) {
   return value;
 }
 
+// What is given, where no other thread can change it: shared bytes are copied, since those that are read have to stay.
+function steady(value) {
+  return isUint8Array(value) && isSharedArrayBuffer(value.buffer) ? Buffer.from(value) : value;
+}
+
+// The bytes of a text. Half of a pair of units has none, where it stands alone.
+function utf8(value, what) {
+  const made = Buffer.from(value);
+  if (made.length !== value.length && made.includes('\ufffd') && /\p{Surrogate}/u.test(value)) {
+    throw new TypeError(`${what} has half of a surrogate pair alone`);
+  }
+  return made;
+}
+
 // The bytes of a map: those given, those of its text, or those of a parsed map as JSON.
 function mapBytes(value) {
-  if (isUint8Array(value)) return value;
-  if (typeof value === 'string') return Buffer.from(value);
+  if (isUint8Array(value)) return steady(value);
+  if (typeof value === 'string') return utf8(value, 'a map');
   if (typeof value !== 'object' || value === null || ArrayBuffer.isView(value) || isAnyArrayBuffer(value)) {
     throw new TypeError('a map must be a text, a Uint8Array or a parsed map');
   }
@@ -79,7 +93,7 @@ function encoded(map) {
 
 // The bytes of a text or of a Uint8Array.
 function bytes(value, what) {
-  return isUint8Array(value) ? value : Buffer.from(text(value, what, ' or a Uint8Array'));
+  return isUint8Array(value) ? steady(value) : Buffer.from(text(value, what, ' or a Uint8Array'));
 }
 
 function text(value, what, more = '') {
@@ -90,7 +104,9 @@ function text(value, what, more = '') {
 // The URL or path at which a map stands, or '' for none.
 function mapUrl(value) {
   if (value === undefined || value === null) return '';
-  return value instanceof URL ? value.href : text(value, 'mapUrl');
+  const url = value instanceof URL ? value.href : text(value, 'mapUrl');
+  utf8(url, '`mapUrl`');
+  return url;
 }
 
 function boolean(value, what) {
@@ -113,4 +129,4 @@ function options(value, ...known) {
   return value;
 }
 
-module.exports = { boolean, bytes, column, interval, line, lineFromZero, loader, mapBytes, mapUrl, options, positions, source, text };
+module.exports = { boolean, bytes, column, interval, line, lineFromZero, loader, mapBytes, mapUrl, options, positions, source, steady, text, utf8 };

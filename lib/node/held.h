@@ -3,7 +3,7 @@
 #include <smap.h>
 #include <stdlib.h>
 
-/* So many bytes more than after the last sweep, and what was collected is freed before another map is read. */
+/* So many bytes more than the fewest since the last sweep, and what was collected is freed before another map is read. */
 #define SWEEP (32 << 20)
 
 struct held;
@@ -12,7 +12,7 @@ struct held;
 struct addon {
     uint32_t *room;
     struct held *first;
-    int64_t reported, swept; /* the bytes that V8 knows of, and those after the last sweep */
+    int64_t reported, swept; /* the bytes that V8 knows of, and the fewest since the last sweep */
 };
 
 struct held {
@@ -31,8 +31,10 @@ static const napi_type_tag table_tag = {0x8d3f0b6a91c24e55, 0xb1a7c05e2f6d4a02};
 /* Says to V8 how many bytes this holds now. */
 static void report_size(napi_env env, struct held *held, int64_t size) {
     int64_t all;
+    struct addon *addon = held->addon;
     napi_adjust_external_memory(env, size - held->size, &all);
-    if (held->addon) held->addon->reported += size - held->size;
+    if (addon) addon->reported += size - held->size;
+    if (addon && addon->reported < addon->swept) addon->swept = addon->reported;
     held->size = size;
 }
 

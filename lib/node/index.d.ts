@@ -28,7 +28,7 @@ export class Refused extends Error {
   section?: number;
   /** Where the faulty segment begins in the mappings, from 0. */
   byte?: number;
-  /** The URL under which a table was to have the map, or the name of the source that it was to be of. */
+  /** The `mapUrl`, the URL under which a table was to have the map, or the name of the source that it was to be of. */
   url?: string;
   /** The value for which a segment of the mappings is refused, as the map has it: lines, columns and indices from 0. */
   value?: number;
@@ -122,7 +122,10 @@ export class TraceMap implements SourceMapMembers {
 }
 
 /** A map or an index map: both are read alike. */
-export function AnyMap(map: string | Uint8Array | object, mapUrl?: string | URL | null): TraceMap;
+export const AnyMap: {
+  (map: string | Uint8Array | object, mapUrl?: string | URL | null): TraceMap;
+  new (map: string | Uint8Array | object, mapUrl?: string | URL | null): TraceMap;
+};
 export function presortedDecodedMap(map: object, mapUrl?: string | URL | null): TraceMap;
 
 export interface Needle {

@@ -6,6 +6,44 @@ const { TraceMap } = require('./map.js');
 const { Refused } = require('./refused.js');
 const { RewriteStream } = require('./stream.js');
 const { Table, rewrite } = require('./table.js');
-const tracing = require('./tracing.js');
+const {
+  AnyMap,
+  GREATEST_LOWER_BOUND,
+  LEAST_UPPER_BOUND,
+  decodedMap,
+  decodedMappings,
+  eachMapping,
+  encodedMap,
+  encodedMappings,
+  isIgnored,
+  lookUpMany,
+  originalPositionFor,
+  presortedDecodedMap,
+  sourceContentFor,
+  traceSegment,
+} = require('./tracing.js');
 
-module.exports = { ...tracing, Refused, RewriteStream, Table, TraceMap, compose, composeAll, rewrite };
+// Each name stands here by itself, for `import { .. } from 'smap'`: node finds no others.
+module.exports = {
+  AnyMap,
+  GREATEST_LOWER_BOUND,
+  LEAST_UPPER_BOUND,
+  Refused,
+  RewriteStream,
+  Table,
+  TraceMap,
+  compose,
+  composeAll,
+  decodedMap,
+  decodedMappings,
+  eachMapping,
+  encodedMap,
+  encodedMappings,
+  isIgnored,
+  lookUpMany,
+  originalPositionFor,
+  presortedDecodedMap,
+  rewrite,
+  sourceContentFor,
+  traceSegment,
+};

@@ -39,12 +39,12 @@ function readAt(bytes, base, interval) {
   return readOr((refused) => {
     if (!isPath(base)) throw refused;
     return readAtPath(bytes, base, interval);
-  }, bytes, base, interval);
+  }, bytes, base, interval, base || undefined);
 }
 
 // No call of the library takes a path, so the names of the sources are put into the map.
 function readAtPath(bytes, path, interval) {
-  const unplaced = read(bytes, '', interval);
+  const unplaced = read(bytes, '', interval, path);
   const names = namesOf(unplaced);
   addon.closeMap(unplaced);
   const map = parsed(bytes);
@@ -52,7 +52,7 @@ function readAtPath(bytes, path, interval) {
     part.sources = names.splice(0, part.sources.length).map((name) => besideMap(path, name));
     part.sourceRoot = undefined;
   }
-  return read(Buffer.from(JSON.stringify(map)), '', interval);
+  return read(Buffer.from(JSON.stringify(map)), '', interval, path);
 }
 
 // The names of the sources of a map.
@@ -106,8 +106,8 @@ class TraceMap {
       open(map);
       return map;
     }
-    this.handle = readAt(given.mapBytes(map), given.mapUrl(mapUrl), given.interval(interval));
-    this.given = map;
+    this.given = given.steady(map);
+    this.handle = readAt(given.mapBytes(this.given), given.mapUrl(mapUrl), given.interval(interval));
     this.made = new Map();
     this.sourceTexts = [];
     this.nameTexts = [];

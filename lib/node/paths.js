@@ -17,8 +17,10 @@ function plain(path) {
 // The name of a source, which goes on from the folder of the map where it is a relative path. It begins with `./` where it did so.
 function besideMap(path, name) {
   if (name === null || SCHEME.test(name) || name.startsWith('//')) return name;
-  if (name.startsWith('/')) return plain(name);
-  const joined = path.slice(0, path.lastIndexOf('/') + 1) + name;
+  const [, host, place] = /^(\/\/[^/?#]+)?([^?#]*)/.exec(path);
+  if (name.startsWith('/')) return (host || '') + plain(name);
+  const joined = place.slice(0, place.lastIndexOf('/') + 1) + name;
+  if (host) return host + plain(joined.startsWith('/') ? joined : `/${joined}`);
   const found = plain(joined);
   return joined.startsWith('.') && !found.startsWith('.') && !found.startsWith('/') ? `./${found}` : found;
 }

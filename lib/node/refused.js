@@ -3,7 +3,7 @@
 const addon = require('./smap.node');
 
 // What was given is refused. `message` is the program's line, and after it what is known of why a map is refused; the numbers
-// are those of the library, where it has them, and `url` is that under which a table was to have the map.
+// are those of the library, where it has them, and `url` is that at which the map stands.
 class Refused extends Error {
   constructor(message, numbers = [], url = undefined, { value, limit, column, explanation } = {}) {
     super(explanation ? `${message}\n${explanation.slice(0, -1)}` : message);

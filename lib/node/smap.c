@@ -24,12 +24,15 @@ static bool words_of(napi_env env, napi_callback_info info, size_t wanted, napi_
 
 static uint64_t nothing[1];
 
-/* The bytes of a Uint8Array, which stay where they are during a call. */
+/* The bytes of a Uint8Array, which stay what and where they are during a call: no other thread has them. */
 static bool bytes_of(napi_env env, napi_value value, const uint8_t **bytes, size_t *length) {
     napi_typedarray_type type;
+    napi_value room;
     void *data = NULL;
-    if (napi_get_typedarray_info(env, value, &type, length, &data, NULL, NULL) != napi_ok || type != napi_uint8_array) {
-        refuse_type(env, "no Uint8Array");
+    bool alone = false;
+    if (napi_get_typedarray_info(env, value, &type, length, &data, &room, NULL) != napi_ok || type != napi_uint8_array ||
+        napi_is_arraybuffer(env, room, &alone) != napi_ok || !alone) {
+        refuse_type(env, "no Uint8Array, or one that is shared");
         return false;
     }
     *bytes = *length ? data : (const uint8_t *)nothing;

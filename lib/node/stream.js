@@ -1,6 +1,7 @@
 'use strict';
 // Traces and logs, rewritten as they come.
 const { Transform } = require('stream');
+const { steady } = require('./given.js');
 const { counted, open, rewriting, rewritten, tooMuch } = require('./table.js');
 
 const LF = 10;
@@ -10,7 +11,8 @@ const MOST_LINE = 65536;
 const MOST_TEXT = 1073741824;
 
 // Rewrites what is written to it as `rewrite` does the whole, in parts that end where a line does. At most an unfinished line is
-// held back, and of one that can be no frame nothing. `counts` are those of all that was written. The table stays the caller's.
+// held back, and of one that can be no frame nothing. What is passed on or held back is copied, as its writer may use its place
+// again. `counts` are those of all that was written. The table stays the caller's.
 class RewriteStream extends Transform {
   #table;
   #how;
@@ -31,7 +33,7 @@ class RewriteStream extends Transform {
   }
 
   _transform(chunk, encoding, done) {
-    this.#reported(() => this.#take(chunk), done);
+    this.#reported(() => this.#take(steady(chunk)), done);
   }
 
   _flush(done) {
@@ -54,7 +56,7 @@ class RewriteStream extends Transform {
       const end = chunk.indexOf(LF);
       this.#isPassed = end < 0;
       begin = end < 0 ? chunk.length : end + 1;
-      this.push(chunk.subarray(0, begin));
+      this.push(Buffer.from(chunk.subarray(0, begin)));
     }
     const end = chunk.lastIndexOf(LF) + 1;
     if (end > begin) this.#put([...this.#pieces, chunk.subarray(begin, end)]);
@@ -72,7 +74,7 @@ class RewriteStream extends Transform {
     this.push(text);
   }
 
-  // Holds a piece of the unfinished line back. It is copied, as its writer may use its place again.
+  // Holds a piece of the unfinished line back.
   #keep(piece) {
     this.#pieces.push(Buffer.from(piece));
     this.#length += piece.length;

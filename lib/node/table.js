@@ -19,9 +19,10 @@ class Table {
     this.handle = addon.newTable();
     for (const [key, map] of maps[Symbol.iterator] ? maps : Object.entries(maps)) {
       const url = given.text(key, 'URL');
+      const bytes = given.utf8(url, '`URL`');
       const reported = put(this, url, map);
       if (typeof reported === 'number') throw refusedUrl(reported, url);
-      this.known.add(Buffer.from(url).toString('latin1'));
+      this.known.add(bytes.toString('latin1'));
     }
   }
 

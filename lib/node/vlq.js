@@ -40,27 +40,32 @@ function refuse() {
   throw new TypeError(`decoded \`mappings\` must be lines of segments, of 1, 4 or 5 whole numbers from 0 to ${LIMIT}`);
 }
 
-// The text of decoded mappings: an array of lines, which are arrays of segments.
+// The text of decoded mappings: an array of lines, which are arrays of segments. A place that an array leaves out is refused.
 function encode(lines) {
   const text = new Text();
   // The source, its line and column, and the name before.
   const before = [0, 0, 0, 0, 0];
-  lines.forEach((line, index) => {
-    if (!Array.isArray(line)) refuse();
+  for (let index = 0; index < lines.length; index++) {
+    if (!Array.isArray(lines[index])) refuse();
     if (index) text.put(0x3b);
     before[0] = 0;
-    line.forEach((segment, place) => {
-      if (!Array.isArray(segment) || ![1, 4, 5].includes(segment.length)) refuse();
-      if (place) text.put(0x2c);
-      for (let i = 0; i < segment.length; i++) {
-        const number = segment[i];
-        if (!Number.isInteger(number) || number < 0 || number > LIMIT) refuse();
-        text.putNumber(number - before[i]);
-        before[i] = number;
-      }
-    });
-  });
+    encodeLine(lines[index], before, text);
+  }
   return text.toString();
+}
+
+function encodeLine(line, before, text) {
+  for (let place = 0; place < line.length; place++) {
+    const segment = line[place];
+    if (!Array.isArray(segment) || ![1, 4, 5].includes(segment.length)) refuse();
+    if (place) text.put(0x2c);
+    for (let i = 0; i < segment.length; i++) {
+      const number = segment[i];
+      if (!Number.isInteger(number) || number < 0 || number > LIMIT) refuse();
+      text.putNumber(number - before[i]);
+      before[i] = number;
+    }
+  }
 }
 
 module.exports = { encode };

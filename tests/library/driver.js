@@ -3,6 +3,7 @@
 //   chain FOLDER OUTER LESS    the map composed with those NAME.map of the folder, by a loader; on standard error what that is asked
 //   mappings MAP               each mapping as the program prints it
 //   unclosed MAP COUNT         the peak of memory, in KiB, where the map is read so often and never closed
+//   closed MAP COUNT           the peak of memory, in KiB, while the map is read so often and never closed, after it was open so often
 //   unlike MAP OTHER CODE      how many mappings the first map has in the code, and how many of them the other answers otherwise
 const fs = require('node:fs');
 const smap = require('smap');
@@ -59,6 +60,18 @@ function unclosed(path, count) {
   const data = fs.readFileSync(path);
   for (let i = 0; i < Number(count); i++) new smap.TraceMap(data);
   console.log(process.resourceUsage().maxRSS);
+}
+
+function closed(path, count) {
+  const data = fs.readFileSync(path);
+  const maps = Array.from({ length: Number(count) }, () => new smap.TraceMap(data));
+  maps.forEach((map) => map.close());
+  let most = 0;
+  for (let i = 0; i < Number(count); i++) {
+    new smap.TraceMap(data);
+    most = Math.max(most, process.memoryUsage().rss);
+  }
+  console.log(Math.round(most / 1024));
 }
 
 // Each mapping as the program prints it.
@@ -142,5 +155,6 @@ const commands = {
   },
   again,
   unclosed,
+  closed,
 };
 commands[process.argv[2]](...process.argv.slice(3));

@@ -171,9 +171,13 @@ function rows() {
   differ(decoded(map('CAAA,DAAC')), [[[0, 0, 0, 1], [1, 0, 0, 0]]], refused('F9 ColumnFalls'));
   differ(decoded(text), [[[3, 0, 0, 0]]], refused('M13 Mappings'));
   for (const [bias, theirs, ours] of [[1, 1, 2], [-1, 2, 1]]) differ((library) => ask(library, map('AAAA,AACA'), { line: 1, column: 0, bias }), theirs, ours);
-  const named = (source, mapUrl) => (library) => new library.TraceMap(map('', { sources: [source] }), mapUrl).resolvedSources[0];
+  const named = (source, mapUrl, sourceRoot) => (library) => new library.TraceMap(map('', { sources: [source], sourceRoot }), mapUrl).resolvedSources[0];
   differ(named('x/../a.ts'), 'a.ts', 'x/../a.ts');
   differ(named('x/../a.ts', 'a.js.map'), 'a.ts', 'a.ts');
+  differ(named('/e.ts', undefined, 'src'), '/e.ts', 'src//e.ts');
+  differ(named('https://h/f.ts', undefined, 'src'), 'https://h/f.ts', 'src/https://h/f.ts');
+  differ(named('ä b.ts', 'https://e.test/x.map'), 'https://e.test/ä b.ts', 'https://e.test/%C3%A4%20b.ts');
+  differ(named('node:fs', 'dist/x.map'), 'dist/node:fs', 'node:fs');
   differ(named(null, 'dist/a.js.map'), 'dist/', null);
   const index = (...list) => ({ version: 3, sections: list.map(([column, mappings]) => ({ offset: { line: 0, column }, map: map(mappings) })) });
   differ((library) => new library.TraceMap(index([0, 'AAAA'])).sources, TypeError, ['a.js']);
@@ -181,6 +185,7 @@ function rows() {
   differ(decoded(index([0, 'AAAA,CAAA'], [1, 'AAAA'])), [[[0, 0, 0, 0], [1, 1, 0, 0]]], [[[0, 0, 0, 0], [1, 0, 0, 0], [1, 1, 0, 0]]]);
   differ((library) => new library.TraceMap(map('', { names: undefined })).names, undefined, []);
   differ((library) => library.sourceContentFor(new library.TraceMap(map('', { sourcesContent: [] })), 'a.js'), undefined, null);
+  differ((library) => new library.TraceMap(map('', { file: null })).file, null, undefined);
   differ((library) => ask(library, map('AAAA'), { line: 1, column: 0.5 }), 1, TypeError);
 }
 

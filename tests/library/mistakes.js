@@ -2,9 +2,12 @@
 // What the library answers in node where it is called wrongly, and at the ends of what numbers hold: node mistakes.js MAP.
 const assert = require('node:assert');
 const fs = require('node:fs');
+const path = require('node:path');
 const smap = require('smap');
-const { refusedMap } = require('smap/refused.js');
-const addon = require('smap/smap.node');
+// What nobody else is to call has no name by which it is found.
+const within = (name) => require(path.join(path.dirname(require.resolve('smap')), name));
+const { refusedMap } = within('refused.js');
+const addon = within('smap.node');
 
 // Line 1 has a mapping at column 0 and one at 10 with a name, line 2 none, and line 3 one at 5 without an original.
 const small = '{"version":3,"sources":["a.js"],"names":["n"],"mappings":"AAAA,UACIA;;K"}';
@@ -79,6 +82,7 @@ function many() {
 
 // The addon itself, beneath what index.js checks.
 function beneath() {
+  for (const name of ['smap/smap.node', 'smap/tracing.js']) refuses('Error', () => require(name), /not defined by "exports"/);
   const map = new smap.TraceMap(small);
   const { handle } = map;
   addon.room.set([0, 12, 0]);
@@ -167,6 +171,15 @@ function paths() {
     ['dist/a.js.map', undefined, '//e.test/../b.ts', '//e.test/../b.ts'],
     ['dist/a.js.map', undefined, 'b.vue?x=../y#z/..', 'dist/b.vue?x=../y#z/..'],
     ['dist/a.js.map', 'src', null, null],
+    ['//e.test/js/o.map', undefined, 'b.ts', '//e.test/js/b.ts'],
+    ['//e.test/js/o.map', undefined, '../../../b.ts', '//e.test/b.ts'],
+    ['//e.test/js/o.map', 'src', '/b.ts', '//e.test/js/src/b.ts'],
+    ['//e.test/js/o.map', undefined, '/x/../b.ts', '//e.test/b.ts'],
+    ['//e.test', undefined, 'b.ts', '//e.test/b.ts'],
+    ['///js/o.map', undefined, 'b.ts', '/js/b.ts'],
+    ['dist/o.map?v=/2/3', undefined, 'b.ts', 'dist/b.ts'],
+    ['dist/o.map#/', undefined, '../b.ts?/x', 'b.ts?/x'],
+    ['//e.test?/o.map', undefined, 'b.ts', '//e.test/b.ts'],
   ];
   for (const [path, sourceRoot, source, name] of rows) {
     const regular = { version: 3, sourceRoot, sources: ['c.ts', source], names: [], mappings: 'ACAA' };
@@ -180,8 +193,21 @@ function paths() {
       map.close();
     }
   }
-  refuses('Refused', () => new smap.TraceMap('no JSON', 'a.js'), /^refused: M2 NotJson\n/, { number: 2 });
+  for (const url of ['a.js', 'https://e.test/a.js']) {
+    refuses('Refused', () => new smap.TraceMap('no JSON', url), new RegExp(`^refused: ${url}: M2 NotJson\n`), { number: 2, url });
+  }
   refuses('Refused', () => new smap.TraceMap(small, 'a.js', 0), /M15 Build B1 Interval/);
+}
+
+// Half of a surrogate pair that stands alone has no bytes.
+function halves() {
+  for (const half of ['\ud83d', '\ude00\ud83d', '\ufffd\ud83d']) {
+    const calls = [() => new smap.TraceMap(small.replace('a.js', half)), () => new smap.TraceMap(small, half), () => new smap.Table({ [half]: small })];
+    for (const call of calls) refuses('TypeError', call, /half of a surrogate pair alone$/);
+  }
+  const whole = '\u{1f600}\ufffd';
+  same(new smap.TraceMap(small.replace('a.js', whole), `${whole}/b.js`).resolvedSources, [`${whole}/${whole}`]);
+  same(String(smap.rewrite(new smap.Table({ [whole]: small }), `f@${whole}:1:11`)), 'f@a.js:2:5');
 }
 
 // What trace-mapping has too, of maps that are worked out by hand.
@@ -254,8 +280,10 @@ function decodedMaps() {
   const far = [[[0, 0, most, 0], [most, 0, 0, most]]];
   same(smap.decodedMappings(new smap.TraceMap(given(far))), far);
   same(smap.encodedMappings(new smap.TraceMap(given(far))), 'AA+/////DA,+/////DA//////D+/////D');
-  const bad = [[[0.5]], [[-1]], [[most + 1]], [['0']], [[NaN]], [[]], [[0, 0]], [[0, 0, 0]], [[0, 0, 0, 0, 0, 0]], [7], ['AAAA'], [null]].map((line) => [line]);
-  for (const mappings of [...bad, [7], ['AAAA'], [null]]) refuses('TypeError', () => new smap.TraceMap(given(mappings)), /^decoded `mappings` must be lines of segments/);
+  const bad = [[[0.5]], [[-1]], [[most + 1]], [['0']], [[NaN]], [[]], [[0, 0]], [[0, 0, 0]], [[0, 0, 0, 0, 0, 0]], [7], ['AAAA'], [null], Array(1), [, [0]], Array(5)].map((line) => [line]);
+  const holes = [[[0, 0, 0, 0]]];
+  holes[5] = [[0, 0, 1, 0]];
+  for (const mappings of [...bad, [7], ['AAAA'], [null], holes, Array(2 ** 32 - 1)]) refuses('TypeError', () => new smap.TraceMap(given(mappings)), /^decoded `mappings` must be lines of segments/);
   refuses('Refused', () => new smap.TraceMap(given([[[5], [3]]])), /F9 ColumnFalls/, { fault: 9 });
   refuses('Refused', () => new smap.TraceMap(given([[[0, 1, 0, 0]]])), /F10 SourceIndex/, { fault: 10 });
   refuses('Refused', () => new smap.TraceMap(JSON.stringify(given(lines))), /M13 Mappings/, { number: 13 });
@@ -277,6 +305,34 @@ function bytes() {
   refuses('Refused', () => map.bytesBySource(Buffer.of(97, 255)), 'refused: NotUtf8', { number: 1 });
   refuses('Refused', () => map.bytesBySource(Buffer.alloc(67108865, 'x')), 'refused: TooLarge', { number: 2 });
   for (const bad of [7, null, undefined, {}, [text]]) refuses('TypeError', () => map.bytesBySource(bad), /`generated` must be a text or a Uint8Array/);
+}
+
+// Bytes that another thread could change are copied, for each call that reads some.
+function shared() {
+  const sharing = (text) => {
+    const bytes = new Uint8Array(new SharedArrayBuffer(Buffer.byteLength(text)));
+    bytes.set(Buffer.from(text));
+    return bytes;
+  };
+  refuses('TypeError', () => addon.read(sharing(small), Buffer.alloc(0), 64, new Float64Array(6)), /shared/);
+  for (const url of [undefined, 'dist/a.js', 'https://e.test/a.js']) {
+    const given = sharing(small);
+    const map = new smap.TraceMap(given, url);
+    given.fill(0);
+    same([map.sources, map.bytesBySource(sharing('x'))], [['a.js'], { sources: [1], unmapped: 0 }]);
+  }
+  const trace = sharing('f@a.min.js:1:11\nf@b.min.js:1:11\n');
+  const load = (url) => {
+    trace.fill(0);
+    return url === 'a.min.js' ? sharing(small) : null;
+  };
+  const wanted = 'f@a.js:2:5\nf@b.min.js:1:11\n';
+  same(String(smap.rewrite(new smap.Table({}, { load }), trace)), wanted);
+  const outer = new smap.TraceMap(small);
+  same(smap.composeAll(outer, { 'a.js': sharing(small) }), smap.composeAll(outer, { 'a.js': small }));
+  const stream = new smap.RewriteStream(new smap.Table({ 'a.min.js': sharing(small) }));
+  stream.write(sharing('f@a.min.js:1:11\n'));
+  same(String(stream.read()), 'f@a.js:2:5\n');
 }
 
 function intervals() {
@@ -332,6 +388,10 @@ function composingAll() {
   same(sources(smap.composeAll(map, new Map([['x/a.js', second]]))), allOf('s.ts', 's.ts'));
   same(sources(smap.composeAll(map, [[0, map]])), allOf('x/x/a.js', 'x/x/a.js', 'https://e.test/y/b.js'));
   isOpen();
+  // A map that was read before has the names of then.
+  same(sources(smap.composeAll(map, [[2, second]])), allOf('../s.ts'));
+  const elsewhere = new smap.TraceMap(inner, 'https://f.test/y/b.js');
+  same(sources(smap.composeAll(map, { 'x/a.js': elsewhere })), allOf('https://f.test/s.ts', 'https://f.test/s.ts'));
   same(sources(smap.composeAll(map, [[2, inner]], { prune: true })), ['x/a.js', 'https://e.test/s.ts']);
   for (const source of [3, -1, -far, far - 1, far, 2 ** 53, Infinity]) {
     for (const load of [undefined, () => null]) {
@@ -517,9 +577,11 @@ maps();
 reasons();
 bases();
 paths();
+halves();
 members();
 decodedMaps();
 bytes();
+shared();
 intervals();
 compositions(process.argv[2]);
 composingAll();

@@ -10,7 +10,7 @@ import tempfile
 from array import array
 from pathlib import Path
 
-from smap import Answer, Mapping, Refused, Rewriter, SourceMap, compose, compose_all
+from smap import Answer, Mapping, Refused, Rewriter, SourceMap, _smap, compose, compose_all
 from smap._answers import Refusal
 from smap._reported import refused_map
 
@@ -55,8 +55,15 @@ class Whole:
         return self.number
 
 
+class Misnamed(type):
+    """The type of types whose name is no text."""
+
+    __name__ = property(lambda cls: (1, 2))
+
+
 def places():
     with SourceMap(SMALL) as small:
+        refuses(TypeError, lambda: small.look_up(Misnamed("A", (), {})(), 0), "line is a whole number, not (1, 2)")
         for column in (10, 203, FAR - 1, FAR, FAR + 3, FAR + 203, 2**64, 2**64 + 3):
             same(small.look_up(0, column), LAST)
             same(small.look_up(1, column), None)
@@ -79,7 +86,7 @@ def places():
             same(look_up(Whole(0), Whole(10)), LAST)
             refuses(KeyError, lambda: look_up(0, Whole(None)), "no number")
             for words in ((), (0,), (0, 10, 0)):
-                refuses(TypeError, lambda: look_up(*words))
+                refuses(TypeError, lambda: look_up(*words), f"{look_up.__name__}() ")
             refuses(TypeError, lambda: look_up(0, row=10))
 
 
@@ -143,10 +150,13 @@ def maps(folder):
     refuses(TypeError, lambda: SourceMap(array("I", [0])), "32 bits")
     refuses(FileNotFoundError, lambda: SourceMap(folder / "none.map"))
     refuses(Refused, lambda: SourceMap(other), f"refused: {other}: M2 NotJson", number=2, url=None)
+    refuses(Refused, lambda: SourceMap(other, "https://e.test/"), f"refused: {other}: M2 NotJson", url="https://e.test/")
     refuses(Refused, lambda: SourceMap(str(path)), "refused: M2 NotJson", number=2)
     unnamed = Path(os.fsdecode(os.fsencode(folder) + b"/\xff.map"))
     unnamed.write_bytes(b"[]")
     refuses(Refused, lambda: SourceMap(unnamed), "\ufffd.map: M3 NotObject", number=3)
+    for held in (bytearray(SMALL), mmap.mmap(-1, 9), "x", None):
+        refuses(TypeError, lambda: _smap.frame_urls(held), "no bytes and no memoryview")
 
 
 def reasons(folder):
@@ -184,6 +194,8 @@ def bases():
     for base in ("", "no URL", "a.js", "/a.js", "\udc80"):
         refuses(Refused, lambda: SourceMap(SMALL, base=base), "the base is no URL", repr(base), number=0)
     refuses(Refused, lambda: SourceMap(SMALL, base="x" * 100000), "the base is no URL", "99800 characters more", number=0)
+    url = "https://e.test/a.map"
+    refuses(Refused, lambda: SourceMap(b"{}", base=url), f"refused: {url}: M4 Version\n", number=4, url=url)
     for base in (7, b"https://e.test/", Path("a")):
         refuses(TypeError, lambda: SourceMap(SMALL, base=base), "base is a str", type(base).__name__)
     # No base of a test is so long.
@@ -243,6 +255,9 @@ def composing_all():
         same(sources(compose_all(first, {"x/a.js": second})), all_of("s.ts", "s.ts"))
         same(sources(compose_all(first, {0: first})), all_of("x/x/a.js", "x/x/a.js", "https://e.test/y/b.js"))
         same(second.look_up(0, 0), Answer(0, 0, 0, 0, None))
+        # A map that was read before has the names of then.
+        same(sources(compose_all(first, {2: second})), all_of("../s.ts"))
+        same(sources(compose_all(first, {"x/a.js": SourceMap(inner, "https://f.test/y/b.js")})), all_of(*["https://f.test/s.ts"] * 2))
         same(sources(compose_all(first, {2: inner}, prune=True)), ["x/a.js", "https://e.test/s.ts"])
         for source in (3, -1, -FAR, FAR - 1, FAR, 2**64):
             for load in (None, lambda name: None):
@@ -254,6 +269,9 @@ def composing_all():
         refuses(ValueError, lambda: compose_all(first, {"x/a.js": inner, 1: inner}), "source 1 has two maps")
         for source in (False, 0.0, None, b"x/a.js"):
             refuses(TypeError, lambda: compose_all(first, {source: inner}), "source", type(source).__name__)
+        for inners in ({Whole(0): second}, {False: second}, {0: 7}):
+            refuses(TypeError, lambda: _smap.compose_all(first, inners, False, False), "source")
+        same(sources(compose_all(first, {Whole(0): second})), all_of("s.ts"))
         for given in (7, None, []):
             refuses(TypeError, lambda: compose_all(first, {0: given}), "bytes, a str or a Path", type(given).__name__)
         for given in (7, SMALL, None):

@@ -100,6 +100,16 @@ async function early() {
   same(String(Buffer.concat(parts)), '    at f (https://e.test/a.js:2:5)\nrestä😀');
 }
 
+// A line that is too long for a frame, in a buffer that is used again once it is written.
+async function passed() {
+  const [stream, parts, again] = [new smap.RewriteStream(table()), [], Buffer.alloc(65537)];
+  stream.on('data', (part) => parts.push(part));
+  for (const letter of 'xyz') await new Promise((done) => stream.write(again.fill(letter), done));
+  const got = String(Buffer.concat(parts));
+  same(got.replace(/(.)\1+/g, '$1'), 'xyz');
+  same(got.length, 3 * again.length);
+}
+
 // A slow reader holds the writer back.
 async function backpressure() {
   const stream = new smap.RewriteStream(table());
@@ -159,6 +169,6 @@ async function children() {
 }
 
 (async () => {
-  for (const test of [pieces, early, backpressure, errors, children]) await test();
+  for (const test of [pieces, early, passed, backpressure, errors, children]) await test();
   console.log('stream', reported);
 })();

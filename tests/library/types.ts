@@ -7,7 +7,7 @@ import {
 
 const object = { version: 3, sources: ['a.js', null], names: [], mappings: [[[0, 0, 0, 0]]] };
 const map: TraceMap = new TraceMap(object, 'dist/a.js.map');
-const others: TraceMap[] = [new TraceMap('{}', new URL('https://e.test/'), 64), AnyMap(new Uint8Array(2)), presortedDecodedMap(object, null), new TraceMap(map)];
+const others: TraceMap[] = [new TraceMap('{}', new URL('https://e.test/'), 64), AnyMap(new Uint8Array(2)), new AnyMap('{}', null), presortedDecodedMap(object, null), new TraceMap(map)];
 
 const found = originalPositionFor(map, { line: 1, column: 0, bias: LEAST_UPPER_BOUND });
 const line: number = found.line === null ? GREATEST_LOWER_BOUND : found.line;

@@ -44,18 +44,19 @@ static uint32_t composed(smap_map *outer, struct held *const *inners, const uint
     return status;
 }
 
-/* The maps of a list, of which the first is the outer one, with the sources of the others. */
-static bool listed(PyObject *outer, PyObject *inners, struct held **maps, uint32_t *sources) {
+/* The maps of a dict, which are held until they are let go, behind the outer one, and their sources. Those are whole numbers
+ * already: asking for one could change the dict. */
+static bool listed(PyObject *inners, struct held **maps, uint32_t *sources) {
     PyObject *source, *map;
     Py_ssize_t at = 0;
-    *maps++ = (struct held *)outer;
     while (PyDict_Next(inners, &at, &source, &map)) {
-        if (!PyObject_TypeCheck(map, map_type)) {
-            PyErr_SetString(PyExc_TypeError, "no map");
+        if (!PyLong_Check(source) || !PyObject_TypeCheck(map, map_type)) {
+            PyErr_SetString(PyExc_TypeError, "no source and its map");
             return false;
         }
         if (!index_of(source, "source", sources++)) return false;
-        *maps++ = (struct held *)map;
+        Py_INCREF(map);
+        *++maps = (struct held *)map;
     }
     return true;
 }
@@ -84,7 +85,8 @@ PyObject *compose_all(PyObject *module, PyObject *words) {
     uint32_t *sources = calloc(count + 1, sizeof *sources);
     smap_bytes bytes = {0};
     uint32_t refusal = 0, status = SMAP_NO_MEMORY;
-    if (maps && sources && listed(outer, inners, maps, sources) && ready(maps, count + 1)) at_work = begun(maps, count + 1);
+    if (maps) maps[0] = (struct held *)outer;
+    if (maps && sources && listed(inners, maps, sources) && ready(maps, count + 1)) at_work = begun(maps, count + 1);
     if (at_work > count) {
         const smap_compose_options options = {prune, no_content};
         PyThreadState *state = let_go(true);
@@ -92,6 +94,7 @@ PyObject *compose_all(PyObject *module, PyObject *words) {
         come_back(state);
     }
     while (at_work > 0) end(maps[--at_work]);
+    for (size_t i = 1; maps && i <= count; i++) Py_XDECREF((PyObject *)maps[i]);
     free(maps);
     free(sources);
     return PyErr_Occurred() ? NULL : taken_or_refused(status, &bytes, refusal);

@@ -21,7 +21,7 @@ extern PyType_Spec map_spec, table_spec, mappings_spec;
 /* given.c: what is given is checked, and what is handed back is made. */
 
 /* Bytes that are given, as `bytes` or as a memoryview, which holds them where they are. They are steady where no other thread
- * of Python can change them. */
+ * of Python can change them: those of `bytes` are, and no others, since a view that is read-only may be of what is written to. */
 struct given { const uint8_t *bytes; size_t length; bool steady; };
 bool bytes_of(PyObject *value, struct given *given);
 

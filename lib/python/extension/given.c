@@ -53,7 +53,7 @@ static bool refuse_number(PyObject *value, const char *what) {
     if (!PyErr_ExceptionMatches(PyExc_TypeError)) return false;
     PyErr_Clear();
     PyObject *name = PyObject_GetAttrString((PyObject *)Py_TYPE(value), "__name__");
-    if (name) PyErr_Format(PyExc_TypeError, "%s is a whole number, not %U", what, name);
+    if (name) PyErr_Format(PyExc_TypeError, "%s is a whole number, not %S", what, name);
     Py_XDECREF(name);
     return false;
 }
@@ -94,16 +94,27 @@ bool index_of(PyObject *value, const char *what, uint32_t *index) {
     return true;
 }
 
+/* The bytes of a memoryview, which are steady where they are those of `bytes`. */
+static bool bytes_viewed(PyObject *view, const void **bytes, Py_ssize_t *length, bool *steady) {
+    PyObject *viewed = PyObject_GetAttrString(view, "obj");
+    if (!viewed) return false;
+    *steady = PyBytes_CheckExact(viewed);
+    Py_DECREF(viewed);
+    return PyObject_AsReadBuffer(view, bytes, length) == 0;
+}
+
 bool bytes_of(PyObject *value, struct given *given) {
     const void *bytes = NULL;
     Py_ssize_t length = 0;
-    if (PyObject_AsReadBuffer(value, &bytes, &length) < 0) return false;
-    given->steady = true;
-    if (!PyBytes_Check(value)) {
-        PyObject *read_only = PyObject_GetAttrString(value, "readonly");
-        if (!read_only) return false;
-        given->steady = read_only == Py_True;
-        Py_DECREF(read_only);
+    if (PyBytes_Check(value)) {
+        bytes = PyBytes_AsString(value);
+        length = PyBytes_Size(value);
+        given->steady = true;
+    } else if (!PyMemoryView_Check(value)) {
+        PyErr_SetString(PyExc_TypeError, "no bytes and no memoryview");
+        return false;
+    } else if (!bytes_viewed(value, &bytes, &length, &given->steady)) {
+        return false;
     }
     given->bytes = length && bytes ? bytes : (const void *)nothing;
     given->length = (size_t)length;

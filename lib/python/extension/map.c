@@ -44,7 +44,7 @@ static PyObject *map_read(PyObject *self, PyObject *words) {
 
 typedef uint32_t look_up_call(smap_map *, uint32_t, uint32_t, smap_found *);
 
-static PyObject *looked_up(PyObject *self, PyObject *words, PyObject *named, look_up_call *call) {
+static PyObject *looked_up(PyObject *self, PyObject *words, PyObject *named, const char *format, look_up_call *call) {
     static char *names[] = {"line", "column", NULL};
     struct held *held = (struct held *)self;
     PyObject *given_line, *given_column;
@@ -52,7 +52,7 @@ static PyObject *looked_up(PyObject *self, PyObject *words, PyObject *named, loo
     if (!named && PyTuple_Size(words) == 2) {
         given_line = PyTuple_GetItem(words, 0);
         given_column = PyTuple_GetItem(words, 1);
-    } else if (!PyArg_ParseTupleAndKeywords(words, named, "OO:look_up", names, &given_line, &given_column)) {
+    } else if (!PyArg_ParseTupleAndKeywords(words, named, format, names, &given_line, &given_column)) {
         return NULL;
     }
     if (!place_of(given_line, "line", &line) || !place_of(given_column, "column", &column) || !ready(&held, 1)) return NULL;
@@ -67,10 +67,12 @@ static PyObject *looked_up(PyObject *self, PyObject *words, PyObject *named, loo
     return tuple_of(answer_class, 5, items);
 }
 
-static PyObject *map_look_up(PyObject *self, PyObject *words, PyObject *named) { return looked_up(self, words, named, smap_look_up); }
+static PyObject *map_look_up(PyObject *self, PyObject *words, PyObject *named) {
+    return looked_up(self, words, named, "OO:look_up", smap_look_up);
+}
 
 static PyObject *map_look_up_from(PyObject *self, PyObject *words, PyObject *named) {
-    return looked_up(self, words, named, smap_look_up_from);
+    return looked_up(self, words, named, "OO:look_up_from", smap_look_up_from);
 }
 
 /* Looks positions up, whose bytes are given, and writes the answers into a buffer that nobody else has. Positions that could be

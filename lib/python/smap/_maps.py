@@ -23,7 +23,7 @@ class SourceMap(_smap.Map):
         stands. The index has a checkpoint at every `interval`-th segment of a line, 1 to 4096. Raises `Refused`, or
         `MemoryError`."""
         held = _given.file_bytes(data, "a map")
-        self._take(held, base, _given.interval(interval), _given.file_name(data), None)
+        self._take(held, base, _given.interval(interval), _given.file_name(data) or base, base)
 
     @classmethod
     def from_file(cls: Type[_Map], path: Union[str, "os.PathLike[str]"], base: Optional[str] = None,

@@ -14,8 +14,8 @@ class Refused(ValueError):
     `number` is the library's: for a map 1 to 17, that of M1 to M17, or 0 where the base is no URL and 18 where it is too
     long; and 1, 2 or 4 for C1, C2 and C4, and 1 or 2 for A1 and A2. Where the refusal of a map has them, there are the
     `section`, the `fault` of the mappings (1 to 11, that of F1 to F11) with its `line` and the `byte` where its segment
-    begins, and `build` (1 to 5, that of B1 to B5). `url` is the one under which a `Rewriter` was to have the map, or the
-    name of the source that it was to be of.
+    begins, and `build` (1 to 5, that of B1 to B5). `url` is the base of the map, the URL under which a `Rewriter` was
+    to have it, or the name of the source that it was to be of.
 
     Where a segment of the mappings is refused for a value, `value` is that, as the map has it, and `limit` the least that it
     may be where it is below that, and else the most: a most of -1 is that of an index into an empty list. `column` is the
