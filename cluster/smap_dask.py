@@ -34,7 +34,7 @@ except ImportError:
     sys.exit(127)
 
 ROOT = Path(__file__).resolve().parent.parent
-BUILT = ROOT / "crates" / "smap_cli" / "out" / "smap_cli"
+FOUND = ROOT / ".smap" / "program"
 
 # What the program says, and its status, where a trace can't be read and where what becomes of it can't be written.
 READ_FAILED = (3, "device: X1 Read")
@@ -213,13 +213,13 @@ def cluster_of(scheduler: str | None) -> Iterator[Client]:
 
 
 def program_of(given: str | None) -> str:
-    """The path of the program: that which is given, or the one of this repository, which is built where needed."""
+    """The path of the program: that which is given, or the one of this repository, which ./smap finds."""
     if given is not None:
         return os.path.abspath(given)
     status = subprocess.run([ROOT / "smap", "--version"], stdout=subprocess.DEVNULL).returncode
     if status != 0:
         raise Stop(status, "smap_dask: there is no program")
-    return str(BUILT)
+    return str(FOUND)
 
 
 def try_options(program: str, options: list[str], words: list[str]) -> None:
@@ -358,7 +358,7 @@ def arguments(words: list[str]) -> argparse.Namespace:
         "where not given, a cluster of this machine is started, with a worker for each processor",
     )
     rewrite.add_argument(
-        "--program", metavar="PROGRAM", help="smap itself; where not given, that which ./smap of this repository builds"
+        "--program", metavar="PROGRAM", help="smap itself; where not given, that which ./smap of this repository runs"
     )
     rewrite.add_argument("--output", metavar="DIR", type=Path, required=True, help="made where it is missing")
     rewrite.add_argument(

@@ -9,16 +9,21 @@ wanted_kit='rattle-kit-13f logic dac8208d650f15bf'
 # shellcheck disable=SC2034
 version=$(sed -n 's/^const VERSION: .* = "\(.*\)";$/\1/p' "${root:?}/crates/smap_arguments/src/line.rt")
 
+# fail STATUS LINE..: ends with this status, and says why.
+fail() {
+    status=$1
+    shift
+    printf 'smap: %s\n' "$@" >&2
+    exit "$status"
+}
+
 # Ends with status 127 where there is no rt.
 want_rt() {
-    if command -v rt >/dev/null 2>&1; then return; fi
-    cat >&2 <<SAID
-smap: there is no \`rt\` on the PATH, with which smap is proved and built from these sources
-smap: it is the command of the Rattle kit; \`rt version\` of the one that is wanted prints
-smap:     $wanted_kit
-smap: a package of smap needs no kit: docs/PACKAGES.md says which there are
-SAID
-    exit 127
+    command -v rt >/dev/null 2>&1 || fail 127 \
+        'there is no `rt` on the PATH, with which smap is proved and built from these sources' \
+        'it is the command of the Rattle kit; `rt version` of the one that is wanted prints' \
+        "    $wanted_kit" \
+        'the packages in dist/ need no kit: docs/PACKAGES.md; nor does ./smap where dist/ is made from these sources'
 }
 
 # Answers a script's options, of which --help and -h are all: its head says what it does. Status 2 after another one.
@@ -27,4 +32,56 @@ answer_options() {
     -h | --help) sed -n '2,/^set/s/^# \{0,1\}//p' "$0" && exit ;;
     -*) sed -n '2,/^set/s/^# \{0,1\}//p' "$0" >&2 && exit 2 ;;
     esac
+}
+
+# lines_of CRATE..: the lines of crates.txt of these crates and of all below them, each once, behind those that it stands on.
+lines_of() {
+    awk -v wanted="$*" '
+        function visit(name, names, count, i) {
+            if (!(name in line) || name in seen) return
+            seen[name]
+            count = split(below[name], names, " ")
+            for (i = 1; i <= count; i++) visit(names[i])
+            print line[name]
+        }
+        /^[a-z]/ {
+            name = $1
+            sub(/:$/, "", name)
+            line[name] = below[name] = $0
+            sub(/^[^:]*:/, "", below[name])
+        }
+        END {
+            many = split(wanted, all, " ")
+            for (at = 1; at <= many; at++) visit(all[at])
+        }
+    ' "$root/crates.txt"
+}
+
+# crates_of CRATE..: the names of these crates and of all below them, in the same order.
+crates_of() { lines_of "$@" | sed 's/[ :].*//'; }
+
+# The crates at the top of what is made: `program`, or `packages` for all programs and libraries of the packages.
+tops_of() {
+    case $1 in
+    program) printf 'smap_cli' ;;
+    packages) printf 'smap_cli smap_c' ;;
+    esac
+}
+
+# sources_of program, sources_of packages: the files that it is made of, in the order of their names. Proofs, tests, pages and
+# examples change no byte of it.
+sources_of() {
+    if [ "$1" = packages ]; then others='completions install lib pack page smap-page'; else others=''; fi
+    # shellcheck disable=SC2046,SC2086
+    (cd -- "$root" && find $(crates_of $(tops_of "$1") | sed 's|.*|crates/&/src|') $others -type f \
+        ! -name '*.node' ! -name '*.so' ! -name '*.pyc' | LC_ALL=C sort)
+}
+
+# The sum of these sources: one sha256 over the names and the bytes of the files, and over the lines of crates.txt.
+sum_of() {
+    # shellcheck disable=SC2046
+    {
+        sources_of "$1" | (cd -- "$root" && xargs sha256sum --)
+        lines_of $(tops_of "$1") | LC_ALL=C sort
+    } | sha256sum | sed 's/ .*//'
 }

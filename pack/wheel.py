@@ -1,5 +1,5 @@
 #!/usr/bin/env python3
-"""Makes a wheel of a package that is ready in a folder, with its extension: pack/wheel.py FOLDER PYPROJECT README TO.
+"""Makes a wheel of a package that is ready in a folder, with its extension: pack/wheel.py FOLDER PYPROJECT README TO TAG.
 
 All times are SOURCE_DATE_EPOCH, and files stand in the order of their names, so the same files give the same bytes.
 """
@@ -14,9 +14,6 @@ import zipfile
 from pathlib import Path
 from typing import Dict
 
-# The limited API of 3.8 is part of every later version.
-TAG = "cp38-abi3-linux_x86_64"
-
 
 def project(pyproject: Path) -> Dict[str, str]:
     """The texts of the table `project`."""
@@ -29,21 +26,21 @@ def record(path: str, data: bytes) -> str:
     return f"{path},sha256={digest},{len(data)}\n"
 
 
-def main(folder: Path, pyproject: Path, readme: Path, to: Path) -> None:
+def main(folder: Path, pyproject: Path, readme: Path, to: Path, tag: str) -> None:
     reported = project(pyproject)
     name = f"{reported['name']}-{reported['version']}"
     metadata = (
         f"Metadata-Version: 2.1\nName: {reported['name']}\nVersion: {reported['version']}\nSummary: {reported['description']}\n"
         f"Requires-Python: {reported['requires-python']}\nDescription-Content-Type: text/markdown\n\n{readme.read_text()}"
     )
-    wheel = f"Wheel-Version: 1.0\nGenerator: smap\nRoot-Is-Purelib: false\nTag: {TAG}\n"
+    wheel = f"Wheel-Version: 1.0\nGenerator: smap\nRoot-Is-Purelib: false\nTag: {tag}\n"
     files = {str(path.relative_to(folder)): path.read_bytes() for path in sorted(folder.rglob("*")) if path.is_file()}
     files[f"{name}.dist-info/METADATA"] = metadata.encode()
     files[f"{name}.dist-info/WHEEL"] = wheel.encode()
     own = f"{name}.dist-info/RECORD"
     files[own] = ("".join(record(path, data) for path, data in files.items()) + f"{own},,\n").encode()
     date = time.gmtime(int(os.environ["SOURCE_DATE_EPOCH"]))[:6]
-    with zipfile.ZipFile(to / f"{name}-{TAG}.whl", "w") as archive:
+    with zipfile.ZipFile(to / f"{name}-{tag}.whl", "w") as archive:
         for path, data in files.items():
             entry = zipfile.ZipInfo(path, date)
             entry.compress_type = zipfile.ZIP_DEFLATED
@@ -53,4 +50,4 @@ def main(folder: Path, pyproject: Path, readme: Path, to: Path) -> None:
 
 
 if __name__ == "__main__":
-    main(*map(Path, sys.argv[1:]))
+    main(*map(Path, sys.argv[1:5]), sys.argv[5])

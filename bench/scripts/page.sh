@@ -18,7 +18,7 @@ if [ -n "${PROGRAM:-}" ]; then
     program=$PROGRAM
 else
     "$root/smap" --help >/dev/null
-    program=$root/crates/smap_cli/out/smap_cli
+    program=$root/.smap/program
 fi
 bin=$folder/usr/bin
 mkdir -p "$bin" "$folder/usr/share/smap"

@@ -30,7 +30,7 @@ if [ -n "${PROGRAM:-}" ]; then
     program=$PROGRAM
 else
     "$root/smap" --help >/dev/null
-    program=$root/crates/smap_cli/out/smap_cli
+    program=$root/.smap/program
 fi
 
 # The line of a look-up in a map, without the excerpt behind it.

@@ -1,6 +1,6 @@
 'use strict';
 // Maps composed with the maps of their sources.
-const addon = require('./smap.node');
+const addon = require('./addon.js');
 const given = require('./given.js');
 const { TraceMap, namesOf, open, read, standingAt } = require('./map.js');
 const { refusedComposition, refusedSource } = require('./refused.js');

@@ -1,6 +1,6 @@
 'use strict';
 // A source map that was read.
-const addon = require('./smap.node');
+const addon = require('./addon.js');
 const given = require('./given.js');
 const { isThere, parsed, parts } = require('./json.js');
 const { each } = require('./mappings.js');

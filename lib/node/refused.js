@@ -1,6 +1,6 @@
 'use strict';
 // Why something is refused.
-const addon = require('./smap.node');
+const addon = require('./addon.js');
 
 // What was given is refused. `message` is the program's line, and after it what is known of why a map is refused; the numbers
 // are those of the library, where it has them, and `url` is that at which the map stands.

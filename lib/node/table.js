@@ -1,6 +1,6 @@
 'use strict';
 // Stack traces and other texts, rewritten over a table of maps.
-const addon = require('./smap.node');
+const addon = require('./addon.js');
 const given = require('./given.js');
 const { DISPOSE, TraceMap, empty, open: openMap, standingAt } = require('./map.js');
 const { Refused, refusedUrl } = require('./refused.js');

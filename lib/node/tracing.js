@@ -1,6 +1,6 @@
 'use strict';
 // The calls of @jridgewell/trace-mapping, and look-ups of many positions at once.
-const addon = require('./smap.node');
+const addon = require('./addon.js');
 const given = require('./given.js');
 const { lines } = require('./json.js');
 const { TraceMap, json, once, open } = require('./map.js');

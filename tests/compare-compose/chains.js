@@ -12,13 +12,13 @@ const os = require('os');
 const path = require('path');
 const { spawnSync } = require('child_process');
 const { parseArgs } = require('util');
-const { BUILT, MOST_BYTES } = require('../compare-maps/files.js');
+const { FOUND, MOST_BYTES } = require('../compare-maps/files.js');
 const { composedAll, pruned } = require('../vectors/compose-all.js');
 const { linesOf } = require('../vectors/lookup.js');
 const { builds, example } = require('./builds.js');
 const { remapped } = require('./remapped.js');
 
-const known = { program: { type: 'string', default: BUILT }, short: { type: 'boolean', default: false } };
+const known = { program: { type: 'string', default: FOUND }, short: { type: 'boolean', default: false } };
 const { program, short } = parseArgs({ options: known }).values;
 
 const counts = { passed: 0, failed: 0, chains: 0, inners: 0, outer: 0, written: 0, others: 0, sources: 0 };
@@ -169,7 +169,7 @@ async function* some(folder) {
 }
 
 async function main() {
-  if (!fs.existsSync(program)) throw new Error(`there is no ${program}; ./smap --help builds it`);
+  if (!fs.existsSync(program)) throw new Error(`there is no ${program}; ./smap --help finds it`);
   const folder = fs.mkdtempSync(path.join(os.tmpdir(), 'smap-'));
   const made = path.join(folder, 'made');
   try {

@@ -13,7 +13,7 @@ const { parseArgs } = require('util');
 const { KINDS, checked } = require('../vectors/checker.js');
 const { excerptOf } = require('../vectors/excerpt.js');
 const { linesOf, printedLine, spread } = require('../vectors/lookup.js');
-const { BUILT, mapsOfPackages } = require('./files.js');
+const { FOUND, mapsOfPackages } = require('./files.js');
 
 const MOST_BYTES = 67108864;
 const MOST_ENTRIES = 33554432;
@@ -31,7 +31,7 @@ function usage(what) {
 
 function options() {
   const known = {
-    program: { type: 'string', default: BUILT },
+    program: { type: 'string', default: FOUND },
     jobs: { type: 'string', default: '3' },
     most: { type: 'string', default: '5000' },
     all: { type: 'boolean', default: false },
@@ -46,7 +46,7 @@ function options() {
   }
   const { program, jobs, most, all, after, count } = read.values;
   if (![jobs, most].every((word) => /^[1-9]\d*$/.test(word))) usage('--jobs and --most take a number from 1');
-  if (!count && !fs.existsSync(program)) usage(`there is no ${program}; ./smap --help builds the program`);
+  if (!count && !fs.existsSync(program)) usage(`there is no ${program}; ./smap --help finds the program`);
   return {
     program,
     jobs: Number(jobs),

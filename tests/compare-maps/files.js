@@ -9,7 +9,7 @@ const { parseArgs } = require('util');
 const PACKAGES = ['libjs-jquery', 'node-source-map', 'libjs-bootstrap5', 'node-babel7-debug'];
 // The most bytes that a program may print.
 const MOST_BYTES = 1 << 30;
-const BUILT = path.join(__dirname, '..', '..', 'crates', 'smap_cli', 'out', 'smap_cli');
+const FOUND = path.join(__dirname, '..', '..', '.smap', 'program');
 
 // The map files among these, each once. A link counts as the file that it leads to.
 function mapsAmong(files) {
@@ -43,10 +43,10 @@ function mapsIn(folder) {
 
 // The program and the map files that the arguments name: `[--program PROGRAM] [FOLDER...]`.
 function given() {
-  const known = { program: { type: 'string', default: BUILT } };
+  const known = { program: { type: 'string', default: FOUND } };
   const { values, positionals } = parseArgs({ options: known, allowPositionals: true });
-  if (!fs.existsSync(values.program)) throw new Error(`there is no ${values.program}; ./smap --help builds it`);
+  if (!fs.existsSync(values.program)) throw new Error(`there is no ${values.program}; ./smap --help finds it`);
   return { program: values.program, files: positionals.length > 0 ? positionals.flatMap(mapsIn) : mapsOfPackages() };
 }
 
-module.exports = { BUILT, MOST_BYTES, given, mapsIn, mapsOfPackage, mapsOfPackages };
+module.exports = { FOUND, MOST_BYTES, given, mapsIn, mapsOfPackage, mapsOfPackages };

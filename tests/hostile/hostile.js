@@ -12,7 +12,7 @@ const { spawnSync } = require('child_process');
 const { parseArgs } = require('util');
 const { Worker, isMainThread, parentPort, workerData } = require('worker_threads');
 const { chanceFrom } = require('../vectors/chance.js');
-const { BUILT, mapsIn, mapsOfPackage } = require('../compare-maps/files.js');
+const { FOUND, mapsIn, mapsOfPackage } = require('../compare-maps/files.js');
 
 const EXAMPLES = path.join(__dirname, '..', '..', 'examples');
 const PACKAGE = 'node-babel7-debug';
@@ -242,7 +242,7 @@ function usualMaps() {
 
 function options() {
   const known = {
-    program: { type: 'string', default: BUILT },
+    program: { type: 'string', default: FOUND },
     changes: { type: 'string', default: '2000' },
     seed: { type: 'string', default: '24' },
   };
@@ -254,7 +254,7 @@ function options() {
   }
   const { program, changes, seed } = read.values;
   if (![changes, seed].every((word) => /^[1-9]\d*$/.test(word))) usage('--changes and --seed take a number from 1');
-  if (!fs.existsSync(program)) usage(`there is no ${program}; ./smap --help builds the program`);
+  if (!fs.existsSync(program)) usage(`there is no ${program}; ./smap --help finds the program`);
   let maps = read.positionals;
   try {
     if (maps.length === 0) maps = usualMaps();

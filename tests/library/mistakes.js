@@ -7,7 +7,7 @@ const smap = require('smap');
 // What nobody else is to call has no name by which it is found.
 const within = (name) => require(path.join(path.dirname(require.resolve('smap')), name));
 const { refusedMap } = within('refused.js');
-const addon = within('smap.node');
+const addon = within('addon.js');
 
 // Line 1 has a mapping at column 0 and one at 10 with a name, line 2 none, and line 3 one at 5 without an original.
 const small = '{"version":3,"sources":["a.js"],"names":["n"],"mappings":"AAAA,UACIA;;K"}';
@@ -82,7 +82,7 @@ function many() {
 
 // The addon itself, beneath what index.js checks.
 function beneath() {
-  for (const name of ['smap/smap.node', 'smap/tracing.js']) refuses('Error', () => require(name), /not defined by "exports"/);
+  for (const name of ['smap/addon.js', 'smap/tracing.js']) refuses('Error', () => require(name), /not defined by "exports"/);
   const map = new smap.TraceMap(small);
   const { handle } = map;
   addon.room.set([0, 12, 0]);
