@@ -23,7 +23,7 @@ want_rt() {
         'there is no `rt` on the PATH, with which smap is proved and built from these sources' \
         'it is the command of the Rattle kit; `rt version` of the one that is wanted prints' \
         "    $wanted_kit" \
-        'the packages in dist/ need no kit: docs/PACKAGES.md; nor does ./smap where dist/ is made from these sources'
+        'without it: dist/ of the last commit that changed it has packages, and ./smap there runs at once (docs/PACKAGES.md)'
 }
 
 # Answers a script's options, of which --help and -h are all: its head says what it does. Status 2 after another one.
