@@ -1,35 +1,14 @@
-/* What the objects of the addon hold of the library: a map or a table each. V8 knows of the memory, which is not its own. */
-#include <node_api.h>
-#include <smap.h>
+/* What the objects of the addon hold of the library. */
+#include "addon.h"
 #include <stdlib.h>
 
 /* So many bytes more than the fewest since the last sweep, and what was collected is freed before another map is read. */
 #define SWEEP (32 << 20)
 
-struct held;
-
-/* The addon in one environment of node. */
-struct addon {
-    uint32_t *room;
-    struct held *first;
-    int64_t reported, swept; /* the bytes that V8 knows of, and the fewest since the last sweep */
-};
-
-struct held {
-    struct addon *addon;
-    struct held *before, *after;
-    napi_ref itself; /* the object, as long as it was not collected */
-    int64_t size;    /* the bytes that V8 knows of */
-    bool full, is_table;
-    smap_map map;
-    smap_table table;
-};
-
 static const napi_type_tag map_tag = {0x8d3f0b6a91c24e55, 0xb1a7c05e2f6d4a01};
 static const napi_type_tag table_tag = {0x8d3f0b6a91c24e55, 0xb1a7c05e2f6d4a02};
 
-/* Says to V8 how many bytes this holds now. */
-static void report_size(napi_env env, struct held *held, int64_t size) {
+void report_size(napi_env env, struct held *held, int64_t size) {
     int64_t all;
     struct addon *addon = held->addon;
     napi_adjust_external_memory(env, size - held->size, &all);
@@ -48,8 +27,7 @@ static void let_go(napi_env env, struct held *held) {
     report_size(env, held, 0);
 }
 
-/* The object was collected, or the environment ends. */
-static void drop(napi_env env, void *data, void *hint) {
+void drop(napi_env env, void *data, void *hint) {
     (void)hint;
     struct held *held = data;
     let_go(env, held);
@@ -60,8 +38,7 @@ static void drop(napi_env env, void *data, void *hint) {
     free(held);
 }
 
-/* Puts what is full into the object, which owns it then. Where that fails it is freed. */
-static bool hold(napi_env env, struct addon *addon, napi_value object, struct held *held, int64_t size) {
+bool hold(napi_env env, struct addon *addon, napi_value object, struct held *held, int64_t size) {
     held->full = true;
     if (napi_type_tag_object(env, object, held->is_table ? &table_tag : &map_tag) != napi_ok ||
         napi_wrap(env, object, held, drop, NULL, &held->itself) != napi_ok) {
@@ -77,9 +54,7 @@ static bool hold(napi_env env, struct addon *addon, napi_value object, struct he
     return true;
 }
 
-/* Frees what is held by objects that were collected. Node itself says so only once the script waits, which a loop over many
- * maps does not. */
-static void sweep(napi_env env, struct addon *addon) {
+void sweep(napi_env env, struct addon *addon) {
     napi_handle_scope scope;
     if (addon->reported - addon->swept < SWEEP || napi_open_handle_scope(env, &scope) != napi_ok) return;
     for (struct held *held = addon->first; held; held = held->after) {
@@ -90,8 +65,7 @@ static void sweep(napi_env env, struct addon *addon) {
     addon->swept = addon->reported;
 }
 
-/* The environment ends: what is still held stands alone. */
-static void drop_addon(napi_env env, void *data, void *hint) {
+void drop_addon(napi_env env, void *data, void *hint) {
     (void)env, (void)hint;
     struct addon *addon = data;
     for (struct held *held = addon->first, *next; held; held = next) {
@@ -99,4 +73,49 @@ static void drop_addon(napi_env env, void *data, void *hint) {
         held->addon = NULL, held->before = NULL, held->after = NULL;
     }
     free(addon);
+}
+
+/* What an object with this tag holds, or nothing, and why that is an error. */
+static struct held *held_of(napi_env env, napi_value value, const napi_type_tag *tag, const char *other, const char *closed) {
+    bool is = false;
+    void *data = NULL;
+    if (napi_check_object_type_tag(env, value, tag, &is) != napi_ok || !is || napi_unwrap(env, value, &data) != napi_ok) {
+        refuse_type(env, other);
+        return NULL;
+    }
+    struct held *held = data;
+    if (!held->full) {
+        refuse(env, closed);
+        return NULL;
+    }
+    return held;
+}
+
+struct held *map_of(napi_env env, napi_value value) {
+    return held_of(env, value, &map_tag, "no map", "the map is closed");
+}
+
+struct held *table_of(napi_env env, napi_value value) {
+    return held_of(env, value, &table_tag, "no table", "the table is closed");
+}
+
+struct addon *addon_of(napi_env env) {
+    void *data = NULL;
+    napi_get_instance_data(env, &data);
+    return data;
+}
+
+/* closeMap(map), closeTable(table): frees it now. */
+napi_value close_map(napi_env env, napi_callback_info info) {
+    napi_value words[WORDS];
+    struct held *held = words_of(env, info, 1, words) ? map_of(env, words[0]) : NULL;
+    if (held) let_go(env, held);
+    return NULL;
+}
+
+napi_value close_table(napi_env env, napi_callback_info info) {
+    napi_value words[WORDS];
+    struct held *held = words_of(env, info, 1, words) ? table_of(env, words[0]) : NULL;
+    if (held) let_go(env, held);
+    return NULL;
 }

@@ -1,0 +1,98 @@
+/* The library libsmap inside node, over Node-API. ../index.js and what it requires are what people call. */
+#ifndef ADDON_H
+#define ADDON_H
+
+#include <node_api.h>
+#include <smap.h>
+
+/* given.c: what is given is checked, and what is handed back is made. */
+
+/* Throws an error, or one of a type. */
+napi_value refuse(napi_env env, const char *why);
+napi_value refuse_type(napi_env env, const char *why);
+
+/* The arguments of a call, at least so many. No call has more than WORDS. */
+#define WORDS 8
+bool words_of(napi_env env, napi_callback_info info, size_t wanted, napi_value *words);
+
+/* Where an array of no length is. */
+extern uint64_t nothing[1];
+
+/* The bytes of a Uint8Array, which stay what and where they are during a call: no other thread has them. */
+bool bytes_of(napi_env env, napi_value value, const uint8_t **bytes, size_t *length);
+
+bool numbers_of(napi_env env, napi_value value, uint32_t **numbers, size_t *length);
+
+/* A whole number of 32 bits. Another is refused, and never wrapped. */
+bool number_of(napi_env env, napi_value value, uint32_t *number);
+
+/* The places of a Float64Array that has so many, for numbers past 32 bits. */
+double *doubles_of(napi_env env, napi_value value, size_t wanted);
+
+napi_value number(napi_env env, double value);
+napi_value string(napi_env env, smap_text text);
+napi_value null(napi_env env);
+
+/* Bytes that were handed out, as a Buffer. */
+napi_value buffer(napi_env env, smap_bytes *bytes);
+
+/* held.c: what the objects of the addon hold of the library, a map or a table each. V8 knows of the memory, which is not its
+ * own. */
+struct held;
+
+/* The addon in one environment of node. The room is what one look-up is asked and answers, in a Uint32Array of ten: the line, the
+ * column, 1 for the other direction, and the seven numbers of the answer. There is one, so that a look-up hands over no argument
+ * and makes no value. */
+struct addon {
+    uint32_t *room;
+    struct held *first;
+    int64_t reported, swept; /* the bytes that V8 knows of, and the fewest since the last sweep */
+};
+
+struct held {
+    struct addon *addon;
+    struct held *before, *after;
+    napi_ref itself; /* the object, as long as it was not collected */
+    int64_t size;    /* the bytes that V8 knows of */
+    bool full, is_table;
+    smap_map map;
+    smap_table table;
+};
+
+struct addon *addon_of(napi_env env);
+
+/* What an object holds that is an open map, or an open table. */
+struct held *map_of(napi_env env, napi_value value);
+struct held *table_of(napi_env env, napi_value value);
+
+/* Puts what is full into the object, which owns it then. Where that fails it is freed. */
+bool hold(napi_env env, struct addon *addon, napi_value object, struct held *held, int64_t size);
+
+/* Says to V8 how many bytes this holds now. */
+void report_size(napi_env env, struct held *held, int64_t size);
+
+/* Frees what is held by objects that were collected. Node itself says so only once the script waits, which a loop over many
+ * maps does not. */
+void sweep(napi_env env, struct addon *addon);
+
+/* The object was collected, or the environment ends. */
+void drop(napi_env env, void *data, void *hint);
+
+/* The environment ends: what is still held stands alone. */
+void drop_addon(napi_env env, void *data, void *hint);
+
+/* What node calls. Each says beside its body what it is given and gives. */
+typedef napi_value call(napi_env env, napi_callback_info info);
+call close_map, close_table;
+/* look_up.c */
+call look_up, look_up_many, mappings, bytes_by_source;
+/* map.c */
+call read_map, counts, source_name, source_content, is_ignored, name, file, write_map;
+/* refusals.c */
+call refusal_text, refusal_explain, compose_refusal_text, table_refusal_text;
+/* compose.c */
+call compose, compose_all;
+/* table.c */
+call new_table, add, rewrite, next_frame_url;
+
+#endif

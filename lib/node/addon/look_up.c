@@ -1,0 +1,85 @@
+/* Look-ups in a map, singly and many at once, and what all of its mappings say. */
+#include "addon.h"
+#include <stdlib.h>
+#include <string.h>
+
+/* The function that a map is, called: the look-up that the room asks for. */
+napi_value look_up(napi_env env, napi_callback_info info) {
+    void *data = NULL;
+    napi_get_cb_info(env, info, NULL, NULL, NULL, &data);
+    struct held *held = data;
+    if (!held->full) return refuse(env, "the map is closed");
+    uint32_t *room = held->addon->room;
+    (room[2] ? smap_look_up_from : smap_look_up)(&held->map, room[0], room[1], (smap_found *)(room + 3));
+    return NULL;
+}
+
+/* How many positions are looked up at once. */
+#define AT_ONCE 512
+
+/* lookUpMany(map, positions, found): the answers to a Uint32Array of lines, from 1, and columns; seven numbers each, and the
+ * lines in them from 1 too. */
+napi_value look_up_many(napi_env env, napi_callback_info info) {
+    napi_value words[WORDS];
+    uint32_t *positions, *numbers;
+    size_t length, places;
+    if (!words_of(env, info, 3, words)) return NULL;
+    struct held *held = map_of(env, words[0]);
+    if (!held || !numbers_of(env, words[1], &positions, &length) || !numbers_of(env, words[2], &numbers, &places)) return NULL;
+    if (length % 2 || places != length / 2 * 7) return refuse_type(env, "the lengths do not fit");
+    smap_position asked[AT_ONCE];
+    for (size_t done = 0, count; done < length / 2; done += count) {
+        count = length / 2 - done < AT_ONCE ? length / 2 - done : AT_ONCE;
+        smap_found *found = (smap_found *)numbers + done;
+        for (size_t i = 0; i < count; i++) {
+            const uint32_t *at = positions + 2 * (done + i);
+            if (!at[0]) return refuse(env, "`line` must be greater than 0 (lines start at line 1)");
+            asked[i] = (smap_position){at[0] - 1, at[1]};
+        }
+        smap_look_up_many(&held->map, asked, count, found, count);
+        for (size_t i = 0; i < count; i++) found[i].line += found[i].kind == 2;
+    }
+    return words[2];
+}
+
+/* mappings(map): those of the map as a Uint32Array, eight numbers each, as smap_mapping has them. */
+napi_value mappings(napi_env env, napi_callback_info info) {
+    napi_value words[WORDS], array = NULL, room;
+    void *place;
+    if (!words_of(env, info, 1, words)) return NULL;
+    struct held *held = map_of(env, words[0]);
+    if (!held) return NULL;
+    smap_bytes bytes = {0};
+    if (smap_map_mappings(&held->map, &bytes) != SMAP_DONE) return refuse(env, "out of memory");
+    smap_text text = SMAP_TEXT;
+    smap_bytes_text(&bytes, &text);
+    if (napi_create_arraybuffer(env, text.length, &place, &room) == napi_ok &&
+        napi_create_typedarray(env, napi_uint32_array, text.length / sizeof(uint32_t), room, 0, &array) == napi_ok)
+        memcpy(text.length ? place : nothing, text.bytes, text.length);
+    smap_bytes_free(&bytes);
+    return array ? array : refuse(env, "out of memory");
+}
+
+/* bytesBySource(map, generated, refusal): a Float64Array of the bytes of each source and, at its end, those that are
+ * unmapped; or the number of the refusal. */
+napi_value bytes_by_source(napi_env env, napi_callback_info info) {
+    napi_value words[WORDS], array = NULL, room;
+    const uint8_t *generated;
+    size_t length;
+    uint32_t why = 0;
+    void *place;
+    if (!words_of(env, info, 2, words)) return NULL;
+    struct held *held = map_of(env, words[0]);
+    if (!held || !bytes_of(env, words[1], &generated, &length)) return NULL;
+    smap_count count = {0};
+    smap_counts(&held->map, &count);
+    uint64_t *reported = calloc(count.sources + 1, sizeof *reported);
+    if (!reported) return refuse(env, "out of memory");
+    uint32_t status = smap_bytes_by_source(&held->map, generated, length, reported, count.sources, reported + count.sources, &why);
+    if (status == SMAP_DONE && napi_create_arraybuffer(env, (count.sources + 1) * sizeof(double), &place, &room) == napi_ok &&
+        napi_create_typedarray(env, napi_float64_array, count.sources + 1, room, 0, &array) == napi_ok)
+        for (size_t i = 0; i <= count.sources; i++) ((double *)place)[i] = (double)reported[i];
+    free(reported);
+    if (status == SMAP_REFUSED) return number(env, why);
+    return array ? array : refuse(env, "out of memory");
+}

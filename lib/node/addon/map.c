@@ -1,0 +1,120 @@
+/* A map of the library: it is read, and what it holds is handed out. */
+#include "addon.h"
+#include <stdlib.h>
+
+/* About how many bytes the map of a file of this length has. */
+static int64_t size_of(size_t length, const smap_count *count) {
+    return (int64_t)(length + 32 * (count->checkpoints + count->sources + count->names) + 8 * count->lines);
+}
+
+/* read(bytes, base, interval, refusal): a map, or null, with the numbers of the refusal in a Float64Array of 6. The map is a
+ * function, which looks up when it is called. */
+napi_value read_map(napi_env env, napi_callback_info info) {
+    napi_value words[WORDS];
+    const uint8_t *bytes, *base;
+    size_t length, base_length;
+    uint32_t interval;
+    double *numbers;
+    if (!words_of(env, info, 4, words) || !bytes_of(env, words[0], &bytes, &length) || !bytes_of(env, words[1], &base, &base_length) ||
+        !number_of(env, words[2], &interval) || !(numbers = doubles_of(env, words[3], 6)))
+        return NULL;
+    struct addon *addon = addon_of(env);
+    sweep(env, addon);
+    struct held *held = calloc(1, sizeof *held);
+    if (!held) return refuse(env, "out of memory");
+    smap_refusal refusal = {0};
+    uint32_t status = smap_map_read(bytes, length, base, base_length, interval, &held->map, &refusal);
+    if (status != SMAP_DONE) {
+        free(held);
+        if (status != SMAP_REFUSED) return refuse(env, "out of memory");
+        numbers[0] = refusal.number, numbers[1] = refusal.fault, numbers[2] = refusal.line;
+        numbers[3] = refusal.build, numbers[4] = (double)refusal.section, numbers[5] = (double)refusal.byte;
+        return null(env);
+    }
+    smap_count count = {0};
+    smap_counts(&held->map, &count);
+    napi_value map = NULL;
+    if (napi_create_function(env, "lookUp", NAPI_AUTO_LENGTH, look_up, held, &map) != napi_ok) {
+        held->full = true;
+        drop(env, held, NULL);
+        return refuse(env, "out of memory");
+    }
+    return hold(env, addon, map, held, size_of(length, &count)) ? map : refuse(env, "out of memory");
+}
+
+napi_value counts(napi_env env, napi_callback_info info) {
+    napi_value words[WORDS], result;
+    if (!words_of(env, info, 1, words)) return NULL;
+    struct held *held = map_of(env, words[0]);
+    if (!held) return NULL;
+    smap_count count = {0};
+    smap_counts(&held->map, &count);
+    const char *names[] = {"sections", "sources", "names", "segments", "lines", "checkpoints"};
+    const uint64_t values[] = {count.sections, count.sources, count.names, count.segments, count.lines, count.checkpoints};
+    napi_create_object(env, &result);
+    for (int i = 0; i < 6; i++) napi_set_named_property(env, result, names[i], number(env, (double)values[i]));
+    return result;
+}
+
+/* The source of a call's second argument. */
+static bool source_of(napi_env env, napi_callback_info info, smap_source_text *source) {
+    napi_value words[WORDS];
+    uint32_t index;
+    if (!words_of(env, info, 2, words)) return false;
+    struct held *held = map_of(env, words[0]);
+    if (!held || !number_of(env, words[1], &index)) return false;
+    if (smap_source(&held->map, index, source) == SMAP_DONE) return true;
+    refuse(env, "no such source");
+    return false;
+}
+
+/* sourceName(map, index), sourceContent(map, index): a text, or null; isIgnored(map, index): whether it is. */
+napi_value source_name(napi_env env, napi_callback_info info) {
+    smap_source_text source = SMAP_SOURCE;
+    if (!source_of(env, info, &source)) return NULL;
+    return source.named ? string(env, source.name) : null(env);
+}
+
+napi_value source_content(napi_env env, napi_callback_info info) {
+    smap_source_text source = SMAP_SOURCE;
+    if (!source_of(env, info, &source)) return NULL;
+    return source.held ? string(env, source.content) : null(env);
+}
+
+napi_value is_ignored(napi_env env, napi_callback_info info) {
+    smap_source_text source = SMAP_SOURCE;
+    napi_value ignored;
+    if (!source_of(env, info, &source) || napi_get_boolean(env, source.ignored != 0, &ignored) != napi_ok) return NULL;
+    return ignored;
+}
+
+napi_value name(napi_env env, napi_callback_info info) {
+    napi_value words[WORDS];
+    uint32_t index;
+    if (!words_of(env, info, 2, words)) return NULL;
+    struct held *held = map_of(env, words[0]);
+    if (!held || !number_of(env, words[1], &index)) return NULL;
+    smap_text text = SMAP_TEXT;
+    return smap_name(&held->map, index, &text) == SMAP_DONE ? string(env, text) : null(env);
+}
+
+napi_value file(napi_env env, napi_callback_info info) {
+    napi_value words[WORDS];
+    if (!words_of(env, info, 1, words)) return NULL;
+    struct held *held = map_of(env, words[0]);
+    if (!held) return NULL;
+    smap_text text = SMAP_TEXT;
+    return smap_file(&held->map, &text) == SMAP_DONE ? string(env, text) : null(env);
+}
+
+/* write(map): its text, or null where it is refused. */
+napi_value write_map(napi_env env, napi_callback_info info) {
+    napi_value words[WORDS];
+    if (!words_of(env, info, 1, words)) return NULL;
+    struct held *held = map_of(env, words[0]);
+    if (!held) return NULL;
+    smap_bytes bytes = {0};
+    uint32_t status = smap_map_write(&held->map, &bytes);
+    if (status == SMAP_DONE) return buffer(env, &bytes);
+    return status == SMAP_REFUSED ? null(env) : refuse(env, "out of memory");
+}

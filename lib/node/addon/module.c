@@ -1,0 +1,36 @@
+/* The module: its calls, and the room of a look-up. */
+#include "addon.h"
+#include <stdlib.h>
+
+#define ROOM 10
+
+NAPI_MODULE_INIT() {
+    const struct { const char *name; napi_callback call; } calls[] = {
+        {"read", read_map}, {"refusalText", refusal_text}, {"refusalExplain", refusal_explain}, {"closeMap", close_map},
+        {"closeTable", close_table}, {"lookUpMany", look_up_many}, {"mappings", mappings}, {"bytesBySource", bytes_by_source},
+        {"counts", counts}, {"sourceName", source_name}, {"sourceContent", source_content}, {"isIgnored", is_ignored},
+        {"name", name}, {"file", file}, {"write", write_map}, {"compose", compose}, {"composeAll", compose_all}, {"newTable", new_table},
+        {"add", add}, {"rewrite", rewrite}, {"nextFrameUrl", next_frame_url}, {"composeRefusalText", compose_refusal_text},
+        {"tableRefusalText", table_refusal_text},
+    };
+    napi_value buffer, room;
+    napi_ref kept;
+    void *numbers;
+    struct addon *addon = calloc(1, sizeof *addon);
+    if (!addon || napi_set_instance_data(env, addon, drop_addon, NULL) != napi_ok) {
+        free(addon);
+        return refuse(env, "out of memory");
+    }
+    if (napi_create_arraybuffer(env, ROOM * sizeof(uint32_t), &numbers, &buffer) != napi_ok ||
+        napi_create_typedarray(env, napi_uint32_array, ROOM, buffer, 0, &room) != napi_ok ||
+        napi_create_reference(env, buffer, 1, &kept) != napi_ok)
+        return refuse(env, "out of memory");
+    addon->room = numbers;
+    napi_set_named_property(env, exports, "room", room);
+    for (size_t i = 0; i < sizeof calls / sizeof *calls; i++) {
+        napi_value function;
+        napi_create_function(env, calls[i].name, NAPI_AUTO_LENGTH, calls[i].call, NULL, &function);
+        napi_set_named_property(env, exports, calls[i].name, function);
+    }
+    return exports;
+}
