@@ -1,4 +1,4 @@
-// What the page holds: the map, the generated text, and who owns which bytes of it.
+// What the page holds: the map, the generated text, and how many bytes of it smap says that each source makes.
 
 const $ = (id) => document.getElementById(id);
 
@@ -27,7 +27,7 @@ const names = record.names;
 const ignored = new Set(record.ignoreList ?? []);
 const map = decodeMappings(record.mappings);
 record.mappings = '';
-const owned = bytesBySource(map, sources.length, generated, facts.bytes);
+const owned = facts.bytes;
 
 const nameOf = (source) => sources[source] ?? `[${source}]`;
 const contentOf = (source) => record.sourcesContent?.[source] ?? null;
@@ -37,7 +37,7 @@ const many = (number, one, more) => `${count(number)} ${number === 1 ? one : mor
 const share = (bytes) => `${many(bytes, 'byte', 'bytes')} · ${percent(bytes)}`;
 
 // The colours go by rank: the largest source has the first.
-const ranked = sources.map((_, index) => index).sort((a, b) => owned.bytes[b] - owned.bytes[a] || a - b);
+const ranked = sources.map((_, index) => index).sort((a, b) => owned.sources[b] - owned.sources[a] || a - b);
 const ranks = new Int32Array(sources.length);
 ranked.forEach((index, rank) => {
   ranks[index] = rank;

@@ -115,12 +115,12 @@ function start() {
     ranked.map((index) => ({
       index,
       name: nameOf(index),
-      bytes: owned.bytes[index],
+      bytes: owned.sources[index],
       isIgnored: ignored.has(index),
       hasContent: contentOf(index) !== null,
     })),
   );
-  const tree = treeOf(ranked.map((index) => ({ index, name: nameOf(index), bytes: owned.bytes[index] })));
+  const tree = treeOf(ranked.map((index) => ({ index, name: nameOf(index), bytes: owned.sources[index] })));
   if (owned.unmapped > 0) {
     tree.children.push({ name: 'unmapped', bytes: owned.unmapped, source: -1 });
     tree.children.sort((a, b) => b.bytes - a.bytes);
@@ -199,7 +199,7 @@ const placed = (index) => {
 Object.defineProperty(window, 'smapPage', {
   value: Object.freeze({
     counts: Object.freeze({ bytes: owned.total, lines: generated.lines.count, mappings: map.count, sources: sources.length }),
-    bytes: () => ({ sources: [...owned.bytes], unmapped: owned.unmapped }),
+    bytes: () => ({ sources: [...owned.sources], unmapped: owned.unmapped }),
     lookUp: (line, column) => answerOf(mappingAt(map, line - 1, column - 1)),
     chosen: () => placed(chosen),
     pointed: () => placed(pointed),
