@@ -1,12 +1,19 @@
-// Pointing and choosing, and the line that says so.
+// Pointing at a mapping, choosing it, and letting it go, in both texts.
+import { map } from './held.js';
+import { lineOf, mappingAt } from './map.js';
+import { report } from './report.js';
+import { originalAt } from './segments.js';
+import { state } from './state.js';
+import { openSource, panes } from './views.js';
+export { ask, choose, leavePreview, letGo, listenToPanes, redraw };
 
 function pointAt(index, other) {
-  if (index === pointed) return;
-  pointed = index;
+  if (index === state.pointed) return;
+  state.pointed = index;
   const wanted = index >= 0 ? map.source[index] : -1;
   if (other === panes.original) {
     if (wanted >= 0) {
-      if (!preview) preview = { open, seen: panes.original.seen() };
+      if (!state.preview) state.preview = { open: state.open, seen: panes.original.seen() };
       openSource(wanted);
       panes.original.reveal(map.originalLine[index], map.originalColumn[index]);
     } else if (index < 0) leavePreview();
@@ -18,10 +25,10 @@ function pointAt(index, other) {
 
 // Back to the source that was open before something was pointed at, and to where it was.
 function leavePreview() {
-  if (!preview) return;
-  const { open: before, seen } = preview;
-  preview = null;
-  openSource(before);
+  if (!state.preview) return;
+  const { open, seen } = state.preview;
+  state.preview = null;
+  openSource(open);
   panes.original.seeAgain(seen);
 }
 
@@ -37,9 +44,10 @@ function hint(index) {
   element.hidden = false;
 }
 
+// Chooses a mapping. Its places are brought into view in both panes, or in one of them, where the other was clicked.
 function choose(index, { in: other } = {}) {
-  chosen = index;
-  preview = null;
+  state.chosen = index;
+  state.preview = null;
   const origin = index >= 0 && map.source[index] >= 0;
   if (!origin) panes.original.letGo();
   if (origin && other !== panes.generated) {
@@ -53,22 +61,22 @@ function choose(index, { in: other } = {}) {
     panes.generated.reveal(line, map.column[index]);
     if (origin) panes.original.caret = { line: map.originalLine[index], column: map.originalColumn[index] };
   }
-  $('generated').querySelector('.hint').hidden = true;
+  panes.generated.hint.hidden = true;
   redraw();
   report();
 }
 
 // Sets the place of the generated text that is asked for, from 0.
 function ask(line, column, note = '') {
-  asked = { line, column, note };
+  state.asked = { line, column, note };
   panes.generated.caret = { line, column };
 }
 
 function letGo() {
   leavePreview();
-  chosen = -1;
-  pointed = -1;
-  asked = null;
+  state.chosen = -1;
+  state.pointed = -1;
+  state.asked = null;
   for (const pane of Object.values(panes)) pane.letGo();
   redraw();
   report();
@@ -79,41 +87,20 @@ function redraw() {
   panes.original.later();
 }
 
-// What `smap lookup` says of a mapping, in parts.
-function partsOf(index) {
-  const source = index < 0 ? -1 : map.source[index];
-  if (source < 0) return { place: index < 0 ? 'none' : 'unmapped' };
-  return {
-    path: nameOf(source),
-    place: `:${map.originalLine[index] + 1}:${map.originalColumn[index] + 1}`,
-    name: map.name[index] < 0 ? '' : ` name ${names[map.name[index]]}`,
-    mark: ignored.has(source) ? ' ignored' : '',
-  };
-}
-
-function answerOf(index) {
-  return Object.values(partsOf(index)).join('');
-}
-
-// Each part has a width of its own: a long path is cut, and not what stands behind it.
-function showAnswer(parts) {
-  const shown = Object.entries(parts).filter(([, text]) => text);
-  $('answer').replaceChildren(...shown.map(([part, text]) => isolated(part, visible(text))));
-  $('answer').title = $('answer').textContent;
-}
-
-// The line at the bottom: what is pointed at, or else what is chosen.
-function report() {
-  const isText = !$('texts').hidden;
-  const isPointed = pointed >= 0;
-  const index = isPointed ? pointed : chosen;
-  let at = null;
-  if (isText && isPointed) at = { line: lineOf(map, index), column: map.column[index] };
-  else if (isText && asked) at = asked;
-  $('asked').textContent = at ? `${at.line + 1}:${at.column + 1}` : '';
-  $('arrow').textContent = at ? '→' : '';
-  showAnswer(at ? partsOf(index) : {});
-  const start = isText ? 'Point at either text.' : 'Click an area or a folder to open it.';
-  $('note').textContent = at ? (isPointed ? '' : asked.note) : `${start} ? shows the keys.`;
-  $('note').title = $('note').textContent;
+function listenToPanes() {
+  panes.generated.listen({
+    point: (place) => pointAt(place ? mappingAt(map, place.line, place.column) : -1, panes.original),
+    choose: (place) => {
+      leavePreview();
+      ask(place.line, place.column);
+      choose(mappingAt(map, place.line, place.column), { in: panes.original });
+    },
+  });
+  panes.original.listen({
+    point: (place) => pointAt(originalAt(place), panes.generated),
+    choose: (place) => {
+      const index = originalAt(place, state.chosen);
+      if (index >= 0) choose(index, { in: panes.generated });
+    },
+  });
 }

@@ -1,17 +1,27 @@
 // The list of sources. Only the rows that are seen stand in the page.
+import { colourOf } from './colours.js';
+import { added } from './elements.js';
+import { rankOf, share } from './sources.js';
+import { visible } from './units.js';
+export { List };
 
 const ROW = 42;
 
 class List {
-  constructor(element, { open, share, rankOf }) {
-    Object.assign(this, { element, open, share, rankOf });
+  constructor(element) {
+    this.element = element;
     this.rows = element.querySelector('.rows');
     this.all = [];
     this.shown = [];
     this.active = 0;
     this.current = -1;
-    element.addEventListener('scroll', () => this.draw());
-    element.addEventListener('keydown', (event) => this.key(event));
+  }
+
+  // Tells of the source that is to be opened.
+  listen(open) {
+    this.open = open;
+    this.element.addEventListener('scroll', () => this.draw());
+    this.element.addEventListener('keydown', (event) => this.key(event));
   }
 
   show(all) {
@@ -82,13 +92,6 @@ class List {
 
   row(i) {
     const { index, name, bytes, isIgnored, hasContent } = this.shown[i];
-    const add = (parent, tag, className, text) => {
-      const element = document.createElement(tag);
-      element.className = className;
-      if (text !== undefined) element.textContent = text;
-      parent.append(element);
-      return element;
-    };
     const row = document.createElement('div');
     row.className = `row${i === this.active ? ' active' : ''}`;
     row.id = `source-${index}`;
@@ -101,17 +104,17 @@ class List {
     row.style.top = `${i * ROW}px`;
     const shown = visible(name);
     row.title = shown;
-    add(row, 'span', 'swatch').style.backgroundColor = colourOf(this.rankOf(index), 0.85);
+    added(row, 'span', 'swatch').style.backgroundColor = colourOf(rankOf(index), 0.85);
     const cut = shown.lastIndexOf('/', shown.length - 2) + 1;
-    const [size, percent] = this.share(bytes).split(' · ');
-    const above = add(row, 'span', 'line');
-    add(above, 'b', '', shown.slice(cut) || shown);
-    if (isIgnored) add(above, 'em', '', 'ignored');
-    if (!hasContent) add(above, 'em', '', 'no content');
-    add(above, 'span', 'number', percent);
-    const below = add(row, 'span', 'line below');
-    add(below, 'span', 'folder', shown.slice(0, cut));
-    add(below, 'span', 'number', size);
+    const [size, percent] = share(bytes).split(' · ');
+    const above = added(row, 'span', 'line');
+    added(above, 'b', '', shown.slice(cut) || shown);
+    if (isIgnored) added(above, 'em', '', 'ignored');
+    if (!hasContent) added(above, 'em', '', 'no content');
+    added(above, 'span', 'number', percent);
+    const below = added(row, 'span', 'line below');
+    added(below, 'span', 'folder', shown.slice(0, cut));
+    added(below, 'span', 'number', size);
     row.addEventListener('click', () => {
       this.active = i;
       this.open(index);

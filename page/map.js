@@ -1,4 +1,6 @@
 // The mappings of a map, decoded into lists of numbers that stand beside each other.
+import { firstWhere } from './search.js';
+export { byOrigin, decodeMappings, lineOf, mappingAt };
 
 const DIGITS = new Uint8Array(128);
 [...'ABCDEFGHIJKLMNOPQRSTUVWXYZabcdefghijklmnopqrstuvwxyz0123456789+/'].forEach((digit, value) => {
@@ -73,16 +75,6 @@ function decodeMappings(text) {
   }
   first[lines] = count;
   return { count, lines, first, column, source, originalLine, originalColumn, name };
-}
-
-// The first number from `low` up to `high` of which the test, which is false first and then true, holds; `high` if there is none.
-function firstWhere(low, high, test) {
-  while (low < high) {
-    const middle = (low + high) >>> 1;
-    if (test(middle)) high = middle;
-    else low = middle + 1;
-  }
-  return low;
 }
 
 // The mapping that answers for a place of the generated text, the last one at or before it on its line; -1 where none does.

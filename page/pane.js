@@ -1,41 +1,17 @@
 // A pane that shows a text of any size: what is seen of it is drawn on a canvas, line by line and column by column.
+import { FONT, LINE_HEIGHT, TOP, clear, drawRows } from './drawing.js';
+import { firstWhere } from './search.js';
+export { Pane };
 
-const FONT = '13px ui-monospace, "SF Mono", Menlo, Consolas, "DejaVu Sans Mono", "Liberation Mono", monospace';
-const LINE_HEIGHT = 20;
-const TOP = 6;
 const PAD = 6;
 // No browser lays out more than some millions of pixels. A longer text is scrolled by its share of so many.
 const MOST_PIXELS = 4000000;
 
-// The colours of the page's style, read anew where light and dark change.
-let colours = {};
-function readColours() {
-  const style = getComputedStyle(document.documentElement);
-  const of = (name) => style.getPropertyValue(`--${name}`).trim();
-  colours = {
-    text: of('text'),
-    quiet: of('quiet'),
-    paper: of('paper'),
-    gutter: of('gutter'),
-    edge: of('edge'),
-    accent: of('accent'),
-    row: of('row'),
-    tint: Number(of('tint')),
-    lit: Number(of('lit')),
-    light: of('light'),
-  };
-}
-
-// The colour of a source by its rank, the largest source being the first.
-function colourOf(rank, alpha) {
-  const hue = (212 + rank * 137.508) % 360;
-  return `hsl(${hue.toFixed(1)} 72% ${colours.light} / ${alpha})`;
-}
-
 class Pane {
-  // `segments` visits the segments of a part of a line: begin and end columns, mapping, rank of its source or -1.
-  constructor(element, { segments, isLit, point, choose, wraps }) {
-    Object.assign(this, { segments, isLit, point, choose, wraps });
+  // `segments` visits the segments of a part of a line: begin and end columns, mapping, rank of its source or -1. `isLit` says
+  // whether a mapping lights up: 2 for the one that is meant, 1 for another of the same place.
+  constructor(element, { segments, isLit, wraps }) {
+    Object.assign(this, { segments, isLit, wraps });
     this.scroller = element.querySelector('.scroller');
     this.spacer = element.querySelector('.spacer');
     this.canvas = element.querySelector('canvas');
@@ -48,7 +24,7 @@ class Pane {
     this.share = { across: 1, down: 1 };
     this.context.font = FONT;
     this.cell = this.context.measureText('0'.repeat(100)).width / 100;
-    this.listen();
+    this.listenToScrolling();
   }
 
   show(text) {
@@ -220,7 +196,7 @@ class Pane {
     return { x: box.left + this.scroller.clientLeft + x, y: box.top + this.scroller.clientTop + y };
   }
 
-  listen() {
+  listenToScrolling() {
     const { scroller } = this;
     scroller.addEventListener('scroll', () => {
       const { scrollLeft, scrollTop } = scroller;
@@ -256,14 +232,19 @@ class Pane {
       event.preventDefault();
       this.scrollTo(this.left + step[0], this.top + step[1]);
     });
+  }
+
+  // Tells of the place that is pointed at, or null, and of the one that is clicked.
+  listen({ point, choose }) {
+    const { scroller } = this;
     scroller.addEventListener('pointermove', (event) => {
       const place = this.placeAt(event.clientX, event.clientY);
-      this.point(place && !place.isPast ? place : null);
+      point(place && !place.isPast ? place : null);
     });
-    scroller.addEventListener('pointerleave', () => this.point(null));
+    scroller.addEventListener('pointerleave', () => point(null));
     scroller.addEventListener('click', (event) => {
       const place = this.placeAt(event.clientX, event.clientY);
-      if (place) this.choose(place);
+      if (place) choose(place);
     });
   }
 
@@ -279,32 +260,10 @@ class Pane {
   }
 
   draw() {
-    const { context, width, height, gutter } = this;
-    context.setTransform(this.scale, 0, 0, this.scale, 0, 0);
-    context.fillStyle = colours.paper;
-    context.fillRect(0, 0, width, height);
-    if (!this.text || width <= 0 || height <= 0) return;
-    context.font = FONT;
-    context.textBaseline = 'middle';
-    context.direction = 'ltr';
-    if ('textRendering' in context) context.textRendering = 'optimizeSpeed';
-    if ('fontKerning' in context) context.fontKerning = 'none';
+    clear(this);
+    if (!this.text || this.width <= 0 || this.height <= 0) return;
     const rows = this.seenRows();
-    context.save();
-    context.beginPath();
-    context.rect(gutter, 0, width - gutter, height);
-    context.clip();
-    const lit = [];
-    for (const row of rows) this.drawSegments(row, lit);
-    this.drawLit(lit);
-    for (const row of rows) this.drawText(row);
-    if (this.caret) {
-      const { row, cell } = this.seatOf(this.caret.line, this.caret.column);
-      context.fillStyle = colours.accent;
-      context.fillRect(this.begin + cell * this.cell - this.left - 1, TOP + row * LINE_HEIGHT - this.top + 1, 2, LINE_HEIGHT - 2);
-    }
-    context.restore();
-    this.drawGutter(rows);
+    drawRows(this, rows);
     // Of a line with wide characters it is known only here how wide it is.
     const wide = rows.filter(({ line }) => !this.wraps && !this.text.isSimpleLine(line));
     const widest = wide.reduce((most, { line }) => Math.max(most, this.text.cellsOf(line)), 0);
@@ -328,114 +287,5 @@ class Pane {
       rows.push({ line, base, begin, end, y: TOP + row * LINE_HEIGHT - this.top, zero: this.begin - base * this.cell - this.left });
     }
     return rows;
-  }
-
-  isCaretRow({ line, begin, end }) {
-    if (!this.caret || this.caret.line !== line) return false;
-    return !this.wraps || (this.caret.column >= begin && (this.caret.column < end || end === this.text.lengthOf(line)));
-  }
-
-  drawSegments(row, lit) {
-    const { context } = this;
-    const { line, begin, end, y, zero } = row;
-    if (this.isCaretRow(row)) {
-      context.fillStyle = colours.row;
-      context.fillRect(this.gutter, y, this.width - this.gutter, LINE_HEIGHT);
-    }
-    this.segments(line, begin, end, (from, to, index, rank) => {
-      const left = zero + this.text.cellsBefore(line, Math.max(from, begin)) * this.cell;
-      const right = zero + this.text.cellsBefore(line, Math.min(to, end)) * this.cell;
-      const isLit = this.isLit(index);
-      if (rank >= 0 && right > left) {
-        context.fillStyle = colourOf(rank, colours.tint);
-        context.fillRect(left, y + 1, right - left, LINE_HEIGHT - 2);
-        if (from >= begin) {
-          context.fillStyle = colourOf(rank, colours.tint * 2.2);
-          context.fillRect(left, y + 1, 1, LINE_HEIGHT - 2);
-        }
-      }
-      if (isLit && (right > left || from >= begin)) {
-        lit.push({ left, right: Math.max(right, left + 3), y, rank, isChosen: isLit === 2 });
-      }
-    });
-  }
-
-  drawLit(lit) {
-    const { context } = this;
-    for (const { left, right, y, rank, isChosen } of lit) {
-      if (rank >= 0) {
-        context.fillStyle = colourOf(rank, isChosen ? colours.lit : colours.lit * 0.7);
-        context.fillRect(left, y + 1, right - left, LINE_HEIGHT - 2);
-      }
-      context.strokeStyle = rank >= 0 ? colourOf(rank, 1) : colours.quiet;
-      context.lineWidth = isChosen ? 2 : 1.25;
-      context.strokeRect(left, y + 1, right - left, LINE_HEIGHT - 2);
-    }
-  }
-
-  drawText({ line, begin, end, y, zero }) {
-    const { context, text } = this;
-    const middle = y + LINE_HEIGHT / 2 + 0.5;
-    const start = text.lines.starts[line];
-    const x = (cells) => zero + cells * this.cell;
-    context.fillStyle = colours.text;
-    if (text.isSimpleLine(line)) {
-      context.fillText(text.text.slice(start + begin, start + end), x(begin), middle);
-      return;
-    }
-    // Other characters are put one by one at their cells, with those that are joined to them.
-    const units = kindsOfUnits();
-    let cells = text.cellsBefore(line, begin);
-    let run = '';
-    let runAt = cells;
-    const flush = () => {
-      if (run) context.fillText(run, x(runAt), middle);
-      run = '';
-    };
-    for (let column = begin; column < end; column += 1) {
-      const at = start + column;
-      const code = text.text.charCodeAt(at);
-      const wide = text.cellsOfUnit(at, cells);
-      const isJoined = column + 1 < end && units[text.text.charCodeAt(at + 1)] === JOINED;
-      if (isSimple(code) && !isJoined) {
-        if (!run) runAt = cells;
-        run += text.text[at];
-      } else {
-        flush();
-        const isPair = isHigh(code) && column + 1 < text.lengthOf(line) && isLow(text.text.charCodeAt(at + 1));
-        let next = column + (isPair ? 2 : 1);
-        if (code !== 9 && (isPair || units[code] !== HIDDEN)) {
-          while (next < end && units[text.text.charCodeAt(start + next)] === JOINED) next += 1;
-          const room = (isPair ? 2 : Math.max(1, wide)) * this.cell * 1.15;
-          context.fillText(text.text.slice(at, start + next), x(cells), middle, room);
-        } else if (code !== 9) {
-          context.strokeStyle = colours.quiet;
-          context.lineWidth = 1;
-          context.strokeRect(x(cells) + 1.5, middle - 4.5, this.cell - 3, 8);
-        }
-        cells += isPair ? 1 : 0;
-        column = next - 1;
-      }
-      cells += wide;
-    }
-    flush();
-  }
-
-  // The numbers of lines, each beside its first row that is seen.
-  drawGutter(rows) {
-    const { context, gutter } = this;
-    context.fillStyle = colours.gutter;
-    context.fillRect(0, 0, gutter, this.height);
-    context.fillStyle = colours.edge;
-    context.fillRect(gutter - 1, 0, 1, this.height);
-    context.textAlign = 'right';
-    for (const [i, { line, base, y }] of rows.entries()) {
-      const isFirst = i === 0 ? base > 0 && y > -4 : i === 1 && rows[0].y <= -4 && rows[0].base > 0;
-      if (base === 0 || isFirst) {
-        context.fillStyle = this.caret && this.caret.line === line ? colours.text : colours.quiet;
-        context.fillText(String(line + 1), gutter - this.cell, y + LINE_HEIGHT / 2 + 0.5);
-      }
-    }
-    context.textAlign = 'left';
   }
 }

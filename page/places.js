@@ -1,4 +1,5 @@
 // What a text says where to go: a position, or a frame of a trace as V8, Firefox and Safari print it. All count from 1 here.
+export { fileOf, placeIn };
 
 const LARGEST = 2147483648;
 

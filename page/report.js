@@ -1,0 +1,49 @@
+// The line at the bottom: what is pointed at, or else what is chosen, and where it comes from.
+import { elementOf, isolated } from './elements.js';
+import { map, record } from './held.js';
+import { lineOf } from './map.js';
+import { isIgnored, nameOf } from './sources.js';
+import { state } from './state.js';
+import { visible } from './units.js';
+export { answerOf, report };
+
+// What `smap lookup` says of a mapping, in parts.
+function partsOf(index) {
+  const source = index < 0 ? -1 : map.source[index];
+  if (source < 0) return { place: index < 0 ? 'none' : 'unmapped' };
+  return {
+    path: nameOf(source),
+    place: `:${map.originalLine[index] + 1}:${map.originalColumn[index] + 1}`,
+    name: map.name[index] < 0 ? '' : ` name ${record.names[map.name[index]]}`,
+    mark: isIgnored(source) ? ' ignored' : '',
+  };
+}
+
+function answerOf(index) {
+  return Object.values(partsOf(index)).join('');
+}
+
+// Each part has a width of its own: a long path is cut, and not what stands behind it.
+function showAnswer(parts) {
+  const shown = Object.entries(parts).filter(([, text]) => text);
+  const answer = elementOf('answer');
+  answer.replaceChildren(...shown.map(([part, text]) => isolated(part, visible(text))));
+  answer.title = answer.textContent;
+}
+
+function report() {
+  const { chosen, pointed, asked } = state;
+  const isText = !elementOf('texts').hidden;
+  const isPointed = pointed >= 0;
+  const index = isPointed ? pointed : chosen;
+  let at = null;
+  if (isText && isPointed) at = { line: lineOf(map, index), column: map.column[index] };
+  else if (isText && asked) at = asked;
+  elementOf('asked').textContent = at ? `${at.line + 1}:${at.column + 1}` : '';
+  elementOf('arrow').textContent = at ? '→' : '';
+  showAnswer(at ? partsOf(index) : {});
+  const start = isText ? 'Point at either text.' : 'Click an area or a folder to open it.';
+  const note = elementOf('note');
+  note.textContent = at ? (isPointed ? '' : asked.note) : `${start} ? shows the keys.`;
+  note.title = note.textContent;
+}
