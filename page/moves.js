@@ -38,8 +38,8 @@ function noteOn(line, column, index, url) {
   const length = generated.lengthOf(line);
   if (column > length) return `line ${line + 1} has ${many(length, 'column', 'columns')}`;
   if (index < 0) return 'no mapping stands on that line at or before that column';
-  if (url && !ownFiles.includes(fileOf(url))) return `the frame names ${visible(fileOf(url) || url)}, and this is ${visible(fileName)}`;
-  return '';
+  if (!url || ownFiles.includes(fileOf(url))) return '';
+  return `the frame names ${visible(fileOf(url) || url)}, and this is ${visible(fileName)}`;
 }
 
 // Opens a source at its first place that the generated text has, unless it is open.
