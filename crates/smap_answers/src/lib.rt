@@ -16,6 +16,4 @@ pub use running::{run, run_reading};
 pub use smap_command::{
     Command, MOST_BYTES, USUAL_CACHE_BYTES, USUAL_INTERVAL, USUAL_LIMIT_BYTES, WriteOptions,
 };
-pub use smap_replies::{
-    Failure, FileReader, Loaded, Reply, UnreadCause, refusal_line, report,
-};
+pub use smap_replies::{Failure, FileReader, Loaded, Reply, UnreadCause, refusal_line, report};

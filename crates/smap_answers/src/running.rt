@@ -6,13 +6,19 @@ ghost use Rattle.smap_command.specs.Runnable.{IsRunnable};
 ghost use Rattle.smap_replies.specs.Streams.{streams_seen};
 
 use smap_check_answers::{CheckOptions, Form, answer_check, answer_explain, check_all};
-use smap_compose_answers::{ALL_WRITTEN, AllMaps, TwoMaps, answer_compose, answer_compose_all, answer_show, answer_show_with};
-use smap_replies::{FileReader, Loaded, LoadedFiles, MapReader, report};
-use smap_map_answers::{LookupOptions, SourceOptions, answer_content, answer_lookup, answer_mappings, answer_positions, answer_raw, answer_sources};
-use smap_text_answers::{RewriteRequest, answer_rewrite, rewrite_from};
 use smap_command::{Command, USUAL_INTERVAL};
+use smap_compose_answers::{
+    ALL_WRITTEN, AllMaps, TwoMaps, answer_compose, answer_compose_all, answer_show,
+    answer_show_with,
+};
 use smap_io::{ByteSink, ByteSource};
+use smap_map_answers::{
+    LookupOptions, SourceOptions, answer_content, answer_lookup, answer_mappings, answer_positions,
+    answer_raw, answer_sources,
+};
 use smap_positions::AnswerOptions;
+use smap_replies::{FileReader, Loaded, LoadedFiles, MapReader, report};
+use smap_text_answers::{RewriteRequest, answer_rewrite, rewrite_from};
 use std::alloc::Global;
 
 /// Runs a command over files in memory, of which the caller gives one for each path of the command, in their order; one of

@@ -7,10 +7,13 @@ ghost use Rattle.smap_replies.specs.Streams.{sinks_seen};
 ghost use Rattle.smap_record.specs.declared.refusal.MapRefusal.TheVariants.{Memory};
 
 use crate::lines;
-use smap_replies::{DONE, Failure, FileReader, MapReader, Reply, UnreadCause, file_failed_line, refusal_line, report};
 use smap_explain::explain;
 use smap_io::{ByteSink, ReadFailure};
 use smap_record::{MapFile, MapRefusal};
+use smap_replies::{
+    DONE, Failure, FileReader, MapReader, Reply, UnreadCause, file_failed_line, refusal_line,
+    report,
+};
 use smap_verdicts::{MapCounts, counts_json, explanation_text, map_counts, refusal_json};
 use std::alloc::{AllocError, Global};
 

@@ -4,9 +4,9 @@ ghost use Rattle.smap_check_answers.specs.Explain.{ReportsCalled, ReportsCode, n
 ghost use Rattle.smap_replies.specs.Outcome.{OrMemory, report_of};
 ghost use Rattle.smap_codes.specs.Labels.{label_called, labels};
 
-use smap_replies::{Failure, Reply};
 use smap_codes::{all_codes_text, code_text, row_of};
 use smap_command::shown;
+use smap_replies::{Failure, Reply};
 use std::alloc::{AllocError, Global};
 
 /// What the code or the name means, what usually causes it and what to do about it; without one, how all codes are called.

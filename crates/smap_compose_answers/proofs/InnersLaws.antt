@@ -32,28 +32,6 @@ use Rattle.smap_replies.specs.Base.{base_of}
 -- ---- a pair
 
 module _ (sources : List StatedSource) (twice : Report) (old : Named) (name path : List ℕ) where
-  abbrev one_called : Result Named Report → Type 0
-  one_called result =
-      MatchBool (list_any (is_called name) sources) ((new : Named) × IsWith old name path new × (result ≡ Ok new))
-      (result ≡ Err (refusal (no_source_named_line name)))
-
-  pub pair_named : (new : Named) → IsNamed sources old name path new → NamesPair sources twice old name path (Ok new)
-  pair_named new is =
-      inr (subst (λ b. MatchBool b (◌≡◌ {A = Result Named Report} (Ok new) (Err twice)) (one_called (Ok new))) (sym is.once)
-      (subst (λ b. MatchBool b ((more : Named) × IsWith old name path more × (◌≡◌ {A = Result Named Report} (Ok new) (Ok more)))
-      (◌≡◌ {A = Result Named Report} (Ok new) (Err (refusal (no_source_named_line name))))) (sym is.called) (new, is.with_it, refl)))
-
-  pub pair_twice : is_some (path_under name old) ≡ true → NamesPair sources twice old name path (Err twice)
-  pair_twice there =
-      inr (subst (λ b. MatchBool b (◌≡◌ {A = Result Named Report} (Err twice) (Err twice)) (one_called (Err twice))) (sym there) refl)
-
-  pub pair_uncalled : is_some (path_under name old) ≡ false → list_any (is_called name) sources ≡ false
-      → NamesPair sources twice old name path (Err (refusal (no_source_named_line name)))
-  pair_uncalled absent none =
-      let result : Result Named Report = Err (refusal (no_source_named_line name)) in
-      inr (subst (λ b. MatchBool b (result ≡ Err twice) (one_called result)) (sym absent)
-      (subst (λ b. MatchBool b ((new : Named) × IsWith old name path new × (result ≡ Ok new)) (result ≡ Err (refusal (no_source_named_line name))))
-      (sym none) refl))
 
 -- ---- words
 
@@ -65,9 +43,6 @@ module _ (sources : List StatedSource) (words rest : List (List ℕ × List ℕ)
   pub words_refused : (report : Report) → NamesPair sources (misuse (twice_line (argument_text name path))) old name path (Err report)
       → NamesWords sources words old (Err report)
   words_refused report pair = subst (λ left. NamesWords sources left old (Err report)) (sym is) (Err report, pair, refl)
-
-pub words_end : (sources : List StatedSource) (words : List (List ℕ × List ℕ)) (old : Named) → words ≡ [] → NamesWords sources words old (Ok old)
-words_end sources words old is = subst (λ left. NamesWords sources left old (Ok old)) (sym is) refl
 
 -- ---- lines
 
@@ -86,18 +61,7 @@ lines_end sources list number all old is = subst (λ left. NamesLines sources li
 
 -- ---- a list
 
-pub bytes_named : (sources : List StatedSource) (list bytes : List ℕ) (old : Named) (result : Result Named Report)
-    → list_bytes_refusal bytes ≡ None → NamesLines sources list 1 (lines bytes) old result → NamesBytes sources list bytes old result
-bytes_named sources list bytes old result fine names =
-    inr (subst (λ r. MatchOption r (NamesLines sources list 1 (lines bytes) old result) (λ reason. result ≡ Err (refusal (map_refused_line list reason))))
-    (sym fine) names)
-
 -- ---- a map
-
--- what a file gives, or why it is refused
-pub inner_read : (Reads : MayRead) (name path bytes : List ℕ) (stated : MapRecord) → Reads 2 path (Ok bytes)
-    → record_of bytes (base_of None name) usual_interval ≡ Ok stated → ReadsInner Reads name path (Ok stated)
-inner_read Reads name path bytes stated reads read = inr (bytes, reads, inr (subst (λ found. GivesFound path found (Ok stated)) (sym read) (inr refl)))
 
 pub inner_refused : (Reads : MayRead) (name path bytes : List ℕ) (report : Report) → Reads 2 path (Ok bytes)
     → OrMemory (ReportsFound (refusal_result path) (record_of bytes (base_of None name) usual_interval) Never) report
@@ -121,10 +85,6 @@ module _ (Reads : MayRead) (named : Named) (sources rest : List StatedSource) (s
 
   pub inners_refused : (report : Report) → ReadsSource Reads (pair_of named source) (Err report) → ReadsInners Reads named sources so_far (Err report)
   inners_refused report reads = subst (λ left. ReadsInners Reads named left so_far (Err report)) (sym is) (Err report, reads, refl)
-
-pub inners_end : (Reads : MayRead) (named : Named) (sources : List StatedSource) (so_far : List (Option MapRecord)) → sources ≡ []
-    → ReadsInners Reads named sources so_far (Ok so_far)
-inners_end Reads named sources so_far is = subst (λ left. ReadsInners Reads named left so_far (Ok so_far)) (sym is) refl
 
 -- one more map behind the others
 pub one_stated : (inners : List (Option Map)) (inner : Option Map)

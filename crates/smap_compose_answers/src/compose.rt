@@ -9,10 +9,10 @@ ghost use Rattle.smap_mappings.specs.Exact.{GivesOr};
 
 use crate::lines;
 use crate::written::written;
-use smap_replies::{Failure, FileReader, Reply, file_bytes, map_of, refused};
 use smap_command::{USUAL_INTERVAL, WriteOptions};
 use smap_compose::{ComposeRefusal, compose};
 use smap_record::{MapFile, Url};
+use smap_replies::{Failure, FileReader, Reply, file_bytes, map_of, refused};
 use std::alloc::Global;
 
 /// The maps of two files that are to be composed.

@@ -12,10 +12,10 @@ ghost use Rattle.smap_mappings.specs.Exact.{GivesOr};
 use crate::compose::reported;
 use crate::inners::{OuterMap, named_inners, read_inners};
 use crate::written::written;
-use smap_replies::{Failure, FileReader, MapReader, Reply, read_map};
 use smap_command::{USUAL_INTERVAL, WriteOptions};
 use smap_compose::{ComposeRefusal, compose_all};
 use smap_record::{MapFile, Url};
+use smap_replies::{Failure, FileReader, MapReader, Reply, read_map};
 use std::alloc::{AllocError, Global};
 
 /// The map that is to be composed, and the maps of its sources.

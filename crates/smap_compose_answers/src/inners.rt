@@ -15,10 +15,12 @@ ghost use Rattle.smap_record.specs.Sources.{source_of};
 ghost use Rattle.smap_locations.specs.ListLine.{line_entry};
 
 use crate::lines;
-use smap_replies::{Failure, FileReader, MapReader, file_bytes, list_text, read_map_at, refused_list, twice_line};
 use smap_command::USUAL_INTERVAL;
 use smap_locations::{ListFault, ListRefusal, NamedPaths, entry_of_line};
 use smap_record::{MapFile, SourceEntry};
+use smap_replies::{
+    Failure, FileReader, MapReader, file_bytes, list_text, read_map_at, refused_list, twice_line,
+};
 use std::alloc::Global;
 
 // Why a path does not go under a name.

@@ -10,10 +10,10 @@ ghost use Rattle.smap_mappings.specs.Exact.{GivesOr};
 
 use crate::lines;
 use crate::written::{line_of, written};
-use smap_replies::{Failure, FileReader, MapReader, Reply, read_map, refused};
 use smap_command::{USUAL_INTERVAL, WriteOptions};
 use smap_compose::{ComposeRefusal, compose_all};
 use smap_record::{MapFile, Url, WriteRefusal};
+use smap_replies::{Failure, FileReader, MapReader, Reply, read_map, refused};
 use std::alloc::Global;
 
 /// Reads the map that the file at this path is, and writes what it states as one regular map.

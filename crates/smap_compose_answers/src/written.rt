@@ -5,9 +5,9 @@ ghost use Rattle.smap_compose_answers.specs.Written.{left_of, line_reported, pru
 ghost use Rattle.smap_compose.specs.declared.refusal.ComposeRefusal.TheVariants.{Memory};
 ghost use Rattle.smap_mappings.specs.Exact.{GivesOr};
 
-use smap_replies::Reply;
 use smap_command::WriteOptions;
 use smap_compose::{ComposeRefusal, Composed};
+use smap_replies::Reply;
 use std::alloc::{AllocError, Global};
 
 /// Nothing is left out.

@@ -4,10 +4,10 @@ ghost use Rattle.smap_map_answers.specs.Lookup.{about_text, lookup_lines, lookup
 ghost use Rattle.smap_replies.specs.Map.{IsLine, ReportsMap};
 ghost use Rattle.smap_replies.specs.Outcome.{OrMemory, report_of};
 
-use smap_replies::{Failure, FileReader, MapReader, Reply, read_map};
 use smap_explain::mappings_about;
 use smap_positions::{lookup_as_json, lookup_text};
 use smap_record::MapFile;
+use smap_replies::{Failure, FileReader, MapReader, Reply, read_map};
 use smap_verdicts::nearest_text;
 use std::alloc::{AllocError, Global};
 

@@ -4,10 +4,10 @@ ghost use Rattle.smap_map_answers.specs.Mappings.{MappingsReports, PrintingRepor
 ghost use Rattle.smap_replies.specs.Outcome.{report_of};
 ghost use Rattle.smap_positions.specs.Mappings.{mappings_text};
 
-use smap_replies::{Failure, FileReader, MapReader, Reply, read_map};
 use smap_io::ByteSink;
 use smap_positions::print_mappings;
 use smap_record::MapFile;
+use smap_replies::{Failure, FileReader, MapReader, Reply, read_map};
 use std::alloc::Global;
 
 /// Reads the map that the file at this path is, and prints its mappings, or those of this generated line, from 0, on

@@ -8,12 +8,12 @@ ghost use Rattle.smap_map_answers.specs.Positions.{AnsweredReports, PositionsRep
 ghost use Rattle.smap_map_answers.specs.Private.Room.{IsRoom};
 
 use crate::lines;
-use smap_replies::{Failure, FileReader, MapReader, Reply, read_map};
 use itoa::Buffer;
 use smap_io::{ByteSink, ByteSource};
+use smap_lines::LineFault;
 use smap_positions::{AnswerOptions, PositionsSummary};
 use smap_record::MapFile;
-use smap_lines::LineFault;
+use smap_replies::{Failure, FileReader, MapReader, Reply, read_map};
 use std::alloc::Global;
 
 // How many bytes the line has at most that refuses positions.

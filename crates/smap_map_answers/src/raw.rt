@@ -13,12 +13,12 @@ ghost use Rattle.smap_lines.specs.Editing.{devices_seen};
 ghost use Rattle.smap_io.specs.Device.{SinkSeen};
 
 use crate::lines;
-use smap_replies::{Failure, Reply, refused};
 use smap_index::laws::one_text_is_its_mappings;
 use smap_index::{Answer, BuildRefusal, Index, Part};
 use smap_io::{ByteSource, ReadFailure, read_all};
 use smap_mappings::{MOST_BYTES, MOST_INDICES, Meter, PackedText, TextRefusal};
 use smap_positions::{NONE, UNMAPPED};
+use smap_replies::{Failure, Reply, refused};
 use std::alloc::{AllocError, Global};
 
 /// Looks up a generated line and column, both from 0, in the mappings text on standard input, over checkpoints at this

@@ -6,10 +6,12 @@ ghost use Rattle.smap_map_answers.specs.SourceList.{IsSourcesReported, ReportsGe
 ghost use Rattle.smap_command.specs.Limits.{usual_interval};
 
 use crate::lines;
-use smap_replies::{Failure, FileReader, MapReader, Reply, file_bytes, read_map, refused, refused_file};
 use smap_command::USUAL_INTERVAL;
 use smap_positions::sources_text;
 use smap_record::{MOST_FILE_BYTES, MapFile};
+use smap_replies::{
+    Failure, FileReader, MapReader, Reply, file_bytes, read_map, refused, refused_file,
+};
 use std::alloc::Global;
 
 /// How the sources of a map are reported.

@@ -1,8 +1,7 @@
--- A list of maps (this project's own): lines of a URL and the path of its map, or of a prefix of URLs and the path of a folder,
--- with a TAB between them. A path that ends in `/` is that of a folder. Lines end in LF or CR LF; an empty line and one that
--- begins with `#` say nothing.
+-- A list of maps (this project's own), whose lines end in LF or CR LF.
 use Rattle.std.specs.Prelude.{◌≡◌, ◌⊎◌, ℕ, ◌+◌, ◌||◌, false, not, List, [], ◌∷◌, ◌++◌, Option, Some, None, is_some, Result}
 use Rattle.std.specs.Prelude.{MatchBool, MatchResult, if◌then◌else◌, length}
+use Rattle.smap_locations.specs.ListLine.{entry_of, is_folder, is_passed_over}
 use Rattle.smap_locations.specs.Locations.{LocationsSeen, is_prefix}
 use Rattle.smap_locations.specs.Named.{IsWith, path_under}
 use Rattle.smap_record.specs.Record.{MapRecord}

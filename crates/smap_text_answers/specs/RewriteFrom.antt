@@ -29,8 +29,8 @@ use Rattle.smap_text_answers.specs.SameBytes.{BytesByPath, IsSettled, ReadsSame}
 use Rattle.smap_text_answers.specs.Sources.{GathersSources}
 use Rattle.smap_replies.specs.Streams.{Ends, IsReportedTo, Sinks, Streams}
 use Rattle.smap_replies.specs.Arguments.{argument_of}
-use Rattle.smap_text_answers.specs.declared.rewrite_from.RewriteRequest.{RewriteRequest}
-use Rattle.smap_text_answers.specs.declared.rewrite_from.StoreEnd.{StoreEnd}
+use Rattle.smap_text_answers.specs.declared.rewriting.RewriteRequest.{RewriteRequest}
+use Rattle.smap_text_answers.specs.declared.rewriting.StoreEnd.{StoreEnd}
 use Rattle.smap_text_answers.specs.declared.sources.MapSources.{MapSources}
 
 -- what is asked, the base and the interval aside

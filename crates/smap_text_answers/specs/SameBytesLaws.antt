@@ -29,7 +29,7 @@ use Rattle.smap_text_answers.specs.RewriteFrom.{AnswersByPath, IsOverStore, IsSt
 use Rattle.smap_text_answers.specs.SameBytes.{BytesByPath, IsSettled, IsSilent, ReadsSame, stated_by, stated_in}
 use Rattle.smap_replies.specs.Streams.{Streams}
 use Rattle.smap_text_answers.specs.Trace.{IsBaseUsed}
-use Rattle.smap_text_answers.specs.declared.rewrite_from.StoreEnd.{StoreEnd}
+use Rattle.smap_text_answers.specs.declared.rewriting.StoreEnd.{StoreEnd}
 use Rattle.smap_text_answers.specs.declared.sources.MapSources.{MapSources}
 
 -- ---- over any loader

@@ -9,9 +9,9 @@
 
 mod lines;
 mod loader;
-mod rewrite_from;
+mod rewriting;
 mod sources;
 mod trace;
 
-pub use rewrite_from::{RewriteRequest, rewrite_from};
+pub use rewriting::{RewriteRequest, rewrite_from};
 pub use trace::answer_rewrite;

@@ -1,16 +1,17 @@
 //! The maps that are read when a text names them.
 ghost use Rattle.std.specs.Prelude.{◌≡◌, option_copied, IfErr, IfOk};
 ghost use Rattle.smap_text_answers.specs.Lines.{map_memory_line};
-ghost use Rattle.smap_text_answers.specs.Loader.{FailsToLoad, FailsToRead, Notes, loader_seen, named_report, IsReadAs, IsReadRefusal};
-ghost use Rattle.smap_replies.specs.Files.{IsLoaded};
+ghost use Rattle.smap_text_answers.specs.Loader.{FailsToLoad, FailsToRead, IsLoaded, Notes, loader_seen, named_report, IsReadAs, IsReadRefusal};
 ghost use Rattle.smap_replies.specs.Outcome.{OrMemory, failure_report, failure};
 ghost use Rattle.smap_locations.specs.Paths.{without_query};
 
 use crate::lines;
-use smap_replies::{Failure, FileReader, MapReader, REFUSED, file_bytes, map_of, print_error, read_map_at};
 use smap_io::ByteSink;
 use smap_locations::without_query;
 use smap_record::MapFile;
+use smap_replies::{
+    Failure, FileReader, MapReader, REFUSED, file_bytes, map_of, print_error, read_map_at,
+};
 use smap_store::{LoadedMap, MapLoader};
 use std::alloc::Global;
 

@@ -8,8 +8,10 @@ ghost use Rattle.smap_store.specs.MapList.{PutsFolder, folder_fault};
 
 use crate::lines;
 use crate::trace::table_of;
-use smap_replies::{Failure, FileReader, MapReader, file_bytes, list_text, reason_of, refused_list};
 use smap_locations::{ListFault, Locations, is_folder};
+use smap_replies::{
+    Failure, FileReader, MapReader, file_bytes, list_text, reason_of, refused_list,
+};
 use smap_store::{add_folder, add_list};
 use smap_trace::Table;
 use std::alloc::Global;

@@ -8,9 +8,9 @@ ghost use Rattle.smap_text_answers.specs.Trace.{Gathers, PutsNext, IsTraceRewrit
 ghost use Rattle.smap_replies.specs.Arguments.{argument_of};
 
 use crate::lines;
-use smap_replies::{Failure, FileReader, MapReader, Reply, file_bytes, read_map_at, twice_line};
 use smap_io::{ByteSink, ByteSource};
 use smap_locations::is_folder;
+use smap_replies::{Failure, FileReader, MapReader, Reply, file_bytes, read_map_at, twice_line};
 use smap_trace::{RewriteFault, Summary, Table, TableRefusal, rewrite};
 use std::alloc::Global;
 

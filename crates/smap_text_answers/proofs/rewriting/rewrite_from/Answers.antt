@@ -3,7 +3,7 @@ use Rattle.std.specs.Prelude.{Ok}
 use Rattle.smap_text_answers.specs.RewriteFrom.{request_seen}
 use Rattle.smap_text_answers.specs.SameBytesLaws.{same_run}
 use Rattle.smap_replies.specs.Streams.{streams_seen}
-use Rattle.smap_text_answers.proofs.rewrite_from.rewrite_from.Goals as goal
+use Rattle.smap_text_answers.proofs.rewriting.rewrite_from.Goals as goal
 
 pub returns-in-Ok : goal.returns-in-Ok
 returns-in-Ok g c =

@@ -7,7 +7,7 @@ use Rattle.smap_text_answers.specs.Loader.{LoaderSeen, loader_seen}
 use Rattle.smap_text_answers.specs.RewriteFrom.{IsStoredRewritten, store_of}
 use Rattle.smap_replies.specs.Arguments.{argument_of}
 use Rattle.smap_text_answers.proofs.StoreLaws.{looked_from, rewritten_from, untouched_by}
-use Rattle.smap_text_answers.proofs.rewrite_from.over_store.Goals as goal
+use Rattle.smap_text_answers.proofs.rewriting.over_store.Goals as goal
 
 pub returns-clause-over : goal.returns-clause-over
 returns-clause-over g c =

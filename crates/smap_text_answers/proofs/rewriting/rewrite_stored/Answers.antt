@@ -6,7 +6,7 @@ use Rattle.smap_store.specs.StoredMaps.{IsSameStore, same_store_on, same_store_s
 use Rattle.smap_trace.specs.Rewriting.{Looked, RewritesOver}
 use Rattle.smap_trace.specs.SeenLaws.{looked_seen, rewrites_seen}
 use Rattle.smap_text_answers.specs.RewriteFrom.{store_of}
-use Rattle.smap_text_answers.proofs.rewrite_from.rewrite_stored.Goals as goal
+use Rattle.smap_text_answers.proofs.rewriting.rewrite_stored.Goals as goal
 
 pub returns-clause-looked : goal.returns-clause-looked
 returns-clause-looked g c =

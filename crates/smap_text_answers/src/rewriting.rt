@@ -11,9 +11,11 @@ ghost use Rattle.smap_trace.specs.Rewriting.{Looked, RewritesFrontOver, Rewrites
 
 use crate::loader::FileLoader;
 use crate::sources::{MapSources, sources_of};
-use smap_replies::{DONE, FAILED, Failure, FileReader, MapReader, NO_MEMORY, Reply, print_error, report};
 use smap_io::{ByteSink, ByteSource};
 use smap_places::{StoredPlaceFinder, rewrite_places_over};
+use smap_replies::{
+    DONE, FAILED, Failure, FileReader, MapReader, NO_MEMORY, Reply, print_error, report,
+};
 use smap_store::{MapCache, MapLoader, StoredMaps};
 use smap_trace::{RewriteCounts, RewriteFault, RewriteOptions, rewrite_over};
 use std::alloc::{AllocError, Global};

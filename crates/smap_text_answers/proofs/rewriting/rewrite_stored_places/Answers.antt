@@ -8,7 +8,7 @@ use Rattle.smap_store.specs.StoredMaps.{IsSameStore, same_store_on, same_store_s
 use Rattle.smap_trace.specs.Rewriting.{Looked}
 use Rattle.smap_trace.specs.SeenLaws.{looked_seen}
 use Rattle.smap_text_answers.specs.RewriteFrom.{places_of, store_of}
-use Rattle.smap_text_answers.proofs.rewrite_from.rewrite_stored_places.Goals as goal
+use Rattle.smap_text_answers.proofs.rewriting.rewrite_stored_places.Goals as goal
 
 pub returns-in_default-clause-front : goal.returns-in_default-clause-front
 returns-in_default-clause-front g c =
