@@ -1,37 +1,26 @@
 -- What the words, the list and the sources of inner maps come to, one after another.
-use Rattle.std.proofs.Common.{◌≡◌, ℕ, zero, suc, ◌+◌, ◌<◌, ◌≤◌, ◌⊎◌, List, [], ◌∷◌, ◌++◌, add-one, arith, drop, drop-cons, get_or, length, refl, sym, ap, subst, ◌∙◌, inl, inr}
+use Rattle.std.proofs.Common.{◌≡◌, ℕ, zero, suc, ◌+◌, ◌<◌, ◌⊎◌, List, [], ◌∷◌, ◌++◌, add-one, arith, drop, drop-cons, get_or, length, refl, sym, ap, subst, ◌∙◌, inl, inr}
 use Rattle.std.specs.Option.{option_map_or}
 use Rattle.std.specs.Result.{is_err, is_ok}
-use Rattle.std.specs.Prelude.{Bool, ◌||◌, if◌then◌else◌, slice_get, true, false, Option, Some, None, Result, Ok, Err, MatchBool, MatchOption, is_some, option_map}
+use Rattle.std.specs.Prelude.{Bool, ◌||◌, if◌then◌else◌, slice_get, true, false, Option, Some, Result, Ok, Err, option_map}
 use Rattle.std.specs.List.{list_any}
-use Rattle.std.specs.Str.Lines.{lines}
 use Rattle.std.proofs.lemmas.List.{map-append}
-use Rattle.smap_command.specs.Limits.{usual_interval}
-use Rattle.smap_locations.specs.Named.{IsWith, Named, path_under}
+use Rattle.smap_locations.specs.Named.{Named}
 use Rattle.smap_record.specs.MapFile.{Map}
-use Rattle.smap_record.specs.Record.{MapRecord, record_of}
+use Rattle.smap_record.specs.Record.{MapRecord}
 use Rattle.smap_record.specs.Sources.{StatedSource}
-use Rattle.smap_record.specs.declared.refusal.MapRefusal.{MapRefusal}
 use Rattle.smap_locations.specs.ListLine.{line_entry}
-use Rattle.smap_compose_answers.specs.ComposeAll.{GivesFound, NamesBytes, NamesEntry, NamesInners, NamesLines, NamesPair, NamesWords, ReadsInner, ReadsInners, ReadsSource}
-use Rattle.smap_compose_answers.specs.ComposeAll.{ReportsInners, is_called, pair_of}
+use Rattle.smap_compose_answers.specs.ComposeAll.{NamesEntry, NamesInners, NamesLines, NamesPair, NamesWords, ReadsInners, ReadsSource}
+use Rattle.smap_compose_answers.specs.ComposeAll.{ReportsInners, pair_of}
 use Rattle.smap_compose_answers.specs.Compose.{compose_refusal_result}
 use Rattle.smap_compose_answers.specs.Written.{report_or, written_of}
 use Rattle.smap_command.specs.declared.command.WriteOptions.{WriteOptions}
 use Rattle.smap_compose.specs.Composition.{all_composed}
 use Rattle.smap_replies.specs.Files.{MayRead}
-use Rattle.smap_replies.specs.Lines.{map_refused_line, twice_line}
-use Rattle.smap_compose_answers.specs.Lines.{no_source_named_line}
-use Rattle.smap_replies.specs.Map.{Never, ReportsFound, refusal_result}
-use Rattle.smap_replies.specs.Outcome.{OrMemory, Report, misuse, out_of_memory, refusal}
-use Rattle.smap_compose_answers.specs.Private.Inners.{IsNamed, inners_stated}
-use Rattle.smap_replies.specs.Lists.{list_bytes_refusal}
+use Rattle.smap_replies.specs.Lines.{twice_line}
+use Rattle.smap_replies.specs.Outcome.{OrMemory, Report, misuse, out_of_memory}
+use Rattle.smap_compose_answers.specs.Private.Inners.{inners_stated}
 use Rattle.smap_replies.specs.Arguments.{argument_text}
-use Rattle.smap_replies.specs.Base.{base_of}
-
--- ---- a pair
-
-module _ (sources : List StatedSource) (twice : Report) (old : Named) (name path : List ℕ) where
 
 -- ---- words
 
@@ -58,21 +47,6 @@ module _ (sources : List StatedSource) (list : List ℕ) (number : ℕ) (all res
 pub lines_end : (sources : List StatedSource) (list : List ℕ) (number : ℕ) (all : List (List ℕ)) (old : Named) → all ≡ []
     → NamesLines sources list number all old (Ok old)
 lines_end sources list number all old is = subst (λ left. NamesLines sources list number left old (Ok old)) (sym is) refl
-
--- ---- a list
-
--- ---- a map
-
-pub inner_refused : (Reads : MayRead) (name path bytes : List ℕ) (report : Report) → Reads 2 path (Ok bytes)
-    → OrMemory (ReportsFound (refusal_result path) (record_of bytes (base_of None name) usual_interval) Never) report
-    → ReadsInner Reads name path (Err report)
-inner_refused Reads name path bytes report reads (inl no_memory) = inr (bytes, reads, inl (ap Err no_memory))
-inner_refused Reads name path bytes report reads (inr refused) = inr (bytes, reads, inr (go (record_of bytes (base_of None name) usual_interval) refused))
-  where
-    go : (found : Result MapRecord MapRefusal) → ReportsFound (refusal_result path) found Never report → GivesFound path found (Err report)
-    go (Err why) reported = ap Err reported
-    go (Ok stated) (inl reported) = inl (ap Err reported)
-    go (Ok stated) (inr never) = absurd never
 
 -- ---- sources
 
@@ -120,17 +94,6 @@ from_place [] i x there = absurd (cc)
 from_place (y ∷ xs) zero x there = let same : y ≡ x = cc in ap (λ y. y ∷ xs) same
 from_place (y ∷ xs) (suc i) x there =
     let one : suc i + 1 ≡ suc (i + 1) = omega arith in from_place xs i x there ∙ ap (λ n. x ∷ drop n (y ∷ xs)) (sym one)
-
-pub none_past : {X : Type 0} (xs : List X) (i : ℕ) → slice_get xs i ≡ None → i < length xs → ⊥
-none_past [] i none inside = omega arith
-none_past (x ∷ xs) zero none inside = cc
-none_past (x ∷ xs) (suc i) none inside = none_past xs i none (omega arith)
-
-pub drop_past : {X : Type 0} (xs : List X) (i : ℕ) → length xs ≤ i → drop i xs ≡ []
-drop_past [] zero far = refl
-drop_past [] (suc i) far = refl
-drop_past (x ∷ xs) zero far = absurd (omega arith)
-drop_past (x ∷ xs) (suc i) far = drop_past xs i (omega arith)
 
 pub line_at : (all : List (List ℕ)) (n : ℕ) (line : List ℕ) → n < length all → line ≡ get_or all n line → drop n all ≡ line ∷ drop (n + 1) all
 line_at all n line inside is = rw (add-one) (drop-cons all n line inside ∙ ap (λ first. first ∷ drop (suc n) all) (sym is))

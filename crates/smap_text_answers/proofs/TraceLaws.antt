@@ -1,14 +1,12 @@
 -- What the arguments of `rewrite` come to, argument by argument.
-use Rattle.std.proofs.Common.{◌≡◌, ℕ, ◌+◌, ◌⊎◌, List, [], ◌∷◌, refl, sym, ap, subst, ◌∙◌, inl, inr, add-one}
-use Rattle.std.specs.Prelude.{Bool, true, false, ◌&&◌, MatchBool, Option, Some, None, Result, Ok, Err, MatchOption, ⊤}
+use Rattle.std.proofs.Common.{◌≡◌, ℕ, ◌+◌, ◌⊎◌, List, ◌∷◌, refl, sym, ap, subst, ◌∙◌, inl, inr, add-one}
+use Rattle.std.specs.Prelude.{Bool, true, false, ◌&&◌, MatchBool, Option, Some, None, Result, Ok, Err, MatchOption}
 use Rattle.smap_locations.specs.ListLine.{is_folder}
 use Rattle.smap_record.specs.Record.{MapRecord, record_of}
-use Rattle.smap_record.specs.declared.refusal.MapRefusal.{MapRefusal}
-use Rattle.smap_trace.specs.Table.{IsWith, url_refusal}
+use Rattle.smap_trace.specs.Table.{url_refusal}
 use Rattle.smap_trace.specs.declared.refusal.TableRefusal.{TableRefusal}
 use Rattle.smap_trace.specs.declared.refusal.TableRefusal.TheVariants.{Memory}
 use Rattle.smap_replies.specs.Files.{IsUnread, MayRead}
-use Rattle.smap_replies.specs.Map.{Never, ReportsFound, refusal_result}
 use Rattle.smap_replies.specs.Outcome.{OrMemory, Report, out_of_memory}
 use Rattle.smap_text_answers.specs.Private.Gathering.{gathered}
 use Rattle.smap_text_answers.specs.Trace.{Gathers, Maps, Puts, PutsFound, PutsMap, PutsNext, url_refusal_result}
@@ -18,13 +16,7 @@ use Rattle.url.specs.Parts.{Parts}
 
 -- ---- a map and the table
 
--- a map that the table took
-pub puts_taken : (maps more : Maps) (url path : List ℕ) (stated : MapRecord) (refusal : Option TableRefusal) → IsWith maps url stated more
-    → MatchOption refusal ⊤ (λ _. ⊥) → Puts maps url path stated refusal (Ok more)
-puts_taken maps more url path stated (Some refused) is never = absurd never
-puts_taken maps more url path stated None is free = (more, is, refl)
-
--- and one that it did not take
+-- a map that the table did not take
 pub puts_refused : (maps : Maps) (url path : List ℕ) (stated : MapRecord) (refusal : Option TableRefusal) (refused : TableRefusal)
     (report : Report) (result : Result Maps Report)
     → result ≡ Err report → MatchOption refusal (refused ≡ Memory) (λ first. refused ≡ first) → OrMemory (λ t. t ≡ url_refusal_result refused url path) report
@@ -43,18 +35,6 @@ pub puts_read : (base : Option Parts) (k : ℕ) (maps : Maps) (url path bytes : 
 puts_read base k maps url path bytes stated result read (inl no_memory) = inl no_memory
 puts_read base k maps url path bytes stated result read (inr puts) =
     inr (subst (λ found. PutsFound maps url path found result) (sym read) (inr puts))
-
--- or it is refused
-pub puts_unread : (base : Option Parts) (k : ℕ) (maps : Maps) (url path bytes : List ℕ) (report : Report)
-    → OrMemory (ReportsFound (refusal_result path) (record_of bytes (base_of base url) k) Never) report
-    → PutsMap base k maps url path bytes (Err report)
-puts_unread base k maps url path bytes report (inl no_memory) = inl (ap Err no_memory)
-puts_unread base k maps url path bytes report (inr refused) = inr (go (record_of bytes (base_of base url) k) refused)
-  where
-    go : (found : Result MapRecord MapRefusal) → ReportsFound (refusal_result path) found Never report → PutsFound maps url path found (Err report)
-    go (Err why) reported = ap Err reported
-    go (Ok stated) (inl reported) = inl (ap Err reported)
-    go (Ok stated) (inr never) = absurd never
 
 -- after the arguments before, none of which was refused
 pub puts_after : (base : Option Parts) (k : ℕ) (before : Result Maps Failure) (maps : Maps) (url path bytes : List ℕ)
@@ -93,9 +73,3 @@ module _ (passes : Bool) (Reads : MayRead) (base : Option Parts) (k number : ℕ
   pub gathers_unread : (passed : Bool) → passed ≡ (passes && is_folder path) → passed ≡ false → (report : Report)
       → OrMemory (IsUnread Reads number path) report → Gathers passes Reads base k number before arguments (Err report)
   gathers_unread passed so fails report unread = of_first (Err report) (if_false _ _ _ (sym so ∙ fails) (inl (report, unread, refl)))
-
--- no argument is left
-pub gathers_end : (passes : Bool) (Reads : MayRead) (base : Option Parts) (k number : ℕ) (before : Result Maps Report) (arguments : List (List ℕ × List ℕ))
-    → arguments ≡ [] → Gathers passes Reads base k number before arguments before
-gathers_end passes Reads base k number before arguments is =
-    subst (λ left. Gathers passes Reads base k number before left before) (sym is) refl

@@ -1,10 +1,10 @@
 use Rattle.std.proofs.Common.{◌+◌, ◌∷◌, ap, arith, drop, length, sym, ◌∙◌}
 use Rattle.std.proofs.lemmas.Iterator.Consumers.{YieldsList-turn, YieldsList-end}
 use Rattle.std.proofs.lemmas.Iterator.Splits.{YieldsList-from_lines}
-use Rattle.std.proofs.lemmas.List.{length_push}
+use Rattle.std.proofs.lemmas.List.{drop_all, length_push}
 use Rattle.std.proofs.lemmas.Result.{err_from_is_err_and}
 use Rattle.std.specs.Str.Lines.{lines}
-use Rattle.smap_compose_answers.proofs.InnersLaws.{drop_past, line_at, lines_end, lines_next, lines_refused}
+use Rattle.smap_compose_answers.proofs.InnersLaws.{line_at, lines_end, lines_next, lines_refused}
 use Rattle.smap_compose_answers.proofs.inners.named_lines.Goals as goal
 
 pub loop-line-preserved : goal.loop-line-preserved
@@ -38,4 +38,4 @@ returns c =
     let end = YieldsList-end (YieldsList-from_lines c.args.text.now cc) c.loop-line.yielded _ c.loop-line.yielded_by _ _ c.in-None.is c.next.ensures.steps in
     c.loop-line.invariant.names _
     (lines_end c.args.outer.now.map.now.stated.sources c.args.list.now (c.loop-line.number + 1) _ c.loop-line.named
-    (drop_past (lines c.args.text.now) (length c.loop-line.yielded) (omega (arith, end.1))))
+    (drop_all (length c.loop-line.yielded) (lines c.args.text.now) (omega (arith, end.1))))
