@@ -1,14 +1,1 @@
-mod CheckLaws
-mod ComposeLaws
-mod Examples
-mod MappingsLaws
-mod NextLaws
-mod PositionsLaws
-mod RawLaws
 mod RunLaws
-mod ShownLaws
-mod SourcesLaws
-mod StoreLaws
-mod TraceLaws
-mod InnersLaws
-mod SourceListLaws

@@ -1,49 +1,31 @@
 -- What a run of the program does to its streams, and the status with which it ends.
-use Rattle.std.specs.Prelude.{◌≡◌, ℕ, Bool, true, false, List, None, map, option_map, string_bytes, IfSome}
-use Rattle.smap_command.specs.Bytes.{HasBytes}
-use Rattle.smap_command.specs.Interval.{HasInterval}
+use Rattle.std.specs.Prelude.{◌≡◌, ℕ, None, map, option_map, string_bytes}
 use Rattle.smap_command.specs.Limits.{usual_interval}
-use Rattle.smap_answers.specs.Check.{ChecksAll, ChecksFile, form_of}
-use Rattle.smap_answers.specs.Compose.{ReportsComposed}
-use Rattle.smap_answers.specs.ComposeAll.{ReportsAllComposed}
-use Rattle.smap_answers.specs.Explain.{ReportsCode}
-use Rattle.smap_answers.specs.Files.{MayRead}
-use Rattle.smap_answers.specs.Lines.{input_failed_line}
-use Rattle.smap_answers.specs.Lookup.{lookup_print}
-use Rattle.smap_answers.specs.Map.{IsLine, IsResult, ReportsMap}
-use Rattle.smap_answers.specs.Mappings.{MappingsReports}
-use Rattle.smap_answers.specs.Outcome.{OrMemory, Report, failure}
-use Rattle.smap_answers.specs.Positions.{PositionsReports}
-use Rattle.smap_answers.specs.Raw.{raw_result}
-use Rattle.smap_answers.specs.RewriteFrom.{RewritesFrom}
-use Rattle.smap_answers.specs.SourceList.{ReportsSources, content_result}
-use Rattle.smap_answers.specs.Show.{show_result, show_with_result}
+pub use Rattle.smap_command.specs.Runnable.{IsRunnable}
+use Rattle.smap_check_answers.specs.Check.{ChecksAll, ChecksFile, form_of}
+use Rattle.smap_compose_answers.specs.Compose.{ReportsComposed}
+use Rattle.smap_compose_answers.specs.ComposeAll.{ReportsAllComposed}
+use Rattle.smap_check_answers.specs.Explain.{ReportsCode}
+use Rattle.smap_replies.specs.Files.{MayRead}
+use Rattle.smap_map_answers.specs.Lookup.{lookup_print}
+use Rattle.smap_replies.specs.Map.{IsLine, IsResult, ReportsMap}
+use Rattle.smap_map_answers.specs.Mappings.{MappingsReports}
+use Rattle.smap_replies.specs.Outcome.{OrMemory, Report}
+use Rattle.smap_map_answers.specs.Positions.{PositionsReports}
+use Rattle.smap_text_answers.specs.RewriteFrom.{RewritesFrom}
+use Rattle.smap_map_answers.specs.Raw.{RawReports}
+use Rattle.smap_map_answers.specs.SourceList.{ReportsSources, content_result}
+use Rattle.smap_compose_answers.specs.Show.{show_result, show_with_result}
 use Rattle.smap_io.specs.Device.{SinkSeen}
-use Rattle.smap_answers.specs.Streams.{Streams, Ends, sinks_seen}
-use Rattle.smap_answers.specs.Written.{all_written}
+use Rattle.smap_replies.specs.Streams.{Streams, Ends, sinks_seen}
+use Rattle.smap_compose_answers.specs.Written.{all_written}
 use Rattle.smap_lines.specs.Editing.{DevicesSeen, devices_seen}
-use Rattle.smap_answers.specs.Trace.{IsTraceRewritten, RewriteReports, argument_of}
+use Rattle.smap_text_answers.specs.Trace.{IsTraceRewritten, RewriteReports}
+use Rattle.smap_replies.specs.Arguments.{argument_of}
 use Rattle.smap_command.specs.declared.command.Command.{Command}
 use Rattle.smap_command.specs.declared.command.Command.TheVariants.{Raw, Check, CheckAll, Show, ShowWith, Lookup, Positions, Mappings, Sources, SourceContent}
 use Rattle.smap_command.specs.declared.command.Command.TheVariants.{Rewrite, RewriteFrom, Compose, ComposeWith, ComposeAll, Explain}
-use Rattle.smap_answers.specs.declared.check.Form.TheVariants.{Counts}
-
--- ---- `raw`
-
--- what is reported where standard input failed in the run, or did not
-abbrev pub IsRawReport : (line column : ℕ) (input : List ℕ) (failed : Bool) → Report → Type 0
-IsRawReport line column input true report = report ≡ failure input_failed_line
-IsRawReport line column input false report = OrMemory (λ reported. reported ≡ raw_result input line column) report
-
--- `raw` reads standard input, and leaves standard output alone
-pub record RawReports (line column : ℕ) (before after : DevicesSeen) (report : Report) : Type 0 where
-  -- the bytes of standard input, where it shows them
-  pub input : List ℕ
-  pub is_input : IfSome before.input.left (λ left. left ≡ input)
-  pub unwritten : after.output ≡ before.output
-  pub is_report : IsRawReport line column input after.input.failed report
-
--- ---- a run
+use Rattle.smap_check_answers.specs.declared.check.Form.TheVariants.{Counts}
 
 -- a command leaves standard input and output alone, and says this, or that memory ran out
 abbrev pub ReportsAside : (Report → Type 0) → (before after : DevicesSeen) → Report → Type 0
@@ -60,10 +42,6 @@ pub record RunsOne (Reports : (before after : DevicesSeen) → Report → Type 0
   pub written : SinkSeen
   pub reports : Reports (devices_seen before.input before.sinks.output) (devices_seen after.input written) report
   pub ends : Ends report status (sinks_seen written before.sinks.errors) after.sinks
-
--- a command that can be run: checkpoints may stand at its interval, and its numbers of bytes are in their ranges
-abbrev pub IsRunnable : Command → Type 0
-IsRunnable command = HasInterval command × HasBytes command
 
 -- a run of a command over files of which reading gives this, and the status with which it ends
 abbrev pub Runs : MayRead → Command → (status : ℕ) → (before after : Streams) → Type 0

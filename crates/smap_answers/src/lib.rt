@@ -9,36 +9,11 @@
 //! ```
 #![tactic(auto)]
 
-mod check;
-mod compose;
-mod compose_all;
-mod explain;
-mod files;
-mod inners;
 mod limits;
-mod lines;
-mod loader;
-mod lookup;
-mod map;
-mod mappings;
-mod outcome;
-mod positions;
-mod raw;
-mod refusal;
-mod reporting;
-mod rewrite_from;
 mod running;
-mod show;
-mod source_list;
-mod sources;
-mod trace;
-mod written;
 
-pub use files::{FileReader, Loaded, UnreadCause};
-pub use outcome::{Failure, Reply};
-pub use refusal::refusal_line;
-pub use reporting::report;
 pub use running::{run, run_reading};
 pub use smap_command::{
     Command, MOST_BYTES, USUAL_CACHE_BYTES, USUAL_INTERVAL, USUAL_LIMIT_BYTES, WriteOptions,
 };
+pub use smap_replies::{Failure, FileReader, Loaded, Reply, UnreadCause, refusal_line, report};

@@ -1,28 +1,24 @@
 //! Running a command over its files and streams.
 ghost use Rattle.std.specs.Prelude.{◌≡◌, false};
-ghost use Rattle.smap_answers.specs.Files.{gives_loaded};
-ghost use Rattle.smap_answers.specs.Run.{IsRunnable, Runs};
-ghost use Rattle.smap_answers.specs.Streams.{streams_seen};
+ghost use Rattle.smap_replies.specs.Files.{gives_loaded};
+ghost use Rattle.smap_answers.specs.Run.{Runs};
+ghost use Rattle.smap_command.specs.Runnable.{IsRunnable};
+ghost use Rattle.smap_replies.specs.Streams.{streams_seen};
 
-use crate::check::{CheckOptions, Form, answer_check, check_all};
-use crate::compose::{TwoMaps, answer_compose};
-use crate::compose_all::{AllMaps, answer_compose_all};
-use crate::explain::answer_explain;
-use crate::files::{FileReader, Loaded, LoadedFiles};
-use crate::lookup::{LookupOptions, answer_lookup};
-use crate::map::MapReader;
-use crate::mappings::answer_mappings;
-use crate::positions::answer_positions;
-use crate::raw::answer_raw;
-use crate::reporting::report;
-use crate::rewrite_from::{RewriteRequest, rewrite_from};
-use crate::show::{answer_show, answer_show_with};
-use crate::source_list::{SourceOptions, answer_content, answer_sources};
-use crate::trace::answer_rewrite;
-use crate::written::ALL_WRITTEN;
+use smap_check_answers::{CheckOptions, Form, answer_check, answer_explain, check_all};
 use smap_command::{Command, USUAL_INTERVAL};
+use smap_compose_answers::{
+    ALL_WRITTEN, AllMaps, TwoMaps, answer_compose, answer_compose_all, answer_show,
+    answer_show_with,
+};
 use smap_io::{ByteSink, ByteSource};
+use smap_map_answers::{
+    LookupOptions, SourceOptions, answer_content, answer_lookup, answer_mappings, answer_positions,
+    answer_raw, answer_sources,
+};
 use smap_positions::AnswerOptions;
+use smap_replies::{FileReader, Loaded, LoadedFiles, MapReader, report};
+use smap_text_answers::{RewriteRequest, answer_rewrite, rewrite_from};
 use std::alloc::Global;
 
 /// Runs a command over files in memory, of which the caller gives one for each path of the command, in their order; one of

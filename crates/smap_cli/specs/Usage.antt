@@ -1,6 +1,6 @@
 -- What is reported where the arguments give no command.
 use Rattle.std.specs.Prelude.{string_bytes}
-use Rattle.smap_answers.specs.Outcome.{Report, answer, misuse, out_of_memory}
+use Rattle.smap_replies.specs.Outcome.{Report, answer, misuse, out_of_memory}
 use Rattle.smap_arguments.specs.declared.usage.Usage.{Usage}
 use Rattle.smap_arguments.specs.declared.usage.Usage.TheVariants.{Help, Mistake, Memory}
 

@@ -1,6 +1,6 @@
 //! What the program comes to where the arguments give no command.
 ghost use Rattle.std.specs.Prelude.{◌≡◌};
-ghost use Rattle.smap_answers.specs.Outcome.{report_of};
+ghost use Rattle.smap_replies.specs.Outcome.{report_of};
 ghost use Rattle.smap_cli.specs.Usage.{report_of_usage};
 
 use smap_answers::{Failure, Reply};

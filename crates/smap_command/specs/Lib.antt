@@ -1,4 +1,6 @@
 pub mod Bytes
 pub mod Interval
 pub mod Limits
+pub mod Lines
+pub mod Runnable
 pub mod Shown

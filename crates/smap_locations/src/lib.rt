@@ -7,6 +7,7 @@
 //! ```
 #![tactic(auto)]
 
+mod list_line;
 mod locations;
 mod named;
 mod paths;
@@ -14,7 +15,8 @@ mod refusal;
 #[cfg(test)]
 mod tests;
 
+pub use list_line::{entry_of_line, is_folder};
 pub use locations::Locations;
 pub use named::NamedPaths;
 pub use paths::without_query;
-pub use refusal::LocationRefusal;
+pub use refusal::{ListFault, ListRefusal, LocationRefusal};

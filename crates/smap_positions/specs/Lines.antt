@@ -1,12 +1,8 @@
 -- The line that is printed of a place, and the lines where there is none.
 use Rattle.std.specs.Prelude.{ℕ, ◌+◌, codes, Bool, if◌then◌else◌, Option, None, Some, List, [], ◌∷◌, ◌++◌}
 use Rattle.std.specs.Fmt.{decimal}
+use Rattle.smap_command.specs.Lines.{line_from}
 use Rattle.smap_command.specs.Shown.{shown}
-
--- the pieces one after the other, and an LF
-abbrev pub line_from : List (List ℕ) → List ℕ
-line_from [] = 10 ∷ []
-line_from (piece ∷ pieces) = piece ++ line_from pieces
 
 -- no mapping answers
 abbrev pub none_line : List ℕ

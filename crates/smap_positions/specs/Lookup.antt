@@ -9,7 +9,8 @@ use Rattle.smap_record.specs.Record.{MapRecord, answer_of_map, answer_of_map_fro
 use Rattle.smap_record.specs.Written.{text_of_source}
 use Rattle.smap_text.specs.Excerpt.{excerpt_of}
 use Rattle.smap_command.specs.Shown.{shown}
-use Rattle.smap_positions.specs.Lines.{line_from, none_line, unmapped_line, place_line}
+use Rattle.smap_command.specs.Lines.{line_from}
+use Rattle.smap_positions.specs.Lines.{none_line, unmapped_line, place_line}
 
 -- the name of a source, where it has one
 abbrev pub source_name : Option StatedSource → Option (List ℕ)

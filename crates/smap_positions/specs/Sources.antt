@@ -10,7 +10,8 @@ use Rattle.smap_record.specs.Written.{member_where, value_of_text}
 use Rattle.smap_shares.specs.Rows.{IsOrderedRows, rows_of, unmapped_in}
 use Rattle.smap_shares.specs.declared.rows.SourceRow.{SourceRow}
 use Rattle.smap_positions.specs.Json.{count, json_line}
-use Rattle.smap_positions.specs.Lines.{ignored_text, line_from}
+use Rattle.smap_positions.specs.Lines.{ignored_text}
+use Rattle.smap_command.specs.Lines.{line_from}
 use Rattle.smap_positions.specs.Lookup.{is_ignored, source_name, source_text}
 
 -- the map has the source's content

@@ -4,8 +4,9 @@ use Rattle.smap_locations.specs.Locations.{LocationsSeen, key_for, path_for}
 use Rattle.smap_record.specs.Record.{MapRecord}
 use Rattle.smap_trace.specs.Table.{is_bad_url}
 use Rattle.smap_store.specs.Cache.{KeptMaps, bytes_of, is_bounded}
-use Rattle.smap_store.specs.MapList.{entry_of, line_fault}
-use Rattle.smap_store.specs.declared.refusal.ListFault.TheVariants.{NoTab, NoFolder, Twice}
+use Rattle.smap_locations.specs.ListLine.{entry_of}
+use Rattle.smap_store.specs.MapList.{line_fault}
+use Rattle.smap_locations.specs.declared.refusal.ListFault.TheVariants.{NoTab, NoFolder, Twice}
 
 -- a file and a folder
 places : LocationsSeen

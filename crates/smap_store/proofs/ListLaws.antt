@@ -5,7 +5,7 @@ use Rattle.std.proofs.lemmas.List.{length-take-le, take-append-drop}
 use Rattle.smap_locations.specs.Locations.{LocationsSeen}
 use Rattle.smap_record.specs.Record.{MapRecord}
 use Rattle.smap_store.specs.MapList.{AreTaken, IsRefused, IsRefusedAt, IsTaken}
-use Rattle.smap_store.specs.declared.refusal.ListFault.{ListFault}
+use Rattle.smap_locations.specs.declared.refusal.ListFault.{ListFault}
 
 one_taken : (words : List (List ℕ × MapRecord)) (lines : List (List ℕ)) (line : List ℕ) (old now new : LocationsSeen) → AreTaken words lines old now
     → IsTaken words now line new → AreTaken words (lines ++ line ∷ []) old new

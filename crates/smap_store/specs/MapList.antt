@@ -1,42 +1,14 @@
--- A list of maps (this project's own): lines of a URL and the path of its map, or of a prefix of URLs and the path of a folder,
--- with a TAB between them. A path that ends in `/` is that of a folder. Lines end in LF or CR LF; an empty line and one that
--- begins with `#` say nothing.
-use Rattle.std.specs.Prelude.{◌≡◌, ◌⊎◌, ℕ, ◌+◌, ◌==◌, ◌||◌, Bool, false, not, List, [], ◌∷◌, ◌++◌, Option, Some, None, is_some, Result, Ok, Err}
-use Rattle.std.specs.Prelude.{MatchBool, MatchResult, codes, if◌then◌else◌, length}
-use Rattle.std.specs.Bool.{nat_eq}
-use Rattle.std.specs.List.{after_first, before_first, ends_with, position_or_len, starts_with}
+-- A list of maps (this project's own), whose lines end in LF or CR LF.
+use Rattle.std.specs.Prelude.{◌≡◌, ◌⊎◌, ℕ, ◌+◌, ◌||◌, false, not, List, [], ◌∷◌, ◌++◌, Option, Some, None, is_some, Result}
+use Rattle.std.specs.Prelude.{MatchBool, MatchResult, if◌then◌else◌, length}
+use Rattle.smap_locations.specs.ListLine.{entry_of, is_folder, is_passed_over}
 use Rattle.smap_locations.specs.Locations.{LocationsSeen, is_prefix}
 use Rattle.smap_locations.specs.Named.{IsWith, path_under}
 use Rattle.smap_record.specs.Record.{MapRecord}
 use Rattle.smap_trace.specs.Table.{is_bad_url, record_for}
-use Rattle.smap_store.specs.declared.refusal.ListFault.{ListFault}
-use Rattle.smap_store.specs.declared.refusal.ListFault.TheVariants.{NoTab, NoFolder, BadUrl, Twice, Memory}
-use Rattle.smap_store.specs.declared.refusal.ListRefusal.{ListRefusal}
-
--- ---- a line
-
--- it says nothing
-abbrev pub is_passed_over : (line : List ℕ) → Bool
-is_passed_over line = length line == 0 || starts_with nat_eq line (codes "#")
-
-abbrev pub is_tab : ℕ → Bool
-is_tab byte = byte == 9
-
--- what stands before its first TAB, and what stands behind that
-abbrev pub entry_of : (line : List ℕ) → Option (List ℕ × List ℕ)
-entry_of line = if position_or_len is_tab line == length line then None else Some (before_first is_tab line, after_first is_tab line)
-
-abbrev pub entry_or_fault : Option (List ℕ × List ℕ) → Result (Option (List ℕ × List ℕ)) ListFault
-entry_or_fault None = Err NoTab
-entry_or_fault (Some entry) = Ok (Some entry)
-
--- what a line says, where it says something
-abbrev pub line_entry : (line : List ℕ) → Result (Option (List ℕ × List ℕ)) ListFault
-line_entry line = if is_passed_over line then Ok None else entry_or_fault (entry_of line)
-
--- the path is that of a folder
-abbrev pub is_folder : (path : List ℕ) → Bool
-is_folder path = ends_with nat_eq path (codes "/")
+use Rattle.smap_locations.specs.declared.refusal.ListFault.{ListFault}
+use Rattle.smap_locations.specs.declared.refusal.ListFault.TheVariants.{NoTab, NoFolder, BadUrl, Twice, Memory}
+use Rattle.smap_locations.specs.declared.refusal.ListRefusal.{ListRefusal}
 
 -- ---- why it is not taken, memory aside
 

@@ -14,13 +14,11 @@
 mod cache;
 mod list;
 mod loader;
-mod refusal;
 mod stored;
 #[cfg(test)]
 mod tests;
 
 pub use cache::MapCache;
-pub use list::{add_folder, add_list, entry_of_line, is_folder};
+pub use list::{add_folder, add_list};
 pub use loader::{LoadedMap, MapLoader};
-pub use refusal::{ListFault, ListRefusal};
 pub use stored::StoredMaps;

@@ -1,13 +1,11 @@
 //! A list of the maps of URLs.
-ghost use Rattle.std.specs.Prelude.{◌≡◌, option_map, string_bytes, IfErr, IfOk, IsErrAnd, MatchOption, OnErr, OnOk};
-ghost use Rattle.std.specs.Result.{result_map_both};
+ghost use Rattle.std.specs.Prelude.{◌≡◌, string_bytes, IfErr, IfOk, IsErrAnd, MatchOption, OnErr, OnOk};
 ghost use Rattle.std.specs.Str.Lines.{lines};
 ghost use Rattle.smap_store.specs.MapList.{IsRefused, IsTaken, PutsFile, PutsFolder, TakesList};
-ghost use Rattle.smap_store.specs.MapList.{file_fault, folder_fault, is_folder, is_passed_over, line_entry};
-ghost use Rattle.smap_store.specs.declared.refusal.ListFault.TheVariants.{Memory};
+ghost use Rattle.smap_store.specs.MapList.{file_fault, folder_fault};
+ghost use Rattle.smap_locations.specs.declared.refusal.ListFault.TheVariants.{Memory};
 
-use crate::refusal::{ListFault, ListRefusal};
-use smap_locations::Locations;
+use smap_locations::{ListFault, ListRefusal, Locations, entry_of_line, is_folder};
 use smap_trace::{Table, is_bad_url};
 use std::alloc::Global;
 
@@ -53,21 +51,6 @@ fn add_line(
         Ok(Some((url, path))) => add_file(alloc, locations, words, url, path),
         Ok(None) => Ok(()),
         Err(fault) => Err(fault),
-    }
-}
-
-/// What a line of a list says: what stands before its first TAB, and what behind that. An empty line, and one that begins
-/// with `#`, says nothing; any other without a TAB is refused.
-pub fn entry_of_line(line: &str) -> Result<Option<(&str, &str)>, ListFault>
-    ensures { result_map_both (option_map (λ entry. (entry.0.now, entry.1.now))) (λ fault. fault) result
-        ≡ line_entry line.now }
-{
-    if is_passed_over(line.as_bytes()) {
-        return Ok(None);
-    }
-    match line.split_once('\t') {
-        Some(entry) => Ok(Some(entry)),
-        None => Err(ListFault::NoTab),
     }
 }
 
@@ -138,18 +121,4 @@ fn texts(alloc: Global, first: &str, second: &str) -> Result<(String, String), L
         },
         Err(_) => Err(ListFault::Memory),
     }
-}
-
-// Whether a line says nothing.
-fn is_passed_over(line: &[u8]) -> bool
-    ensures { result ≡ is_passed_over line.now }
-{
-    line.is_empty() || line.starts_with(b"#")
-}
-
-/// Whether a path is that of a folder, and a prefix that of URLs: it ends in `/`.
-pub fn is_folder(path: &[u8]) -> bool
-    ensures { result ≡ is_folder path.now }
-{
-    path.ends_with(b"/")
 }

@@ -1,6 +1,6 @@
 //! Maps that are read when they are named, and lists of them.
-use crate::{ListFault, ListRefusal, LoadedMap, MapCache, MapLoader, StoredMaps, add_list};
-use smap_locations::Locations;
+use crate::{LoadedMap, MapCache, MapLoader, StoredMaps, add_list};
+use smap_locations::{ListFault, ListRefusal, Locations};
 use smap_record::MapFile;
 use smap_trace::{Maps, Table};
 use std::alloc::Global;

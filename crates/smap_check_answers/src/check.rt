@@ -1,0 +1,246 @@
+//! Checking map files: how much each holds.
+ghost use Rattle.std.specs.Prelude.{◌≡◌, ◌≢◌, ◌++◌, false, map, option_copied, string_bytes, IfOk};
+ghost use Rattle.smap_check_answers.specs.Check.{ChecksAll, ChecksBytes, ChecksFile, IsLineReported, IsObjectReported, IsRefusedReported, IsUnreadReported, IsWhyLine, IsWhyObject, accepted_line, cause_text, form_of};
+ghost use Rattle.smap_replies.specs.Lines.{file_failed_line};
+ghost use Rattle.smap_replies.specs.Outcome.{OrMemory, failure_report, report_of};
+ghost use Rattle.smap_replies.specs.Streams.{sinks_seen};
+ghost use Rattle.smap_record.specs.declared.refusal.MapRefusal.TheVariants.{Memory};
+
+use crate::lines;
+use smap_explain::explain;
+use smap_io::{ByteSink, ReadFailure};
+use smap_record::{MapFile, MapRefusal};
+use smap_replies::{
+    DONE, Failure, FileReader, MapReader, Reply, UnreadCause, file_failed_line, refusal_line,
+    report,
+};
+use smap_verdicts::{MapCounts, counts_json, explanation_text, map_counts, refusal_json};
+use std::alloc::{AllocError, Global};
+
+/// How a file is reported.
+#[derive(Clone, Copy)]
+pub enum Form {
+    /// By the counts of its map.
+    Counts,
+    /// By its path and these.
+    Named,
+    /// By a JSON object, also where the map is refused.
+    Object,
+}
+
+/// How files are reported.
+#[derive(Clone, Copy)]
+pub struct CheckOptions {
+    /// Whether each map is reported by a JSON object.
+    pub json: bool,
+    /// Whether a refusal that is reported by a line is followed by why the map is refused.
+    pub explain: bool,
+}
+
+/// What is said of the file of this number and path.
+pub fn answer_check<F: FileReader>(
+    alloc: Global,
+    maps: &MapReader<'_, F>,
+    number: usize,
+    path: &str,
+    form: Form,
+    explain: bool,
+) -> Result<Reply, Failure>
+    ensures { OrMemory (ChecksFile (F.gives maps.now.files.now) (option_copied maps.now.base)
+        maps.now.interval form explain number path.now) (report_of result) }
+{
+    match maps.files.read_file(alloc, number, path) {
+        Ok(bytes) => answer_bytes(alloc, maps, &bytes, path, form, explain),
+        Err(ReadFailure::Device) => Err(unread(alloc, maps.files, path, explain)),
+        Err(ReadFailure::Memory) => Err(Failure::Memory),
+    }
+}
+
+/// Checks the map files at these paths, one after another: each is read, reported and let go before the next is read,
+/// whether it is accepted or refused, can't be read, or memory runs out. A file is reported by one line; with `json` a
+/// map, accepted or refused, is reported by one JSON object. Gives the greatest status of all. Where standard output
+/// fails, nothing more is read. The caller gives a standard output that has not failed.
+pub fn check_all<F: FileReader, W: ByteSink, E: ByteSink>(
+    alloc: Global,
+    maps: &MapReader<'_, F>,
+    paths: &[String],
+    options: CheckOptions,
+    output: &mut W,
+    errors: &mut E,
+) -> u8
+    requires output_works { (W.seen output.old).failed ≡ false }
+    ensures { ChecksAll (F.gives maps.now.files.now) (option_copied maps.now.base) maps.now.interval
+        (form_of options.json) options.explain 0 (map string_bytes paths.now) result
+        (sinks_seen (W.seen output.old) (E.seen errors.old))
+        (sinks_seen (W.seen output.new) (E.seen errors.new)) }
+{
+    let form = form_of(options.json);
+    let mut status = DONE;
+    for (number, path) in paths.iter().enumerate() {
+        let outcome = answer_check(alloc, maps, number, path, form, options.explain);
+        status = status.max(report(&outcome, output, errors));
+        if output.failed() {
+            break;
+        }
+    }
+    status
+}
+
+// How each of several files is reported.
+fn form_of(json: bool) -> Form
+    ensures { result ≡ form_of json }
+{
+    if json { Form::Object } else { Form::Named }
+}
+
+// What is said of the file of these bytes at a path.
+fn answer_bytes<F: FileReader>(
+    alloc: Global,
+    maps: &MapReader<'_, F>,
+    bytes: &[u8],
+    path: &str,
+    form: Form,
+    explain: bool,
+) -> Result<Reply, Failure>
+    ensures { OrMemory (ChecksBytes (option_copied maps.now.base) maps.now.interval form explain
+        path.now bytes.now) (report_of result) }
+{
+    match MapFile::read(alloc, bytes, maps.base, maps.interval) {
+        Ok(map) => Ok(Reply::Text(accepted_line(alloc, path, map_counts(&map), form)?)),
+        Err(refused) => refused_reply(alloc, path, bytes, refused, form, explain),
+    }
+}
+
+// The line for a map that holds so much.
+fn accepted_line(
+    alloc: Global,
+    path: &str,
+    counts: MapCounts,
+    form: Form,
+) -> Result<String, AllocError>
+    ensures { IfOk result (λ line. string_bytes line ≡ accepted_line path.now form counts) }
+{
+    match form {
+        Form::Counts => lines::counts_line(alloc, counts),
+        Form::Named => lines::map_counts_line(alloc, path, counts),
+        Form::Object => lines::object_line(counts_json(alloc, path, counts)?),
+    }
+}
+
+// Why the map of these bytes is refused. Out of memory is no refusal of the map.
+fn refused_reply(
+    alloc: Global,
+    path: &str,
+    bytes: &[u8],
+    refused: MapRefusal,
+    form: Form,
+    explain: bool,
+) -> Result<Reply, Failure>
+    ensures { OrMemory (λ report. (refused ≢ Memory)
+        × IsRefusedReported bytes.now path.now form explain refused report) (report_of result) }
+{
+    match form {
+        Form::Object => object_reply(alloc, path, bytes, refused),
+        Form::Counts | Form::Named => Err(line_failure(alloc, path, bytes, refused, explain)),
+    }
+}
+
+fn object_reply(
+    alloc: Global,
+    path: &str,
+    bytes: &[u8],
+    refused: MapRefusal,
+) -> Result<Reply, Failure>
+    ensures { OrMemory (λ report. (refused ≢ Memory)
+        × IsObjectReported bytes.now path.now refused report) (report_of result) }
+{
+    if let MapRefusal::Memory = refused {
+        return Err(Failure::Memory);
+    }
+    Ok(Reply::Refused(why_object(alloc, path, bytes, refused)?))
+}
+
+// The object that reports a refusal, and says why, as a line.
+fn why_object(
+    alloc: Global,
+    path: &str,
+    bytes: &[u8],
+    refused: MapRefusal,
+) -> Result<String, AllocError>
+    ensures { IfOk result (λ line. IsWhyObject bytes.now path.now refused (string_bytes line)) }
+{
+    let explanation = explain(alloc, bytes, refused)?;
+    lines::object_line(refusal_json(alloc, path, refused, &explanation)?)
+}
+
+fn line_failure(
+    alloc: Global,
+    path: &str,
+    bytes: &[u8],
+    refused: MapRefusal,
+    explain: bool,
+) -> Failure
+    ensures { OrMemory (λ report. (refused ≢ Memory)
+        × IsLineReported bytes.now path.now explain refused report) (failure_report result) }
+{
+    let line = if explain {
+        why_line(alloc, path, bytes, refused)
+    } else {
+        refusal_line(alloc, path, refused)
+    };
+    match line {
+        Ok(line) => Failure::Refusal(line),
+        Err(_) => Failure::Memory,
+    }
+}
+
+// The line that reports a refusal, and the lines that say why.
+fn why_line(
+    alloc: Global,
+    path: &str,
+    bytes: &[u8],
+    refused: MapRefusal,
+) -> Result<String, AllocError>
+    ensures reported { IfOk result (λ line. IsWhyLine bytes.now path.now refused (string_bytes line)) }
+    ensures not_memory { IfOk result (λ _. refused ≢ Memory) }
+{
+    let line = refusal_line(alloc, path, refused)?;
+    let explanation = explain(alloc, bytes, refused)?;
+    let why = explanation_text(alloc, &explanation)?;
+    format!(in alloc; "{line}{why}")
+}
+
+// That the file at a path can't be read and, where that is asked, why not.
+fn unread<F: FileReader>(alloc: Global, reader: &F, path: &str, explain: bool) -> Failure
+    ensures { OrMemory (IsUnreadReported path.now explain) (failure_report result) }
+{
+    let line = if explain {
+        cause_line(alloc, path, reader.unread_cause(path))
+    } else {
+        file_failed_line(alloc, path)
+    };
+    match line {
+        Ok(line) => Failure::Unreadable(line),
+        Err(_) => Failure::Memory,
+    }
+}
+
+fn cause_line(alloc: Global, path: &str, cause: UnreadCause) -> Result<String, AllocError>
+    ensures { IfOk result (λ line. string_bytes line
+        ≡ file_failed_line path.now ++ cause_text cause) }
+{
+    let (line, cause) = (file_failed_line(alloc, path)?, cause_text(cause));
+    format!(in alloc; "{line}{cause}")
+}
+
+// Why a file can't be read, in a sentence.
+fn cause_text(cause: UnreadCause) -> &'static str
+    ensures { result.now ≡ cause_text cause }
+{
+    match cause {
+        UnreadCause::Missing => "  there is no such file\n",
+        UnreadCause::Folder => "  the path is that of a folder\n",
+        UnreadCause::NoPermission => "  the file may not be read: permission is denied\n",
+        UnreadCause::Other => "  reading the file failed for another cause\n",
+    }
+}

@@ -1,0 +1,39 @@
+//! Saying what a code means.
+ghost use Rattle.std.specs.Prelude.{◌≡◌, option_copied, string_bytes, IfOk};
+ghost use Rattle.smap_check_answers.specs.Explain.{ReportsCalled, ReportsCode, no_code_text};
+ghost use Rattle.smap_replies.specs.Outcome.{OrMemory, report_of};
+ghost use Rattle.smap_codes.specs.Labels.{label_called, labels};
+
+use smap_codes::{all_codes_text, code_text, row_of};
+use smap_command::shown;
+use smap_replies::{Failure, Reply};
+use std::alloc::{AllocError, Global};
+
+/// What the code or the name means, what usually causes it and what to do about it; without one, how all codes are called.
+pub fn answer_explain(alloc: Global, code: Option<&str>) -> Result<Reply, Failure>
+    ensures { OrMemory (ReportsCode (option_copied code.entry)) (report_of result) }
+{
+    match code {
+        Some(word) => answer_word(alloc, word),
+        None => Ok(Reply::Text(all_codes_text(alloc)?)),
+    }
+}
+
+// What the code or the name means; where there is none, which there are.
+fn answer_word(alloc: Global, word: &str) -> Result<Reply, Failure>
+    ensures { OrMemory (ReportsCalled word.now (label_called word.now labels))
+        (report_of result) }
+{
+    match row_of(word) {
+        Some(row) => Ok(Reply::Text(code_text(alloc, row)?)),
+        None => Err(Failure::Refusal(no_code_text(alloc, word)?)),
+    }
+}
+
+// That no code is called so, and how all are called.
+fn no_code_text(alloc: Global, word: &str) -> Result<String, AllocError>
+    ensures { IfOk result (λ text. string_bytes text ≡ no_code_text word.now) }
+{
+    let (word, all) = (shown(alloc, word)?, all_codes_text(alloc)?);
+    format!(in alloc; "refused: no code {word}\n{all}")
+}

@@ -1,0 +1,126 @@
+-- What the words, the list and the sources of inner maps come to, one after another.
+use Rattle.std.proofs.Common.{◌≡◌, ℕ, zero, suc, ◌+◌, ◌<◌, ◌⊎◌, List, [], ◌∷◌, ◌++◌, add-one, arith, drop, drop-cons, get_or, length, refl, sym, ap, subst, ◌∙◌, inl, inr}
+use Rattle.std.specs.Option.{option_map_or}
+use Rattle.std.specs.Result.{is_err, is_ok}
+use Rattle.std.specs.Prelude.{Bool, ◌||◌, if◌then◌else◌, slice_get, true, false, Option, Some, Result, Ok, Err, option_map}
+use Rattle.std.specs.List.{list_any}
+use Rattle.std.proofs.lemmas.List.{map-append}
+use Rattle.smap_locations.specs.Named.{Named}
+use Rattle.smap_record.specs.MapFile.{Map}
+use Rattle.smap_record.specs.Record.{MapRecord}
+use Rattle.smap_record.specs.Sources.{StatedSource}
+use Rattle.smap_locations.specs.ListLine.{line_entry}
+use Rattle.smap_compose_answers.specs.ComposeAll.{NamesEntry, NamesInners, NamesLines, NamesPair, NamesWords, ReadsInners, ReadsSource}
+use Rattle.smap_compose_answers.specs.ComposeAll.{ReportsInners, pair_of}
+use Rattle.smap_compose_answers.specs.Compose.{compose_refusal_result}
+use Rattle.smap_compose_answers.specs.Written.{report_or, written_of}
+use Rattle.smap_command.specs.declared.command.WriteOptions.{WriteOptions}
+use Rattle.smap_compose.specs.Composition.{all_composed}
+use Rattle.smap_replies.specs.Files.{MayRead}
+use Rattle.smap_replies.specs.Lines.{twice_line}
+use Rattle.smap_replies.specs.Outcome.{OrMemory, Report, misuse, out_of_memory}
+use Rattle.smap_compose_answers.specs.Private.Inners.{inners_stated}
+use Rattle.smap_replies.specs.Arguments.{argument_text}
+
+-- ---- words
+
+module _ (sources : List StatedSource) (words rest : List (List ℕ × List ℕ)) (name path : List ℕ) (old : Named) (is : words ≡ (name, path) ∷ rest) where
+  pub words_next : (new : Named) → NamesPair sources (misuse (twice_line (argument_text name path))) old name path (Ok new)
+      → (result : Result Named Report) → NamesWords sources rest new result → NamesWords sources words old result
+  words_next new pair result names = subst (λ left. NamesWords sources left old result) (sym is) (Ok new, pair, names)
+
+  pub words_refused : (report : Report) → NamesPair sources (misuse (twice_line (argument_text name path))) old name path (Err report)
+      → NamesWords sources words old (Err report)
+  words_refused report pair = subst (λ left. NamesWords sources left old (Err report)) (sym is) (Err report, pair, refl)
+
+-- ---- lines
+
+module _ (sources : List StatedSource) (list : List ℕ) (number : ℕ) (all rest : List (List ℕ)) (line : List ℕ) (old : Named) (is : all ≡ line ∷ rest) where
+  pub lines_next : (new : Named) → NamesEntry sources list number (line_entry line) old (Ok new)
+      → (result : Result Named Report) → NamesLines sources list (number + 1) rest new result → NamesLines sources list number all old result
+  lines_next new entry result names = subst (λ left. NamesLines sources list number left old result) (sym is) (Ok new, entry, names)
+
+  pub lines_refused : (report : Report) → NamesEntry sources list number (line_entry line) old (Err report)
+      → NamesLines sources list number all old (Err report)
+  lines_refused report entry = subst (λ left. NamesLines sources list number left old (Err report)) (sym is) (Err report, entry, refl)
+
+pub lines_end : (sources : List StatedSource) (list : List ℕ) (number : ℕ) (all : List (List ℕ)) (old : Named) → all ≡ []
+    → NamesLines sources list number all old (Ok old)
+lines_end sources list number all old is = subst (λ left. NamesLines sources list number left old (Ok old)) (sym is) refl
+
+-- ---- sources
+
+module _ (Reads : MayRead) (named : Named) (sources rest : List StatedSource) (source : StatedSource) (so_far : List (Option MapRecord))
+    (is : sources ≡ source ∷ rest) where
+  pub inners_next : (inner : Option MapRecord) → ReadsSource Reads (pair_of named source) (Ok inner)
+      → (result : Result (List (Option MapRecord)) Report) → ReadsInners Reads named rest (so_far ++ inner ∷ []) result
+      → ReadsInners Reads named sources so_far result
+  inners_next inner reads result others = subst (λ left. ReadsInners Reads named left so_far result) (sym is) (Ok inner, reads, others)
+
+  pub inners_refused : (report : Report) → ReadsSource Reads (pair_of named source) (Err report) → ReadsInners Reads named sources so_far (Err report)
+  inners_refused report reads = subst (λ left. ReadsInners Reads named left so_far (Err report)) (sym is) (Err report, reads, refl)
+
+-- one more map behind the others
+pub one_stated : (inners : List (Option Map)) (inner : Option Map)
+    → inners_stated (inners ++ inner ∷ []) ≡ inners_stated inners ++ option_map (λ (read : Map). read.stated) inner ∷ []
+one_stated inners inner = map-append (option_map (λ (read : Map). read.stated)) inners (inner ∷ [])
+
+-- ---- places of lists
+
+any_or : (b c : Bool) → b ≡ true → (b || c) ≡ true
+any_or true c is = refl
+any_or false c is = cc
+
+-- one at this place passes
+pub any_here : {X : Type 0} (p : X → Bool) (xs : List X) (i : ℕ) → option_map_or p (slice_get xs i) false ≡ true → list_any p (drop i xs) ≡ true
+any_here p [] i passes = cc
+any_here p (x ∷ xs) zero passes = any_or (p x) (list_any p xs) passes
+any_here p (x ∷ xs) (suc i) passes = any_here p xs i passes
+
+drop_none : {X : Type 0} (i : ℕ) → drop {A = X} i [] ≡ []
+drop_none zero = refl
+drop_none (suc i) = refl
+
+-- or does not
+pub any_later : {X : Type 0} (p : X → Bool) (xs : List X) (i : ℕ) → option_map_or p (slice_get xs i) false ≡ false
+    → list_any p (drop (i + 1) xs) ≡ list_any p (drop i xs)
+any_later p [] i fails = ap (list_any p) (drop_none (i + 1) ∙ sym (drop_none i))
+any_later p (x ∷ xs) zero fails = ap (λ b. b || list_any p xs) (sym fails)
+any_later p (x ∷ xs) (suc i) fails =
+    let one : suc i + 1 ≡ suc (i + 1) = omega arith in ap (λ n. list_any p (drop n (x ∷ xs))) one ∙ any_later p xs i fails
+
+pub from_place : {X : Type 0} (xs : List X) (i : ℕ) (x : X) → slice_get xs i ≡ Some x → drop i xs ≡ x ∷ drop (i + 1) xs
+from_place [] i x there = absurd (cc)
+from_place (y ∷ xs) zero x there = let same : y ≡ x = cc in ap (λ y. y ∷ xs) same
+from_place (y ∷ xs) (suc i) x there =
+    let one : suc i + 1 ≡ suc (i + 1) = omega arith in from_place xs i x there ∙ ap (λ n. x ∷ drop n (y ∷ xs)) (sym one)
+
+pub line_at : (all : List (List ℕ)) (n : ℕ) (line : List ℕ) → n < length all → line ≡ get_or all n line → drop n all ≡ line ∷ drop (n + 1) all
+line_at all n line inside is = rw (add-one) (drop-cons all n line inside ∙ ap (λ first. first ∷ drop (suc n) all) (sym is))
+
+-- what is left of a call that did not fail
+pub on_done : {E X : Type 0} (result : Result (Unit {0}) E) (made done failed : List X) → is_err result ≡ false
+    → made ≡ (if is_ok result then done else failed) → made ≡ done
+on_done (Ok it) made done failed works is = is
+on_done (Err error) made done failed works is = absurd (cc)
+
+-- ---- all of it
+
+module _ (Reads : MayRead) (options : WriteOptions) (words : List (List ℕ × List ℕ)) (list : Option (List ℕ)) (outer : MapRecord) (named : Named)
+    (names : NamesInners Reads outer.sources words list (Ok named)) (report : Report) where
+  -- an inner map is refused
+  pub inners_failed : (◌≡◌ {A = Result (List (Option MapRecord)) Report} (Err report) (Err out_of_memory))
+      ⊎ ReadsInners Reads named outer.sources [] (Err report) → OrMemory (ReportsInners Reads options words list outer) report
+  inners_failed (inl no_memory) = inl (same_reported no_memory)
+    where
+      same_reported : ◌≡◌ {A = Result (List (Option MapRecord)) Report} (Err report) (Err out_of_memory) → report ≡ out_of_memory
+      same_reported is = cc
+  inners_failed (inr reads) = inr (Err report, (Ok named, names, reads), inr refl)
+
+  -- or all are composed
+  pub inners_composed : (inners : List (Option MapRecord))
+      → (◌≡◌ {A = Result (List (Option MapRecord)) Report} (Ok inners) (Err out_of_memory)) ⊎ ReadsInners Reads named outer.sources [] (Ok inners)
+      → OrMemory (λ reported. reported ≡ report_or compose_refusal_result (written_of options (all_composed outer inners))) report
+      → OrMemory (ReportsInners Reads options words list outer) report
+  inners_composed inners (inl no_memory) reported = cc
+  inners_composed inners (inr reads) reported = inr (Ok inners, (Ok named, names, reads), reported)

@@ -1,0 +1,2 @@
+mod ComposeLaws
+mod InnersLaws

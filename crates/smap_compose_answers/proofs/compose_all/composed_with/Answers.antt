@@ -1,0 +1,18 @@
+use Rattle.std.proofs.lemmas.Result.{err_from_is_err_and}
+use Rattle.std.specs.Prelude.{map, option_copied}
+use Rattle.smap_replies.specs.Arguments.{argument_of}
+use Rattle.smap_compose_answers.proofs.ComposeLaws.{reported_or}
+use Rattle.smap_compose_answers.proofs.InnersLaws.{inners_composed, inners_failed}
+use Rattle.smap_compose_answers.proofs.compose_all.composed_with.Goals as goal
+
+pub returns-in_err-inners : goal.returns-in_err-inners
+returns-in_err-inners g c =
+    let p = err_from_is_err_and c.from_residual-in_err-inners.result c.from_residual-in_err-inners.ensures.1 in
+    rw (p.1, p.2) (inners_failed (g.F.FileReader.gives c.args.reader.now) c.args.options (map argument_of c.args.maps.now.words.now)
+    (option_copied c.args.maps.now.list) c.args.outer.now.stated c.in_ok-named.named c.in_ok-named.ensures _ c.in_err-inners.ensures.reads)
+
+pub returns : goal.returns
+returns g c =
+    inners_composed (g.F.FileReader.gives c.args.reader.now) c.args.options (map argument_of c.args.maps.now.words.now)
+    (option_copied c.args.maps.now.list) c.args.outer.now.stated c.in_ok-named.named c.in_ok-named.ensures _ _ c.in_ok-inners.ensures.reads
+    (reported_or c.all_line.result _ _ c.reported.ensures (rw c.deref.ensures.value at c.all_line.ensures))

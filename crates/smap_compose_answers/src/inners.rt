@@ -1,0 +1,333 @@
+//! The files of inner maps, each under the name of a source of the outer map.
+ghost use Rattle.std.specs.Prelude.{◌≡◌, ◌⊎◌, [], false, length, map, option_copied, slice_get, Err, Some, IfErr, IfOk};
+ghost use Rattle.std.specs.List.{list_any};
+ghost use Rattle.std.specs.Option.{option_map_or};
+ghost use Rattle.std.specs.Str.Lines.{lines};
+ghost use Rattle.smap_compose_answers.specs.ComposeAll.{NamesBytes, NamesEntry, NamesInners, NamesLines, NamesList, NamesPair, NamesWords};
+ghost use Rattle.smap_compose_answers.specs.ComposeAll.{ReadsInner, ReadsInners, ReadsSource, is_called, pair_of, with_name};
+ghost use Rattle.smap_replies.specs.Lines.{twice_line};
+ghost use Rattle.smap_replies.specs.Outcome.{OrMemory, failure_report, misuse, out_of_memory, or_reported};
+ghost use Rattle.smap_compose_answers.specs.Private.Inners.{IsNamed, IsUnnamed, inner_reported, inners_reported, map_reported, pair_seen};
+ghost use Rattle.smap_replies.specs.Lists.{list_refusal};
+ghost use Rattle.smap_replies.specs.Arguments.{argument_of, argument_text};
+ghost use Rattle.smap_locations.specs.Named.{path_under};
+ghost use Rattle.smap_record.specs.Sources.{source_of};
+ghost use Rattle.smap_locations.specs.ListLine.{line_entry};
+
+use crate::lines;
+use smap_command::USUAL_INTERVAL;
+use smap_locations::{ListFault, ListRefusal, NamedPaths, entry_of_line};
+use smap_record::{MapFile, SourceEntry};
+use smap_replies::{
+    Failure, FileReader, MapReader, file_bytes, list_text, read_map_at, refused_list, twice_line,
+};
+use std::alloc::Global;
+
+// Why a path does not go under a name.
+#[derive(Clone, Copy)]
+pub enum PairFault {
+    // The name has one already.
+    Twice,
+    // No source of the outer map has it.
+    NoSource,
+    // Memory ran out.
+    Memory,
+}
+
+/// The paths that the words and the lines of the list at a path name, each under the name of a source of the outer map,
+/// which has so many. The list is the file of number 1.
+pub fn named_inners<F: FileReader>(
+    alloc: Global,
+    reader: &F,
+    outer: &OuterMap<'_>,
+    words: &[(String, String)],
+    list: Option<&str>,
+) -> Result<NamedPaths, Failure>
+    requires counted { outer.now.count ≡ length outer.now.map.now.stated.sources }
+    ensures { NamesInners (F.gives reader.now) outer.now.map.now.stated.sources
+        (map argument_of words.now) (option_copied list.entry) (or_reported result) }
+{
+    let named = named_words(alloc, outer, words)?;
+    match list {
+        Some(list) => named_list(alloc, reader, outer, named, list),
+        None => Ok(named),
+    }
+}
+
+/// The outer map, and how many sources it has.
+#[derive(Clone, Copy)]
+pub struct OuterMap<'a> {
+    pub map: &'a MapFile,
+    pub count: u32,
+}
+
+// The paths that the words name.
+fn named_words(
+    alloc: Global,
+    outer: &OuterMap<'_>,
+    words: &[(String, String)],
+) -> Result<NamedPaths, Failure>
+    requires counted { outer.now.count ≡ length outer.now.map.now.stated.sources }
+    ensures { NamesWords outer.now.map.now.stated.sources (map argument_of words.now) []
+        (or_reported result) }
+{
+    let mut named = NamedPaths::new(alloc);
+    for (name, path) in words {
+        named = with_word(alloc, outer, named, name, path)?;
+    }
+    Ok(named)
+}
+
+// The paths with that of a word.
+fn with_word(
+    alloc: Global,
+    outer: &OuterMap<'_>,
+    named: NamedPaths,
+    name: &str,
+    path: &str,
+) -> Result<NamedPaths, Failure>
+    requires counted { outer.now.count ≡ length outer.now.map.now.stated.sources }
+    ensures { NamesPair outer.now.map.now.stated.sources
+        (misuse (twice_line (argument_text name.now path.now))) named name.now path.now (or_reported result) }
+{
+    match with_pair(alloc, outer, named, name, path) {
+        Ok(named) => Ok(named),
+        Err(PairFault::Twice) => Err(Failure::Misuse(twice_line(alloc, name, path)?)),
+        Err(PairFault::NoSource) => Err(Failure::Refusal(lines::no_source_named_line(
+            alloc, name,
+        )?)),
+        Err(PairFault::Memory) => Err(Failure::Memory),
+    }
+}
+
+// The paths with those that a list names.
+fn named_list<F: FileReader>(
+    alloc: Global,
+    reader: &F,
+    outer: &OuterMap<'_>,
+    named: NamedPaths,
+    list: &str,
+) -> Result<NamedPaths, Failure>
+    requires counted { outer.now.count ≡ length outer.now.map.now.stated.sources }
+    ensures { NamesList (F.gives reader.now) outer.now.map.now.stated.sources
+        (Some list.now) named (or_reported result) }
+{
+    let bytes = file_bytes(alloc, reader, 1, list)?;
+    named_bytes(alloc, outer, named, list, &bytes)
+}
+
+// The paths with those that a list of these bytes names.
+fn named_bytes(
+    alloc: Global,
+    outer: &OuterMap<'_>,
+    named: NamedPaths,
+    list: &str,
+    bytes: &[u8],
+) -> Result<NamedPaths, Failure>
+    requires counted { outer.now.count ≡ length outer.now.map.now.stated.sources }
+    ensures { NamesBytes outer.now.map.now.stated.sources list.now bytes.now named
+        (or_reported result) }
+{
+    let text = list_text(alloc, list, bytes)?;
+    named_lines(alloc, outer, named, list, text)
+}
+
+// The paths with those that the lines of a list name.
+fn named_lines(
+    alloc: Global,
+    outer: &OuterMap<'_>,
+    named: NamedPaths,
+    list: &str,
+    text: &str,
+) -> Result<NamedPaths, Failure>
+    requires counted { outer.now.count ≡ length outer.now.map.now.stated.sources }
+    ensures { NamesLines outer.now.map.now.stated.sources list.now 1 (lines text.now) named
+        (or_reported result) }
+{
+    let mut named = named;
+    let mut number = 0;
+    for line in text.lines() {
+        number += 1;
+        named = with_line(alloc, outer, named, list, number, line)?;
+    }
+    Ok(named)
+}
+
+// The paths with that of a line of a list.
+fn with_line(
+    alloc: Global,
+    outer: &OuterMap<'_>,
+    named: NamedPaths,
+    list: &str,
+    number: u64,
+    line: &str,
+) -> Result<NamedPaths, Failure>
+    requires counted { outer.now.count ≡ length outer.now.map.now.stated.sources }
+    ensures { NamesEntry outer.now.map.now.stated.sources list.now number
+        (line_entry line.now) named (or_reported result) }
+{
+    match entry_of_line(line) {
+        Ok(Some((name, path))) => match with_pair(alloc, outer, named, name, path) {
+            Ok(named) => Ok(named),
+            Err(PairFault::Twice) => Err(refused_line(alloc, list, number, ListFault::Twice)),
+            Err(PairFault::NoSource) => {
+                Err(Failure::Refusal(lines::no_source_named_line(alloc, name)?))
+            }
+            Err(PairFault::Memory) => Err(Failure::Memory),
+        },
+        Ok(None) => Ok(named),
+        Err(fault) => Err(refused_line(alloc, list, number, fault)),
+    }
+}
+
+// Why a line of a list is refused.
+fn refused_line(alloc: Global, list: &str, line: u64, fault: ListFault) -> Failure
+    ensures { OrMemory (λ report. report
+        ≡ list_refusal list.now (record { line = line; fault = fault })) (failure_report result) }
+{
+    refused_list(alloc, list, ListRefusal { line, fault })
+}
+
+// The paths with one more under a name, which a source of the outer map has.
+fn with_pair(
+    alloc: Global,
+    outer: &OuterMap<'_>,
+    named: NamedPaths,
+    name: &str,
+    path: &str,
+) -> Result<NamedPaths, PairFault>
+    requires counted { outer.now.count ≡ length outer.now.map.now.stated.sources }
+    ensures named { IfOk result (IsNamed outer.now.map.now.stated.sources named name.now path.now) }
+    ensures unnamed { IfErr result (IsUnnamed outer.now.map.now.stated.sources named name.now) }
+{
+    if named.path_under(name.as_bytes()).is_some() {
+        return Err(PairFault::Twice);
+    }
+    if !has_source_called(outer, name) {
+        return Err(PairFault::NoSource);
+    }
+    let (Ok(name), Ok(path)) = (String::from_str(alloc, name), String::from_str(alloc, path)) else {
+        return Err(PairFault::Memory);
+    };
+    let mut more = named;
+    match more.add(name, path) {
+        Ok(()) => Ok(more),
+        Err(_) => Err(PairFault::Memory),
+    }
+}
+
+// Whether a source of the outer map has this name.
+fn has_source_called(outer: &OuterMap<'_>, name: &str) -> bool
+    requires counted { outer.now.count ≡ length outer.now.map.now.stated.sources }
+    ensures { result ≡ list_any (is_called name.now) outer.now.map.now.stated.sources }
+{
+    for i in 0..outer.count {
+        if is_source_called(outer.map, i, name) {
+            return true;
+        }
+    }
+    false
+}
+
+// Whether source `i` has this name.
+fn is_source_called(map: &MapFile, i: u32, name: &str) -> bool
+    ensures { result
+        ≡ option_map_or (is_called name.now) (slice_get map.now.stated.sources i) false }
+{
+    match map.source(i) {
+        Some(source) => is_called(source, name),
+        None => false,
+    }
+}
+
+fn is_called(source: &SourceEntry, name: &str) -> bool
+    ensures { result ≡ is_called name.now (source_of source.now) }
+{
+    match &source.name {
+        Some(own) => own.text() == name,
+        None => false,
+    }
+}
+
+/// The maps of the sources of the outer map, where they have one.
+pub fn read_inners<F: FileReader>(
+    alloc: Global,
+    reader: &F,
+    outer: &OuterMap<'_>,
+    named: &NamedPaths,
+) -> Result<Vec<Option<MapFile>>, Failure>
+    requires counted { outer.now.count ≡ length outer.now.map.now.stated.sources }
+    ensures reads { (inners_reported result ≡ Err out_of_memory)
+        ⊎ ReadsInners (F.gives reader.now) named.now outer.now.map.now.stated.sources [] (inners_reported result) }
+    ensures counted { IfOk result (λ inners. length inners.items
+        ≡ length outer.now.map.now.stated.sources) }
+{
+    let mut inners = Vec::with_capacity(alloc, outer.count as usize)?;
+    for i in 0..outer.count {
+        let Some(source) = outer.map.source(i) else {
+            continue;
+        };
+        let inner = read_source(alloc, reader, named, source)?;
+        if inners.push(inner).is_err() {
+            return Err(Failure::Memory);
+        }
+    }
+    Ok(inners)
+}
+
+// The map of a source, where it has one.
+fn read_source<F: FileReader>(
+    alloc: Global,
+    reader: &F,
+    named: &NamedPaths,
+    source: &SourceEntry,
+) -> Result<Option<MapFile>, Failure>
+    ensures { ReadsSource (F.gives reader.now) (pair_of named.now (source_of source.now))
+        (inner_reported result) }
+{
+    match pair_of(named, source) {
+        Some((name, path)) => match read_inner(alloc, reader, name, path) {
+            Ok(map) => Ok(Some(map)),
+            Err(failure) => Err(failure),
+        },
+        None => Ok(None),
+    }
+}
+
+// The name of a source and the path of its map, where it has one.
+fn pair_of<'a>(named: &'a NamedPaths, source: &'a SourceEntry) -> Option<(&'a str, &'a str)>
+    ensures { pair_seen result ≡ pair_of named.now (source_of source.now) }
+{
+    match &source.name {
+        Some(name) => pair_under(named, name.text()),
+        None => None,
+    }
+}
+
+// This name and the path under it, where there is one.
+fn pair_under<'a>(named: &'a NamedPaths, name: &'a str) -> Option<(&'a str, &'a str)>
+    ensures { pair_seen result ≡ with_name name.now (path_under name.now named.now) }
+{
+    match named.path_under(name.as_bytes()) {
+        Some(path) => Some((name, path.as_str())),
+        None => None,
+    }
+}
+
+// The map that the file at this path is, of a source of this name.
+fn read_inner<F: FileReader>(
+    alloc: Global,
+    reader: &F,
+    name: &str,
+    path: &str,
+) -> Result<MapFile, Failure>
+    ensures { ReadsInner (F.gives reader.now) name.now path.now (map_reported result) }
+{
+    let maps = MapReader {
+        files: reader,
+        base: None,
+        interval: USUAL_INTERVAL,
+    };
+    let bytes = file_bytes(alloc, reader, 2, path)?;
+    read_map_at(alloc, &maps, name, path, bytes)
+}

@@ -1,0 +1,81 @@
+//! Writing what a map file states as one regular map.
+ghost use Rattle.std.specs.Prelude.{[], option_copied};
+ghost use Rattle.smap_replies.specs.Map.{IsResult, ReportsMap};
+ghost use Rattle.smap_replies.specs.Outcome.{OrMemory, reply_report, report_of};
+ghost use Rattle.smap_compose_answers.specs.Show.{show_result, show_with_result};
+ghost use Rattle.smap_compose_answers.specs.Written.{written_of};
+ghost use Rattle.smap_command.specs.Limits.{usual_interval};
+ghost use Rattle.smap_compose.specs.Composition.{all_composed};
+ghost use Rattle.smap_mappings.specs.Exact.{GivesOr};
+
+use crate::lines;
+use crate::written::{line_of, written};
+use smap_command::{USUAL_INTERVAL, WriteOptions};
+use smap_compose::{ComposeRefusal, compose_all};
+use smap_record::{MapFile, Url, WriteRefusal};
+use smap_replies::{Failure, FileReader, MapReader, Reply, read_map, refused};
+use std::alloc::Global;
+
+/// Reads the map that the file at this path is, and writes what it states as one regular map.
+pub fn answer_show<F: FileReader>(
+    alloc: Global,
+    reader: &F,
+    path: &str,
+    base: Option<&Url>,
+) -> Result<Reply, Failure>
+    ensures { OrMemory (ReportsMap (F.gives reader.now) 0 path.now (option_copied base.entry)
+        usual_interval
+        (IsResult show_result)) (report_of result) }
+{
+    let maps = MapReader {
+        files: reader,
+        base,
+        interval: USUAL_INTERVAL,
+    };
+    written_map(alloc, &read_map(alloc, &maps, 0, path)?)
+}
+
+// The written map as a line, or that its mappings text would be too long.
+fn written_map(alloc: Global, map: &MapFile) -> Result<Reply, Failure>
+    ensures { OrMemory (IsResult show_result map.now.stated) (report_of result) }
+{
+    match map.write(alloc) {
+        Ok(bytes) => Ok(Reply::Bytes(line_of(bytes)?)),
+        Err(WriteRefusal::TextTooLong) => Err(refused(alloc, lines::WRITTEN_TEXT_TOO_LONG)),
+        Err(WriteRefusal::Memory) => Err(Failure::Memory),
+    }
+}
+
+/// Reads the map that the file at this path is, and writes what it states as one regular map, without what the options leave
+/// out.
+pub fn answer_show_with<F: FileReader>(
+    alloc: Global,
+    reader: &F,
+    path: &str,
+    base: Option<&Url>,
+    options: WriteOptions,
+) -> Result<Reply, Failure>
+    ensures { OrMemory (ReportsMap (F.gives reader.now) 0 path.now (option_copied base.entry)
+        usual_interval
+        (IsResult (show_with_result options))) (report_of result) }
+{
+    let maps = MapReader {
+        files: reader,
+        base,
+        interval: USUAL_INTERVAL,
+    };
+    let map = read_map(alloc, &maps, 0, path)?;
+    match left_of_map(alloc, &map, options) {
+        Ok(reply) => Ok(reply),
+        Err(ComposeRefusal::TooLarge) => Err(refused(alloc, lines::WRITTEN_TEXT_TOO_LONG)),
+        Err(_) => Err(Failure::Memory),
+    }
+}
+
+// What the options leave of a map, as a line.
+fn left_of_map(alloc: Global, map: &MapFile, options: WriteOptions) -> Result<Reply, ComposeRefusal>
+    ensures { GivesOr ComposeRefusal.Memory reply_report result
+        (written_of options (all_composed map.now.stated [])) }
+{
+    written(alloc, compose_all(alloc, map, &[])?, options)
+}

@@ -1,0 +1,3 @@
+mod PositionsLaws
+mod RawLaws
+mod SourceListLaws

@@ -1,0 +1,7 @@
+pub mod Lines
+pub mod Lookup
+pub mod Mappings
+pub mod Positions
+pub mod Raw
+pub mod SourceList
+pub mod Private

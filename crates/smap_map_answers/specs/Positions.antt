@@ -1,0 +1,56 @@
+-- What `positions` prints.
+use Rattle.std.specs.Prelude.{◌≡◌, ℕ, ◌==◌, ◌⊎◌, Bool, true, List, Option, Some, None, Result, Ok, Err, [], if◌then◌else◌}
+use Rattle.smap_lines.specs.Editing.{DevicesSeen, EditsFront, is_read_fault, is_write_fault}
+use Rattle.smap_lines.specs.Limits.{most_text_bytes}
+use Rattle.smap_lines.specs.declared.fault.LineFault.{LineFault}
+use Rattle.smap_lines.specs.declared.fault.LineFault.TheVariants.{TooMuch, Memory}
+use Rattle.smap_record.specs.Record.{MapRecord}
+use Rattle.smap_positions.specs.Answering.{AnswersPositions}
+use Rattle.smap_positions.specs.Positions.{answered_line}
+use Rattle.smap_positions.specs.declared.answering.PositionsSummary.{PositionsSummary}
+use Rattle.smap_replies.specs.Files.{MayRead}
+use Rattle.smap_map_answers.specs.Lines.{bad_position_refused_line, long_position_line}
+use Rattle.smap_replies.specs.Map.{IsStated, Never, ReportsMap}
+use Rattle.smap_replies.specs.Outcome.{OrMemory, Report, answer, fault_report, refusal}
+use Rattle.url.specs.Parts.{Parts}
+
+-- ---- what is reported
+
+-- nothing is added where each line is a position; else the first that is none is named
+abbrev pub bad_report : (first_bad : Option ℕ) → Report
+bad_report None = answer []
+bad_report (Some number) = refusal (bad_position_refused_line number)
+
+-- of what was answered to its end: where each line is short enough to be answered the first bad one decides, and else a
+-- long one
+abbrev pub summary_report : PositionsSummary → Report
+summary_report summary = if summary.answered == summary.lines then bad_report summary.first_bad else refusal long_position_line
+
+abbrev pub positions_report : Result PositionsSummary LineFault → Report
+positions_report (Ok summary) = summary_report summary
+positions_report (Err fault) = fault_report fault
+
+-- ---- the positions
+
+-- the positions are answered to their end, or up to a fault
+abbrev pub IsAnswered : MapRecord → (from json : Bool) → (before after : DevicesSeen) → Result PositionsSummary LineFault → Type 0
+IsAnswered stated from json before after (Ok summary) = AnswersPositions before after stated from json summary
+IsAnswered stated from json before after (Err fault) = EditsFront (answered_line stated from json) most_text_bytes before after fault
+
+-- answering the positions on standard input from this map says this; a refusal for a bad line or a long one comes after
+-- their answers, which are flushed
+pub record AnsweredReports (stated : MapRecord) (from json : Bool) (before after : DevicesSeen) (report : Report) : Type 0 where
+  pub result : Result PositionsSummary LineFault
+  pub answered : IsAnswered stated from json before after result
+  pub input_failed : after.input.failed ≡ is_read_fault result
+  pub output_failed : after.output.failed ≡ is_write_fault result
+  pub flushed : report.status ≡ 1 → (result ≡ Err TooMuch) ⊎ (after.output.flushed ≡ true)
+  pub untouched : result ≡ Err Memory → after ≡ before
+  pub reported : report ≡ positions_report result
+
+-- what `positions` prints over the map of a file: that there is none, or memory ran out, and then standard input and output
+-- stay as they are; or what the answers come to
+abbrev pub PositionsReports : MayRead → (path : List ℕ) → Option Parts → (k : ℕ) → (from json : Bool) → (before after : DevicesSeen) → Report → Type 0
+PositionsReports Reads path base k from json before after report =
+    ((after ≡ before) × OrMemory (ReportsMap Reads 0 path base k Never) report)
+    ⊎ ((stated : MapRecord) × IsStated Reads 0 path base k stated × AnsweredReports stated from json before after report)

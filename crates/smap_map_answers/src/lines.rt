@@ -1,0 +1,59 @@
+//! The lines that are printed, each with its LF.
+ghost use Rattle.std.specs.Prelude.{◌≡◌, ◌+◌, string_bytes, IfOk};
+ghost use Rattle.smap_map_answers.specs.Lines.{found_line, refused_line};
+
+use smap_mappings::Fault;
+use smap_positions::from_one;
+use smap_verdicts::fault_text;
+use std::alloc::{AllocError, Global};
+
+/// Standard error: the input is longer than a mappings text may be.
+pub const TEXT_TOO_LONG: &str = "refused: TextTooLong\n";
+
+/// Standard error: the input is not UTF-8.
+pub const NOT_UTF8: &str = "refused: NotUtf8\n";
+
+/// Standard error: a line of standard input is no position; its number, from 1, and an LF follow.
+pub const BAD_POSITION: &str = "refused: P1 BadPosition ";
+
+/// Standard error: a line of standard input is longer than a position is.
+pub const LONG_POSITION: &str = "refused: P2 LongLine\n";
+
+/// Standard error: the map has no source of this index, or not its content.
+pub const NO_CONTENT: &str = "refused: no content\n";
+
+/// Standard output: where a place stands in its source. The line and the column count from 0 here,
+/// and from 1 in the text.
+pub fn found_line(
+    alloc: Global,
+    source: u32,
+    line: u32,
+    column: u32,
+    name: Option<u32>,
+) -> Result<String, AllocError>
+    ensures { IfOk result (λ text. string_bytes text ≡ found_line source line column name) }
+{
+    let (line, column) = place_from_one(line, column);
+    match name {
+        Some(name) => {
+            format!(in alloc; "source {source} line {line} column {column} name {name}\n")
+        }
+        None => format!(in alloc; "source {source} line {line} column {column}\n"),
+    }
+}
+
+/// Standard error: a mappings text that is refused, with the text of its first fault.
+pub fn refused_line(alloc: Global, fault: Fault) -> Result<String, AllocError>
+    ensures { IfOk result (λ text. string_bytes text ≡ refused_line fault) }
+{
+    let fault = fault_text(alloc, fault)?;
+    format!(in alloc; "refused: {fault}\n")
+}
+
+// A line and a column that count from 0, counted from 1.
+fn place_from_one(line: u32, column: u32) -> (u64, u64)
+    ensures line { result.0 ≡ line + 1 }
+    ensures column { result.1 ≡ column + 1 }
+{
+    (from_one(line), from_one(column))
+}

@@ -1,0 +1,120 @@
+//! Answering the positions on standard input from a map file.
+ghost use Rattle.std.specs.Prelude.{◌≡◌, ◌≤◌, ◌+◌, ◌++◌, [], false, length, option_copied, MatchOption};
+ghost use Rattle.std.specs.Prelude.{string_bytes, string_capacity, string_len};
+ghost use Rattle.smap_lines.specs.Editing.{devices_seen};
+ghost use Rattle.smap_map_answers.specs.Lines.{bad_position_refused_line, long_position_line};
+ghost use Rattle.smap_replies.specs.Outcome.{answer, refusal, report_of};
+ghost use Rattle.smap_map_answers.specs.Positions.{AnsweredReports, PositionsReports, summary_report};
+ghost use Rattle.smap_map_answers.specs.Private.Room.{IsRoom};
+
+use crate::lines;
+use itoa::Buffer;
+use smap_io::{ByteSink, ByteSource};
+use smap_lines::LineFault;
+use smap_positions::{AnswerOptions, PositionsSummary};
+use smap_record::MapFile;
+use smap_replies::{Failure, FileReader, MapReader, Reply, read_map};
+use std::alloc::Global;
+
+// How many bytes the line has at most that refuses positions.
+const MOST_REFUSAL_BYTES: usize = 80;
+
+/// Answers the positions on the lines of standard input from the map that the file at this path is. The caller gives devices
+/// that have not failed.
+pub fn answer_positions<F: FileReader, R: ByteSource, W: ByteSink>(
+    alloc: Global,
+    maps: &MapReader<'_, F>,
+    path: &str,
+    options: AnswerOptions,
+    input: &mut R,
+    output: &mut W,
+) -> Result<Reply, Failure>
+    requires input_works { (R.seen input.old).failed ≡ false }
+    requires output_works { (W.seen output.old).failed ≡ false }
+    ensures { PositionsReports (F.gives maps.now.files.now) path.now (option_copied maps.now.base)
+        maps.now.interval options.after options.json
+        (devices_seen (R.seen input.old) (W.seen output.old))
+        (devices_seen (R.seen input.new) (W.seen output.new))
+        (report_of result) }
+{
+    let map = read_map(alloc, maps, 0, path)?;
+    answer_over(alloc, &map, options, input, output)
+}
+
+// Answers them from this map.
+fn answer_over<R: ByteSource, W: ByteSink>(
+    alloc: Global,
+    map: &MapFile,
+    options: AnswerOptions,
+    input: &mut R,
+    output: &mut W,
+) -> Result<Reply, Failure>
+    requires input_works { (R.seen input.old).failed ≡ false }
+    requires output_works { (W.seen output.old).failed ≡ false }
+    ensures { AnsweredReports map.now.stated options.after options.json
+        (devices_seen (R.seen input.old) (W.seen output.old))
+        (devices_seen (R.seen input.new) (W.seen output.new))
+        (report_of result) }
+{
+    let Ok(room) = String::with_capacity(alloc, MOST_REFUSAL_BYTES) else {
+        return Err(Failure::Memory);
+    };
+    let summary = match smap_positions::answer_positions(alloc, input, output, map, options) {
+        Ok(summary) => summary,
+        Err(fault) => return Err(Failure::Fault(fault)),
+    };
+    let Some(line) = refusing_line(room, summary) else {
+        return Ok(Reply::Rewritten);
+    };
+    match output.flush() {
+        Ok(()) => Err(Failure::Refusal(line)),
+        Err(_) => Err(Failure::Fault(LineFault::Write)),
+    }
+}
+
+// The line for positions that were answered to their end, where they are refused: put into the room, which takes no memory.
+fn refusing_line(room: String, summary: PositionsSummary) -> Option<String>
+    requires { IsRoom room }
+    ensures { MatchOption result (summary_report summary ≡ answer [])
+        (λ line. summary_report summary ≡ refusal (string_bytes line)) }
+{
+    if summary.answered != summary.lines {
+        return Some(long_line(room));
+    }
+    match summary.first_bad {
+        Some(number) => Some(bad_position(room, number)),
+        None => None,
+    }
+}
+
+fn long_line(mut room: String) -> String
+    requires { IsRoom room }
+    ensures { string_bytes result ≡ long_position_line }
+{
+    put(&mut room, lines::LONG_POSITION);
+    room
+}
+
+// The line of this number, from 1, is no position.
+fn bad_position(mut room: String, number: u64) -> String
+    requires { IsRoom room }
+    ensures { string_bytes result ≡ bad_position_refused_line number }
+{
+    let mut digits = Buffer::new();
+    put(&mut room, lines::BAD_POSITION);
+    put(&mut room, digits.format(number));
+    put(&mut room, "\n");
+    room
+}
+
+// Puts a text that fits after what stands in the room.
+fn put(room: &mut String, text: &str)
+    requires { string_len room.old + length text.now ≤ string_capacity room.old }
+    ensures put { string_bytes room.new ≡ string_bytes room.old ++ text.now }
+    ensures longer { string_len room.new ≡ string_len room.old + length text.now }
+    ensures as_large { string_capacity room.old ≤ string_capacity room.new }
+{
+    if room.push_str(text).is_err() {
+        unreachable!("what fits takes no memory");
+    }
+}

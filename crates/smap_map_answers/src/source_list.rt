@@ -1,0 +1,134 @@
+//! Printing the sources of a map, and how much of the generated file each makes.
+ghost use Rattle.std.specs.Prelude.{◌≡◌, option_and_then, option_copied, option_map, slice_get};
+ghost use Rattle.smap_replies.specs.Map.{IsResult, ReportsMap};
+ghost use Rattle.smap_replies.specs.Outcome.{OrMemory, report_of};
+ghost use Rattle.smap_map_answers.specs.SourceList.{IsSourcesReported, ReportsGenerated, ReportsSources, content_result};
+ghost use Rattle.smap_command.specs.Limits.{usual_interval};
+
+use crate::lines;
+use smap_command::USUAL_INTERVAL;
+use smap_positions::sources_text;
+use smap_record::{MOST_FILE_BYTES, MapFile};
+use smap_replies::{
+    Failure, FileReader, MapReader, Reply, file_bytes, read_map, refused, refused_file,
+};
+use std::alloc::Global;
+
+/// How the sources of a map are reported.
+#[derive(Clone, Copy)]
+pub struct SourceOptions {
+    /// Whether those that make the most bytes come first.
+    pub by_bytes: bool,
+    /// Whether each line is a JSON object.
+    pub json: bool,
+}
+
+/// Reads the map that the file at this path is, and its generated file, where one is given, and prints the map's sources.
+pub fn answer_sources<F: FileReader>(
+    alloc: Global,
+    maps: &MapReader<'_, F>,
+    path: &str,
+    generated: Option<&str>,
+    options: SourceOptions,
+) -> Result<Reply, Failure>
+    ensures { OrMemory (ReportsMap (F.gives maps.now.files.now) 0 path.now
+        (option_copied maps.now.base) maps.now.interval
+        (ReportsSources (F.gives maps.now.files.now) options.by_bytes options.json
+        (option_copied generated.entry))) (report_of result) }
+{
+    let map = read_map(alloc, maps, 0, path)?;
+    sources_of(alloc, maps.files, &map, generated, options)
+}
+
+// The sources of a map, with its generated file at this path, where one is given.
+fn sources_of<F: FileReader>(
+    alloc: Global,
+    reader: &F,
+    map: &MapFile,
+    generated: Option<&str>,
+    options: SourceOptions,
+) -> Result<Reply, Failure>
+    ensures { OrMemory (ReportsSources (F.gives reader.now) options.by_bytes options.json
+        (option_copied generated.entry) map.now.stated) (report_of result) }
+{
+    match generated {
+        None => reported_sources(alloc, map, None, options),
+        Some(path) => {
+            let bytes = file_bytes(alloc, reader, 1, path)?;
+            sources_in(alloc, map, path, bytes, options)
+        }
+    }
+}
+
+// The sources of a map, with these bytes of the generated file at this path.
+fn sources_in(
+    alloc: Global,
+    map: &MapFile,
+    path: &str,
+    bytes: Vec<u8>,
+    options: SourceOptions,
+) -> Result<Reply, Failure>
+    ensures { OrMemory (ReportsGenerated options.by_bytes options.json path.now map.now.stated
+        bytes.items) (report_of result) }
+{
+    if bytes.len() > MOST_FILE_BYTES {
+        return Err(refused_file(alloc, path, "TooLarge"));
+    }
+    match String::from_utf8(bytes) {
+        Ok(text) => reported_sources(alloc, map, Some(&text), options),
+        Err(_) => Err(refused_file(alloc, path, "NotUtf8")),
+    }
+}
+
+// The sources of a map, with its generated text, where there is one.
+fn reported_sources(
+    alloc: Global,
+    map: &MapFile,
+    generated: Option<&str>,
+    options: SourceOptions,
+) -> Result<Reply, Failure>
+    ensures { OrMemory (IsSourcesReported options.by_bytes options.json
+        (option_copied generated.entry) map.now.stated) (report_of result) }
+{
+    let text = sources_text(alloc, map, generated, options.by_bytes, options.json)?;
+    Ok(Reply::Bytes(text))
+}
+
+/// Reads the map that the file at this path is, and prints the content of its source of this index, from 0.
+pub fn answer_content<F: FileReader>(
+    alloc: Global,
+    reader: &F,
+    path: &str,
+    source: u32,
+) -> Result<Reply, Failure>
+    ensures { OrMemory (ReportsMap (F.gives reader.now) 0 path.now None usual_interval
+        (IsResult (content_result source))) (report_of result) }
+{
+    let maps = MapReader {
+        files: reader,
+        base: None,
+        interval: USUAL_INTERVAL,
+    };
+    reported_content(alloc, &read_map(alloc, &maps, 0, path)?, source)
+}
+
+// The content of a source, or that there is none.
+fn reported_content(alloc: Global, map: &MapFile, source: u32) -> Result<Reply, Failure>
+    ensures { OrMemory (IsResult (content_result source) map.now.stated) (report_of result) }
+{
+    match content_of(map, source) {
+        Some(content) => Ok(Reply::Text(String::from_str(alloc, content)?)),
+        None => Err(refused(alloc, lines::NO_CONTENT)),
+    }
+}
+
+// The content of a source, where the map has it.
+fn content_of(map: &MapFile, source: u32) -> Option<&str>
+    ensures { option_map (λ content. content.now) result
+        ≡ option_and_then (λ s. s.content) (slice_get map.now.stated.sources source) }
+{
+    match map.source(source) {
+        Some(entry) => entry.content.as_deref(),
+        None => None,
+    }
+}

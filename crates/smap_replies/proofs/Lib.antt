@@ -1,0 +1,3 @@
+mod ListLaws
+pub mod NextLaws
+mod ShownLaws

@@ -1,0 +1,33 @@
+-- The files that a command names, and what reading them gives.
+use Rattle.std.specs.Prelude.{◌≡◌, ◌≢◌, ℕ, ◌⊎◌, List, Result, Ok, Err, string_bytes, slice_get, IfSome, ⊤}
+use Rattle.std.specs.Option.{IsSomeAnd}
+use Rattle.smap_io.specs.declared.transfer.ReadFailure.{ReadFailure}
+use Rattle.smap_io.specs.declared.transfer.ReadFailure.TheVariants.{Device, Memory}
+use Rattle.smap_replies.specs.Lines.{file_failed_line}
+use Rattle.smap_replies.specs.Outcome.{Report, failure}
+use Rattle.smap_replies.specs.declared.files.Loaded.{Loaded}
+
+-- what reading a file may give, by the number of its path among those that the command names, from 0, and the path: bytes,
+-- or why there are none
+abbrev pub MayRead : Type 1
+MayRead = (number : ℕ) (path : List ℕ) → Result (List ℕ) ReadFailure → Type 0
+
+-- a file in memory with this path and these bytes
+abbrev pub IsLoaded : (path bytes : List ℕ) → Loaded → Type 0
+IsLoaded path bytes file = (string_bytes file.path ≡ path) × (file.bytes.items ≡ bytes)
+
+-- what reading one of these files gives, which is that of the number where it has the path; where it has another, or there
+-- is none, the device fails
+abbrev pub gives_loaded : List Loaded → MayRead
+gives_loaded files number path (Ok bytes) = IsSomeAnd (slice_get files number) (IsLoaded path bytes)
+gives_loaded files number path (Err Device) = IfSome (slice_get files number) (λ file. string_bytes file.path ≢ path)
+gives_loaded files number path (Err Memory) = ⊤
+
+-- the file can't be read, and that is reported
+abbrev pub IsUnread : MayRead → (number : ℕ) (path : List ℕ) → Report → Type 0
+IsUnread Reads number path report = Reads number path (Err Device) × (report ≡ failure (file_failed_line path))
+
+-- a file can't be read, and that is reported; or it is, and its bytes decide
+abbrev pub OfFile : MayRead → (number : ℕ) (path : List ℕ) → (List ℕ → Report → Type 0) → Report → Type 0
+OfFile Reads number path Reports report =
+    IsUnread Reads number path report ⊎ ((bytes : List ℕ) × Reads number path (Ok bytes) × Reports bytes report)

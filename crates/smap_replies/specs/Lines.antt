@@ -1,0 +1,43 @@
+-- The lines that several commands print.
+use Rattle.std.specs.Prelude.{ℕ, codes, List, [], ◌∷◌}
+use Rattle.std.specs.Fmt.{decimal}
+use Rattle.smap_command.specs.Lines.{line_from}
+use Rattle.smap_command.specs.Shown.{shown}
+
+-- a map file that is refused, with the words for the refusal
+abbrev pub map_refused_line : (path refusal : List ℕ) → List ℕ
+map_refused_line path refusal = line_from (codes "refused: " ∷ shown path ∷ codes ": " ∷ refusal ∷ [])
+
+abbrev pub file_failed_line : (path : List ℕ) → List ℕ
+file_failed_line path = line_from (codes "device: read " ∷ shown path ∷ [])
+
+abbrev pub input_failed_line : List ℕ
+input_failed_line = line_from (codes "device: read standard input" ∷ [])
+
+abbrev pub output_failed_line : List ℕ
+output_failed_line = line_from (codes "device: write" ∷ [])
+
+abbrev pub memory_line : List ℕ
+memory_line = line_from (codes "memory" ∷ [])
+
+abbrev pub argument_not_utf8_line : List ℕ
+argument_not_utf8_line = line_from (codes "error: a word of the command line is not UTF-8" ∷ [])
+
+-- an argument whose URL, or whose name of a source, has a map already
+abbrev pub twice_line : (word : List ℕ) → List ℕ
+twice_line word = line_from (codes "usage: A2 Twice: " ∷ shown word ∷ [])
+
+-- the list at a path, of which the line with this number, from 1, is refused, with the reason
+abbrev pub list_refused_line : (path : List ℕ) (number : ℕ) (reason : List ℕ) → List ℕ
+list_refused_line path number reason =
+    line_from (codes "usage: " ∷ shown path ∷ codes " line " ∷ decimal number ∷ codes ": " ∷ reason ∷ [])
+
+-- why a text of standard input was not answered to its end
+abbrev pub trace_unread_line : List ℕ
+trace_unread_line = line_from (codes "device: X1 Read" ∷ [])
+
+abbrev pub trace_unwritten_line : List ℕ
+trace_unwritten_line = line_from (codes "device: X2 Write" ∷ [])
+
+abbrev pub trace_too_long_line : List ℕ
+trace_too_long_line = line_from (codes "refused: X3 TooMuch" ∷ [])

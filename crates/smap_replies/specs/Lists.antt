@@ -1,0 +1,40 @@
+-- Why a list of files is refused.
+use Rattle.std.specs.Prelude.{ℕ, List, Option, Some, None, codes, if◌then◌else◌, length, nat_lt, not}
+use Rattle.std.specs.Str.{is_utf8}
+use Rattle.smap_locations.specs.declared.refusal.ListFault.{ListFault}
+use Rattle.smap_locations.specs.declared.refusal.ListFault.TheVariants.{NoTab, NoFolder, BadUrl, Twice, Memory}
+use Rattle.smap_locations.specs.declared.refusal.ListRefusal.{ListRefusal}
+use Rattle.smap_replies.specs.Lines.{list_refused_line}
+use Rattle.smap_replies.specs.Outcome.{Report, misuse, out_of_memory}
+
+-- ---- why a folder or a line is refused
+
+-- in words, memory aside
+abbrev pub reason_of : ListFault → Option (List ℕ)
+reason_of NoTab = Some (codes "no TAB")
+reason_of NoFolder = Some (codes "no folder")
+reason_of BadUrl = Some (codes "A1 BadUrl")
+reason_of Twice = Some (codes "A2 Twice")
+reason_of Memory = None
+
+-- what is reported where there is such a reason, and else that memory ran out
+abbrev pub misuse_for : (line_of : List ℕ → List ℕ) → (reason : Option (List ℕ)) → Report
+misuse_for line_of (Some reason) = misuse (line_of reason)
+misuse_for line_of None = out_of_memory
+
+-- a line of the list at this path is refused
+abbrev pub list_refusal : (list : List ℕ) → ListRefusal → Report
+list_refusal list refused = misuse_for (list_refused_line list refused.line) (reason_of refused.fault)
+
+-- ---- its bytes
+
+-- so many bytes a list may have: 64 MiB
+abbrev pub most_list_bytes : ℕ
+most_list_bytes = 67108864
+
+-- why the bytes of a list are refused, where they are
+abbrev pub list_bytes_refusal : (bytes : List ℕ) → Option (List ℕ)
+list_bytes_refusal bytes =
+    if nat_lt most_list_bytes (length bytes) then Some (codes "TooLarge")
+    else if not (is_utf8 bytes) then Some (codes "NotUtf8")
+    else None

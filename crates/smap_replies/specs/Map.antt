@@ -1,0 +1,50 @@
+-- What a command reports a map file: what the map states decides, or why the map is refused.
+use Rattle.std.specs.Prelude.{◌≡◌, ℕ, ◌⊎◌, List, Option, Result, Ok, Err}
+use Rattle.smap_record.specs.Record.{MapRecord, record_of}
+use Rattle.smap_record.specs.declared.refusal.MapRefusal.{MapRefusal}
+use Rattle.smap_record.specs.declared.refusal.MapRefusal.TheVariants.{Url}
+use Rattle.smap_replies.specs.Files.{MayRead, OfFile}
+use Rattle.smap_replies.specs.Lines.{map_refused_line}
+use Rattle.smap_replies.specs.Outcome.{Report, answer, refusal}
+use Rattle.smap_verdicts.specs.Refusal.{refusal_text}
+use Rattle.url.specs.Parts.{Parts}
+
+-- the file at this path is refused, in these words
+abbrev pub refused_file : (path words : List ℕ) → Report
+refused_file path words = refusal (map_refused_line path words)
+
+-- the map of the file at this path is refused
+abbrev pub refusal_result : (path : List ℕ) → MapRefusal → Report
+refusal_result path refused = refused_file path (refusal_text refused)
+
+-- a map that is found decides what is reported, and so does its refusal; one that is not refused may yet be refused since
+-- resolving a source gave a URL that is too long: when that is so, `url` decides
+abbrev pub ReportsRead : (MapRefusal → Report → Type 0) → Result MapRecord MapRefusal → (MapRecord → Report → Type 0) → Report → Type 0
+ReportsRead Refuses (Err refused) Reports report = Refuses refused report
+ReportsRead Refuses (Ok stated) Reports report = Refuses Url report ⊎ Reports stated report
+
+-- the same, where its refusal alone decides what is said of it
+abbrev pub ReportsFound : (MapRefusal → Report) → Result MapRecord MapRefusal → (MapRecord → Report → Type 0) → Report → Type 0
+ReportsFound refusal_of = ReportsRead (λ refused report. report ≡ refusal_of refused)
+
+-- the same of what the bytes of a file give, with its sources resolved against the base and checkpoints at the interval k
+abbrev pub ReportsMap : MayRead → (number : ℕ) (path : List ℕ) → Option Parts → (k : ℕ) → (MapRecord → Report → Type 0) → Report → Type 0
+ReportsMap Reads number path base k Reports = OfFile Reads number path (λ bytes. ReportsFound (refusal_result path) (record_of bytes base k) Reports)
+
+-- this is the result of what a map states
+abbrev pub IsResult : (result_of : MapRecord → Report) → MapRecord → Report → Type 0
+IsResult result_of stated report = report ≡ result_of stated
+
+-- the result is this line of what a map states
+abbrev pub IsLine : (line_of : MapRecord → List ℕ) → MapRecord → Report → Type 0
+IsLine line_of stated report = report ≡ answer (line_of stated)
+
+-- ---- a file that is read for its map
+
+-- it gives a map that states this
+abbrev pub IsStated : MayRead → (number : ℕ) (path : List ℕ) → Option Parts → (k : ℕ) → MapRecord → Type 0
+IsStated Reads number path base k stated = (bytes : List ℕ) × Reads number path (Ok bytes) × (record_of bytes base k ≡ Ok stated)
+
+-- nothing is reported a map
+abbrev pub Never : MapRecord → Report → Type 0
+Never stated report = ⊥

@@ -1,0 +1,109 @@
+//! Where the files come from that a command names.
+ghost use Rattle.std.specs.Prelude.{Err, IfErr, IfOk, Ok, ⊤};
+ghost use Rattle.smap_replies.specs.Files.{MayRead, gives_loaded};
+
+use smap_io::{FromStd, ReadFailure, read_all};
+use smap_record::MOST_FILE_BYTES;
+use std::alloc::Global;
+use std::fs::{File, metadata};
+use std::io;
+
+/// A reader of the files that a command names.
+pub trait FileReader {
+    // What reading a file may give.
+    ghost gives: { Self → MayRead };
+
+    /// The bytes of the file at this path, whose number among the paths of the command is this, from 0. Of a longer file
+    /// the first 67,108,865 will do: a map file that has so many is refused for that.
+    fn read_file(&self, alloc: Global, number: usize, path: &str) -> Result<Vec<u8>, ReadFailure>
+        ensures read { IfOk result (λ bytes. gives self.now number path.now (Ok bytes.items)) }
+        ensures failure { IfErr result (λ failure. gives self.now number path.now (Err failure)) };
+
+    /// Why the file at this path, which could not be read, can't be.
+    fn unread_cause(&self, path: &str) -> UnreadCause;
+}
+
+/// Why a file can't be read.
+#[derive(Clone, Copy)]
+pub enum UnreadCause {
+    /// There is no file at the path.
+    Missing,
+    /// The path is that of a folder.
+    Folder,
+    /// The file may not be read.
+    NoPermission,
+    /// None of these is known.
+    Other,
+}
+
+/// The files of the machine, of whose bytes nothing is reported.
+impl FileReader for HostRuntime {
+    ghost gives = { λ rt number path result. ⊤ };
+
+    // A byte more than a map file may have shows that it is too large.
+    fn read_file(&self, alloc: Global, _number: usize, path: &str) -> Result<Vec<u8>, ReadFailure> {
+        match File::open(self, path) {
+            Ok(file) => read_all(alloc, &mut FromStd::new(file), MOST_FILE_BYTES + 1),
+            Err(error) if error.kind() == io::ErrorKind::OutOfMemory => Err(ReadFailure::Memory),
+            Err(_) => Err(ReadFailure::Device),
+        }
+    }
+
+    // The file is asked about anew.
+    fn unread_cause(&self, path: &str) -> UnreadCause {
+        if let Ok(found) = metadata(self, path)
+            && found.is_dir()
+        {
+            return UnreadCause::Folder;
+        }
+        match File::open(self, path) {
+            Ok(_) => UnreadCause::Other,
+            Err(error) => cause_of(error.kind()),
+        }
+    }
+}
+
+// Why a file can't be opened.
+fn cause_of(kind: io::ErrorKind) -> UnreadCause {
+    match kind {
+        io::ErrorKind::NotFound | io::ErrorKind::NotADirectory => UnreadCause::Missing,
+        io::ErrorKind::IsADirectory => UnreadCause::Folder,
+        io::ErrorKind::PermissionDenied => UnreadCause::NoPermission,
+        _ => UnreadCause::Other,
+    }
+}
+
+/// A file in memory.
+#[derive(Drop)]
+pub struct Loaded {
+    /// The path, as the command has it.
+    pub path: String,
+    /// All of its bytes, or at least the first 67,108,865.
+    pub bytes: Vec<u8>,
+}
+
+/// Files in memory, one for each path of a command, in their order.
+#[derive(Clone, Copy)]
+pub struct LoadedFiles<'a>(pub &'a [Loaded]);
+
+impl FileReader for LoadedFiles<'_> {
+    ghost gives = { λ files. gives_loaded files.0.now };
+
+    fn read_file(&self, alloc: Global, number: usize, path: &str) -> Result<Vec<u8>, ReadFailure> {
+        let LoadedFiles(files) = *self;
+        let Some(file) = files.get(number) else {
+            return Err(ReadFailure::Device);
+        };
+        if file.path.as_str() == path {
+            return match file.bytes.to_vec(alloc) {
+                Ok(bytes) => Ok(bytes),
+                Err(_) => Err(ReadFailure::Memory),
+            };
+        }
+        Err(ReadFailure::Device)
+    }
+
+    fn unread_cause(&self, _path: &str) -> UnreadCause {
+        UnreadCause::Missing
+    }
+}

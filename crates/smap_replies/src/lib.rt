@@ -1,0 +1,27 @@
+//! What a command comes to, and how that is reported; and how the files are read that a command names.
+//!
+//! ```text
+//! let maps = MapReader { files: &rt, base: None, interval: 64 };
+//! let outcome = match read_map(alloc, &maps, 0, "app.js.map") {
+//!     Ok(map) => Ok(Reply::Bytes(map.write(alloc)?)),
+//!     Err(failure) => Err(failure),
+//! };
+//! let status = report(&outcome, &mut output, &mut errors);
+//! ```
+#![tactic(auto)]
+
+mod files;
+mod lines;
+mod lists;
+mod map;
+mod outcome;
+mod refusal;
+mod reporting;
+
+pub use files::{FileReader, Loaded, LoadedFiles, UnreadCause};
+pub use lines::{NO_MEMORY, file_failed_line, map_refused_line, shown_argument, twice_line};
+pub use lists::{list_text, reason_of, refused_list};
+pub use map::{MapReader, file_bytes, map_of, read_map, read_map_at};
+pub use outcome::{DONE, FAILED, Failure, REFUSED, Reply};
+pub use refusal::{refusal_line, refusal_of, refused, refused_file};
+pub use reporting::{print_error, report};

@@ -1,0 +1,125 @@
+//! What a command comes to, and how that is reported.
+ghost use Rattle.std.specs.Prelude.{◌≡◌};
+ghost use Rattle.smap_replies.specs.Outcome.{failure_report, fault_report, reply_report};
+ghost use Rattle.smap_replies.specs.declared.outcome.Failure.TheVariants.{Memory};
+
+use crate::lines;
+use smap_lines::LineFault;
+use std::alloc::AllocError;
+
+/// The exit status of a run that did what it was asked.
+pub const DONE: u8 = 0;
+/// The exit status of a run whose input is refused.
+pub const REFUSED: u8 = 1;
+/// The exit status where the arguments give no command.
+pub const MISUSED: u8 = 2;
+/// The exit status of a run in which a device failed, or memory ran out.
+pub const FAILED: u8 = 3;
+
+/// What a command answers: for standard output.
+#[derive(Drop)]
+pub enum Reply {
+    /// The text that was asked for, whole, with its last LF.
+    Text(String),
+    /// The bytes that were asked for, whole, with their last LF: a map, or what a map answers.
+    Bytes(Vec<u8>),
+    /// Why a map is refused, where the answer was asked for in JSON: whole, with its last LF. Its status is 1, and that of
+    /// all others 0.
+    Refused(String),
+    /// The trace is rewritten, the positions are answered or the mappings are printed, and standard output has that already:
+    /// nothing is added.
+    Rewritten,
+}
+
+/// Why a command does not answer: for standard error. Each text is whole, with its last LF.
+#[derive(Drop)]
+pub enum Failure {
+    /// Why the input is refused: status 1.
+    Refusal(String),
+    /// Why the arguments of the command line give no command: status 2.
+    Misuse(String),
+    /// An argument of the command line is not UTF-8: status 2.
+    ArgumentNotUtf8,
+    /// Which file can't be read: status 3.
+    Unreadable(String),
+    /// Standard input failed: status 3.
+    InputFailure,
+    /// The trace is rewritten, the positions are answered or the mappings are printed up to this fault: status 1 for an
+    /// input that is too long, and 3 for the others.
+    Fault(LineFault),
+    /// Memory ran out: status 3.
+    Memory,
+}
+
+impl From<AllocError> for Failure {
+    ghost from_gives = { λ _ failure. failure ≡ Memory };
+
+    fn from(_error: AllocError) -> Failure {
+        Failure::Memory
+    }
+}
+
+impl Reply {
+    /// The exit status. The call takes no memory.
+    pub fn status(&self) -> u8
+        ensures { result ≡ (reply_report self.now).status }
+    {
+        match self {
+            Reply::Refused(_) => REFUSED,
+            Reply::Text(_) | Reply::Bytes(_) | Reply::Rewritten => DONE,
+        }
+    }
+
+    /// What the user reads. The call takes no memory.
+    pub fn bytes(&self) -> &[u8]
+        ensures { result.now ≡ (reply_report self.now).text }
+    {
+        match self {
+            Reply::Text(text) => text.as_bytes(),
+            Reply::Bytes(bytes) => bytes,
+            Reply::Refused(text) => text.as_bytes(),
+            Reply::Rewritten => &[],
+        }
+    }
+}
+
+impl Failure {
+    /// The exit status. The call takes no memory.
+    pub fn status(&self) -> u8
+        ensures { result ≡ (failure_report self.now).status }
+    {
+        match self {
+            Failure::Refusal(_) | Failure::Fault(LineFault::TooMuch) => REFUSED,
+            Failure::Misuse(_) | Failure::ArgumentNotUtf8 => MISUSED,
+            Failure::Unreadable(_) | Failure::InputFailure | Failure::Fault(_) | Failure::Memory =>
+                FAILED,
+        }
+    }
+
+    /// What the user reads. The call takes no memory.
+    pub fn bytes(&self) -> &[u8]
+        ensures { result.now ≡ (failure_report self.now).text }
+    {
+        match self {
+            Failure::Refusal(text) => text.as_bytes(),
+            Failure::Misuse(text) => text.as_bytes(),
+            Failure::ArgumentNotUtf8 => lines::ARGUMENT_NOT_UTF8.as_bytes(),
+            Failure::Unreadable(text) => text.as_bytes(),
+            Failure::InputFailure => lines::INPUT_FAILED.as_bytes(),
+            Failure::Fault(fault) => fault_line(*fault).as_bytes(),
+            Failure::Memory => lines::NO_MEMORY.as_bytes(),
+        }
+    }
+}
+
+// Why a trace is not rewritten to its end.
+fn fault_line(fault: LineFault) -> &'static str
+    ensures { result.now ≡ (fault_report fault).text }
+{
+    match fault {
+        LineFault::Read => lines::TRACE_UNREAD,
+        LineFault::Write => lines::TRACE_UNWRITTEN,
+        LineFault::TooMuch => lines::TRACE_TOO_LONG,
+        LineFault::Memory => lines::NO_MEMORY,
+    }
+}

@@ -1,0 +1,107 @@
+-- Worked examples of the definitions: each holds by computing both sides.
+use Rattle.std.proofs.Common.{◌≡◌, ℕ, List, [], ◌∷◌, refl, inl, inr, codes}
+use Rattle.std.specs.Prelude.{true, Some, None, Ok, Err}
+use Rattle.std.specs.Fmt.{decimal}
+use Rattle.std.specs.Str.{is_utf8, chars}
+use lib.Utf8.{encode}
+use Rattle.smap_command.specs.Shown.{shown}
+use Rattle.smap_locations.specs.Locations.{LocationsSeen}
+use Rattle.smap_locations.specs.declared.refusal.ListFault.TheVariants.{NoTab, NoFolder, BadUrl, Twice, Memory}
+use Rattle.smap_trace.specs.Table.{is_bad_url}
+use Rattle.smap_replies.specs.Files.{MayRead}
+use Rattle.smap_command.specs.Lines.{line_from}
+use Rattle.smap_replies.specs.Outcome.{misuse, out_of_memory}
+use Rattle.smap_text_answers.specs.Sources.{GathersSources, NamesFolders, folder_refusal}
+use Rattle.smap_replies.specs.Lists.{list_bytes_refusal, list_refusal}
+use Rattle.smap_text_answers.specs.Trace.{Gathers}
+
+-- ---- folders and lines that are refused
+
+a_prefix_without_slash : folder_refusal NoFolder (codes "https://a.test/js") (codes "maps/") ≡ misuse (codes "usage: no folder: https://a.test/js=maps/\n")
+unfolding shown
+a_prefix_without_slash = refl
+
+a_bad_prefix : folder_refusal BadUrl (codes "eval at /") (codes "maps/") ≡ misuse (codes "usage: A1 BadUrl: eval at /=maps/\n")
+unfolding shown
+a_bad_prefix = refl
+
+a_prefix_twice : folder_refusal Twice (codes "app:///") (codes "a\nb/") ≡ misuse (codes "usage: A2 Twice: app:///=a?b/\n")
+unfolding shown
+a_prefix_twice = refl
+
+a_line_without_tab : list_refusal (codes "all.txt") (record { line = 3; fault = NoTab })
+    ≡ misuse (line_from (codes "usage: all.txt line " ∷ decimal 3 ∷ codes ": no TAB" ∷ []))
+unfolding shown
+a_line_without_tab = refl
+
+a_line_without_memory : list_refusal (codes "all.txt") (record { line = 3; fault = Memory }) ≡ out_of_memory
+a_line_without_memory = refl
+
+bytes_of_no_text : list_bytes_refusal (255 ∷ []) ≡ Some (codes "NotUtf8")
+unfolding is_utf8 chars
+bytes_of_no_text = refl
+
+bytes_of_a_text : list_bytes_refusal (codes "u\tm.map\n") ≡ None
+unfolding is_utf8 chars encode
+bytes_of_a_text = refl
+
+-- ---- folders among files
+
+none : LocationsSeen
+none = record { files = []; folders = [] }
+
+one : LocationsSeen
+one = record { files = []; folders = (codes "app:///", codes "maps/") ∷ [] }
+
+arguments : List (List ℕ × List ℕ)
+arguments = (codes "u", codes "m.map") ∷ (codes "app:///", codes "maps/") ∷ []
+
+a_folder_is_named : NamesFolders arguments none (Ok one)
+unfolding arguments none one is_bad_url
+a_folder_is_named = inr (one, record { folders = record { before = []; after = []; old_is = refl; new_is = refl }; files = refl }, refl)
+
+a_folder_is_named_twice : NamesFolders ((codes "app:///", codes "other/") ∷ []) one (Err (misuse (codes "usage: A2 Twice: app:///=other/\n")))
+unfolding one is_bad_url shown
+a_folder_is_named_twice = inr refl
+
+a_folder_is_not_read : (Reads : MayRead) → Gathers true Reads None 128 0 (Ok []) ((codes "app:///", codes "maps/") ∷ []) (Ok [])
+a_folder_is_not_read Reads = refl
+
+-- ---- a list, whose number is that behind the arguments
+
+a_list_is_refused : (Reads : MayRead) → Reads 1 (codes "all.txt") (Ok (codes "#\nu m.map\n"))
+    → GathersSources Reads None 128 ((codes "app:///", codes "maps/") ∷ []) (Some (codes "all.txt"))
+    (Err (misuse (line_from (codes "usage: all.txt line " ∷ decimal 2 ∷ codes ": no TAB" ∷ []))))
+unfolding is_bad_url shown is_utf8 chars encode
+a_list_is_refused Reads reads = (
+  Ok (record { files = []; folders = (codes "app:///", codes "maps/") ∷ [] }),
+  inr (
+    record { files = []; folders = (codes "app:///", codes "maps/") ∷ [] },
+    record { folders = record { before = []; after = []; old_is = refl; new_is = refl }; files = refl },
+    refl,
+  ),
+  (
+    Ok [],
+    refl,
+    inr (
+      codes "#\nu m.map\n",
+      reads,
+      inr (
+        Err (record { line = 2; fault = NoTab }),
+        (
+          record { files = []; folders = (codes "app:///", codes "maps/") ∷ [] },
+          record {
+            before = codes "#" ∷ [];
+            line = codes "u m.map";
+            after = [];
+            lines_are = refl;
+            number = refl;
+            taken = (record { files = []; folders = (codes "app:///", codes "maps/") ∷ [] }, record { faultless = refl; puts = refl }, refl);
+            refused = inl refl;
+          },
+          refl,
+        ),
+      ),
+    ),
+  ),
+)

@@ -1,0 +1,4 @@
+mod Examples
+mod SourcesLaws
+mod StoreLaws
+mod TraceLaws

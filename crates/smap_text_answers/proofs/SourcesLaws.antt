@@ -1,0 +1,88 @@
+-- What the folders and the list come to over which a text is rewritten.
+use Rattle.std.proofs.Common.{◌≡◌, ℕ, ◌⊎◌, List, ◌∷◌, refl, sym, ap, subst, ◌∙◌, inl, inr}
+use Rattle.std.specs.Prelude.{true, false, Option, Some, None, Result, Ok, Err, MatchBool, MatchOption}
+use Rattle.std.specs.Option.{IsSomeAnd}
+use Rattle.std.specs.Str.Lines.{lines}
+use Rattle.smap_locations.specs.Locations.{LocationsSeen}
+use Rattle.smap_store.specs.MapList.{AreTaken, IsRefusedAt, PutsFolder, folder_fault}
+use Rattle.smap_locations.specs.ListLine.{is_folder}
+use Rattle.smap_locations.specs.declared.refusal.ListFault.{ListFault}
+use Rattle.smap_locations.specs.declared.refusal.ListRefusal.{ListRefusal}
+use Rattle.smap_replies.specs.Lines.{map_refused_line}
+use Rattle.smap_replies.specs.Outcome.{OrMemory, Report, out_of_memory, refusal}
+use Rattle.smap_text_answers.specs.Private.Sources.{IsFolderRefusal}
+use Rattle.smap_text_answers.specs.Sources.{AddsLines, AddsList, NamesFolders, folder_refusal}
+use Rattle.smap_replies.specs.Lists.{list_bytes_refusal, list_refusal}
+use Rattle.smap_text_answers.specs.Trace.{Maps}
+use Rattle.smap_text_answers.specs.declared.sources.MapSources.{MapSources}
+
+-- ---- folders
+
+module _ (arguments rest : List (List ℕ × List ℕ)) (url path : List ℕ) (old : LocationsSeen) (is : arguments ≡ (url, path) ∷ rest) where
+  -- an argument names a file
+  pub names_none : is_folder path ≡ false → (result : Result LocationsSeen Report) → NamesFolders rest old result → NamesFolders arguments old result
+  names_none file result names =
+      subst (λ left. NamesFolders left old result) (sym is)
+      (subst (λ b. MatchBool b ((result ≡ Err out_of_memory) ⊎ MatchOption (folder_fault old url)
+      ((next : LocationsSeen) × PutsFolder old url path next × NamesFolders rest next result)
+      (λ fault. result ≡ Err (folder_refusal fault url path))) (NamesFolders rest old result)) (sym file) names)
+
+  -- or a folder
+  named : is_folder path ≡ true → (result : Result LocationsSeen Report) → (result ≡ Err out_of_memory) ⊎ MatchOption (folder_fault old url)
+      ((next : LocationsSeen) × PutsFolder old url path next × NamesFolders rest next result)
+      (λ fault. result ≡ Err (folder_refusal fault url path)) → NamesFolders arguments old result
+  named folder result names =
+      subst (λ left. NamesFolders left old result) (sym is)
+      (subst (λ b. MatchBool b ((result ≡ Err out_of_memory) ⊎ MatchOption (folder_fault old url)
+      ((next : LocationsSeen) × PutsFolder old url path next × NamesFolders rest next result)
+      (λ fault. result ≡ Err (folder_refusal fault url path))) (NamesFolders rest old result)) (sym folder) names)
+
+  -- which is named
+  pub names_next : is_folder path ≡ true → folder_fault old url ≡ None → (next : LocationsSeen) → PutsFolder old url path next
+      → (result : Result LocationsSeen Report) → NamesFolders rest next result → NamesFolders arguments old result
+  names_next folder faultless next puts result names =
+      named folder result (inr (subst (λ fault. MatchOption fault
+      ((next : LocationsSeen) × PutsFolder old url path next × NamesFolders rest next result)
+      (λ fault. result ≡ Err (folder_refusal fault url path))) (sym faultless) (next, puts, names)))
+
+  -- or refused
+  refused_so : (fault : Option ListFault) (report : Report) (result : Result LocationsSeen Report) → result ≡ Err report
+      → (report ≡ out_of_memory) ⊎ MatchOption fault ⊥ (λ fault. report ≡ folder_refusal fault url path)
+      → (result ≡ Err out_of_memory) ⊎ MatchOption fault ((next : LocationsSeen) × PutsFolder old url path next × NamesFolders rest next result)
+      (λ fault. result ≡ Err (folder_refusal fault url path))
+  refused_so fault report result given (inl no_memory) = inl (given ∙ ap Err no_memory)
+  refused_so None report result given (inr never) = absurd never
+  refused_so (Some fault) report result given (inr reported) = inr (given ∙ ap Err reported)
+
+  pub names_refused : is_folder path ≡ true → (report : Report) → OrMemory (IsFolderRefusal old url path) report → NamesFolders arguments old (Err report)
+  names_refused folder report refused = named folder (Err report) (refused_so (folder_fault old url) report (Err report) refl refused)
+
+-- ---- a list
+
+module _ (list bytes : List ℕ) (words : Maps) (old : LocationsSeen) where
+  -- its bytes are refused
+  refused_for : (why : Option (List ℕ)) (report : Report) → IsSomeAnd why (λ reason. report ≡ refusal (map_refused_line list reason))
+      → MatchOption why (AddsLines list bytes words old (Err report)) (λ reason. ◌≡◌ {A = Result MapSources Report} (Err report) (Err (refusal (map_refused_line list reason))))
+  refused_for None report reported = absurd reported
+  refused_for (Some reason) report reported = ap Err reported
+
+  pub adds_no_text : (report : Report) → OrMemory (λ t. IsSomeAnd (list_bytes_refusal bytes) (λ reason. t ≡ refusal (map_refused_line list reason))) report
+      → AddsList list bytes words old (Err report)
+  adds_no_text report (inl no_memory) = inl (ap Err no_memory)
+  adds_no_text report (inr reported) = inr (refused_for (list_bytes_refusal bytes) report reported)
+
+  of_lines : list_bytes_refusal bytes ≡ None → (result : Result MapSources Report) → AddsLines list bytes words old result → AddsList list bytes words old result
+  of_lines is_text result adds =
+      inr (subst (λ r. MatchOption r (AddsLines list bytes words old result) (λ reason. result ≡ Err (refusal (map_refused_line list reason))))
+      (sym is_text) adds)
+
+  -- whose lines are taken
+  pub adds_taken : list_bytes_refusal bytes ≡ None → (new : LocationsSeen) → AreTaken words (lines bytes) old new
+      → AddsList list bytes words old (Ok (record { words = words; locations = new }))
+  adds_taken is_text new taken = of_lines is_text _ (Ok tt, (new, taken, refl))
+
+  -- up to one that is refused
+  pub adds_refused : list_bytes_refusal bytes ≡ None → (new : LocationsSeen) (refused : ListRefusal) → IsRefusedAt words (lines bytes) old new refused
+      → (report : Report) → OrMemory (λ t. t ≡ list_refusal list refused) report → AddsList list bytes words old (Err report)
+  adds_refused is_text new refused at report (inl no_memory) = inl (ap Err no_memory)
+  adds_refused is_text new refused at report (inr reported) = of_lines is_text _ (Err refused, (new, at, ap Err reported))

@@ -1,0 +1,144 @@
+-- What reading maps from files when they are named comes to, of which a run shows what it reported.
+use Rattle.std.specs.Prelude.{◌≡◌, ℕ, Bool, true, false, List, Option, Some, None, Result, Ok, Err, IfErr, IfOk, MatchOption, option_copied}
+use Rattle.std.proofs.Common.{◌∙◌, inl, inr, refl, subst, sym}
+use Rattle.smap_io.specs.Device.{SinkSeen}
+use Rattle.smap_lines.specs.Editing.{DevicesSeen}
+use Rattle.smap_lines.specs.declared.fault.LineFault.{LineFault}
+use Rattle.smap_lines.specs.declared.fault.LineFault.TheVariants.{Memory}
+use Rattle.smap_locations.specs.Locations.{key_for, path_for}
+use Rattle.smap_places.specs.Places.{PlaceUrl}
+use Rattle.smap_places.specs.PlacesSeenLaws.{places_front_seen, places_seen}
+use Rattle.smap_record.specs.Record.{MapRecord}
+use Rattle.smap_store.specs.Cache.{Kept, kept_under}
+use Rattle.smap_store.specs.SeenLaws.{finds_seen, gives_seen, see_store}
+use Rattle.smap_store.specs.Stored.{Asks, Comes, FindsIn, GivesIn, LoadsMay, LoadsStep, Recalls, StoredSeen, Untouched, found_in}
+use Rattle.smap_trace.specs.Rewriting.{Looked}
+use Rattle.smap_trace.specs.SeenLaws.{front_seen, looked_seen, rewrites_seen}
+use Rattle.smap_trace.specs.Table.{record_for}
+use Rattle.smap_trace.specs.declared.outcome.RewriteCounts.{RewriteCounts}
+use Rattle.smap_replies.specs.Files.{MayRead}
+use Rattle.smap_text_answers.specs.Loader.{IsSameLoader, LoaderSeen, Loads, MayLoad, loader_seen}
+use Rattle.smap_text_answers.specs.RewriteFrom.{IsStoredRewritten, RewritesText, RewritesTextFront, places_of}
+use Rattle.smap_text_answers.specs.declared.loader.FileLoader.{FileLoader}
+use Rattle.smap_text_answers.specs.declared.sources.MapSources.{MapSources}
+
+module _ {F E : Type 0} where
+  same_self : (loader : FileLoader F E) → IsSameLoader loader loader
+  same_self loader = record { maps = refl; number = refl; errors = refl }
+
+  same_on : (first old new : FileLoader F E) → IsSameLoader first old → IsSameLoader old new → IsSameLoader first new
+  same_on first old new one two = record { maps = two.maps ∙ one.maps; number = two.number ∙ one.number; errors = two.errors ∙ one.errors }
+
+  same_of : (old new : FileLoader F E) → new ≡ old → IsSameLoader old new
+  same_of old new is = subst (λ l. IsSameLoader old l) (sym is) (same_self old)
+
+module _ {F E : Type 0} (gives : F → MayRead) (seen : E → SinkSeen) where
+  -- what reading a map is, and what may come of it
+  abbrev Steps : LoadsStep (FileLoader F E)
+  Steps loader url path came after =
+      Loads (gives loader.maps.now.files.now) (option_copied loader.maps.now.base) loader.maps.now.interval loader.number (loader_seen seen loader)
+      url path came (loader_seen seen after)
+      × IsSameLoader loader after
+
+  abbrev May : LoadsMay (FileLoader F E)
+  May loader = MayLoad (gives loader.maps.now.files.now) (option_copied loader.maps.now.base) loader.maps.now.interval loader.number
+
+  -- ---- it stays what it is
+
+  same_comes : (old new : FileLoader F E) (url : List ℕ) (path : Option (List ℕ)) (came : Option (MapRecord × ℕ)) → Comes Steps old url path came new
+      → IsSameLoader old new
+  same_comes old new url None came comes = same_of old new comes.1
+  same_comes old new url (Some path) came comes = comes.1
+
+  same_asked : (old new : StoredSeen (FileLoader F E)) (url : List ℕ) → Asks Steps old url new → IsSameLoader old.loader new.loader
+  same_asked old new url (inl asked) = same_comes old.loader new.loader url (path_for old.locations url) asked.came asked.comes
+  same_asked old new url (inr short) = same_of old.loader new.loader short.loader
+
+  same_recalled : (old new : StoredSeen (FileLoader F E)) (url : List ℕ) (one : Option Kept)
+      → MatchOption one (Asks Steps old url new) (λ _. Untouched old new) → IsSameLoader old.loader new.loader
+  same_recalled old new url None asks = same_asked old new url asks
+  same_recalled old new url (Some one) same = same_of old.loader new.loader same.loader
+
+  same_step : (old new : StoredSeen (FileLoader F E)) (url : List ℕ) (words : Option MapRecord)
+      → MatchOption words (Recalls Steps old url new) (λ _. Untouched old new) → IsSameLoader old.loader new.loader
+  same_step old new url None recalls = same_recalled old new url (kept_under url old.cache.kept) recalls
+  same_step old new url (Some stated) same = same_of old.loader new.loader same.loader
+
+  same_found : (old new : StoredSeen (FileLoader F E)) (url : List ℕ) → FindsIn Steps old url new → IsSameLoader old.loader new.loader
+  same_found old new url finds = same_step old new (key_for old.locations url) (record_for url old.words) finds.steps
+
+  -- ---- what a run shows of it
+
+  module _ (first : FileLoader F E) where
+    abbrev Seen : LoadsStep LoaderSeen
+    Seen = Loads (gives first.maps.now.files.now) (option_copied first.maps.now.base) first.maps.now.interval first.number
+
+    abbrev MaySeen : LoadsMay LoaderSeen
+    MaySeen loader = MayLoad (gives first.maps.now.files.now) (option_copied first.maps.now.base) first.maps.now.interval first.number
+
+    abbrev see : StoredSeen (FileLoader F E) → StoredSeen LoaderSeen
+    see = see_store (loader_seen seen)
+
+    step_seen : (old new : FileLoader F E) → IsSameLoader first old → (url path : List ℕ) (came : Option (MapRecord × ℕ)) → Steps old url path came new
+        → Seen (loader_seen seen old) url path came (loader_seen seen new)
+    step_seen old new same url path came is =
+        subst (λ n. Loads (gives first.maps.now.files.now) (option_copied first.maps.now.base) first.maps.now.interval n (loader_seen seen old)
+        url path came (loader_seen seen new)) same.number
+        (subst (λ m. Loads (gives m.now.files.now) (option_copied m.now.base) m.now.interval old.number (loader_seen seen old)
+        url path came (loader_seen seen new)) same.maps is.0)
+
+    finds_so : (old new : StoredSeen (FileLoader F E)) (url : List ℕ) → IsSameLoader first old.loader → FindsIn Steps old url new
+        → FindsIn Seen (see old) url (see new) × IsSameLoader first new.loader
+    finds_so old new url same finds = (
+      finds_seen (loader_seen seen) Steps Seen old new (step_seen old.loader new.loader same) url finds,
+      same_on first old.loader new.loader same (same_found old new url finds),
+    )
+
+    -- rewriting over it, where it is the first
+    module _ (old new : StoredSeen (FileLoader F E)) (is : old.loader ≡ first) where
+      at_first : IsSameLoader first old.loader
+      at_first = same_of first old.loader is
+
+      pub looked_from : Looked (FindsIn Steps) old new → Looked (FindsIn Seen) (see old) (see new) × IsSameLoader first new.loader
+      looked_from looked =
+          looked_seen (FindsIn Steps) found_in (FindsIn Seen) found_in see (λ maps. IsSameLoader first maps.loader) finds_so (λ maps url. refl)
+          old new at_first looked
+
+      may_first : (url path : List ℕ) (found : Option MapRecord) → May old.loader url path found → MaySeen (loader_seen seen old.loader) url path found
+      may_first url path found may = subst (λ l. May l url path found) is may
+
+      module _ (begins : List ℕ → Option PlaceUrl) (hide : Bool) (most : ℕ) (before after : DevicesSeen) where
+        text_from : (anywhere : Bool) (counts : RewriteCounts) → RewritesText anywhere (FindsIn Steps) begins hide most before after old new counts
+            → RewritesText anywhere (FindsIn Seen) begins hide most before after (see old) (see new) counts
+        text_from true counts is = (
+          places_seen (FindsIn Steps) found_in (FindsIn Seen) found_in see (λ maps. IsSameLoader first maps.loader) finds_so (λ maps url. refl)
+              begins most before after old new counts.summary at_first is.0,
+          is.1,
+        )
+        text_from false counts is =
+            rewrites_seen (FindsIn Steps) found_in (FindsIn Seen) found_in see (λ maps. IsSameLoader first maps.loader) finds_so (λ maps url. refl)
+            hide most before after old new counts at_first is
+
+        front_from : (anywhere : Bool) (fault : LineFault) → RewritesTextFront anywhere (GivesIn May old) begins hide most before after fault
+            → RewritesTextFront anywhere (GivesIn MaySeen (see old)) begins hide most before after fault
+        front_from true fault is =
+            places_front_seen (GivesIn May old) (GivesIn MaySeen (see old)) (gives_seen (loader_seen seen) May MaySeen old may_first)
+            begins most before after fault is
+        front_from false fault is =
+            front_seen (GivesIn May old) (GivesIn MaySeen (see old)) (gives_seen (loader_seen seen) May MaySeen old may_first) hide most before after fault is
+
+      pub rewritten_from : (sources : MapSources) (anywhere hide : Bool) (most : ℕ) (before after : DevicesSeen) (result : Result RewriteCounts LineFault)
+          → IfOk result (RewritesText anywhere (FindsIn Steps) (places_of sources) hide most before after old new)
+          → IfErr result (RewritesTextFront anywhere (GivesIn May old) (places_of sources) hide most before after) → Looked (FindsIn Steps) old new
+          → IsStoredRewritten (gives first.maps.now.files.now) (option_copied first.maps.now.base) first.maps.now.interval first.number sources anywhere hide
+          most (see old) (see new) before after result
+      rewritten_from sources anywhere hide most before after (Ok counts) rewrites front looked =
+          text_from (places_of sources) hide most before after anywhere counts rewrites
+      rewritten_from sources anywhere hide most before after (Err fault) rewrites front looked = (
+        front_from (places_of sources) hide most before after anywhere fault front,
+        (looked_from looked).0,
+      )
+
+-- where memory ran out, this holds
+pub untouched_by : (result : Result RewriteCounts LineFault) (P : Type 0) → IfErr result (λ fault. fault ≡ Memory → P) → result ≡ Err Memory → P
+untouched_by result P untouched is = (subst (λ r. IfErr r (λ fault. fault ≡ Memory → P)) is untouched) refl

@@ -1,0 +1,75 @@
+-- What the arguments of `rewrite` come to, argument by argument.
+use Rattle.std.proofs.Common.{◌≡◌, ℕ, ◌+◌, ◌⊎◌, List, ◌∷◌, refl, sym, ap, subst, ◌∙◌, inl, inr, add-one}
+use Rattle.std.specs.Prelude.{Bool, true, false, ◌&&◌, MatchBool, Option, Some, None, Result, Ok, Err, MatchOption}
+use Rattle.smap_locations.specs.ListLine.{is_folder}
+use Rattle.smap_record.specs.Record.{MapRecord, record_of}
+use Rattle.smap_trace.specs.Table.{url_refusal}
+use Rattle.smap_trace.specs.declared.refusal.TableRefusal.{TableRefusal}
+use Rattle.smap_trace.specs.declared.refusal.TableRefusal.TheVariants.{Memory}
+use Rattle.smap_replies.specs.Files.{IsUnread, MayRead}
+use Rattle.smap_replies.specs.Outcome.{OrMemory, Report, out_of_memory}
+use Rattle.smap_text_answers.specs.Private.Gathering.{gathered}
+use Rattle.smap_text_answers.specs.Trace.{Gathers, Maps, Puts, PutsFound, PutsMap, PutsNext, url_refusal_result}
+use Rattle.smap_replies.specs.Base.{base_of}
+use Rattle.smap_replies.specs.declared.outcome.Failure.{Failure}
+use Rattle.url.specs.Parts.{Parts}
+
+-- ---- a map and the table
+
+-- a map that the table did not take
+pub puts_refused : (maps : Maps) (url path : List ℕ) (stated : MapRecord) (refusal : Option TableRefusal) (refused : TableRefusal)
+    (report : Report) (result : Result Maps Report)
+    → result ≡ Err report → MatchOption refusal (refused ≡ Memory) (λ first. refused ≡ first) → OrMemory (λ t. t ≡ url_refusal_result refused url path) report
+    → (result ≡ Err out_of_memory) ⊎ Puts maps url path stated refusal result
+puts_refused maps url path stated refusal refused report result given is (inl no_memory) = inl (given ∙ ap Err no_memory)
+puts_refused maps url path stated None refused report result given is (inr reported) = inl (given ∙ ap Err (reported ∙ ap (λ r. url_refusal_result r url path) is))
+puts_refused maps url path stated (Some first) refused report result given is (inr reported) =
+    inr (given ∙ ap Err (reported ∙ ap (λ r. url_refusal_result r url path) is))
+
+-- ---- a file
+
+-- it gives a map, which the table takes or refuses
+pub puts_read : (base : Option Parts) (k : ℕ) (maps : Maps) (url path bytes : List ℕ) (stated : MapRecord) (result : Result Maps Report)
+    → record_of bytes (base_of base url) k ≡ Ok stated
+    → (result ≡ Err out_of_memory) ⊎ Puts maps url path stated (url_refusal maps url) result → PutsMap base k maps url path bytes result
+puts_read base k maps url path bytes stated result read (inl no_memory) = inl no_memory
+puts_read base k maps url path bytes stated result read (inr puts) =
+    inr (subst (λ found. PutsFound maps url path found result) (sym read) (inr puts))
+
+-- after the arguments before, none of which was refused
+pub puts_after : (base : Option Parts) (k : ℕ) (before : Result Maps Failure) (maps : Maps) (url path bytes : List ℕ)
+    (result : Result Maps Report) → before ≡ Ok maps
+    → PutsMap base k maps url path bytes result → PutsNext base k (gathered before) url path bytes result
+puts_after base k before maps url path bytes result is puts = subst (λ b. PutsNext base k (gathered b) url path bytes result) (sym is) puts
+
+-- ---- all files
+
+if_true : (A B : Type 0) (is : Bool) → is ≡ true → A → MatchBool is A B
+if_true A B is holds one = subst (λ b. MatchBool b A B) (sym holds) one
+
+if_false : (A B : Type 0) (is : Bool) → is ≡ false → B → MatchBool is A B
+if_false A B is fails one = subst (λ b. MatchBool b A B) (sym fails) one
+
+module _ (passes : Bool) (Reads : MayRead) (base : Option Parts) (k number : ℕ) (before : Result Maps Report) (arguments rest : List (List ℕ × List ℕ))
+    (url path : List ℕ) (is : arguments ≡ (url, path) ∷ rest) where
+  -- what the first argument and those behind it come to is what all do
+  of_first : (result : Result Maps Report) → Gathers passes Reads base k number before ((url, path) ∷ rest) result
+      → Gathers passes Reads base k number before arguments result
+  of_first result gathers = subst (λ left. Gathers passes Reads base k number before left result) (sym is) gathers
+
+  -- a folder was passed over
+  pub gathers_passed : (passed : Bool) → passed ≡ (passes && is_folder path) → passed ≡ true → (result : Result Maps Report)
+      → Gathers passes Reads base k (number + 1) before rest result → Gathers passes Reads base k number before arguments result
+  gathers_passed passed so holds result gathers = of_first result (if_true _ _ _ (sym so ∙ holds) (rw (add-one) at gathers))
+
+  -- the file of an argument was read
+  pub gathers_next : (passed : Bool) → passed ≡ (passes && is_folder path) → passed ≡ false → (bytes : List ℕ) (next result : Result Maps Report)
+      → Reads number path (Ok bytes) → PutsNext base k before url path bytes next → Gathers passes Reads base k (number + 1) next rest result
+      → Gathers passes Reads base k number before arguments result
+  gathers_next passed so fails bytes next result reads puts gathers =
+      of_first result (if_false _ _ _ (sym so ∙ fails) (inr (bytes, reads, (next, puts, (rw (add-one) at gathers)))))
+
+  -- or was not
+  pub gathers_unread : (passed : Bool) → passed ≡ (passes && is_folder path) → passed ≡ false → (report : Report)
+      → OrMemory (IsUnread Reads number path) report → Gathers passes Reads base k number before arguments (Err report)
+  gathers_unread passed so fails report unread = of_first (Err report) (if_false _ _ _ (sym so ∙ fails) (inl (report, unread, refl)))

@@ -1,0 +1,51 @@
+use Rattle.std.proofs.Common.{◌≡◌, ◌+◌, length, map, ap, refl, rules, subst, sym, option_copied}
+use Rattle.std.proofs.lemmas.List.{length-map}
+use Rattle.smap_lines.specs.Editing.{devices_seen}
+use Rattle.smap_store.specs.Cache.{CacheSeen}
+use Rattle.smap_store.specs.Stored.{StoredSeen}
+use Rattle.smap_text_answers.specs.Loader.{LoaderSeen, loader_seen}
+use Rattle.smap_text_answers.specs.RewriteFrom.{IsStoredRewritten, store_of}
+use Rattle.smap_replies.specs.Arguments.{argument_of}
+use Rattle.smap_text_answers.proofs.StoreLaws.{looked_from, rewritten_from, untouched_by}
+use Rattle.smap_text_answers.proofs.rewriting.over_store.Goals as goal
+
+pub returns-clause-over : goal.returns-clause-over
+returns-clause-over g c =
+    let gives = g.F.FileReader.gives in
+    let seen = g.E.ByteSink.seen in
+    let request = c.args.request.now in
+    let made = c.rewrite_text-result in
+    let looked = looked_from gives seen _ _ _ refl made.ensures.looked in
+    let errors : c.errors-1.given.0 ≡ c.rewrite_text-result.new.loader.errors.now = search rules in
+    let before = devices_seen (g.R.ByteSource.seen c.args.input.now) (g.W.ByteSink.seen c.args.output.now) in
+    let after = devices_seen (g.R.ByteSource.seen c.rewrite_text-result.new.input) (g.W.ByteSink.seen c.rewrite_text-result.new.output) in
+    let start : CacheSeen → StoredSeen LoaderSeen = λ cache. record {
+      words = c.args.sources.now.words;
+      locations = c.args.sources.now.locations;
+      cache = cache;
+      loader = record { errors = seen c.args.errors.now; status = 0; reported = 0; refused = 0 };
+    } in
+    let last : StoredSeen LoaderSeen = store_of c.args.sources.now c.rewrite_text-result.new.cache (loader_seen seen c.rewrite_text-result.new.loader) in
+    let rewritten = rewritten_from gives seen _ _ _ refl c.args.sources.now request.anywhere request.hide_ignored request.limit_bytes before after c.rewrite_text-result.result
+    made.ensures.rewrites made.ensures.front made.ensures.looked in
+    let numbered = subst (λ n. IsStoredRewritten (gives request.maps.now.files.now) (option_copied request.maps.now.base) request.maps.now.interval (n + 1)
+    c.args.sources.now request.anywhere request.hide_ignored request.limit_bytes (start c.new-cache.result) last before after c.rewrite_text-result.result)
+    (sym (length-map request.arguments.now argument_of)) rewritten in
+    record {
+      last = last;
+      rewritten = subst (λ (cache : CacheSeen). IsStoredRewritten (gives request.maps.now.files.now) (option_copied request.maps.now.base)
+          request.maps.now.interval (length (map argument_of request.arguments.now) + 1) c.args.sources.now request.anywhere
+          request.hide_ignored request.limit_bytes
+          (start cache) last before after c.rewrite_text-result.result) c.new-cache.ensures numbered;
+      errors = ap seen errors;
+      input_failed = made.ensures.input_failure;
+      untouched = λ memory. (
+        ap g.R.ByteSource.seen (untouched_by c.rewrite_text-result.result _ made.ensures.memory_input memory),
+        ap g.W.ByteSink.seen (untouched_by c.rewrite_text-result.result _ made.ensures.memory_output memory),
+      );
+      status = refl;
+      maps = rw (c.read.ensures, c.count.ensures) at c.saturating_add.ensures;
+      missing = rw (c.missing.ensures) at c.saturating_sub.ensures;
+      refused = refl;
+      shortages = c.shortages.ensures;
+    }

@@ -1,0 +1,24 @@
+use Rattle.std.proofs.Common.{option_copied, refl}
+use Rattle.std.specs.Prelude.{Ok}
+use Rattle.smap_text_answers.specs.RewriteFrom.{request_seen}
+use Rattle.smap_text_answers.specs.SameBytesLaws.{same_run}
+use Rattle.smap_replies.specs.Streams.{streams_seen}
+use Rattle.smap_text_answers.proofs.rewriting.rewrite_from.Goals as goal
+
+pub returns-in-Ok : goal.returns-in-Ok
+returns-in-Ok g c =
+    let request = c.args.request.now in
+    let run = c.over_store-end in
+    let over = run.ensures.over in (
+      Ok c.in-Ok.sources,
+      c.in-Ok.ensures,
+      (
+        run.result,
+        streams_seen (g.R.ByteSource.seen run.new.input) (g.W.ByteSink.seen run.new.output) (g.E.ByteSink.seen run.new.errors),
+        over,
+        same_run (g.F.FileReader.gives request.maps.now.files.now) (option_copied request.maps.now.base) request.maps.now.interval (request_seen request)
+            c.in-Ok.sources run.result _ _ over,
+        refl,
+        c.finish.ensures,
+      ),
+    )

@@ -1,0 +1,9 @@
+pub mod Lines
+pub mod Loader
+pub mod LoaderLaws
+pub mod RewriteFrom
+pub mod SameBytes
+pub mod SameBytesLaws
+pub mod Sources
+pub mod Trace
+pub mod Private

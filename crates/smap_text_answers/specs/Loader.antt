@@ -1,0 +1,84 @@
+-- The maps that are read when a text names them: each from its file, and what is said of one that can't be had.
+use Rattle.std.specs.Prelude.{◌≡◌, ◌⊎◌, ℕ, ◌+◌, ◌-◌, ◌^◌, ◌==◌, List, Option, Some, None, Result, Ok, MatchBool, cond, length, max, min, nat_lt}
+use Rattle.url.specs.Parts.{Parts}
+use Rattle.smap_io.specs.Device.{SinkSeen}
+use Rattle.smap_locations.specs.Paths.{without_query}
+use Rattle.smap_record.specs.Record.{MapRecord, record_of}
+use Rattle.smap_record.specs.declared.refusal.MapRefusal.{MapRefusal}
+use Rattle.smap_replies.specs.Files.{IsUnread, MayRead}
+use Rattle.smap_replies.specs.Map.{Never, ReportsFound, refusal_result}
+use Rattle.smap_text_answers.specs.Lines.{map_memory_line}
+use Rattle.smap_replies.specs.Outcome.{Report, failure, out_of_memory}
+use Rattle.smap_replies.specs.Streams.{IsReportedTo}
+use Rattle.smap_text_answers.specs.Trace.{IsBaseUsed}
+use Rattle.smap_text_answers.specs.declared.loader.FileLoader.{FileLoader}
+
+-- ---- a map at the URL that is used
+
+-- the bytes give this at the URL that is used
+abbrev pub IsReadAs : Option Parts → (k : ℕ) → (url bytes : List ℕ) → Result MapRecord MapRefusal → Type 0
+IsReadAs base k url bytes found = (used : Option Parts) × IsBaseUsed base url used × (record_of bytes used k ≡ found)
+
+-- and are refused so
+abbrev pub IsReadRefusal : Option Parts → (k : ℕ) → (url path bytes : List ℕ) → Report → Type 0
+IsReadRefusal base k url path bytes report =
+    (used : Option Parts) × IsBaseUsed base url used × ReportsFound (refusal_result path) (record_of bytes used k) Never report
+
+-- ---- what reads maps
+
+-- what it shows: standard error, the greatest status of what was reported, how many maps could not be had, and how many of these
+-- were refused
+pub record LoaderSeen : Type 0 where
+  pub errors : SinkSeen
+  pub status : ℕ
+  pub reported : ℕ
+  pub refused : ℕ
+
+abbrev pub loader_seen : {F E : Type 0} → (seen : E → SinkSeen) → FileLoader F E → LoaderSeen
+loader_seen seen loader = record { errors = seen loader.errors.now; status = loader.status; reported = loader.reported; refused = loader.refused }
+
+-- it reads the same files into the same standard error
+pub record IsSameLoader {F E : Type 0} (old new : FileLoader F E) : Type 0 where
+  pub maps : new.maps ≡ old.maps
+  pub number : new.number ≡ old.number
+  pub errors : new.errors.ghost_name ≡ old.errors.ghost_name
+
+module _ (Reads : MayRead) (base : Option Parts) (k number : ℕ) where
+  -- reading the file at this path gives so many bytes, and these are a map that states this
+  abbrev pub IsLoaded : (url path : List ℕ) → MapRecord → (file_bytes : ℕ) → Type 0
+  IsLoaded url path stated file_bytes = (bytes : List ℕ) × Reads number path (Ok bytes) × (file_bytes ≡ length bytes)
+      × IsReadAs base k (without_query url) bytes (Ok stated)
+
+  -- or it can't be read, or its map is refused, and this is reported, memory aside
+  abbrev pub FailsToRead : (url path : List ℕ) → Report → Type 0
+  FailsToRead url path report = IsUnread Reads number path report
+      ⊎ ((bytes : List ℕ) × Reads number path (Ok bytes) × IsReadRefusal base k (without_query url) path bytes report)
+
+  -- the same, or memory ran out, which is reported with the path, if there is memory for that
+  abbrev pub FailsToLoad : (url path : List ℕ) → Report → Type 0
+  FailsToLoad url path report = (report ≡ out_of_memory) ⊎ ((report ≡ failure (map_memory_line path)) ⊎ FailsToRead url path report)
+
+  -- what may come
+  abbrev pub MayLoad : (url path : List ℕ) → Option MapRecord → Type 0
+  MayLoad url path None = (report : Report) × FailsToLoad url path report
+  MayLoad url path (Some stated) = (file_bytes : ℕ) × IsLoaded url path stated file_bytes
+
+-- why the map at a path can't be had, named
+abbrev pub named_report : (path : List ℕ) → (report named : Report) → Type 0
+named_report path report named = (named ≡ report) ⊎ ((report ≡ out_of_memory) × (named ≡ failure (map_memory_line path)))
+
+-- one more, as far as 64 bits can count
+abbrev pub one_more : ℕ → ℕ
+one_more count = min (count + 1) (2 ^ 64 - 1)
+
+-- why a map can't be had is reported, of the first 100, and counted
+pub record Notes (old : LoaderSeen) (report : Report) (new : LoaderSeen) : Type 0 where
+  pub status : new.status ≡ max old.status report.status
+  pub reported : new.reported ≡ one_more old.reported
+  pub refused : new.refused ≡ cond (report.status == 1) (one_more old.refused) old.refused
+  pub errors : MatchBool (nat_lt old.reported 100) (IsReportedTo old.errors new.errors report.text) (new.errors ≡ old.errors)
+
+-- what came for a URL from the file at a path, with the number of its bytes, and how the loader shows then
+abbrev pub Loads : MayRead → Option Parts → (k number : ℕ) → (old : LoaderSeen) (url path : List ℕ) → Option (MapRecord × ℕ) → (new : LoaderSeen) → Type 0
+Loads Reads base k number old url path None new = (report : Report) × FailsToLoad Reads base k number url path report × Notes old report new
+Loads Reads base k number old url path (Some (stated, file_bytes)) new = IsLoaded Reads base k number url path stated file_bytes × (new ≡ old)

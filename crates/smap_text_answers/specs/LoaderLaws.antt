@@ -1,0 +1,64 @@
+-- Laws of what reads maps from files, which its trait asks for.
+use Rattle.std.specs.Prelude.{ℕ, List, Option, Some, None, Ok, option_copied, refl}
+use Rattle.std.proofs.Common.{inl, inr, subst, sym, ◌∙◌}
+use Rattle.url.specs.Parts.{Parts}
+use Rattle.smap_record.specs.MapFile.{IsMapOf, Map}
+use Rattle.smap_record.specs.Record.{MapRecord, record_of}
+use Rattle.smap_store.specs.Loaded.{record_in}
+use Rattle.smap_replies.specs.Files.{MayRead}
+use Rattle.smap_text_answers.specs.Loader.{FailsToLoad, FailsToRead, IsSameLoader, LoaderSeen, Loads, MayLoad, named_report, IsReadAs, IsReadRefusal}
+use Rattle.smap_replies.specs.Map.{Never, ReportsFound, refusal_result}
+use Rattle.smap_replies.specs.Outcome.{OrMemory, Report, out_of_memory}
+use Rattle.smap_text_answers.specs.Trace.{IsBaseUsed}
+use Rattle.smap_replies.specs.Base.{base_of}
+use Rattle.smap_text_answers.specs.declared.loader.FileLoader.{FileLoader}
+
+module _ (Reads : MayRead) (base : Option Parts) (k number : ℕ) where
+  pub some_load : (url path : List ℕ) → (found : Option MapRecord) × MayLoad Reads base k number url path found
+  some_load url path = (None, (out_of_memory, inl refl))
+
+  pub given_load : (old new : LoaderSeen) (url path : List ℕ) (came : Option (MapRecord × ℕ)) → Loads Reads base k number old url path came new
+      → MayLoad Reads base k number url path (record_in came)
+  given_load old new url path None loads = (loads.0, loads.1)
+  given_load old new url path (Some (stated, file_bytes)) loads = (file_bytes, loads.0)
+
+pub same_load : {F E : Type 0} (gives : F → MayRead) (old new : FileLoader F E) → IsSameLoader old new → (url path : List ℕ) (found : Option MapRecord)
+    → MayLoad (gives new.maps.now.files.now) (option_copied new.maps.now.base) new.maps.now.interval new.number url path found
+    → MayLoad (gives old.maps.now.files.now) (option_copied old.maps.now.base) old.maps.now.interval old.number url path found
+same_load gives old new same url path found may =
+    subst (λ n. MayLoad (gives old.maps.now.files.now) (option_copied old.maps.now.base) old.maps.now.interval n url path found) same.number
+    (subst (λ m. MayLoad (gives m.now.files.now) (option_copied m.now.base) m.now.interval new.number url path found) same.maps may)
+
+-- ---- a map whose URL is no text has the base that is given, or none
+
+used_is : (base : Option Parts) (url : List ℕ) → IsBaseUsed base url base
+used_is None url = inr (refl, refl)
+used_is (Some base) url = inl refl
+
+pub read_unbased : (base : Option Parts) (k : ℕ) (url bytes : List ℕ) (map : Map) → IsMapOf (record_of bytes base k) k map → IsReadAs base k url bytes (Ok map.stated)
+read_unbased base k url bytes map is = (base, used_is base url, is.0)
+
+pub refused_unbased : (base : Option Parts) (k : ℕ) (url path bytes : List ℕ) (report : Report)
+    → OrMemory (ReportsFound (refusal_result path) (record_of bytes base k) Never) report → OrMemory (IsReadRefusal base k url path bytes) report
+refused_unbased base k url path bytes report (inl memory) = inl memory
+refused_unbased base k url path bytes report (inr refused) = inr (base, used_is base url, refused)
+
+-- and one whose URL is a text has that which is given, or its URL
+
+pub read_based : (base : Option Parts) (k : ℕ) (url bytes : List ℕ) (map : Map) → IsMapOf (record_of bytes (base_of base url) k) k map
+    → IsReadAs base k url bytes (Ok map.stated)
+read_based base k url bytes map is = (base_of base url, inl refl, is.0)
+
+pub refused_based : (base : Option Parts) (k : ℕ) (url path bytes : List ℕ) (report : Report)
+    → OrMemory (ReportsFound (refusal_result path) (record_of bytes (base_of base url) k) Never) report → OrMemory (IsReadRefusal base k url path bytes) report
+refused_based base k url path bytes report (inl memory) = inl memory
+refused_based base k url path bytes report (inr refused) = inr (base_of base url, inl refl, refused)
+
+-- ---- why a map can't be had, named
+
+pub fails_named : (Reads : MayRead) (base : Option Parts) (k number : ℕ) (url path : List ℕ) (report named : Report)
+    → OrMemory (FailsToRead Reads base k number url path) report → named_report path report named → FailsToLoad Reads base k number url path named
+fails_named Reads base k number url path report named (inl memory) (inl same) = inl (same ∙ memory)
+fails_named Reads base k number url path report named (inr fails) (inl same) =
+    inr (inr (subst (λ t. FailsToRead Reads base k number url path t) (sym same) fails))
+fails_named Reads base k number url path report named fails (inr is) = inr (inl is.1)

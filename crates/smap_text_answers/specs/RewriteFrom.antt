@@ -1,0 +1,204 @@
+-- What `rewrite` does over files and folders of maps that are read when a trace names them: it gathers what it is over, rewrites
+-- the text over a store of maps, and says what that came to. The status is the greatest of all that was reported.
+use Rattle.std.specs.Prelude.{◌≡◌, ◌⊎◌, ℕ, ◌+◌, ◌-◌, ◌^◌, ◌==◌, Bool, List, [], ◌∷◌, Option, Result, Ok, Err, MatchBool, codes, length, map, max, min}
+use Rattle.std.specs.Prelude.{option_copied}
+use Rattle.std.specs.Fmt.{decimal}
+use Rattle.std.specs.List.{concat}
+use Rattle.url.specs.Parts.{Parts}
+use Rattle.smap_io.specs.Device.{SinkSeen}
+use Rattle.smap_lines.specs.Editing.{DevicesSeen, devices_seen, is_read_fault}
+use Rattle.smap_lines.specs.declared.fault.LineFault.{LineFault}
+use Rattle.smap_lines.specs.declared.fault.LineFault.TheVariants as fault
+use Rattle.smap_places.specs.Places.{PlaceUrl}
+use Rattle.smap_places.specs.PlacesBy.{RewritesPlacesBy}
+use Rattle.smap_places.specs.PlacesOver.{RewritesPlacesFrontOver, RewritesPlacesOver}
+use Rattle.smap_places.specs.StoredPlaces.{stored_place_at}
+use Rattle.smap_record.specs.Record.{MapRecord}
+use Rattle.smap_store.specs.ByPath.{MapsByPath, stored_maps}
+use Rattle.smap_store.specs.Cache.{CacheSeen}
+use Rattle.smap_store.specs.Stored.{FindsIn, GivesIn, StoredSeen, found_in}
+use Rattle.smap_trace.specs.MapsOf.{MapsByUrl, RewritesBy}
+use Rattle.smap_trace.specs.Rewriting.{Looked, RewritesFrontOver, RewritesOver}
+use Rattle.smap_trace.specs.declared.outcome.RewriteCounts.{RewriteCounts}
+use Rattle.smap_replies.specs.Files.{MayRead}
+use Rattle.smap_command.specs.Lines.{line_from}
+use Rattle.smap_replies.specs.Lines.{memory_line}
+use Rattle.smap_text_answers.specs.Loader.{LoaderSeen, Loads, MayLoad}
+use Rattle.smap_replies.specs.Outcome.{Report, answer, fault_report}
+use Rattle.smap_text_answers.specs.SameBytes.{BytesByPath, IsSettled, ReadsSame}
+use Rattle.smap_text_answers.specs.Sources.{GathersSources}
+use Rattle.smap_replies.specs.Streams.{Ends, IsReportedTo, Sinks, Streams}
+use Rattle.smap_replies.specs.Arguments.{argument_of}
+use Rattle.smap_text_answers.specs.declared.rewriting.RewriteRequest.{RewriteRequest}
+use Rattle.smap_text_answers.specs.declared.rewriting.StoreEnd.{StoreEnd}
+use Rattle.smap_text_answers.specs.declared.sources.MapSources.{MapSources}
+
+-- what is asked, the base and the interval aside
+pub record RequestSeen : Type 0 where
+  pub arguments : List (List ℕ × List ℕ)
+  pub list : Option (List ℕ)
+  pub hide_ignored : Bool
+  pub anywhere : Bool
+  pub cache_bytes : ℕ
+  pub limit_bytes : ℕ
+  pub summary : Bool
+
+abbrev pub request_seen : {F : Type 0} → RewriteRequest F → RequestSeen
+request_seen request = record {
+  arguments = map argument_of request.arguments.now;
+  list = option_copied request.list;
+  hide_ignored = request.hide_ignored;
+  anywhere = request.anywhere;
+  cache_bytes = request.cache_bytes;
+  limit_bytes = request.limit_bytes;
+  summary = request.summary;
+}
+
+-- ---- over a store of maps
+
+-- a store of maps of these files and folders
+abbrev pub store_of : {L : Type 0} → MapSources → CacheSeen → (loader : L) → StoredSeen L
+store_of sources cache loader = record { words = sources.words; locations = sources.locations; cache = cache; loader = loader }
+
+-- the store before anything was read into it
+abbrev pub store_start : MapSources → (cache_bytes : ℕ) → (errors : SinkSeen) → StoredSeen LoaderSeen
+store_start sources cache_bytes errors = record {
+  words = sources.words;
+  locations = sources.locations;
+  cache = record { kept = []; most = cache_bytes; read = 0; missing = 0; shortages = 0 };
+  loader = record { errors = errors; status = 0; reported = 0; refused = 0 };
+}
+
+-- which place begins a text over them
+abbrev pub places_of : MapSources → (text : List ℕ) → Option PlaceUrl
+places_of sources = stored_place_at (record { table = sources.words; locations = sources.locations })
+
+-- ---- a text over a store
+
+-- the places of a text are rewritten, in lines of which none is too long
+abbrev pub RewritesPlacesCounted : {L : Type 0} → (Finds : StoredSeen L → (url : List ℕ) → StoredSeen L → Type 0)
+    → (begins : List ℕ → Option PlaceUrl) → (most : ℕ) → (before after : DevicesSeen) → (old new : StoredSeen L) → RewriteCounts → Type 0
+RewritesPlacesCounted Finds begins most before after old new counts =
+    RewritesPlacesOver Finds found_in begins most before after old new counts.summary × (counts.long ≡ 0)
+
+-- a text is rewritten over stored maps: its places, which begin so, or the frames of a trace
+abbrev pub RewritesText : {L : Type 0} → (anywhere : Bool) → (Finds : StoredSeen L → (url : List ℕ) → StoredSeen L → Type 0)
+    → (begins : List ℕ → Option PlaceUrl) → (hide : Bool) → (most : ℕ) → (before after : DevicesSeen) → (old new : StoredSeen L) → RewriteCounts → Type 0
+RewritesText anywhere Finds begins hide most before after old new counts =
+    MatchBool anywhere (RewritesPlacesCounted Finds begins most before after old new counts)
+    (RewritesOver Finds found_in hide most before after old new counts)
+
+-- or up to a fault
+abbrev pub RewritesTextFront : (anywhere : Bool) → (Gives : (url : List ℕ) → Option MapRecord → Type 0) → (begins : List ℕ → Option PlaceUrl)
+    → (hide : Bool) → (most : ℕ) → (before after : DevicesSeen) → LineFault → Type 0
+RewritesTextFront anywhere Gives begins hide most before after fault =
+    MatchBool anywhere (RewritesPlacesFrontOver Gives begins most before after fault) (RewritesFrontOver Gives hide most before after fault)
+
+-- a text was rewritten over a store of these maps to its end, or up to a fault, and the store stands so then
+abbrev pub IsStoredRewritten : MayRead → Option Parts → (k number : ℕ) → (sources : MapSources) → (anywhere hide : Bool) → (most : ℕ)
+    → (old new : StoredSeen LoaderSeen) → (before after : DevicesSeen) → Result RewriteCounts LineFault → Type 0
+IsStoredRewritten Reads base k number sources anywhere hide most old new before after (Ok counts) =
+    RewritesText anywhere (FindsIn (Loads Reads base k number)) (places_of sources) hide most before after old new counts
+IsStoredRewritten Reads base k number sources anywhere hide most old new before after (Err fault) =
+    RewritesTextFront anywhere (GivesIn (λ loader. MayLoad Reads base k number) old) (places_of sources) hide most before after fault
+    × Looked (FindsIn (Loads Reads base k number)) old new
+
+-- one number more than another, as far as 64 bits can count
+abbrev pub both_counted : ℕ → ℕ → ℕ
+both_counted one other = min (one + other) (2 ^ 64 - 1)
+
+-- what rewriting over a store came to
+pub record IsOverStore (Reads : MayRead) (base : Option Parts) (k : ℕ) (request : RequestSeen) (sources : MapSources) (end : StoreEnd) (before after : Streams) : Type 0 where
+  pub last : StoredSeen LoaderSeen
+  pub rewritten : IsStoredRewritten Reads base k (length request.arguments + 1) sources request.anywhere request.hide_ignored request.limit_bytes
+      (store_start sources request.cache_bytes before.sinks.errors) last
+      (devices_seen before.input before.sinks.output) (devices_seen after.input after.sinks.output) end.result
+  pub errors : after.sinks.errors ≡ last.loader.errors
+  pub input_failed : after.input.failed ≡ is_read_fault end.result
+  pub untouched : end.result ≡ Err fault.Memory → (after.input ≡ before.input) × (after.sinks.output ≡ before.sinks.output)
+  pub status : end.status ≡ last.loader.status
+  pub maps : end.maps ≡ both_counted last.cache.read (length sources.words)
+  pub missing : end.missing ≡ last.cache.missing - last.loader.refused
+  pub refused : end.refused ≡ last.loader.refused
+  pub shortages : end.shortages ≡ last.cache.shortages
+
+-- a text becomes what the maps make of it that a function gives: its places, which begin so, or the frames of a trace
+abbrev pub RewritesTextBy : (anywhere : Bool) → (maps : MapsByUrl) → (begins : List ℕ → Option PlaceUrl) → (hide : Bool) → (most : ℕ)
+    → (before after : DevicesSeen) → RewriteCounts → Type 0
+RewritesTextBy anywhere maps begins hide most before after counts =
+    MatchBool anywhere (RewritesPlacesBy maps begins most before after counts.summary) (RewritesBy maps hide most before after counts)
+
+-- where each path gives the same bytes whenever it is read, every map that was named was read, and memory did not run out, a text
+-- becomes what these maps make of it, however few are kept
+abbrev pub AnswersByPath : MayRead → Option Parts → (k : ℕ) → RequestSeen → MapSources → StoreEnd → (before after : Streams) → Type 0
+AnswersByPath Reads base k request sources end before after =
+    (bytes_at : BytesByPath) (load : MapsByPath) → ReadsSame Reads (length request.arguments + 1) bytes_at → IsSettled base k bytes_at load
+    → (counts : RewriteCounts) → end.result ≡ Ok counts → end.status ≡ 0 → end.shortages ≡ 0
+    → RewritesTextBy request.anywhere (stored_maps load sources.words sources.locations) (places_of sources) request.hide_ignored request.limit_bytes
+    (devices_seen before.input before.sinks.output) (devices_seen after.input after.sinks.output) counts
+
+-- ---- what is reported at the end
+
+-- what was in the trace
+abbrev pub trace_text : RewriteCounts → List ℕ
+trace_text counts = concat (
+    codes "lines " ∷ decimal counts.summary.lines
+    ∷ codes " frames " ∷ decimal counts.summary.frames
+    ∷ codes " mapped " ∷ decimal counts.summary.mapped
+    ∷ codes " hidden " ∷ decimal counts.summary.hidden
+    ∷ codes " long " ∷ decimal counts.long
+    ∷ [])
+
+-- how many maps were read, and how many were not
+abbrev pub maps_text : StoreEnd → List ℕ
+maps_text end = concat (
+    codes "maps " ∷ decimal end.maps
+    ∷ codes " missing " ∷ decimal end.missing
+    ∷ codes " refused " ∷ decimal end.refused
+    ∷ [])
+
+-- what was done
+abbrev pub summary_line : StoreEnd → RewriteCounts → List ℕ
+summary_line end counts = line_from (codes "ok " ∷ trace_text counts ∷ codes " " ∷ maps_text end ∷ [])
+
+-- this is reported, or that memory ran out, with this status
+abbrev pub ReportsSummary : (line : List ℕ) → (status : ℕ) → (before after : SinkSeen) → Type 0
+ReportsSummary line status before after =
+    ((status ≡ 0) × IsReportedTo before after line) ⊎ ((status ≡ 3) × IsReportedTo before after memory_line)
+
+-- that memory ran out for some maps is reported with this status, where it did
+abbrev pub ReportsShortage : (shortages status : ℕ) → (before after : SinkSeen) → Type 0
+ReportsShortage shortages status before after =
+    MatchBool (shortages == 0) ((status ≡ 0) × (after ≡ before)) ((status ≡ 3) × IsReportedTo before after memory_line)
+
+-- so is what was done where that is asked; and the status of both
+abbrev pub ClosesWith : StoreEnd → (summary : Bool) → RewriteCounts → (status : ℕ) → (before after : SinkSeen) → Type 0
+ClosesWith end summary counts status before after =
+    (between : SinkSeen) × (short : ℕ) × ReportsShortage end.shortages short before between
+    × MatchBool summary ((reported : ℕ) × ReportsSummary (summary_line end counts) reported between after × (status ≡ max short reported))
+    ((status ≡ short) × (after ≡ between))
+
+-- how the run ends, by what rewriting came to, and with which status
+abbrev pub EndsResult : StoreEnd → (summary : Bool) → Result RewriteCounts LineFault → (status : ℕ) → (before after : Sinks) → Type 0
+EndsResult end summary (Ok counts) status before after =
+    (reported : ℕ) × (between : Sinks) × (closed : ℕ) × Ends (answer []) reported before between × (after.output ≡ between.output)
+    × ClosesWith end summary counts closed between.errors after.errors × (status ≡ max (max end.status reported) closed)
+EndsResult end summary (Err fault) status before after =
+    (reported : ℕ) × Ends (fault_report fault) reported before after × (status ≡ max end.status reported)
+
+abbrev pub EndsFrom : StoreEnd → (summary : Bool) → (status : ℕ) → (before after : Sinks) → Type 0
+EndsFrom end summary status before after = EndsResult end summary end.result status before after
+
+-- ---- the run
+
+-- over what it gathered, or where that is refused
+abbrev pub RewritesSources : MayRead → Option Parts → (k : ℕ) → RequestSeen → Result MapSources Report → (status : ℕ) → (before after : Streams) → Type 0
+RewritesSources Reads base k request (Err refused) status before after = (after.input ≡ before.input) × Ends refused status before.sinks after.sinks
+RewritesSources Reads base k request (Ok sources) status before after =
+    (end : StoreEnd) × (between : Streams) × IsOverStore Reads base k request sources end before between
+    × AnswersByPath Reads base k request sources end before between × (after.input ≡ between.input) × EndsFrom end request.summary status between.sinks after.sinks
+
+abbrev pub RewritesFrom : MayRead → Option Parts → (k : ℕ) → RequestSeen → (status : ℕ) → (before after : Streams) → Type 0
+RewritesFrom Reads base k request status before after =
+    (gathered : Result MapSources Report) × GathersSources Reads base k request.arguments request.list gathered
+    × RewritesSources Reads base k request gathered status before after

@@ -1,0 +1,116 @@
+-- Laws of rewriting a trace over files whose paths give the same bytes whenever they are read: what is written and counted
+-- is then what the maps of these bytes make of it, however few are remembered, if no trouble was reported or counted.
+use Rattle.std.specs.Prelude.{◌≡◌, ◌<◌, ◌+◌, ℕ, Bool, true, false, List, [], Option, Some, None, Result, Ok, Err, length}
+use Rattle.std.proofs.Common.{ap, arith, inl, inr, refl, subst, sym, ◌∙◌}
+use Rattle.url.specs.Parts.{Parts}
+use Rattle.smap_lines.specs.Editing.{DevicesSeen, devices_seen}
+use Rattle.smap_lines.specs.declared.fault.LineFault.{LineFault}
+use Rattle.smap_locations.specs.Paths.{without_query}
+use Rattle.smap_places.specs.Places.{PlaceUrl}
+use Rattle.smap_places.specs.PlacesBy.{RewritesPlacesBy}
+use Rattle.smap_places.specs.PlacesByLaws.{places_by}
+use Rattle.smap_places.specs.PlacesOver.{RewritesPlacesOver}
+use Rattle.smap_record.specs.Record.{MapRecord, record_of}
+use Rattle.smap_record.specs.declared.refusal.MapRefusal.{MapRefusal}
+use Rattle.smap_store.specs.ByPath.{IsGood, IsRight, MapsByPath, stored_maps}
+use Rattle.smap_store.specs.Loaded.{record_in}
+use Rattle.smap_store.specs.SameLaws.{good_before, right_after, right_start}
+use Rattle.smap_store.specs.Stored.{FindsIn, LoadsStep, StoredSeen, found_in}
+use Rattle.smap_trace.specs.MapsOf.{RewritesBy}
+use Rattle.smap_trace.specs.MapsOfLaws.{rewrites_by}
+use Rattle.smap_trace.specs.Rewriting.{RewritesOver}
+use Rattle.smap_trace.specs.declared.outcome.RewriteCounts.{RewriteCounts}
+use Rattle.smap_trace.specs.declared.outcome.Summary.{Summary}
+use Rattle.smap_replies.specs.Files.{MayRead}
+use Rattle.smap_text_answers.specs.Loader.{FailsToLoad, LoaderSeen, Loads}
+use Rattle.smap_replies.specs.Map.{Never, ReportsFound, refusal_result}
+use Rattle.smap_replies.specs.Outcome.{Report}
+use Rattle.smap_text_answers.specs.RewriteFrom.{AnswersByPath, IsOverStore, IsStoredRewritten, RequestSeen, RewritesTextBy, places_of, store_start}
+use Rattle.smap_text_answers.specs.SameBytes.{BytesByPath, IsSettled, IsSilent, ReadsSame, stated_by, stated_in}
+use Rattle.smap_replies.specs.Streams.{Streams}
+use Rattle.smap_text_answers.specs.Trace.{IsBaseUsed}
+use Rattle.smap_text_answers.specs.declared.rewriting.StoreEnd.{StoreEnd}
+use Rattle.smap_text_answers.specs.declared.sources.MapSources.{MapSources}
+
+-- ---- over any loader
+
+-- rewriting over a store that remembers nothing at first, where what loads its maps gives the same for a URL and a path each
+-- time, so far as no trouble comes to it
+module _ {L : Type 0} (Steps : LoadsStep L) (Good : L → Type 0) (load : MapsByPath)
+    (loads_right : (old new : L) (url path : List ℕ) (came : Option (MapRecord × ℕ)) → Steps old url path came new → Good new
+    → Good old × (record_in came ≡ load url path)) where
+  pub rewrites_same : (hide : Bool) (most : ℕ) (before after : DevicesSeen) (old new : StoredSeen L) (counts : RewriteCounts)
+      → RewritesOver (FindsIn Steps) found_in hide most before after old new counts → old.cache.kept ≡ [] → IsGood Good new
+      → RewritesBy (stored_maps load old.words old.locations) hide most before after counts
+  rewrites_same hide most before after old new counts all empty good =
+      rewrites_by (FindsIn Steps) found_in (stored_maps load old.words old.locations) (IsGood Good) (IsRight load old.words old.locations)
+      (good_before Steps Good load loads_right) (right_after Steps Good load loads_right old.words old.locations) hide most before after old new counts all
+      good (right_start load old empty)
+
+  -- and rewriting places
+  pub places_same : (begins : List ℕ → Option PlaceUrl) (most : ℕ) (before after : DevicesSeen) (old new : StoredSeen L) (summary : Summary)
+      → RewritesPlacesOver (FindsIn Steps) found_in begins most before after old new summary → old.cache.kept ≡ [] → IsGood Good new
+      → RewritesPlacesBy (stored_maps load old.words old.locations) begins most before after summary
+  places_same begins most before after old new summary all empty good =
+      places_by (FindsIn Steps) found_in (stored_maps load old.words old.locations) (IsGood Good) (IsRight load old.words old.locations)
+      (good_before Steps Good load loads_right) (right_after Steps Good load loads_right old.words old.locations) begins most before after old new summary all
+      good (right_start load old empty)
+
+-- ---- where nothing was reported, so no map was refused
+
+-- a base that is given settles the maps
+pub settled_by : (base : Parts) (k : ℕ) (bytes_at : BytesByPath) → IsSettled (Some base) k bytes_at (λ url path. stated_by (Some base) k (bytes_at path))
+settled_by base k bytes_at url path bytes stated is (used, uses, read) =
+    ap (stated_by (Some base) k) is ∙ ap stated_in (ap (λ u. record_of bytes u k) (sym (go uses)) ∙ read)
+  where
+    go : IsBaseUsed (Some base) (without_query url) used → used ≡ Some base
+    go (inl is) = is
+    go (inr none) = cc
+
+module _ (Reads : MayRead) (base : Option Parts) (k number : ℕ) (bytes_at : BytesByPath) (same : ReadsSame Reads number bytes_at) (load : MapsByPath)
+    (settled : IsSettled base k bytes_at load) where
+  -- what is said of a map that can't be had has a status
+  refused_status : (path : List ℕ) (report : Report) (found : Result MapRecord MapRefusal) → ReportsFound (refusal_result path) found Never report
+      → report.status ≡ 1
+  refused_status path report (Err refused) reported = ap (λ t. t.status) reported
+  refused_status path report (Ok stated) (inl reported) = ap (λ t. t.status) reported
+  refused_status path report (Ok stated) (inr never) = absurd never
+
+  fails_reported : (url path : List ℕ) (report : Report) → FailsToLoad Reads base k number url path report → report.status < 1 → ⊥
+  fails_reported url path report (inl memory) few = let status = ap (λ t. t.status) memory in omega (arith, status, few)
+  fails_reported url path report (inr (inl named)) few = let status = ap (λ t. t.status) named in omega (arith, status, few)
+  fails_reported url path report (inr (inr (inl unread))) few = let status = ap (λ t. t.status) unread.1 in omega (arith, status, few)
+  fails_reported url path report (inr (inr (inr (bytes, read, (used, uses, reported))))) few =
+      let status = refused_status path report (record_of bytes used k) reported in omega (arith, status, few)
+
+  loads_settled : (old new : LoaderSeen) (url path : List ℕ) (came : Option (MapRecord × ℕ)) → Loads Reads base k number old url path came new
+      → IsSilent new → IsSilent old × (record_in came ≡ load url path)
+  loads_settled old new url path None loads silent =
+      let status = loads.2.status in
+      absurd (fails_reported url path loads.0 loads.1 (omega (arith, status, silent)))
+  loads_settled old new url path (Some (stated, file_bytes)) loads silent =
+      let (bytes, read, many, is) = loads.0 in
+      (subst IsSilent loads.1 silent, sym (settled url path bytes stated (same path bytes read) is))
+
+  pub same_settled : (sources : MapSources) (anywhere hide : Bool) (most : ℕ) (before after : DevicesSeen) (old new : StoredSeen LoaderSeen) (counts : RewriteCounts)
+      → IsStoredRewritten Reads base k number sources anywhere hide most old new before after (Ok counts) → old.cache.kept ≡ []
+      → IsSilent new.loader → new.cache.shortages ≡ 0
+      → RewritesTextBy anywhere (stored_maps load old.words old.locations) (places_of sources) hide most before after counts
+  same_settled sources true hide most before after old new counts all empty silent enough =
+      places_same (Loads Reads base k number) IsSilent load loads_settled (places_of sources) most before after old new counts.summary all.0 empty
+      (silent, enough)
+  same_settled sources false hide most before after old new counts all empty silent enough =
+      rewrites_same (Loads Reads base k number) IsSilent load loads_settled hide most before after old new counts all empty (silent, enough)
+
+-- and so it is of a run
+pub same_run : (Reads : MayRead) (base : Option Parts) (k : ℕ) (request : RequestSeen) (sources : MapSources) (end : StoreEnd) (before after : Streams)
+    → IsOverStore Reads base k request sources end before after → AnswersByPath Reads base k request sources end before after
+same_run Reads base k request sources end before after over bytes_at load same settled counts result silent enough =
+    let P : Result RewriteCounts LineFault → Type 0 = λ result.
+    IsStoredRewritten Reads base k (length request.arguments + 1) sources request.anywhere request.hide_ignored request.limit_bytes
+    (store_start sources request.cache_bytes before.sinks.errors) over.last
+    (devices_seen before.input before.sinks.output) (devices_seen after.input after.sinks.output) result in
+    same_settled Reads base k (length request.arguments + 1) bytes_at same load settled sources request.anywhere request.hide_ignored request.limit_bytes
+    (devices_seen before.input before.sinks.output) (devices_seen after.input after.sinks.output)
+    (store_start sources request.cache_bytes before.sinks.errors) over.last counts (subst P result over.rewritten) refl
+    (sym over.status ∙ silent) (sym over.shortages ∙ enough)

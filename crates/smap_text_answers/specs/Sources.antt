@@ -1,0 +1,85 @@
+-- What `rewrite` is over where folders and a list are given beside files: the folders of its arguments, then the maps of
+-- their files, then the lines of the list.
+use Rattle.std.specs.Prelude.{◌≡◌, ◌⊎◌, ℕ, List, [], ◌∷◌, Option, Some, None, Result, Ok, Err, MatchBool, MatchOption}
+use Rattle.std.specs.Prelude.{length, true}
+use Rattle.std.specs.Str.Lines.{lines}
+use Rattle.url.specs.Parts.{Parts}
+use Rattle.smap_locations.specs.Locations.{LocationsSeen}
+use Rattle.smap_store.specs.MapList.{PutsFolder, TakesList, folder_fault}
+use Rattle.smap_locations.specs.ListLine.{is_folder}
+use Rattle.smap_locations.specs.declared.refusal.ListFault.{ListFault}
+use Rattle.smap_locations.specs.declared.refusal.ListRefusal.{ListRefusal}
+use Rattle.smap_replies.specs.Files.{MayRead, IsUnread}
+use Rattle.smap_text_answers.specs.Lines.{folder_refused_line}
+use Rattle.smap_replies.specs.Lines.{map_refused_line}
+use Rattle.smap_replies.specs.Lists.{list_bytes_refusal, list_refusal, misuse_for, reason_of}
+use Rattle.smap_replies.specs.Outcome.{OrMemory, Report, out_of_memory, refusal}
+use Rattle.smap_text_answers.specs.Trace.{Gathers, Maps}
+use Rattle.smap_replies.specs.Arguments.{argument_text}
+use Rattle.smap_text_answers.specs.declared.sources.MapSources.{MapSources}
+
+-- ---- folders
+
+-- an argument that names a folder is refused
+abbrev pub folder_refusal : ListFault → (prefix folder : List ℕ) → Report
+folder_refusal fault prefix folder = misuse_for (folder_refused_line (argument_text prefix folder)) (reason_of fault)
+
+-- the folders among these arguments, each a URL and a path, go into the locations, argument by argument, up to the first that is
+-- refused, unless memory runs out; files are passed over
+abbrev pub NamesFolders : List (List ℕ × List ℕ) → (old : LocationsSeen) → Result LocationsSeen Report → Type 0
+NamesFolders [] old result = result ≡ Ok old
+NamesFolders ((url, path) ∷ arguments) old result =
+    MatchBool (is_folder path)
+    ((result ≡ Err out_of_memory) ⊎ MatchOption (folder_fault old url)
+    ((next : LocationsSeen) × PutsFolder old url path next × NamesFolders arguments next result)
+    (λ fault. result ≡ Err (folder_refusal fault url path)))
+    (NamesFolders arguments old result)
+
+-- ---- a list
+
+-- what taking the lines of a list came to
+abbrev pub sources_after : (list : List ℕ) → Maps → Result (Unit {0}) ListRefusal → LocationsSeen → Result MapSources Report
+sources_after list words (Ok taken) locations = Ok (record { words = words; locations = locations })
+sources_after list words (Err refused) locations = Err (list_refusal list refused)
+
+-- the lines of a list add to the locations, up to the first that is refused
+abbrev pub AddsLines : (list bytes : List ℕ) → Maps → LocationsSeen → Result MapSources Report → Type 0
+AddsLines list bytes words old result =
+    (taken : Result (Unit {0}) ListRefusal) × ((new : LocationsSeen) × TakesList words (lines bytes) old taken new
+    × (result ≡ sources_after list words taken new))
+
+-- the list at this path, which has these bytes, adds to the locations or is refused, unless memory runs out
+abbrev pub AddsList : (list bytes : List ℕ) → Maps → LocationsSeen → Result MapSources Report → Type 0
+AddsList list bytes words locations result =
+    (result ≡ Err out_of_memory)
+    ⊎ MatchOption (list_bytes_refusal bytes) (AddsLines list bytes words locations result)
+    (λ reason. result ≡ Err (refusal (map_refused_line list reason)))
+
+-- the list, where there is one, is read under this number, and adds to the locations
+abbrev pub ReadsList : MayRead → (number : ℕ) → (list : Option (List ℕ)) → Maps → LocationsSeen → Result MapSources Report → Type 0
+ReadsList Reads number None words locations result = result ≡ Ok (record { words = words; locations = locations })
+ReadsList Reads number (Some list) words locations result =
+    ((report : Report) × OrMemory (IsUnread Reads number list) report × (result ≡ Err report))
+    ⊎ ((bytes : List ℕ) × Reads number list (Ok bytes) × AddsList list bytes words locations result)
+
+-- ---- all of them
+
+-- after the files of the arguments
+abbrev pub AfterWords : MayRead → (number : ℕ) → (list : Option (List ℕ)) → LocationsSeen → Result Maps Report → Result MapSources Report → Type 0
+AfterWords Reads number list locations (Err refused) result = result ≡ Err refused
+AfterWords Reads number list locations (Ok words) result = ReadsList Reads number list words locations result
+
+-- after the folders of the arguments
+abbrev pub AfterFolders : MayRead → Option Parts → (k : ℕ) → List (List ℕ × List ℕ) → (list : Option (List ℕ)) → Result LocationsSeen Report
+    → Result MapSources Report → Type 0
+AfterFolders Reads base k arguments list (Err refused) result = result ≡ Err refused
+AfterFolders Reads base k arguments list (Ok locations) result =
+    (words : Result Maps Report) × Gathers true Reads base k 0 (Ok []) arguments words
+    × AfterWords Reads (length arguments) list locations words result
+
+-- what a text is rewritten over: the arguments, each a URL and a path, where a path that ends in `/` is that of a folder, and
+-- the list at a path, whose number is that behind the arguments; or what is reported where one of them is refused or not read
+abbrev pub GathersSources : MayRead → Option Parts → (k : ℕ) → List (List ℕ × List ℕ) → (list : Option (List ℕ)) → Result MapSources Report → Type 0
+GathersSources Reads base k arguments list result =
+    (folders : Result LocationsSeen Report) × NamesFolders arguments (record { files = []; folders = [] }) folders
+    × AfterFolders Reads base k arguments list folders result

@@ -1,0 +1,136 @@
+//! The maps that are read when a text names them.
+ghost use Rattle.std.specs.Prelude.{◌≡◌, option_copied, IfErr, IfOk};
+ghost use Rattle.smap_text_answers.specs.Lines.{map_memory_line};
+ghost use Rattle.smap_text_answers.specs.Loader.{FailsToLoad, FailsToRead, IsLoaded, Notes, loader_seen, named_report, IsReadAs, IsReadRefusal};
+ghost use Rattle.smap_replies.specs.Outcome.{OrMemory, failure_report, failure};
+ghost use Rattle.smap_locations.specs.Paths.{without_query};
+
+use crate::lines;
+use smap_io::ByteSink;
+use smap_locations::without_query;
+use smap_record::MapFile;
+use smap_replies::{
+    Failure, FileReader, MapReader, REFUSED, file_bytes, map_of, print_error, read_map_at,
+};
+use smap_store::{LoadedMap, MapLoader};
+use std::alloc::Global;
+
+// How many maps that can't be had are reported.
+const MOST_REPORTED: u64 = 100;
+
+/// Reads maps from files, and reports each that can't be had by a line on standard error: of the first 100 of them.
+#[derive(Drop)]
+pub struct FileLoader<'m, 'r, 'e, F: FileReader, E: ByteSink> {
+    pub maps: &'m MapReader<'r, F>,
+    /// The number under which the files are read, which comes after those of the command's own.
+    pub number: usize,
+    pub errors: &'e mut E,
+    /// The greatest status of what was reported, or would have been.
+    pub status: u8,
+    /// How many maps could not be had.
+    pub reported: u64,
+    /// How many of them were refused.
+    pub refused: u64,
+}
+
+impl<F: FileReader, E: ByteSink> FileLoader<'_, '_, '_, F, E> {
+    // The map of a URL from the file at a path.
+    fn read(&self, alloc: Global, url: &[u8], path: &str) -> Result<LoadedMap, Failure>
+        ensures read { IfOk result (λ loaded. IsLoaded (F.gives self.now.maps.now.files.now)
+            (option_copied self.now.maps.now.base) self.now.maps.now.interval self.now.number
+            url.now path.now loaded.map.stated loaded.file_bytes) }
+        ensures failed { IfErr result (λ failure. OrMemory (FailsToRead
+            (F.gives self.now.maps.now.files.now) (option_copied self.now.maps.now.base) self.now.maps.now.interval self.now.number
+            url.now path.now) (failure_report failure)) }
+    {
+        let bytes = file_bytes(alloc, self.maps.files, self.number, path)?;
+        let file_bytes = bytes.len() as u64;
+        let map = self.map_at(alloc, url, path, bytes)?;
+        Ok(LoadedMap { map, file_bytes })
+    }
+
+    // The map that the bytes are, whose base, where none is given, is the URL without its query and its fragment.
+    fn map_at(
+        &self,
+        alloc: Global,
+        url: &[u8],
+        path: &str,
+        bytes: Vec<u8>,
+    ) -> Result<MapFile, Failure>
+        ensures read { IfOk result (λ map. IsReadAs (option_copied self.now.maps.now.base)
+            self.now.maps.now.interval (without_query url.now) bytes.items (Ok map.stated)) }
+        ensures refused { IfErr result (λ failure. OrMemory
+            (IsReadRefusal (option_copied self.now.maps.now.base) self.now.maps.now.interval
+            (without_query url.now) path.now bytes.items)
+            (failure_report failure)) }
+    {
+        match str::from_utf8(without_query(url)) {
+            Ok(url) => read_map_at(alloc, self.maps, url, path, bytes),
+            Err(_) => map_of(alloc, path, bytes, self.maps.base, self.maps.interval),
+        }
+    }
+
+    // Reports why a map can't be had, and counts that.
+    fn note(&mut self, failure: &Failure)
+        ensures noted { Notes (loader_seen E.seen self.old) (failure_report failure.now)
+            (loader_seen E.seen self.new) }
+        ensures maps { self.new.maps ≡ self.old.maps }
+        ensures number { self.new.number ≡ self.old.number }
+        ensures errors { self.new.errors.ghost_name ≡ self.old.errors.ghost_name }
+    {
+        let status = failure.status();
+        self.status = self.status.max(status);
+        if status == REFUSED {
+            self.refused = self.refused.saturating_add(1);
+        }
+        if self.reported < MOST_REPORTED {
+            print_error(self.errors, failure.bytes());
+        }
+        self.reported = self.reported.saturating_add(1);
+    }
+}
+
+impl<F: FileReader, E: ByteSink> MapLoader for FileLoader<'_, '_, '_, F, E> {
+    ghost use Rattle.std.specs.Prelude.{option_copied};
+    ghost use Rattle.smap_text_answers.specs.Loader.{IsSameLoader, Loads, MayLoad, loader_seen};
+    ghost use Rattle.smap_text_answers.specs.LoaderLaws.{given_load, same_load, some_load};
+
+    ghost MayLoad = { λ loader. MayLoad (F.gives loader.maps.now.files.now) (option_copied loader.maps.now.base)
+        loader.maps.now.interval loader.number };
+
+    ghost Loads = { λ loader url path came after. Loads (F.gives loader.maps.now.files.now) (option_copied loader.maps.now.base)
+        loader.maps.now.interval loader.number (loader_seen E.seen loader) url path came (loader_seen E.seen after)
+        × IsSameLoader loader after };
+
+    fn load(&mut self, alloc: Global, url: &[u8], path: &str) -> Option<LoadedMap> {
+        match self.read(alloc, url, path) {
+            Ok(loaded) => Some(loaded),
+            Err(failure) => {
+                self.note(&named(alloc, path, failure));
+                None
+            }
+        }
+    }
+
+    ghost some = { λ loader. some_load (F.gives loader.maps.now.files.now) (option_copied loader.maps.now.base)
+        loader.maps.now.interval loader.number };
+
+    ghost given = { λ loader after url path came loads. given_load (F.gives loader.maps.now.files.now) (option_copied loader.maps.now.base)
+        loader.maps.now.interval loader.number _ _ url path came loads.0 };
+
+    ghost same = { λ loader after url path other other_path came more loads may. same_load F.gives loader after loads.1 other other_path more may };
+}
+
+// Why the map of the file at a path can't be had: where memory ran out, by a line that names the file, if there is memory
+// for that.
+fn named(alloc: Global, path: &str, failure: Failure) -> Failure
+    ensures { named_report path.now (failure_report failure) (failure_report result) }
+{
+    match failure {
+        Failure::Memory => match lines::map_memory_line(alloc, path) {
+            Ok(line) => Failure::Unreadable(line),
+            Err(_) => Failure::Memory,
+        },
+        other => other,
+    }
+}

@@ -1,0 +1,113 @@
+//! Rewriting the stack trace on standard input.
+ghost use Rattle.std.specs.Prelude.{◌≡◌, ◌&&◌, [], false, map, option_copied, Ok};
+ghost use Rattle.smap_replies.specs.Outcome.{OrMemory, failure_report, report_of};
+ghost use Rattle.smap_lines.specs.Editing.{devices_seen};
+ghost use Rattle.smap_text_answers.specs.Private.Gathering.{gathered};
+ghost use Rattle.smap_locations.specs.ListLine.{is_folder};
+ghost use Rattle.smap_text_answers.specs.Trace.{Gathers, PutsNext, IsTraceRewritten, RewriteReports, rewrite_report, url_refusal_result};
+ghost use Rattle.smap_replies.specs.Arguments.{argument_of};
+
+use crate::lines;
+use smap_io::{ByteSink, ByteSource};
+use smap_locations::is_folder;
+use smap_replies::{Failure, FileReader, MapReader, Reply, file_bytes, read_map_at, twice_line};
+use smap_trace::{RewriteFault, Summary, Table, TableRefusal, rewrite};
+use std::alloc::Global;
+
+/// Reads the map of each argument, which is a URL and a path, from its file, and rewrites the trace on standard input over
+/// them, with the frames of ignored sources hidden or not. The caller gives devices that have not failed.
+pub fn answer_rewrite<F: FileReader, R: ByteSource, W: ByteSink>(
+    alloc: Global,
+    maps: &MapReader<'_, F>,
+    arguments: &[(String, String)],
+    hide_ignored: bool,
+    input: &mut R,
+    output: &mut W,
+) -> Result<Reply, Failure>
+    requires input_works { (R.seen input.old).failed ≡ false }
+    requires output_works { (W.seen output.old).failed ≡ false }
+    ensures { RewriteReports (F.gives maps.now.files.now) (option_copied maps.now.base)
+        maps.now.interval (IsTraceRewritten hide_ignored) (map argument_of arguments.now)
+        (devices_seen (R.seen input.old) (W.seen output.old))
+        (devices_seen (R.seen input.new) (W.seen output.new))
+        (report_of result) }
+{
+    let table = table_of(alloc, maps, arguments, false)?;
+    rewritten(rewrite(alloc, input, output, &table, hide_ignored))
+}
+
+// What rewriting a text comes to.
+fn rewritten(end: Result<Summary, RewriteFault>) -> Result<Reply, Failure>
+    ensures { report_of result ≡ rewrite_report end }
+{
+    match end {
+        Ok(_) => Ok(Reply::Rewritten),
+        Err(fault) => Err(Failure::Fault(fault)),
+    }
+}
+
+/// The maps of the files at the paths of the arguments, each under its URL; or the first file that can't be read, and then
+/// the first refusal. Folders, whose paths end in `/`, are passed over where that is asked, and count as arguments.
+pub fn table_of<F: FileReader>(
+    alloc: Global,
+    maps: &MapReader<'_, F>,
+    arguments: &[(String, String)],
+    passes_folders: bool,
+) -> Result<Table, Failure>
+    ensures { Gathers passes_folders (F.gives maps.now.files.now) (option_copied maps.now.base)
+        maps.now.interval 0 (Ok []) (map argument_of arguments.now) (gathered result) }
+{
+    let mut table = Ok(Table::new(alloc));
+    for (number, (url, path)) in arguments.iter().enumerate() {
+        if is_passed_over(passes_folders, path) {
+            continue;
+        }
+        let bytes = file_bytes(alloc, maps.files, number, path)?;
+        table = with_map(alloc, maps, table, url, path, bytes);
+    }
+    table
+}
+
+// Whether an argument with this path is passed over: that of a folder, where those are.
+fn is_passed_over(passes_folders: bool, path: &str) -> bool
+    ensures { result ≡ (passes_folders && is_folder path.now) }
+{
+    passes_folders && is_folder(path.as_bytes())
+}
+
+// The table with the map that the bytes are under a URL, where nothing was refused before.
+fn with_map<F: FileReader>(
+    alloc: Global,
+    maps: &MapReader<'_, F>,
+    table: Result<Table, Failure>,
+    url: &str,
+    path: &str,
+    bytes: Vec<u8>,
+) -> Result<Table, Failure>
+    ensures { PutsNext (option_copied maps.now.base) maps.now.interval (gathered table)
+        url.now path.now bytes.items (gathered result) }
+{
+    let mut table = table?;
+    let map = read_map_at(alloc, maps, url, path, bytes)?;
+    let owned = String::from_str(alloc, url)?;
+    match table.add(owned, map) {
+        Ok(()) => Ok(table),
+        Err((refusal, _, _)) => Err(refused_url(alloc, refusal, url, path)),
+    }
+}
+
+// Why a map is not put under a URL.
+fn refused_url(alloc: Global, refusal: TableRefusal, url: &str, path: &str) -> Failure
+    ensures { OrMemory (λ report. report ≡ url_refusal_result refusal url.now path.now)
+        (failure_report result) }
+{
+    let line = match refusal {
+        TableRefusal::BadUrl => lines::bad_url_line(alloc, url, path),
+        TableRefusal::Twice => twice_line(alloc, url, path),
+        TableRefusal::Memory => return Failure::Memory,
+    };
+    match line {
+        Ok(line) => Failure::Misuse(line),
+        Err(_) => Failure::Memory,
+    }
+}
