@@ -21,9 +21,7 @@ from collections.abc import Callable
 from dataclasses import dataclass
 from pathlib import Path
 
-TESTS = Path(__file__).resolve().parent.parent
-ROOT = TESTS.parent
-sys.path.insert(0, str(TESTS / "pages"))
+sys.path.insert(0, str(Path(__file__).resolve().parent.parent / "pages"))
 import samples as pages  # noqa: E402
 
 PAGES = ["README.md", "docs/CLI.md", "docs/GUIDE.md", "docs/FORMAT.md", "examples/README.md"]
@@ -73,46 +71,15 @@ class Beside:
         self.before = self.count
 
 
-def unescaped(text: str) -> bytes:
-    """The bytes of a field of tests/arm/rows."""
-    named = {b"\\n": b"\n", b"\\r": b"\r", b"\\\\": b"\\"}
-    return re.sub(rb"\\(?:x..|.)", lambda found: named.get(found[0]) or bytes.fromhex(found[0][2:].decode()), text.encode())
-
-
-def worked_rows(beside: Beside) -> None:
-    """The rows beside this script, whose status and output are written out."""
-    for line in (TESTS / "arm" / "rows").read_text(encoding="utf-8").split("\n"):
-        if not line or line.startswith("#"):
-            continue
-        kind, *fields = line.split("\t")
-        if kind == "file":
-            Path(fields[0]).write_bytes(unescaped(fields[1]))
-            continue
-        status, words, given, printed = fields
-        left = beside.run(words.split(), unescaped(given))
-        wanted = Left(int(status), unescaped(printed), b"") if status == "0" else Left(int(status), b"", unescaped(printed))
-        if left != wanted:
-            beside.unlike += 1
-            print(f"differs from the row: {words}\n  {left}\n  {wanted}")
-
-
-def vector_rows(name: str) -> list[list[str]]:
-    """The rows of a file of smap_vectors."""
-    text = (ROOT / "crates/smap_vectors/src" / f"{name}.rt").read_text(encoding="utf-8")
-    rows = [row for table in re.findall(r'r#"\n(.*?)"#', text, re.DOTALL) for row in table.strip("\n").split("\n")]
-    return [row.split("|") for row in rows]
-
-
-def other_rows(beside: Beside) -> None:
-    """Texts and maps of smap_vectors, of which other implementations computed what they are."""
-    for name in ("answers", "refusals"):
-        for line, column, text, *_ in vector_rows(name):
-            beside.run(["raw", line, column], text.encode())
-    for number, (text, *_) in enumerate(vector_rows("index_maps")):
-        path = f"index{number}.map"
-        Path(path).write_text(text, encoding="utf-8")
-        for words in (["check", path], ["check", "--explain", "--json", path], ["show", "--prune", path], ["mappings", path], ["sources", path]):
-            beside.run(words)
+# Files that some runs name.
+FILES = {
+    "app.map": '{"version":3,"sources":["a.ts"],"mappings":"AAAA,CAAC"}',
+    "b.map": '{"version":3,"sections":[{"offset":{"line":0,"column":0},"map":{"version":3,"sources":["a.js"],"mappings":"AAAA"}},'
+    '{"offset":{"line":0,"column":10},"map":{"version":3,"sources":["b.js"],"mappings":"AAAA"}}]}',
+    "o.map": '{"version":3,"sources":["mid.js"],"mappings":"AAAA,KAAK"}',
+    "i.map": '{"version":3,"sources":["a.ts"],"mappings":"AAAA,GACI"}',
+    "m.map": "[]",
+}
 
 
 def positions_of(path: str, mappings: list[tuple[int, int]]) -> bytes:
@@ -275,10 +242,8 @@ def main() -> int:
     here, there, trace, *rest = sys.argv[1:]
     cut = rest.index("--")
     beside = Beside(Path(here), Path(there))
-    worked_rows(beside)
-    beside.report("worked rows")
-    other_rows(beside)
-    beside.report("rows of smap_vectors")
+    for name, text in FILES.items():
+        Path(name).write_text(text, encoding="utf-8")
     real_maps(beside, rest[cut + 1 :])
     beside.report("real maps")
     page_samples(beside)
