@@ -10,17 +10,18 @@ function hasScheme(text) {
   return /^[A-Za-z][A-Za-z0-9+.-]*:/.test(text);
 }
 
-// A relative path, going on from the folder that a file is in.
+// A relative path, going on from the folder that a file is in. Behind `//` a host stands, which stays.
 function fromFolder(file, text) {
-  const rooted = file.startsWith('/');
+  const [, host, rest] = /^(\/\/[^/]*)?([^]*)$/.exec(file);
+  const rooted = rest.startsWith('/') || host !== undefined;
   const pieces = [];
-  for (const piece of [...file.split('/').slice(0, -1), ...text.split('/')]) {
+  for (const piece of [...rest.split('/').slice(0, -1), ...text.split('/')]) {
     if (piece === '' || piece === '.') continue;
     if (piece !== '..') pieces.push(piece);
     else if (pieces.length > 0 && pieces.at(-1) !== '..') pieces.pop();
     else if (!rooted) pieces.push(piece);
   }
-  return `${rooted ? '/' : ''}${pieces.join('/')}`;
+  return `${host ?? ''}${rooted ? '/' : ''}${pieces.join('/')}`;
 }
 
 // The name of a source of an inner map, of the source that is called `outer`.

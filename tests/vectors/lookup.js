@@ -25,6 +25,40 @@ function answerFrom(lines, line, column) {
   return (lines[line - 1] || []).find((segment) => segment[0] >= column - 1) ?? null;
 }
 
+// What a mapping answers: its column and its origin, as far as it has one; or `none`.
+function answerText(mapping) {
+  return mapping === null ? 'none' : mapping.slice(1).join(',');
+}
+
+// What the last mapping of a list answers that stands on the line and whose column is not after the asked one, all from 0.
+function lastBefore(list, line, column) {
+  return answerText(list.findLast(([on, at]) => on === line && at <= column) ?? null);
+}
+
+// What the first mapping of a list answers that stands on the line and whose column is not before the asked one, all from 0.
+function firstFrom(list, line, column) {
+  return answerText(list.find(([on, at]) => on === line && at >= column) ?? null);
+}
+
+// What answers on a line at each column up to one: the columns from which on it is another, each with that answer.
+function changesOn(list, line, most, answer) {
+  const places = list.filter(([on]) => on === line).flatMap(([, column]) => [column, column + 1]);
+  const columns = [...new Set([0, ...places])].filter((column) => column <= most).sort((one, other) => one - other);
+  const answers = columns.map((column) => [column, answer(list, line, column)]);
+  const changes = answers.filter(([, text], i) => i === 0 || text !== answers[i - 1][1]);
+  return changes.map(([column, text]) => `${column}: ${text}; `).join('');
+}
+
+// The last line and the last column that are asked of a list: one more than it has; and what answers on each line, in both
+// directions.
+function answersOfAll(list) {
+  const [lines, columns] = [0, 1].map((i) => Math.max(0, ...list.map((mapping) => mapping[i])) + 1);
+  const answers = Array.from({ length: lines + 1 }, (_, line) =>
+    [lastBefore, firstFrom].map((answer) => changesOn(list, line, columns, answer)),
+  );
+  return { asked: [lines, columns], answers: answers.flat() };
+}
+
 // A text as it is printed: each control character as a question mark.
 function shownText(text) {
   return text.replace(/[\x00-\x1f\x7f]/g, '?');
@@ -52,4 +86,4 @@ function spread(list, most) {
   return Array.from({ length: most }, (_, i) => list[Math.round((i * (list.length - 1)) / (most - 1))]);
 }
 
-module.exports = { linesOf, answerFrom, answerOf, isIgnored, printedLine, shownText, spread };
+module.exports = { linesOf, answerFrom, answerOf, answersOfAll, firstFrom, isIgnored, lastBefore, printedLine, shownText, spread };

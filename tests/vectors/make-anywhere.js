@@ -1,8 +1,8 @@
 #!/usr/bin/env node
-// Writes the vectors for places anywhere in a text: what node 20 prints for errors of many kinds that
+// Makes the rows of places anywhere in a text: what node 20 prints for errors of many kinds that
 // examples/receipt.min.js throws, each in a process of its own, and that text with its places rewritten.
 //
-//   node make-anywhere.js     writes src/anywhere.rt of smap_vectors and prints the counts
+//   node make-anywhere.js     writes its rows of smap_rows and prints the counts
 //
 // Nothing here is made from smap's own code or output: the places are those of a regular expression, and node's own
 // reader of source maps, the class SourceMap of node:module, looks them up.
@@ -12,6 +12,7 @@ const fs = require('fs');
 const path = require('path');
 const { SourceMap } = require('module');
 const { spawnSync } = require('child_process');
+const { file, putFile, putRows, row } = require('./rows.js');
 
 const ROOT = path.join(__dirname, '..', '..');
 const URL_OF = 'https://example.test/receipt.min.js';
@@ -88,36 +89,24 @@ function rewritten(text) {
     return `${new URL(entry.originalSource, URL_OF).href}:${entry.originalLine + 1}:${entry.originalColumn + 1}`;
   });
   for (const key of Object.keys(total)) total[key] += summary[key];
-  return [Object.values(summary).join(' '), text, written];
+  return [summary, text, written];
 }
 
 // ---------------------------------------------------------------------------------------------
-// The file of rows.
+// The rows: each text over devices that move so many bytes a call.
 // ---------------------------------------------------------------------------------------------
 
-// Signs for the characters that a field of a row can't hold.
-const SIGNS = { '\n': '␊', '\r': '␍', '\t': '␉', '|': '¦' };
+const MAP = 'anywhere.map';
+const rows = KINDS.map((kind) => rewritten(printed(kind)));
 
-function field(text) {
-  insist(!/"##|[␊␍␉¦]/.test(text), 'a text that is no field');
-  return text.replace(/[\n\r\t|]/g, (character) => SIGNS[character]);
-}
-
-const rows = KINDS.map((kind) => `${[kind[0], ...rewritten(printed(kind))].map(field).join('|')}\n`);
-
-fs.writeFileSync(
-  path.join(ROOT, 'crates', 'smap_vectors', 'src', 'anywhere.rt'),
-  `//! What node printed for errors of many kinds, with its places rewritten. Written by \`tests/vectors/make-anywhere.js\`.
-//! In a text ␊ stands for LF, ␍ for CR, ␉ for a tab and ¦ for |.
-
-/// The URL of what ran, and its map.
-pub const PRINTED_MAP: &str =
-    r##"${URL_OF}|${JSON.stringify(map)}"##;
-
-/// A kind of error; how many lines the text has, how many places, and how many of these are mapped; the text; and what it
-/// becomes.
-pub const PRINTED: &str = r##"
-${rows.join('')}"##;
-`,
+putFile(MAP, JSON.stringify(map));
+putRows(
+  'What node prints',
+  __filename,
+  rows.flatMap(([{ lines, places, mapped }, text, written]) =>
+    ['8192/0', '7/0', '1/0'].map((device) =>
+      row(['rewrite_places', device, device, 1000000, 64, text, URL_OF, file(MAP)], [`${lines} ${places} ${mapped} 0`, written]),
+    ),
+  ),
 );
 console.log(`${rows.length} texts, ${total.lines} lines, ${total.places} places, ${total.mapped} mapped`);

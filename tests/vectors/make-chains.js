@@ -1,18 +1,17 @@
 #!/usr/bin/env node
-// Writes the vectors for composing all inner maps at once: what @ampproject/remapping makes of small chains of maps.
+// Makes the rows of composing all inner maps at once: small chains of maps, beside what @ampproject/remapping makes of them.
 // README.md beside this file says which they are.
 //
-//   node make-chains.js      writes chains.rt of smap_vectors and prints the counts
+//   node make-chains.js      writes its rows of smap_rows and prints the counts
 //
 // Nothing here is made from smap's own code or output.
 'use strict';
 
-const fs = require('fs');
-const path = require('path');
 const codec = require('@jridgewell/sourcemap-codec');
 const remapping = require('@ampproject/remapping');
+const { composedAll, pruned } = require('./compose-all.js');
+const { putRows, run } = require('./rows.js');
 
-const VECTORS = path.join(__dirname, '..', '..', 'crates', 'smap_vectors', 'src');
 const { version } = require('@ampproject/remapping/package.json');
 
 function insist(holds, what) {
@@ -42,7 +41,7 @@ function placed(outer, inners, rest) {
   return [line([outer], inners.map((_, i) => [0, i, 2])), { [outer]: map(inners, lines, rest) }];
 }
 
-// What it is; the outer map; the inner maps, by the names of its sources; and those by the names of their sources.
+// A title; the outer map; the inner maps, by the names of its sources; and those by the names of their sources.
 const ROWS = [
   ['Places where the inner map has a mapping, and behind one.', OUT, { 'a.js': map(['a.ts'], THREE_LINES) }],
   ['An in-between source without a map.', line(['a.js', 'lib.js'], each(2)), { 'a.js': line(['a.ts'], [[0, 2, 1]]) }],
@@ -161,74 +160,56 @@ function mappingsOf({ mappings, sources, names }) {
 }
 
 // ---------------------------------------------------------------------------------------------
-// The rows, laid out as `rt fmt` does.
+// The rows. Each composes a map with maps of its sources, and prunes it; what is written is that of `compose-all.js`, in which
+// each mapping that remapping made has to be.
 // ---------------------------------------------------------------------------------------------
-
-function textOf(value) {
-  const text = JSON.stringify(value);
-  insist(!text.includes('"#') && /^[ -~]*$/.test(text), `a text that no row can hold: ${text}`);
-  return `r#"${text}"#`;
-}
-
-function namedMaps(maps) {
-  const named = Object.entries(maps).map(([name, inner]) => [JSON.stringify(name), textOf(inner)]);
-  const alone = ([name, inner]) => `        &[(\n            ${name},\n            ${inner},\n        )],\n`;
-  const beside = ([name, inner]) => `            (\n                ${name},\n                ${inner},\n            ),\n`;
-  return named.length === 1 ? alone(named[0]) : `        &[\n${named.map(beside).join('')}        ],\n`;
-}
 
 const counts = { mappings: 0, unmapped: 0 };
 
-function row([what, outer, ...steps]) {
+function composed(outer, inners) {
+  return pruned(composedAll(outer, new Map(Object.entries(inners))));
+}
+
+// The map that a step of a build comes to, and its row.
+function step(outer, inners) {
+  const names = Object.keys(inners);
+  const files = names.map((name, i) => [`${i + 1}.map`, JSON.stringify(inners[name])]);
+  const named = names.flatMap((name, i) => ['--inner', `${name}=${files[i][0]}`]);
+  const map = composed(outer, inners);
+  const text = JSON.stringify(map);
+  const list = ['compose', '--prune', ...named, 'o.map'];
+  return { map: JSON.parse(text), row: run(list, '', [0, `${text}\n`, ''], [['o.map', JSON.stringify(outer)], ...files]) };
+}
+
+// The steps of a chain: all at once or, where there are three maps, the last two first and the first two first.
+function stepsOf(outer, [inners, deeper]) {
+  if (deeper === undefined) return [[step(outer, inners)]];
+  const below = Object.entries(inners).map(([name, inner]) => [name, step(inner, deeper)]);
+  const wholes = Object.fromEntries(below.map(([name, { map }]) => [name, map]));
+  const first = step(outer, inners);
+  return [
+    [...below.map(([, one]) => one), step(outer, wholes)],
+    [first, step(first.map, deeper)],
+  ];
+}
+
+function rowsOf([what, outer, ...steps]) {
   const found = mappingsOf(remapped(outer, steps));
   insist(found.length > 0, `nothing is left: ${what}`);
   counts.mappings += found.length;
   counts.unmapped += found.filter((fields) => fields.length === 2).length;
-  insist(!found.flat().some((field) => /[ ,"]/.test(field)), `a text that no mapping can hold: ${what}`);
-  const wanted = JSON.stringify(found.map((fields) => fields.join(',')).join(' '));
-  const maps = steps.map(namedMaps).join('');
-  return `    // ${what}\n    (\n        ${textOf(outer)},\n${maps}        ${wanted},\n    ),\n`;
+  const ways = stepsOf(outer, steps);
+  for (const way of ways) {
+    const has = new Set(mappingsOf(way.at(-1).map).map((fields) => JSON.stringify(fields)));
+    for (const fields of found) insist(has.has(JSON.stringify(fields)), `remapping has another mapping: ${what} ${fields}`);
+  }
+  return ways.flat().map(({ row }) => row);
 }
 
 const twos = ROWS.filter((fields) => fields.length === 3);
 const threes = ROWS.filter((fields) => fields.length === 4);
-const text = `//! Chains of maps, and the mappings that @ampproject/remapping ${version} makes of each: line, column, source, original
-//! line and column, and name, as far as one has them, with a comma between two, and a blank between two mappings. All
-//! numbers are from 0. Written by \`tests/vectors/make-chains.js\`.
-
-/// The name of a source, and the map of that source.
-pub type NamedMap = (&'static str, &'static str);
-
-/// An outer map, the maps of its sources, and mappings that are among those of what they compose to.
-pub type ChainOfTwo = (&'static str, &'static [NamedMap], &'static str);
-
-/// An outer map, the maps of its sources, the maps of the sources of those, and mappings that are among those of what all
-/// of them compose to.
-pub type ChainOfThree = (
-    &'static str,
-    &'static [NamedMap],
-    &'static [NamedMap],
-    &'static str,
-);
-
-/// Maps that are composed all at once.
-pub fn chains_of_two() -> &'static [ChainOfTwo] {
-    CHAINS_OF_TWO
-}
-
-/// Maps that are composed all at once, and once more.
-pub fn chains_of_three() -> &'static [ChainOfThree] {
-    CHAINS_OF_THREE
-}
-
-const CHAINS_OF_TWO: &[ChainOfTwo] = &[
-${twos.map(row).join('')}];
-
-const CHAINS_OF_THREE: &[ChainOfThree] = &[
-${threes.map(row).join('')}];
-`;
 insist(twos.length + threes.length === ROWS.length, 'a row of another length');
-fs.writeFileSync(path.join(VECTORS, 'chains.rt'), text);
+putRows('compose of chains of maps', __filename, ROWS.flatMap(rowsOf));
 console.log(
   `rows ${twos.length} of two steps, ${threes.length} of three: ` +
     `mappings ${counts.mappings}, without an origin ${counts.unmapped}; remapping ${version}`,

@@ -1,7 +1,7 @@
 #!/usr/bin/env node
-// Writes the vectors for `smap compose`, of the maps in examples/. README.md beside this file says what they are.
+// Makes the rows of `smap compose` of the maps in examples/. README.md beside this file says what they are.
 //
-//   node make-composed.js      writes composed_maps.rt of smap_vectors and prints the counts
+//   node make-composed.js      writes its rows of smap_rows and prints the counts
 //
 // Nothing here is made from smap's own code or output.
 'use strict';
@@ -11,11 +11,11 @@ const path = require('path');
 const { AnyMap, encodedMappings, traceSegment } = require('@jridgewell/trace-mapping');
 const { composedMap } = require('./compose.js');
 const { linesOf } = require('./lookup.js');
+const { file, putFile, putRows, row, run } = require('./rows.js');
 
 const ROOT = path.join(__dirname, '..', '..');
-const VECTORS = path.join(ROOT, 'crates', 'smap_vectors', 'src');
 
-// The test's output holds so many bytes.
+// A row has so many bytes at most.
 const MOST_BYTES = 8000;
 
 function insist(holds, what) {
@@ -65,43 +65,56 @@ function compare(outer, source, inner, written) {
   );
 }
 
-function row(outer, source, inner) {
+function composition(outer, source, inner) {
   const [first, second] = [outer, inner].map(regular);
   const written = composedMap(first, source, second);
   compare(first, source, second, written);
   const text = JSON.stringify(written);
   insist(text.length < MOST_BYTES, `too long: ${text.length}`);
-  const fields = [JSON.stringify(outer), String(source), JSON.stringify(inner), text];
-  insist(!fields.some((field) => /[|\n]/.test(field) || field.includes('"#')), 'a row that is no row');
-  return { line: fields.join('|'), written: JSON.parse(text) };
+  return { outer, source, inner, text, written: JSON.parse(text) };
 }
 
 const [transpiled, comments, minified] = ['preset-react.js', 'convert-comments.cjs', 'preset-react.min.js'].map(example);
 const [bundled, small, indexed] = ['modules.js', 'modules.min.js', 'bundle.js'].map(example);
 
-const two = row(small, 0, bundled);
-const behind = row(bundled, 0, transpiled);
-const three = row(two.written, 1, transpiled);
-const other = row(small, 0, behind.written);
+const two = composition(small, 0, bundled);
+const behind = composition(bundled, 0, transpiled);
+const three = composition(two.written, 1, transpiled);
+const other = composition(small, 0, behind.written);
 insist(JSON.stringify(three.written) === JSON.stringify(other.written), 'the two ways differ');
 
 const rows = [
-  row(minified, 0, transpiled),
+  composition(minified, 0, transpiled),
   two,
   behind,
   three,
   other,
-  row(three.written, 2, comments),
-  row(bundled, 2, transpiled),
-  row(small, 0, indexed),
-  row(indexed, 1, bundled),
+  composition(three.written, 2, comments),
+  composition(bundled, 2, transpiled),
+  composition(small, 0, indexed),
+  composition(indexed, 1, bundled),
 ];
 
-const head = ['Two maps, the source of the first that the second is of, and what they compose to; | between two.'];
-const text = [...head, 'Written by `tests/vectors/make-composed.js`.'].map((line) => `//! ${line}\n`).join('');
-fs.writeFileSync(
-  path.join(VECTORS, 'composed_maps.rt'),
-  `${text}\npub const COMPOSED_MAPS: &str = r#"\n${rows.map(({ line }) => line).join('\n')}\n"#;\n`,
+// The file of a map, which is put into data/ where it first comes.
+const files = [];
+function fileOf(map) {
+  const text = JSON.stringify(map);
+  if (!files.includes(text)) files.push(text);
+  const name = `composed/${files.indexOf(text) + 1}.map`;
+  putFile(name, text);
+  return name;
+}
+
+putRows(
+  'compose of two real maps',
+  __filename,
+  rows.flatMap(({ outer, source, inner, text }) => {
+    const [first, second] = [fileOf(outer), fileOf(inner)];
+    return [
+      run(['compose', first, String(source), second], '', [0, `${text}\n`, '']),
+      row(['compose', file(first), source, file(second), '%K'], [text]),
+    ];
+  }),
 );
 console.log(
   `rows ${rows.length}: mappings ${counts.mappings}, of which followed ${counts.followed}, to an origin ${counts.found}`,

@@ -1,16 +1,15 @@
 #!/usr/bin/env node
-// Writes the vectors for lines that five engines printed, those of engines/lines.txt. README.md beside this file says
+// Makes the rows of lines that five engines printed, those of engines/lines.txt. README.md beside this file says
 // what they are.
 //
-//   node make-engines.js       writes src/engines.rt of smap_vectors and prints the counts
+//   node make-engines.js       writes its rows of smap_rows and prints the counts
 //
 // Nothing here is made from smap's own code or output.
 'use strict';
 
 const fs = require('fs');
 const path = require('path');
-
-const ROOT = path.join(__dirname, '..', '..');
+const { putRows, row } = require('./rows.js');
 
 function insist(holds, what) {
   if (!holds) throw new Error(what);
@@ -35,44 +34,22 @@ function frameOf(line) {
   return groups[0] ?? null;
 }
 
-// ---------------------------------------------------------------------------------------------
-// The file of rows.
-// ---------------------------------------------------------------------------------------------
-
-// Signs for the characters that a field of a row can't hold.
-const SIGNS = { '\n': '␊', '\r': '␍', '\t': '␉', '|': '¦' };
-
-function field(text) {
-  insist(!/"##|[␊␍␉¦]/.test(text), 'a text that is no field');
-  return text.replace(/[\n\r\t|]/g, (character) => SIGNS[character]);
-}
-
 function main() {
   const counts = {};
   const text = fs.readFileSync(path.join(__dirname, 'engines', 'lines.txt'), 'utf8');
-  const rows = text.trimEnd().split('\n').map((row) => {
-    const [, engine, line] = /^([^|]+)\|(.*)$/.exec(row);
+  const rows = text.trimEnd().split('\n').map((listed) => {
+    const [, engine, line] = /^([^|]+)\|(.*)$/.exec(listed);
     const plain = line.replace(/␍/g, '\r').replace(/␉/g, '\t');
     const frame = frameOf(plain);
     counts[engine] ??= [0, 0];
     counts[engine][0] += 1;
     counts[engine][1] += frame ? 1 : 0;
-    if (!frame) return `${field(plain)}\n`;
+    if (!frame) return row(['frame', plain], ['none']);
     const { head, url, line: at, column, tail } = frame;
     insist(`${head}${url}:${at}:${column}${tail}` === plain, `not a frame: ${plain}`);
-    return `${[head, url, at, column, tail].map(field).join('|')}\n`;
+    return row(['frame', plain], [head, url, at, column, tail]);
   });
-  fs.writeFileSync(
-    path.join(ROOT, 'crates', 'smap_vectors', 'src', 'engines.rt'),
-    `//! Lines of stack traces that engines printed. Written by \`tests/vectors/make-engines.js\`.
-//! In a row ␍ stands for CR, ␉ for a tab and ¦ for |.
-
-/// A line that is no frame, as it is; or what a frame has before its URL, the URL, the line, the column, and what it has
-/// behind.
-pub const ENGINE_LINES: &str = r##"
-${rows.join('')}"##;
-`,
-  );
+  putRows('Lines that engines printed', __filename, rows);
   for (const [engine, [lines, frames]] of Object.entries(counts)) console.log(`${engine}: ${lines} lines, ${frames} frames`);
   console.log(`${rows.length} rows`);
 }

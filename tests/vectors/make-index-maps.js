@@ -2,7 +2,7 @@
 // Writes the vectors of index maps, made of pieces of the real maps in examples/. README.md beside this file says
 // what they are.
 //
-//   node make-index-maps.js       writes its files in src/ of smap_vectors and prints the counts
+//   node make-index-maps.js       writes its rows of smap_rows and prints the counts
 //
 // Nothing here is made from smap's own code or output.
 'use strict';
@@ -13,12 +13,12 @@ const { SourceMap } = require('module');
 const codec = require('@jridgewell/sourcemap-codec');
 const { AnyMap, decodedMappings } = require('@jridgewell/trace-mapping');
 const { checked } = require('./checker.js');
-const { isIgnored, linesOf, shownText } = require('./lookup.js');
+const { answersOfAll, isIgnored, linesOf, shownText } = require('./lookup.js');
+const { file, putFile, putRows, row } = require('./rows.js');
 const { chance, below, pick } = require('./chance.js').chanceFrom(426);
 
-// The test reads so many sources and names of a map.
+// The program of the rows lists so many sources and names of a map.
 const MOST_ENTRIES = 100;
-const MOST_BYTES = 150000;
 
 const ROOT = path.join(__dirname, '..', '..');
 
@@ -273,8 +273,12 @@ function isPlainSource(text) {
   return text === null || !/(^|\/)\.\.?\//.test(text);
 }
 
-function mappingText({ line, column, origin }) {
-  return [line, column, ...origin].join(',');
+function numbersOf({ line, column, origin }) {
+  return [line, column, ...origin];
+}
+
+function mappingText(mapping) {
+  return numbersOf(mapping).join(',');
 }
 
 function placeOf({ line, column }) {
@@ -331,7 +335,9 @@ function stated(map) {
   insist(entries.sources.length < MOST_ENTRIES && entries.names.length < MOST_ENTRIES, 'too many entries');
   insist(![...entries.sources, ...entries.names].some((text) => /[|,\s]/.test(text)), 'a text that no row can hold');
   const used = parts.reduce((sum, part) => sum + new Set(part.map(({ line }) => line)).size, 0);
-  return [list.length, used, all, entries.sources.join(','), entries.names.join(',')].join('|');
+  const contents = map.sections.flatMap(({ map: own }) => own.sources.map((_, i) => own.sourcesContent?.[i] ?? 'none'));
+  const texts = [entries.sources, contents, entries.names].map((some) => some.join(','));
+  return { list, held: [list.length, used, all, map.file ?? '-', ...texts] };
 }
 
 // Whether the rules of docs/FORMAT.md accept it.
@@ -376,27 +382,19 @@ addSome('pieces of maps, with roots', 6, () => joined(2 + below(3), someRoots())
 const withoutContent = (key, value) => (key === 'sourcesContent' ? undefined : value);
 add('the map in examples/', JSON.parse(example('bundle.js.map'), withoutContent));
 
-insist(rows.every(([text]) => !/[|\n\r]/.test(text)), 'a map that no row can hold');
-const list = rows.map(([text, wanted]) => `${text}|${wanted}`);
-insist(list.every((row) => !row.includes('"#')), 'a row that ends the constant');
-const file = [
-  '//! Index maps, a row a line: the map, the numbers of its mappings and of the lines that hold one, section by',
-  '//! section, its mappings with a blank between two, and its sources and its names with a comma between two; | between',
-  '//! two of these. A mapping is its line, column, source, original line, original column and name, as far as it has',
-  '//! them, from 0. A source without a name is `none`, and one that is ignored has a `*` after it.',
-  '//! Written by `tests/vectors/make-index-maps.js`.',
-  '',
-  `pub const INDEX_MAPS: &str = r#"\n${list.join('\n')}\n"#;`,
-  '',
-].join('\n');
-insist(file.length < MOST_BYTES, `${file.length} bytes`);
-const FOLDER = path.join(ROOT, 'crates', 'smap_vectors', 'src');
-fs.mkdirSync(FOLDER, { recursive: true });
-fs.writeFileSync(path.join(FOLDER, 'index_maps.rt'), file);
+const EACH = '%K';
+const written = rows.flatMap(([text, { list, held }], i) => {
+  const name = `index/${String(i + 1).padStart(2, '0')}.map`;
+  const { asked, answers } = answersOfAll(list.map(numbersOf));
+  putFile(name, text);
+  // It is read of bytes that are lent, and of bytes that are let go.
+  return [row(['read', file(name), EACH, '-'], [...held, ...held]), row(['look_ups', file(name), EACH, ...asked], answers)];
+});
+putRows('Index maps', __filename, written);
 
 const sections = rows.map(([text]) => JSON.parse(text).sections);
 const flat = sections.flat();
-console.log(`${rows.length} index maps with ${flat.length} sections, ${file.length} bytes`);
+console.log(`${rows.length} index maps with ${flat.length} sections`);
 console.log(tally);
 console.log(`trace-mapping joined ${counts.whole} as a whole, ${counts.bySection} section by section`);
 console.log(`node found ${counts.node} mappings, trace-mapping has ${counts.sources} sources as they are here`);

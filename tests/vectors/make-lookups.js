@@ -1,8 +1,8 @@
 #!/usr/bin/env node
-// Writes the vectors for `smap lookup`, which are all of one map, that of examples/. README.md beside
-// this file says what they are.
+// Makes the rows of `smap lookup` and `smap positions` in one map, that of examples/. README.md beside this file says what
+// they are.
 //
-//   node make-lookups.js       writes its files in src/ of smap_vectors and prints the counts
+//   node make-lookups.js       writes its rows of smap_rows and prints the counts
 //
 // Nothing here is made from smap's own code or output.
 'use strict';
@@ -12,12 +12,13 @@ const path = require('path');
 const { LEAST_UPPER_BOUND, TraceMap, originalPositionFor, traceSegment } = require('@jridgewell/trace-mapping');
 const { SourceMapConsumer } = require('source-map');
 const { checked } = require('./checker.js');
+const { encoded } = require('./compose.js');
 const { excerptOf } = require('./excerpt.js');
-const { linesOf, answerFrom, answerOf, printedLine, spread } = require('./lookup.js');
+const { linesOf, answerFrom, answerOf, answersOfAll, printedLine, spread } = require('./lookup.js');
+const { file, putFile, putRows, row, run } = require('./rows.js');
 
 const NAME = 'preset-react.js.map';
 const MOST = 2147483648;
-const MOST_BYTES = 20 * 1024;
 
 function insist(holds, what) {
   if (!holds) throw new Error(what);
@@ -26,7 +27,6 @@ function insist(holds, what) {
 const bytes = fs.readFileSync(path.join(__dirname, '..', '..', 'examples', NAME));
 const text = bytes.toString('utf8');
 insist(Buffer.from(text, 'utf8').equals(bytes), 'a map that is not UTF-8');
-insist(bytes.length < MOST_BYTES, 'a map that is too large for a constant');
 
 const map = JSON.parse(text);
 const lines = linesOf(map.mappings);
@@ -125,14 +125,13 @@ function compareFrom(line, column, answer) {
   counts.from += 1;
 }
 
-// How many spaces stand before the caret and what shows of the original line, behind a bar each; nothing where no
-// original line shows.
+// The excerpt of the original line, each of its lines with an LF; nothing where no original line shows.
 function shownBehind(answer) {
   if (answer === null || answer.length === 1) return '';
   const [, source, line, column] = answer;
   const content = map.sourcesContent?.[source] ?? null;
   const found = content === null ? null : excerptOf(content, line, column);
-  return found === null ? '' : `|${found.before}|${found.shown}`;
+  return found === null ? '' : `${found.shown}\n${' '.repeat(found.before)}^\n`;
 }
 
 const rows = [];
@@ -147,52 +146,41 @@ for (const [kind, places] of Object.entries(ASKED)) {
     const answer = answerOf(lines, line, column);
     compare(line, column, answer);
     const expected = printedLine(map, answer);
-    insist(!/[|\n\r]/.test(expected), 'a line that no row can hold');
-    rows.push(`${line}|${column}|${expected}${shownBehind(answer)}`);
+    rows.push({ line, column, place: expected, shown: shownBehind(answer) });
     const next = answerFrom(lines, line, column);
     compareFrom(line, column, next);
-    rowsFrom.push(`${line}|${column}|${printedLine(map, next)}${shownBehind(next)}`);
+    rowsFrom.push({ line, column, place: printedLine(map, next), shown: shownBehind(next) });
     tally[kind] = (tally[kind] || 0) + 1;
   }
 }
 
-const folder = path.join(__dirname, '..', '..', 'crates', 'smap_vectors', 'src');
-fs.mkdirSync(folder, { recursive: true });
+const MAP = 'example.map';
+const EACH = '%K';
 
-function writeConstant(file, what, constant) {
-  fs.writeFileSync(path.join(folder, file), [...what, '', constant, ''].join('\n'));
+function lookups(flags, some) {
+  return some.map(({ line, column, place, shown }) =>
+    run(['lookup', ...flags, '--interval', EACH, MAP, String(line), String(column)], '', [0, `${place}\n${shown}`, '']),
+  );
 }
 
-insist(rows.every((row) => !row.includes('"#')), 'a row that ends the constant');
-writeConstant(
-  'lookups.rt',
-  [
-    '//! Look-ups in the example map, a row a line: LINE, COLUMN, and the line that is printed; and where an original line shows,',
-    '//! how many spaces stand before the caret, and what shows of the line; with | between two.',
-    '//! Written by `tests/vectors/make-lookups.js`.',
-  ],
-  `pub const LOOKUPS: &str = r#"\n${rows.join('\n')}\n"#;`,
-);
+function positions(flags, some) {
+  const input = some.map(({ line, column }) => `${line}:${column}\n`).join('');
+  return run(['positions', ...flags, MAP], input, [0, some.map(({ place }) => `${place}\n`).join(''), '']);
+}
 
-insist(rowsFrom.every((row) => !/"#|[\n\r]/.test(row)), 'a row that ends the constant');
-writeConstant(
-  'lookups_after.rt',
-  [
-    '//! Look-ups in the other direction in the example map, at the places of `lookups.rt`, and written as they are there.',
-    '//! Written by `tests/vectors/make-lookups.js`.',
-  ],
-  `pub const LOOKUPS_AFTER: &str = r#"\n${rowsFrom.join('\n')}\n"#;`,
-);
+// The map as it is written anew: with its keys in the order of their bytes, and no empty lines at the end of its mappings.
+const KEYS = ['file', 'mappings', 'names', 'sources', 'sourcesContent', 'version'];
+insist(Object.keys(map).sort().join() === KEYS.join(), 'a key that this map did not have');
+const { asked, answers } = answersOfAll(lines.flatMap((line, i) => line.map((segment) => [i, ...segment])));
 
-insist(!text.includes('"#') && !text.includes('\r'), 'a map that the constant cannot hold');
-writeConstant(
-  'example_map.rt',
-  [
-    `//! The map file \`examples/${NAME}\`, byte for byte.`,
-    '//! Written by `tests/vectors/make-lookups.js`.',
-  ],
-  `pub const EXAMPLE_MAP: &str =\n    r#"${text}"#;`,
-);
+putFile(MAP, text);
+putRows('lookup in a real map', __filename, lookups([], rows));
+putRows('lookup --after in a real map', __filename, lookups(['--after'], rowsFrom));
+putRows('positions of a real map in one run', __filename, [positions([], rows), positions(['--after'], rowsFrom)]);
+putRows('The real map', __filename, [
+  run(['show', MAP], '', [0, `${JSON.stringify({ ...map, mappings: encoded(lines) }, KEYS)}\n`, '']),
+  row(['look_ups', file(MAP), EACH, ...asked], answers),
+]);
 
 const used = lines.filter((line) => line.length > 0).length;
 // At every 64th segment of a line.

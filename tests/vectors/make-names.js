@@ -1,13 +1,12 @@
 #!/usr/bin/env node
-// Writes the vectors for the names of sources. README.md beside this file says what they are.
+// Makes the rows of the names of sources. README.md beside this file says what they are.
 //
-//   node make-names.js       writes src/names.rt of smap_vectors and prints the counts
+//   node make-names.js       writes its rows of smap_rows and prints the counts
 //
 // The answers are those of node's `new URL`; nothing here is made from smap's own code or output.
 'use strict';
 
-const fs = require('fs');
-const path = require('path');
+const { putRows, row } = require('./rows.js');
 
 function insist(holds, what) {
   if (!holds) throw new Error(what);
@@ -103,23 +102,14 @@ const rows = asked.map(([root, source, base]) => {
   const fields = [root ?? '-', source, base ?? '-', ...nameOf(root, source, base)];
   insist(fields.every((field) => !/[|\t\r\n]/.test(field)), `a field that no row can hold: ${fields}`);
   insist(root !== '-' && base !== '-', 'a text that stands for none');
-  return fields.join('|');
+  return fields;
 });
 
-insist(new Set(rows).size === rows.length, 'a row stands twice');
-insist(rows.every((row) => !row.includes('"#')), 'a row that ends the constant');
+insist(new Set(rows.map((fields) => fields.join('|'))).size === rows.length, 'a row stands twice');
 
-const folder = path.join(__dirname, '..', '..', 'crates', 'smap_vectors', 'src');
-fs.mkdirSync(folder, { recursive: true });
-fs.writeFileSync(
-  path.join(folder, 'names.rt'),
-  `//! Names of sources, a row a line: root, source, base, name, and whether that is a URL or the text, with | between two.
-//! A root or a base that is absent is a -. Written by \`tests/vectors/make-names.js\`.
-
-pub const NAMES: &str = r#"
-${rows.join('\n')}
-"#;
-`,
+putRows(
+  'Names of sources',
+  __filename,
+  rows.map(([root, source, base, ...name]) => row(['resolve', root, source, base], name)),
 );
-
-console.log(`${rows.length} rows, ${rows.filter((row) => row.endsWith('|url')).length} of them URLs`);
+console.log(`${rows.length} rows, ${rows.filter((fields) => fields.at(-1) === 'url').length} of them URLs`);

@@ -1,35 +1,21 @@
 #!/usr/bin/env node
-// Writes the vectors for lines, UTF-16 places and excerpts. README.md beside this file says what they are.
+// Makes the rows of lines, UTF-16 places and excerpts. README.md beside this file says what they are.
 //
-//   node make-places.js       writes src/places.rt of smap_vectors and prints the counts
+//   node make-places.js       writes its rows of smap_rows and prints the counts
 //
 // The answers are those of node's own strings: `split`, `length`, `codePointAt` and `Array.from`; nothing here is made from
 // smap's own code or output.
 'use strict';
 
-const fs = require('fs');
-const path = require('path');
 const { linesOfText, excerptOf } = require('./excerpt.js');
+const { putRows, row } = require('./rows.js');
 
 function insist(holds, what) {
   if (!holds) throw new Error(what);
 }
 
-// ---------------------------------------------------------------------------------------------
-// Signs for the characters that a row can't hold.
-// ---------------------------------------------------------------------------------------------
-
-const SIGNS = new Map([
-  ['\n', '\u240A'], ['\r', '\u240D'], ['\u2028', '\u2193'], ['\u2029', '\u00B6'], ['\t', '\u2409'], ['\0', '\u2400'],
-  ['\u001f', '\u241F'], ['\u007f', '\u2421'], ['\u000B', '\u240B'], ['\u000C', '\u240C'], ['\u202A', '\u2039'],
-  ['\u0080', '\u2302'], ['\u0085', '\u21B5'],
-]);
-
-function signed(text) {
-  for (const sign of SIGNS.values()) insist(!text.includes(sign), 'a sign that stands for itself');
-  insist(!text.includes('|'), 'a bar');
-  return Array.from(text, (char) => SIGNS.get(char) ?? char).join('');
-}
+// Where there is none, a second field says that this is no text.
+const NONE = ['none', ''];
 
 // ---------------------------------------------------------------------------------------------
 // Lines and places.
@@ -72,9 +58,9 @@ function placeOf(text, column) {
 const places = CONTENTS.flatMap(([content, columns]) => {
   const lines = linesOfText(content);
   const rows = lines.flatMap((text, line) =>
-    columns.map((column) => `${line}|${column}|${signed(content)}|${placeOf(text, column)}|${text.length}|${signed(text)}`),
+    columns.map((column) => ({ content, line, column, text })),
   );
-  return [...rows, `${lines.length}|${columns[0]}|${signed(content)}|none`];
+  return [...rows, { content, line: lines.length, column: columns[0], text: null }];
 });
 
 // ---------------------------------------------------------------------------------------------
@@ -108,36 +94,22 @@ const EXCERPTS = [
 const excerpts = EXCERPTS.flatMap(([text, times, line, columns]) =>
   columns.map((column) => {
     const found = excerptOf(text.repeat(times), line, column);
-    return `${signed(text)}|${times}|${line}|${column}|${found === null ? 'none' : `${found.before}|${signed(found.shown)}`}`;
+    const shown = found === null ? NONE : [`${found.shown}\n${' '.repeat(found.before)}^`];
+    return row(['excerpt', text.repeat(times), line, column], shown);
   }),
 );
 
-// ---------------------------------------------------------------------------------------------
-// The file.
-// ---------------------------------------------------------------------------------------------
-
-const HEAD = `//! Places in texts, and excerpts. Written by \`tests/vectors/make-places.js\`.
-//! In a text \u240A stands for LF, \u240D for CR, \u2193 for U+2028, \u00B6 for U+2029, \u2409 for a tab, \u240B and \u240C for U+000B and
-//! U+000C, \u2400 for U+0000, \u241F for U+001F, \u2421 for U+007F, \u2302 for U+0080, \u21B5 for U+0085,
-//! and \u2039 for U+202A.
-
-/// A line and a column, from 0; a content; and where the column stands in the line, how many units the line has, and the
-/// line; or \`none\`.
-pub const PLACES: &str = r#"
-`;
-const BETWEEN = `
-"#;
-
-/// A text, and how many times it stands in the content; a line and a column, from 0; and how many spaces stand before the
-/// caret, and what shows of the line; or \`none\`.
-pub const EXCERPTS: &str = r#"
-`;
-
-for (const rows of [places, excerpts]) {
-  insist(new Set(rows).size === rows.length, 'a row that stands twice');
-  for (const row of [rows[0], rows[rows.length - 1]]) insist(row === row.trim(), 'a row that is trimmed');
-  for (const row of rows) insist(row !== '' && !row.includes('"#'), 'a row that ends the list');
-}
-const file = path.join(__dirname, '..', '..', 'crates', 'smap_vectors', 'src', 'places.rt');
-fs.writeFileSync(file, `${HEAD}${places.join('\n')}${BETWEEN}${excerpts.join('\n')}\n"#;\n`);
+putRows(
+  'Lines and places in them',
+  __filename,
+  places.flatMap(({ content, line, column, text }) => {
+    if (text === null) return [row(['line_at', content, line], NONE)];
+    return [
+      row(['line_at', content, line], [text]),
+      row(['units', text], [text.length]),
+      row(['unit_place', text, column], [placeOf(text, column)]),
+    ];
+  }),
+);
+putRows('Excerpts', __filename, excerpts);
 console.log(`places ${places.length} excerpts ${excerpts.length}`);

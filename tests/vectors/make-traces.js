@@ -1,8 +1,8 @@
 #!/usr/bin/env node
-// Writes the vectors for stack traces, of the traces and maps in traces/ and of those in examples/. README.md beside
-// this file says what they are.
+// Makes the rows of stack traces, of the traces and maps in traces/ and of those in examples/. README.md beside this file
+// says what they are.
 //
-//   node make-traces.js       writes src/traces.rt of smap_vectors and prints the counts
+//   node make-traces.js       writes its rows of smap_rows and prints the counts
 //
 // Nothing here is made from smap's own code or output.
 'use strict';
@@ -11,6 +11,7 @@ const fs = require('fs');
 const path = require('path');
 const { AnyMap, traceSegment } = require('@jridgewell/trace-mapping');
 const { SourceMapConsumer } = require('source-map');
+const { file, putFile, putRows, row, words } = require('./rows.js');
 
 const ROOT = path.join(__dirname, '..', '..');
 
@@ -215,55 +216,62 @@ function rewritten(text, hide) {
 }
 
 // ---------------------------------------------------------------------------------------------
-// The file of rows.
+// The rows.
 // ---------------------------------------------------------------------------------------------
-
-// Signs for the characters that a field of a row can't hold.
-const SIGNS = { '\n': '␊', '\r': '␍', '\t': '␉', '|': '¦' };
-
-function field(text) {
-  insist(!/"#|[␊␍␉¦]/.test(text), 'a text that is no field');
-  return text.replace(/[\n\r\t|]/g, (character) => SIGNS[character]);
-}
-
-function row(fields) {
-  return `${fields.map(field).join('|')}\n`;
-}
 
 const total = { lines: 0, frames: 0, mapped: 0, hidden: 0 };
 const traces = TRACES.map((file) => fs.readFileSync(path.join(ROOT, file), 'utf8'));
 const rows = traces.map((trace) => {
-  const { text, summary: { hidden, ...summary } } = rewritten(trace, false);
-  for (const key of Object.keys(summary)) total[key] += summary[key];
-  return row([Object.values(summary).join(' '), trace, text]);
+  const { text, summary } = rewritten(trace, false);
+  for (const key of ['lines', 'frames', 'mapped']) total[key] += summary[key];
+  return { trace, counts: Object.values(summary), text };
 });
 const hiding = traces.map((trace) => {
   const { text, summary } = rewritten(trace, true);
   total.hidden += summary.hidden;
-  return row([Object.values(summary).join(' '), text]);
+  return { counts: Object.values(summary), text };
 });
-const maps = MAPS.map(({ url, path: name, map }) => row([url, name, JSON.stringify(map)]));
+const maps = MAPS.map(({ url, path: name, map }) => ({ url, name: `traces/${name}`, text: JSON.stringify(map) }));
 
 for (const [kind, count] of Object.entries(counts)) insist(count > 0, `there is no ${kind}`);
 
-fs.writeFileSync(
-  path.join(ROOT, 'crates', 'smap_vectors', 'src', 'traces.rt'),
-  `//! Stack traces that node printed, and their maps. Written by \`tests/vectors/make-traces.js\`.
-//! In a text ␊ stands for LF, ␍ for CR, ␉ for a tab and ¦ for |.
+const EACH = '%K';
+const SOUND = '8192/0';
+// How many bytes a call of standard input and of standard output moves.
+const PIECES = [['8192/0', '8192/0'], ['1/0', '8192/0'], ['7/0', '1/0']];
+const NAMED = maps.map(({ url, name }) => `${url}=${name}`);
+const TABLE = maps.flatMap(({ url, name }) => [url, file(name)]);
 
-/// A URL, a path, and the map of what ran under the URL.
-pub const TRACE_MAPS: &str = r#"
-${maps.join('')}"#;
+function traceRows({ trace, counts: shown, text }, i) {
+  const name = `traces/${i + 1}.txt`;
+  putFile(name, trace);
+  const ran = (flags, output) =>
+    PIECES.map((pieces) =>
+      row(['run_over', ...pieces, SOUND, words('rewrite', ...flags, '--interval', EACH, ...NAMED), file(name)], [0, output, '']),
+    );
+  const called = (how, summary, output) =>
+    row(['rewrite', SOUND, SOUND, how, EACH, file(name), ...TABLE], [summary.join(' '), output]);
+  const hidden = hiding[i];
+  return [
+    ...ran([], text),
+    ...ran(['--hide-ignored'], hidden.text),
+    called('show', shown, text),
+    called('hide', hidden.counts, hidden.text),
+  ];
+}
 
-/// How many lines a trace has, how many are frames, and how many of these are mapped; the trace; and what it becomes.
-pub const TRACES: &str = r#"
-${rows.join('')}"#;
+// Of a trace the frames that are replaced, as a text of their own: they are places too.
+function alike({ trace, text }) {
+  const after = text.split('\n');
+  const pairs = trace.split('\n').map((line, i) => [line, after[i]]);
+  const replaced = pairs.filter(([line, written]) => line !== written);
+  const [asked, written] = [0, 1].map((k) => replaced.map((pair) => pair[k]).join('\n'));
+  const n = replaced.length;
+  return row(['rewrite_places', SOUND, SOUND, 1000000, 64, asked, ...TABLE], [`${n} ${n} ${n} 0`, written]);
+}
 
-/// Of the same traces, with the frames of ignored sources hidden: how many lines there are, frames, mapped frames and
-/// hidden ones; and what the trace becomes.
-pub const HIDDEN_TRACES: &str = r#"
-${hiding.join('')}"#;
-`,
-);
+for (const { name, text } of maps) putFile(name, text);
+putRows('Traces of node over their maps', __filename, rows.flatMap(traceRows));
+putRows('Frames that are places alike', __filename, rows.map(alike));
 console.log(`${rows.length} traces, ${total.lines} lines, ${total.frames} frames, ${total.mapped} mapped, ${total.hidden} to be hidden`);
 for (const [kind, count] of Object.entries(counts)) console.log(`${String(count).padStart(5)} ${kind}`);

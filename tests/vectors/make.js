@@ -1,7 +1,7 @@
 #!/usr/bin/env node
-// Writes the vectors for `smap raw`. README.md beside this file says what they are.
+// Makes the rows of `raw` and of mappings texts. README.md beside this file says what they are.
 //
-//   node make.js               writes its files in src/ of smap_vectors and prints the counts
+//   node make.js               writes its rows of smap_rows and prints the counts
 //   node make.js check FILE    says whether the mappings text in FILE is accepted
 //
 // Nothing here is made from smap's own code or output.
@@ -21,6 +21,8 @@ if (process.argv[2] === 'check') {
 }
 
 const { chance, below, pick } = require('./chance.js').chanceFrom(20426);
+const { firstFrom, lastBefore } = require('./lookup.js');
+const { atEach, putRows, row, run } = require('./rows.js');
 
 // ---------------------------------------------------------------------------------------------
 // Answers: the decoding is that of @jridgewell/sourcemap-codec, and where a text has empty pieces,
@@ -136,10 +138,10 @@ const seen = new Set();
 
 function write(line, column, expected, text) {
   insist(!/[|\n\r]/.test(text), 'a text that no row can hold');
-  const row = `${line}|${column}|${text}|${expected}`;
-  if (seen.has(row)) return false;
-  seen.add(row);
-  rows.push({ expected, row, text });
+  const key = `${line}|${column}|${text}|${expected}`;
+  if (seen.has(key)) return false;
+  seen.add(key);
+  rows.push({ line, column, text, expected });
   return true;
 }
 
@@ -417,47 +419,58 @@ makeAnswers();
 const answers = rows.length;
 makeRefusals();
 
-const FOLDER = path.join(__dirname, '..', '..', 'crates', 'smap_vectors', 'src');
+// Each text that has an answer, with its mappings, all numbers from 0.
+const decoded = [...new Set(rows.slice(0, answers).map(({ text }) => text))].map((text) => {
+  const lines = linesOf(text);
+  const list = lines.flatMap((line, number) => line.map((segment) => [number, ...segment]));
+  const used = lines.filter((line) => line.length > 0);
+  const held = [list.length, used.length, list.map((mapping) => mapping.join(',')).join(' ')];
+  // At every so many segments of a line.
+  const checkpointsAt = (interval) => used.reduce((sum, line) => sum + Math.ceil(line.length / interval), 0);
+  return { text, list, held, checkpointsAt };
+});
 
-// One constant a file: a row a line, as it stands.
-function writeRows(file, name, what, some) {
-  const list = some.map(({ row }) => row);
-  insist(list.every((row) => !row.includes('"#')), 'a row that ends the constant');
-  const text = [
-    `//! ${what}, a row a line: LINE, COLUMN, the text, and what is printed, with | between two.`,
-    '//! Written by `tests/vectors/make.js`.',
-    '',
-    `pub const ${name}: &str = r#"\n${list.join('\n')}\n"#;`,
-    '',
-  ].join('\n');
-  fs.mkdirSync(FOLDER, { recursive: true });
-  fs.writeFileSync(path.join(FOLDER, file), text);
+const EACH = '%K';
+
+putRows(
+  'Mappings of texts and indexes',
+  __filename,
+  decoded.flatMap(({ text, held, checkpointsAt }) => [
+    row(['decode', text], held),
+    row(['next', text], held),
+    row(['index', text, EACH], atEach((interval) => [...held, checkpointsAt(interval)])),
+  ]),
+);
+
+// The places of the mappings, those beside them, and those below on the next line.
+function placesAround(list) {
+  const around = list.flatMap(([line, column]) =>
+    [line, line + 1].flatMap((on) => [0, Math.max(column - 1, 0), column, column + 1].map((at) => `${on},${at}`)),
+  );
+  const places = [...new Set(around)].map((place) => place.split(',').map(Number));
+  return places.sort((one, other) => one[0] - other[0] || one[1] - other[1]);
 }
 
-// The counts and the mappings of each text that has an answer, all numbers from 0.
-function writeMappings() {
-  const list = [...new Set(rows.slice(0, answers).map(({ text }) => text))].map((text) => {
-    const lines = linesOf(text);
-    const words = lines.flatMap((line, number) => line.map((segment) => [number, ...segment].join(',')));
-    const used = lines.filter((line) => line.length > 0).length;
-    return `${text}|${words.length}|${used}|${words.join(' ')}`;
-  });
-  const text = [
-    '//! Texts with their mappings: the text, how many mappings it has, how many lines that hold one, and the',
-    '//! mappings with a blank between two; | between two of these. A mapping is its line, column, source, original',
-    '//! line, original column and name, as far as it has them, from 0.',
-    '//! Written by `tests/vectors/make.js`.',
-    '',
-    `pub const MAPPINGS: &str = r#"\n${list.join('\n')}\n"#;`,
-    '',
-  ].join('\n');
-  fs.mkdirSync(FOLDER, { recursive: true });
-  fs.writeFileSync(path.join(FOLDER, 'mappings.rt'), text);
+putRows(
+  'Look-ups around each mapping',
+  __filename,
+  decoded.flatMap(({ text, list }) => {
+    const places = placesAround(list);
+    const asked = places.map((place) => place.join(',')).join(' ');
+    const answered = (answer) => [places.map(([line, column]) => answer(list, line, column)).join(' '), 'few'];
+    if (places.length === 0) return [];
+    return [row(['look_up', text, EACH, asked], answered(lastBefore)), row(['look_up_from', text, EACH, asked], answered(firstFrom))];
+  }),
+);
+
+function runs(some, answer) {
+  return some.map(({ text, line, column, expected }) =>
+    run(['raw', '--interval', EACH, String(line), String(column)], text, answer(expected)),
+  );
 }
 
-writeRows('answers.rt', 'ANSWERS', 'Answers', rows.slice(0, answers));
-writeRows('refusals.rt', 'REFUSALS', 'Refusals', rows.slice(answers));
-writeMappings();
+putRows('raw: look-ups in texts that are accepted', __filename, runs(rows.slice(0, answers), (line) => [0, `${line}\n`, '']));
+putRows('raw: texts that are refused', __filename, runs(rows.slice(answers), (line) => [1, '', `${line}\n`]));
 
 const tally = {};
 for (const { expected } of rows) {

@@ -1,0 +1,62 @@
+//! Maps composed.
+use crate::answer::Answer;
+use crate::fault::RowFault;
+use crate::maps::map_of;
+use crate::row::Row;
+use smap_compose::{ComposeRefusal, Composed, compose};
+use smap_record::MapFile;
+
+/// An outer map, a source of it, an inner map and an interval: what is written of the composed map, or why
+/// there is none.
+pub fn two(row: &Row<'_>, answer: &mut Answer) -> Result<(), RowFault> {
+    let interval = row.number(4)?;
+    let (outer, inner) = (map_of(row, 1, interval)?, map_of(row, 3, interval)?);
+    let composed = compose(row.alloc(), &outer, row.number(2)?, &inner);
+    put_composed(row, answer, composed)
+}
+
+fn put_composed(
+    row: &Row<'_>,
+    answer: &mut Answer,
+    composed: Result<Composed, ComposeRefusal>,
+) -> Result<(), RowFault> {
+    match composed {
+        Ok(composed) => answer.put(&composed.write(row.alloc())?),
+        Err(refusal) => answer.put_text(&format!(in row.alloc(); "{refusal:?}")?),
+    }
+}
+
+/// Three maps, each with a source of the one before it, and an interval: what is written where the first two are composed
+/// first, and where the last two are. The fields are a map, a source, a map, a source, a map, and the interval.
+pub fn three(row: &Row<'_>, answer: &mut Answer) -> Result<(), RowFault> {
+    let interval = row.number(6)?;
+    let first = map_of(row, 1, interval)?;
+    let second = map_of(row, 3, interval)?;
+    let third = map_of(row, 5, interval)?;
+    let (source, after) = (row.number(2)?, row.number(4)?);
+    let two = composed_map(row, &first, source, &second, interval)?;
+    let Ok(sources) = u32::try_from(first.sources()) else {
+        return Err(RowFault::BadNumber);
+    };
+    let place = sources.saturating_add(after);
+    put_composed(row, answer, compose(row.alloc(), &two, place, &third))?;
+    let two = composed_map(row, &second, after, &third, interval)?;
+    put_composed(row, answer, compose(row.alloc(), &first, source, &two))
+}
+
+// The map that is read of what two maps compose to.
+fn composed_map(
+    row: &Row<'_>,
+    outer: &MapFile,
+    source: u32,
+    inner: &MapFile,
+    interval: u32,
+) -> Result<MapFile, RowFault> {
+    let Ok(composed) = compose(row.alloc(), outer, source, inner) else {
+        return Err(RowFault::Refused);
+    };
+    match MapFile::read_owned(row.alloc(), composed.write(row.alloc())?, None, interval) {
+        Ok(map) => Ok(map),
+        Err(_) => Err(RowFault::Refused),
+    }
+}

@@ -1,0 +1,76 @@
+//! Indexes of one text.
+use crate::answer::Answer;
+use crate::fault::RowFault;
+use crate::lists::answer_text;
+use crate::row::{Row, number_in};
+use crate::texts::{packed, put_held};
+use smap_index::{Index, Part};
+use smap_mappings::Meter;
+
+/// The two look-ups.
+#[derive(Clone, Copy)]
+pub enum Direction {
+    Before,
+    After,
+}
+
+// The index of a row's text, with checkpoints at its interval.
+fn index_of(row: &Row<'_>) -> Result<Index, RowFault> {
+    let mut parts = Vec::new(row.alloc());
+    parts.push(Part {
+        line: 0,
+        column: 0,
+        text: packed(row, 1)?,
+        source_base: 0,
+        name_base: 0,
+    })?;
+    match Index::build(row.alloc(), parts, row.number(2)?) {
+        Ok(index) => Ok(index),
+        Err(_) => Err(RowFault::Refused),
+    }
+}
+
+/// A text and an interval: the mappings of its index, and how many checkpoints that has.
+pub fn index(row: &Row<'_>, answer: &mut Answer) -> Result<(), RowFault> {
+    let index = index_of(row)?;
+    let list = index.decode_all(row.alloc())?;
+    put_held(row, answer, index.segments(), index.used_lines(), &list)?;
+    answer.put_number(index.checkpoints())
+}
+
+/// A text, an interval, and positions: a line and a column from 0 with a comma between them, and a blank between two. What
+/// answers at each, and whether no look-up took more steps than it may.
+pub fn look_up(row: &Row<'_>, answer: &mut Answer, way: Direction) -> Result<(), RowFault> {
+    let (index, interval) = (index_of(row)?, row.number(2)?);
+    let mut text = String::new(row.alloc());
+    let mut are_few = true;
+    for position in row.field(3)?.split(' ') {
+        let (line, column) = position_in(position)?;
+        let mut meter = Meter::new(row.alloc());
+        let found = match way {
+            Direction::Before => index.look_up(line, column, &mut meter),
+            Direction::After => index.look_up_from(line, column, &mut meter),
+        };
+        are_few = are_few && is_few(&meter, index.checkpoints(), interval);
+        if !text.is_empty() {
+            text.push(' ')?;
+        }
+        text.push_str(&answer_text(row.alloc(), &found)?)?;
+    }
+    answer.put_text(&text)?;
+    answer.put_text(if are_few { "few" } else { "many" })
+}
+
+fn position_in(text: &str) -> Result<(u32, u32), RowFault> {
+    match text.split_once(',') {
+        Some((line, column)) => Ok((number_in(line)?, number_in(column)?)),
+        None => Err(RowFault::BadNumber),
+    }
+}
+
+/// Whether a look-up compared at most as many checkpoints as their number has binary digits, and decoded fewer segments than
+/// the interval.
+pub fn is_few(meter: &Meter, checkpoints: u64, interval: u32) -> bool {
+    let digits = u64::BITS.saturating_sub(checkpoints.leading_zeros());
+    meter.comparisons() <= u64::from(digits) && meter.segments() < u64::from(interval)
+}

@@ -1,0 +1,153 @@
+//! Asks calls of smap what rows of text say, and writes what comes of it: a line for each line of standard input.
+//!
+//! A row is a call and its fields, with a TAB between two, and its answer has as many fields as the call gives, so that line
+//! N of standard output answers line N of standard input. `tests/vectors/README.md` has the calls. A line that begins with
+//! `#` is written as it is. A field of a row that is `%K` stands for 1, 2, 3, 64 and 4096 in turn; what comes of each is
+//! written once where it is the same for all, and else one behind another. A line that is no row ends the run, with status 1.
+#![tactic(auto)]
+
+mod answer;
+mod composing;
+mod contents;
+mod devices;
+mod escapes;
+mod fault;
+mod files;
+mod indexes;
+mod lists;
+mod look_ups;
+mod maps;
+mod numbers;
+mod parsed;
+mod positions;
+mod row;
+mod runs;
+mod sources;
+mod texts;
+mod traces;
+mod usage;
+
+use answer::Answer;
+use fault::RowFault;
+use indexes::Direction;
+use row::{EACH, Row};
+use smap_io::{ByteSink, FromStd, read_all, write_all};
+use std::process::ExitCode;
+
+// How many bytes all rows have at most.
+const MOST_BYTES: usize = 67_108_864;
+
+const INTERVALS: [u32; 5] = [1, 2, 3, 64, 4_096];
+
+fn main(rt: HostRuntime) -> ExitCode {
+    let mut output = FromStd::new(rt.stdout());
+    match answer_rows(&rt, &mut output) {
+        Ok(()) => ExitCode::SUCCESS,
+        Err(_) => ExitCode::FAILURE,
+    }
+}
+
+// Answers each row of standard input. The first that is none is reported where its answer would stand.
+fn answer_rows<W: ByteSink>(rt: &HostRuntime, output: &mut W) -> Result<(), RowFault> {
+    let bytes = read_all(rt.alloc(), &mut FromStd::new(rt.stdin()), MOST_BYTES)?;
+    let Ok(rows) = str::from_utf8(&bytes) else {
+        return Err(RowFault::NotText);
+    };
+    for (number, row) in rows.lines().enumerate() {
+        match answered(rt, row) {
+            Ok(mut line) => {
+                line.push(b'\n')?;
+                write_all(output, &line)?;
+            }
+            Err(fault) => {
+                let line = format!(in rt.alloc();
+                    "refused: row {}: {fault:?}\n",
+                    number.saturating_add(1)
+                )?;
+                write_all(output, line.as_bytes())?;
+                return Err(fault);
+            }
+        }
+    }
+    Ok(())
+}
+
+// The answer to one row, or the answers at the intervals.
+fn answered(rt: &HostRuntime, line: &str) -> Result<Vec<u8>, RowFault> {
+    if line.starts_with('#') {
+        return Ok(line.as_bytes().to_vec(rt.alloc())?);
+    }
+    if !line.contains(EACH) {
+        return answered_at(rt, line, 64);
+    }
+    let mut lines = Vec::new(rt.alloc());
+    let mut are_same = true;
+    for interval in INTERVALS {
+        let line = answered_at(rt, line, interval)?;
+        are_same = are_same && (lines.is_empty() || lines.last() == Some(&line));
+        lines.push(line)?;
+    }
+    joined(rt, &lines, are_same)
+}
+
+fn joined(rt: &HostRuntime, lines: &[Vec<u8>], are_same: bool) -> Result<Vec<u8>, RowFault> {
+    let mut line = Vec::new(rt.alloc());
+    for (number, one) in lines.iter().enumerate() {
+        if number > 0 && are_same {
+            break;
+        }
+        if number > 0 {
+            line.push(b'\t')?;
+        }
+        line.extend_from_slice(one)?;
+    }
+    Ok(line)
+}
+
+fn answered_at(rt: &HostRuntime, line: &str, interval: u32) -> Result<Vec<u8>, RowFault> {
+    let row = Row::new(rt, line, interval)?;
+    let mut answer = Answer::new(rt.alloc());
+    answer_row(&row, &mut answer)?;
+    Ok(answer.into_line())
+}
+
+// Asks the call that a row names.
+fn answer_row(row: &Row<'_>, answer: &mut Answer) -> Result<(), RowFault> {
+    match row.field(0)? {
+        "read_vlq" => numbers::read(row, answer),
+        "write_vlq" => numbers::write(row, answer),
+        "check" => texts::check(row, answer),
+        "decode" => texts::decode(row, answer),
+        "next" => texts::next(row, answer),
+        "encode" => texts::encode_list(row, answer),
+        "index" => indexes::index(row, answer),
+        "look_up" => indexes::look_up(row, answer, Direction::Before),
+        "look_up_from" => indexes::look_up(row, answer, Direction::After),
+        "look_ups" => look_ups::answer(row, answer),
+        "resolve" => sources::answer(row, answer),
+        "line_at" => contents::line(row, answer),
+        "units" => contents::count(row, answer),
+        "unit_place" => contents::place(row, answer),
+        "excerpt" => contents::shown(row, answer),
+        _ => answer_file_row(row, answer),
+    }
+}
+
+// The calls over maps, traces and command lines.
+fn answer_file_row(row: &Row<'_>, answer: &mut Answer) -> Result<(), RowFault> {
+    match row.field(0)? {
+        "read" => maps::read(row, answer),
+        "write" => maps::write(row, answer),
+        "compose" => composing::two(row, answer),
+        "compose_three" => composing::three(row, answer),
+        "frame" => traces::parts(row, answer),
+        "rewrite" => traces::frames(row, answer),
+        "rewrite_places" => traces::places(row, answer),
+        "read_position" => positions::answer(row, answer),
+        "parse" => parsed::answer(row, answer),
+        "mistake" => parsed::mistake(row, answer),
+        "run" => runs::over_sound(row, answer),
+        "run_over" => runs::over(row, answer),
+        _ => Err(RowFault::UnknownCall),
+    }
+}

@@ -1,0 +1,77 @@
+//! Stack traces: frames, and what a trace becomes over a table of maps.
+use crate::answer::Answer;
+use crate::devices::{sink, source};
+use crate::fault::RowFault;
+use crate::maps::map_at;
+use crate::row::Row;
+use smap_io::MemorySink;
+use smap_places::rewrite_places;
+use smap_record::Url;
+use smap_trace::{RewriteFault, Summary, Table, frame, rewrite};
+
+/// A line: the parts of the frame that it is, or `none`.
+pub fn parts(row: &Row<'_>, answer: &mut Answer) -> Result<(), RowFault> {
+    let line = row.bytes(1)?;
+    let Some(frame) = frame(&line) else {
+        return answer.put_text("none");
+    };
+    answer.put(frame.head)?;
+    answer.put(frame.url)?;
+    answer.put_number(u64::from(frame.line))?;
+    answer.put_number(u64::from(frame.column))?;
+    answer.put(frame.tail)
+}
+
+// The table of the maps of a row, from this field on: the URL of each, which is its base where it is one, and the map.
+fn table_of(row: &Row<'_>, first: usize, interval: u32) -> Result<Table, RowFault> {
+    let mut table = Table::new(row.alloc());
+    for number in (first..row.count()).step_by(2) {
+        let url = row.text(number)?;
+        let base = Url::parse(row.alloc(), url.as_str()).ok();
+        let map = map_at(row, number.saturating_add(1), base.as_ref(), interval)?;
+        if table.add(url, map).is_err() {
+            return Err(RowFault::Refused);
+        }
+    }
+    Ok(table)
+}
+
+fn put_outcome(
+    row: &Row<'_>,
+    answer: &mut Answer,
+    outcome: Result<Summary, RewriteFault>,
+    output: &MemorySink,
+) -> Result<(), RowFault> {
+    match outcome {
+        Ok(summary) => {
+            let (lines, frames) = (summary.lines, summary.frames);
+            let (mapped, hidden) = (summary.mapped, summary.hidden);
+            let counts = format!(in row.alloc(); "{lines} {frames} {mapped} {hidden}")?;
+            answer.put_text(&counts)?;
+        }
+        Err(fault) => answer.put_text(&format!(in row.alloc(); "{fault:?}")?)?,
+    }
+    answer.put(output.bytes())
+}
+
+/// An input, an output, `hide` or `show`, an interval, a trace, and the URLs and maps of a table: the lines, frames, replaced
+/// and hidden frames, and what the trace becomes.
+pub fn frames(row: &Row<'_>, answer: &mut Answer) -> Result<(), RowFault> {
+    let table = table_of(row, 6, row.number(4)?)?;
+    let mut input = source(row, 1, 5)?;
+    let mut output = sink(row, 2)?;
+    let is_hiding = row.field(3)? == "hide";
+    let outcome = rewrite(row.alloc(), &mut input, &mut output, &table, is_hiding);
+    put_outcome(row, answer, outcome, &output)
+}
+
+/// An input, an output, how many bytes a text may have, an interval, a text, and the URLs and maps of a table: its lines,
+/// places and replaced places, and what the text becomes.
+pub fn places(row: &Row<'_>, answer: &mut Answer) -> Result<(), RowFault> {
+    let most = u64::from(row.number(3)?);
+    let table = table_of(row, 6, row.number(4)?)?;
+    let mut input = source(row, 1, 5)?;
+    let mut output = sink(row, 2)?;
+    let outcome = rewrite_places(row.alloc(), &mut input, &mut output, &table, most);
+    put_outcome(row, answer, outcome, &output)
+}
