@@ -12,8 +12,6 @@ mod locations;
 mod named;
 mod paths;
 mod refusal;
-#[cfg(test)]
-mod tests;
 
 pub use list_line::{entry_of_line, is_folder};
 pub use locations::Locations;

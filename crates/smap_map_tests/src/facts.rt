@@ -42,51 +42,6 @@ fn files_begin_as_what_they_are(rt: HostRuntime) -> Result<(), Fail> {
     Ok(())
 }
 
-// Files that are no JSON, and what is said of them.
-const SAID: &[(&[u8], &str)] = &[
-    (
-        b"\x1f\x8b\x08\x00",
-        "  the file is packed with gzip\n  reading stopped at byte 1 (line 1, column 2): ..? » \u{fffd}??..\n",
-    ),
-    (
-        b"PK\x03\x04",
-        "  the file is a zip archive\n  reading stopped at byte 0 (line 1, column 1): .. » PK??..\n",
-    ),
-    (
-        b"{\x00\"\x00",
-        "  the file is UTF-16, and JSON is UTF-8\n  reading stopped at byte 1 (line 1, column 2): ..{ » ?\"?..\n",
-    ),
-    (
-        b"data:application/json,%7B",
-        "  the file is a data: URL, not the map that it holds\n  reading stopped at byte 0 (line 1, column 1): .. » data:application/jso..\n",
-    ),
-    (
-        b"f();\n//# sourceMappingURL=f.js.map",
-        "  the file is JavaScript with a sourceMappingURL: the map is the file that this names\n  reading stopped at byte 0 (line 1, column 1): .. » f();?//# sourceMappi..\n",
-    ),
-    (
-        b"map",
-        "  the file is no JSON text, and of no kind that is often taken for a map\n  reading stopped at byte 0 (line 1, column 1): .. » map..\n",
-    ),
-];
-
-#[test]
-fn files_are_said_to_be_what_they_are(rt: HostRuntime) -> Result<(), Fail> {
-    for (bytes, wanted) in SAID {
-        let explanation = explain(rt.alloc(), bytes, MapRefusal::NotJson)?;
-        let said = explanation_text(rt.alloc(), &explanation)?;
-        assert_same(&rt, "a file", &said, wanted);
-    }
-    let large = explanation_text(rt.alloc(), &Explanation::TooLarge)?;
-    assert_same(
-        &rt,
-        "a large file",
-        &large,
-        "  the file has more than 67,108,864 bytes, which is the most that a map may have\n",
-    );
-    Ok(())
-}
-
 // Maps with a wrong value at a key, and what is said of them as JSON.
 const WRONG: &[(&[u8], MapRefusal, &str)] = &[
     (

@@ -1,5 +1,5 @@
-//! The tests of the libraries but smap_trace and smap_answers, as far as they need public calls alone. There is nothing
-//! here to call.
+//! The tests of the calls behind the commands and of devices, of what no row of smap_rows can say, and the rows that the calls
+//! were specified by. There is nothing here to call.
 #![tactic(auto)]
 
 #[cfg(test)]
@@ -7,19 +7,9 @@ mod composing;
 #[cfg(test)]
 mod devices;
 #[cfg(test)]
-mod encoding;
-#[cfg(test)]
 mod facts;
 #[cfg(test)]
-mod index_maps;
-#[cfg(test)]
 mod indexes;
-#[cfg(test)]
-mod lists;
-#[cfg(test)]
-mod maps;
-#[cfg(test)]
-mod meters;
 #[cfg(test)]
 mod names;
 #[cfg(test)]

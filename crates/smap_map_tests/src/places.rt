@@ -1,96 +1,94 @@
-//! Lines of texts, UTF-16 places in them, and excerpts, as node has them.
+//! Lines of texts, UTF-16 places in them, and excerpts.
 use crate::same::assert_same;
 use smap_text::{excerpt, line_at, unit_place, units};
-use smap_vectors::{caret_text, excerpt_rows, halves, place_rows, rows_of};
 use std::alloc::{AllocError, Global};
 use std::test::Fail;
 
-// The character that a sign of the rows stands for.
-fn meant(sign: char) -> char {
-    match sign {
-        '␊' => '\n',
-        '␍' => '\r',
-        '↓' => '\u{2028}',
-        '¶' => '\u{2029}',
-        '␉' => '\t',
-        '␋' => '\u{B}',
-        '␌' => '\u{C}',
-        '␀' => '\0',
-        '␟' => '\u{1F}',
-        '␡' => '\u{7F}',
-        '⌂' => '\u{80}',
-        '↵' => '\u{85}',
-        '‹' => '\u{202A}',
-        _ => sign,
-    }
-}
+// Contents, and their lines with `|` between two.
+const LINES: &[(&str, &str)] = &[
+    ("", ""),
+    ("a\n", "a|"),
+    ("a\r\nb", "a|b"),
+    ("a\r\rb", "a||b"),
+    ("a\u{2028}b", "a|b"),
+];
 
-// A text of the rows, with what its signs stand for.
-fn plain(alloc: Global, text: &str) -> Result<String, AllocError> {
-    text.chars().map(meant).collect(alloc)
-}
-
-// Where a column stands in a line of a content, how many units the line has, and the line; or `none`.
-fn place_text(alloc: Global, content: &str, line: u32, column: u32) -> Result<String, AllocError> {
-    match line_at(content, line) {
-        Some(text) => {
-            let place = unit_place(text, column);
-            let units = units(text);
-            format!(in alloc; "{place:?}|{units}|{text}")
+fn lines_text(alloc: Global, content: &str) -> Result<String, AllocError> {
+    let mut text = String::new(alloc);
+    for number in 0..9 {
+        if let Some(line) = line_at(content, number) {
+            if number > 0 {
+                text.push('|')?;
+            }
+            text.push_str(line)?;
         }
-        None => String::from_str(alloc, "none"),
     }
-}
-
-// What stands at the place of a row, and what is to stand there.
-fn place_of_row(alloc: Global, row: &str) -> Result<(String, String), Fail> {
-    let (line, rest) = halves(row);
-    let (column, rest) = halves(rest);
-    let (content, wanted) = halves(rest);
-    let content = plain(alloc, content)?;
-    let found = place_text(alloc, &content, line.parse()?, column.parse()?)?;
-    Ok((found, plain(alloc, wanted)?))
+    Ok(text)
 }
 
 #[test]
-fn lines_and_places_are_those_of_node(rt: HostRuntime) -> Result<(), Fail> {
-    for row in rows_of(place_rows(), 116)?.lines() {
-        let (found, wanted) = place_of_row(rt.alloc(), row)?;
-        assert_same(&rt, row, &found, &wanted);
+fn contents_have_their_lines(rt: HostRuntime) -> Result<(), Fail> {
+    for (content, wanted) in LINES {
+        assert_same(&rt, content, &lines_text(rt.alloc(), content)?, wanted);
     }
     Ok(())
 }
 
-// The text of an excerpt, of how many spaces stand before the caret, and what shows of the line.
-fn shown_text(alloc: Global, wanted: &str) -> Result<String, Fail> {
-    let (spaces, shown) = halves(wanted);
-    Ok(caret_text(alloc, &plain(alloc, shown)?, spaces.parse()?)?)
-}
+// Characters of one to four bytes, at the borders of each.
+const UNITS: &[(&str, u64)] = &[
+    ("\u{7f}", 1),
+    ("\u{80}", 1),
+    ("\u{7ff}", 1),
+    ("\u{800}", 1),
+    ("\u{ffff}", 1),
+    ("\u{10000}", 2),
+    ("\u{10ffff}", 2),
+];
 
-// The excerpt of a row, and what it is to be.
-fn excerpt_of_row(alloc: Global, row: &str) -> Result<(String, String), Fail> {
-    let (text, rest) = halves(row);
-    let (times, rest) = halves(rest);
-    let (line, rest) = halves(rest);
-    let (column, wanted) = halves(rest);
-    let content = plain(alloc, text)?.repeat(alloc, times.parse()?)?;
-    let shown = match excerpt(alloc, &content, line.parse()?, column.parse()?)? {
-        Some(shown) => shown,
-        None => String::from_str(alloc, "none")?,
-    };
-    let wanted = if wanted == "none" {
-        String::from_str(alloc, wanted)?
-    } else {
-        shown_text(alloc, wanted)?
-    };
-    Ok((shown, wanted))
-}
+// A text of five characters, of which the last but one has two units.
+const FACE: &str = "let 😀x";
+
+// Columns of it, and where each stands.
+const PLACES: &[(u32, &str)] = &[
+    (4, "At(4)"),
+    (5, "Inside(4)"),
+    (6, "At(8)"),
+    (7, "At(9)"),
+    (8, "Past(7)"),
+];
 
 #[test]
-fn excerpts_are_those_of_node(rt: HostRuntime) -> Result<(), Fail> {
-    for row in rows_of(excerpt_rows(), 61)?.lines() {
-        let (shown, wanted) = excerpt_of_row(rt.alloc(), row)?;
-        assert_same(&rt, row, &shown, &wanted);
+fn columns_stand_at_units(rt: HostRuntime) -> Result<(), Fail> {
+    for (text, wanted) in UNITS {
+        assert_eq!(rt; units(text), *wanted);
+    }
+    for (column, wanted) in PLACES {
+        let place = unit_place(FACE, *column);
+        let text = format!(in rt.alloc(); "{place:?}")?;
+        assert_same(&rt, FACE, &text, wanted);
+    }
+    Ok(())
+}
+
+// A text, how often it stands in the content, a column, and the excerpt of the first line, or none.
+const EXCERPTS: &[(&str, usize, u32, &str)] = &[
+    ("a\tb", 1, 2, "a b\n  ^"),
+    (FACE, 1, 5, "let 😀x\n    ^"),
+    (FACE, 1, 8, "none"),
+    (
+        "x",
+        200,
+        100,
+        "xxxxxxxxxxxxxxxxxxxxxxxxxxxxxxxxxxxxxxxxxxxxxxxxxxxxxxxxxxxxxxxxxxxxxxxxxxxxxxxxxxxxxxxxxxxxxxxxxxxxxxxxxxxxxxxxxxxxxxxx\n                                                            ^",
+    ),
+];
+
+#[test]
+fn excerpts_show_the_line_and_the_column(rt: HostRuntime) -> Result<(), Fail> {
+    for (text, times, column, wanted) in EXCERPTS {
+        let content = text.repeat(rt.alloc(), *times)?;
+        let shown = excerpt(rt.alloc(), &content, 0, *column)?;
+        assert_same(&rt, text, shown.as_deref().unwrap_or("none"), wanted);
     }
     Ok(())
 }

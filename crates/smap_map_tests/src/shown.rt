@@ -1,7 +1,6 @@
 //! Mappings and answers as texts: their numbers from 0, with a comma between two.
 use smap_index::Answer;
 use smap_mappings::{Mapping, Origin};
-use smap_record::MapFile;
 use std::alloc::{AllocError, Global};
 
 /// Puts a text and a number after another text.
@@ -41,12 +40,6 @@ pub fn held_text(
     text.push('|')?;
     text.push_str(&list_text(alloc, list)?)?;
     Ok(text)
-}
-
-/// The same of a map.
-pub fn mappings_text(alloc: Global, map: &MapFile) -> Result<String, AllocError> {
-    let list = map.decode_all(alloc)?;
-    held_text(alloc, map.segments(), map.used_lines(), &list)
 }
 
 // The mappings with a blank between two: the line and the column of each, and its origin.

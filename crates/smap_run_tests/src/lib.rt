@@ -1,42 +1,30 @@
-//! The tests of the commands, through `run`, but of `rewrite`, and of the files that they load. There is nothing here
-//! to call.
+//! The tests of runs, of traces and of where maps are found that no row of smap_rows can say, and the rows that the program was
+//! specified by. There is nothing here to call.
 #![tactic(auto)]
 
 #[cfg(test)]
+mod awaited;
+#[cfg(test)]
 mod broken;
 #[cfg(test)]
-mod chains;
+mod broken_runs;
 #[cfg(test)]
-mod checks;
+mod endless;
 #[cfg(test)]
-mod compose;
-#[cfg(test)]
-mod compose_all;
-#[cfg(test)]
-mod explain;
-#[cfg(test)]
-mod explained;
+mod failing;
 #[cfg(test)]
 mod files;
 #[cfg(test)]
-mod held;
+mod locations;
 #[cfg(test)]
-mod hostile_files;
+mod places;
 #[cfg(test)]
-mod inners_named;
-#[cfg(test)]
-mod left_out;
-#[cfg(test)]
-mod loaded_files;
-#[cfg(test)]
-mod loading;
-#[cfg(test)]
-mod mappings;
-#[cfg(test)]
-mod raw;
+mod runs;
 #[cfg(test)]
 mod same;
 #[cfg(test)]
-mod show;
+mod stored;
 #[cfg(test)]
-mod sources;
+mod tables;
+#[cfg(test)]
+mod worked;

@@ -15,8 +15,6 @@ mod cache;
 mod list;
 mod loader;
 mod stored;
-#[cfg(test)]
-mod tests;
 
 pub use cache::MapCache;
 pub use list::{add_folder, add_list};

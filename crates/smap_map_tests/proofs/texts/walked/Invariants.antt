@@ -1,5 +1,0 @@
-use Rattle.smap_mappings.specs.State.{IsBetween}
-use Rattle.smap_map_tests.proofs.texts.walked.Given as goal
-
-abbrev pub invariant-loop : goal.invariant-loop
-invariant-loop l = IsBetween l.packed l.state

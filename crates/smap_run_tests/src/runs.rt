@@ -1,0 +1,132 @@
+//! Running a command line over files in memory, and all that the run leaves.
+ghost use Rattle.std.specs.Prelude.{⊤, IfOk};
+ghost use Rattle.smap_answers.specs.Run.{IsRunnable};
+
+use smap_answers::{Command, FileReader, UnreadCause, run_reading};
+use smap_arguments::{Usage, parse};
+use smap_io::{MemorySink, MemorySource, ReadFailure};
+use std::alloc::{AllocError, Global};
+
+/// Files in memory: the path of each, and its text. Of two with one path the first is read.
+#[derive(Clone, Copy)]
+pub struct HeldFiles<'a>(pub &'a [(&'a str, &'a str)]);
+
+impl FileReader for HeldFiles<'_> {
+    ghost gives = { λ files number path result. ⊤ };
+
+    fn read_file(&self, alloc: Global, _number: usize, path: &str) -> Result<Vec<u8>, ReadFailure> {
+        for (held, text) in self.0 {
+            if *held == path {
+                return text.as_bytes().to_vec(alloc).or(Err(ReadFailure::Memory));
+            }
+        }
+        Err(ReadFailure::Device)
+    }
+
+    // The path says why, where it is one of these words.
+    fn unread_cause(&self, path: &str) -> UnreadCause {
+        match path {
+            "folder" => UnreadCause::Folder,
+            "shut" => UnreadCause::NoPermission,
+            "broken" => UnreadCause::Other,
+            _ => UnreadCause::Missing,
+        }
+    }
+}
+
+/// How many bytes a call of a device moves at most, 1 at least, and the call that fails, from 1, or 0 for none.
+#[derive(Clone, Copy)]
+pub struct Device(pub usize, pub u64);
+
+/// A device that never fails.
+pub const SOUND: Device = Device(8_192, 0);
+
+/// How many bytes an output takes at most.
+pub const MOST_TAKEN: usize = 262_144;
+
+/// The status, and what stands on the output and on the error stream, with `|` between two.
+pub fn left_text(
+    alloc: Global,
+    status: u8,
+    output: &[u8],
+    errors: &[u8],
+) -> Result<String, AllocError> {
+    let output = String::from_utf8_lossy(alloc, output)?;
+    let errors = String::from_utf8_lossy(alloc, errors)?;
+    format!(in alloc; "{status}|{output}|{errors}")
+}
+
+/// The command that the words of a command line give behind the program's name, or what is said of them.
+pub fn command_of(alloc: Global, words: &[&str]) -> Result<Command, String>
+    ensures { IfOk result IsRunnable }
+{
+    match owned(alloc, words) {
+        Ok(words) => match parse(alloc, words) {
+            Ok(command) => Ok(command),
+            Err(Usage::Help(text) | Usage::Mistake(text)) => Err(text),
+            Err(Usage::Memory) => Err(String::new(alloc)),
+        },
+        Err(_) => Err(String::new(alloc)),
+    }
+}
+
+fn owned(alloc: Global, words: &[&str]) -> Result<Vec<String>, AllocError> {
+    let mut owned = Vec::new(alloc);
+    owned.push(String::from_str(alloc, "smap")?)?;
+    for word in words {
+        owned.push(String::from_str(alloc, word)?)?;
+    }
+    Ok(owned)
+}
+
+/// What a command line leaves over files, this input and these devices.
+pub fn left_over<F: FileReader>(
+    alloc: Global,
+    files: &F,
+    words: &[&str],
+    input: &[u8],
+    devices: [Device; 3],
+) -> Result<String, AllocError> {
+    match command_of(alloc, words) {
+        Ok(command) => run_over(alloc, files, &command, input, devices),
+        Err(text) => left_text(alloc, 2, b"", text.as_bytes()),
+    }
+}
+
+/// What a command leaves.
+pub fn run_over<F: FileReader>(
+    alloc: Global,
+    files: &F,
+    command: &Command,
+    input: &[u8],
+    devices: [Device; 3],
+) -> Result<String, AllocError>
+    requires { IsRunnable command.now }
+{
+    let [reads, writes, reports] = devices;
+    let (room, more) = (
+        Vec::with_capacity(alloc, MOST_TAKEN)?,
+        Vec::with_capacity(alloc, MOST_TAKEN)?,
+    );
+    let mut input = MemorySource::new(input.to_vec(alloc)?, reads.0.max(1), reads.1);
+    let mut output = MemorySink::new(room, writes.0.max(1), writes.1);
+    let mut errors = MemorySink::new(more, reports.0.max(1), reports.1);
+    let status = run_reading(alloc, files, command, &mut input, &mut output, &mut errors);
+    left_text(alloc, status, output.bytes(), errors.bytes())
+}
+
+/// The same over files in memory and sound devices.
+pub fn left(
+    alloc: Global,
+    files: &[(&str, &str)],
+    words: &[&str],
+    input: &[u8],
+) -> Result<String, AllocError> {
+    left_over(
+        alloc,
+        &HeldFiles(files),
+        words,
+        input,
+        [SOUND, SOUND, SOUND],
+    )
+}

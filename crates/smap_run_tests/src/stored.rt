@@ -1,0 +1,150 @@
+//! Maps that are read when they are named, and lists of them.
+use smap_locations::{ListFault, ListRefusal, Locations};
+use smap_record::MapFile;
+use smap_store::{LoadedMap, MapCache, MapLoader, StoredMaps, add_list};
+use smap_trace::{Maps, Table};
+use std::alloc::Global;
+use std::test::Fail;
+
+// Reads maps that name the URL and the path that they were asked for as their file, each of 1,000 bytes; but none where the
+// path ends in `none.js.map`. It counts how often it was asked.
+#[derive(Drop)]
+struct Named {
+    asked: u64,
+}
+
+impl MapLoader for Named {
+    ghost use Rattle.std.specs.Prelude.{ℕ, Option, None};
+    ghost use Rattle.smap_record.specs.Record.{MapRecord};
+
+    ghost MayLoad = { λ loader url path found. Unit {0} };
+
+    ghost Loads = { λ loader url path came after. Unit {0} };
+
+    fn load(&mut self, alloc: Global, url: &[u8], path: &str) -> Option<LoadedMap> {
+        self.asked = self.asked.saturating_add(1);
+        if path.as_bytes().ends_with(b"none.js.map") {
+            return None;
+        }
+        let url = str::from_utf8(url).ok()?;
+        let text = format!(in alloc;
+            r#"{{"version":3,"file":"{url} {path}","sources":["a.js"],"names":[],"mappings":"AAAA"}}"#
+        ).ok()?;
+        let map = MapFile::read(alloc, text.as_bytes(), None, 64).ok()?;
+        Some(LoadedMap {
+            map,
+            file_bytes: 1_000,
+        })
+    }
+
+    ghost some = { λ loader url path. (None, tt) };
+
+    ghost given = { λ loader after url path came loads. tt };
+
+    ghost same = { λ loader after url path other other_path came more loads may. tt };
+}
+
+const LIST: &str =
+    "# maps\r\n\r\nhttps://a.test/js/app.js\tfile.map\nhttps://a.test/js/\tmaps/\r\n";
+
+// A URL, and the file of the map that it has, or none: the text that the URL stands for, and a path.
+const ROWS: [(&str, &str); 6] = [
+    ("https://a.test/word.js", "word"),
+    (
+        "https://a.test/js/app.js?v=1",
+        "https://a.test/js/app.js file.map",
+    ),
+    (
+        "https://a.test/js/b.js#x",
+        "https://a.test/js/b.js maps/b.js.map",
+    ),
+    (
+        "https://a.test/js/b.js?v=2",
+        "https://a.test/js/b.js maps/b.js.map",
+    ),
+    ("https://a.test/js/none.js", ""),
+    ("https://b.test/js/b.js", ""),
+];
+
+const WORD: &str = r#"{"version":3,"file":"word","sources":[],"names":[],"mappings":""}"#;
+
+// Whether the map that a URL has, where it has one, is of this file.
+fn is_file<M: Maps>(maps: &mut M, url: &str, file: &str) -> bool {
+    maps.find(url.as_bytes());
+    match maps.map_for(url.as_bytes()) {
+        Some(map) => map.file() == Some(file),
+        None => file.is_empty(),
+    }
+}
+
+// A table of one map.
+fn words(alloc: Global) -> Result<Table, Fail> {
+    let mut words = Table::new(alloc);
+    let map = MapFile::read(alloc, WORD.as_bytes(), None, 64)?;
+    let url = String::from_str(alloc, "https://a.test/word.js")?;
+    match words.add(url, map) {
+        Ok(()) => Ok(words),
+        Err(_) => Err(Fail::from("no table")),
+    }
+}
+
+#[test]
+fn each_url_has_its_map(rt: HostRuntime) -> Result<(), Fail> {
+    let alloc = rt.alloc();
+    let words = words(alloc)?;
+    let mut locations = Locations::new(alloc);
+    assert!(&rt; add_list(alloc, &mut locations, &words, LIST).is_ok());
+    // What is kept counts for 1,152 bytes, 1,150, 153 and 150, in the order of the rows. The second bound has room for one
+    // map.
+    for (most, read, missing, kept) in [(1_000_000, 2, 2, 2_605), (1_150, 4, 4, 303)] {
+        let mut cache = MapCache::new(alloc, most);
+        let mut loader = Named { asked: 0 };
+        {
+            let mut maps = StoredMaps {
+                alloc,
+                words: &words,
+                locations: &locations,
+                cache: &mut cache,
+                loader: &mut loader,
+            };
+            for _ in 0..2 {
+                for (url, file) in ROWS {
+                    assert!(&rt; is_file(&mut maps, url, file));
+                }
+            }
+        }
+        assert_eq!(&rt; loader.asked, read + missing / 2);
+        assert_eq!(&rt; (cache.read(), cache.missing()), (read, missing));
+        assert_eq!(&rt; cache.bytes(), kept);
+        assert_eq!(&rt; cache.shortages(), 0);
+    }
+    Ok(())
+}
+
+// A list, and the first line that is refused.
+const REFUSED: [(&str, u64, ListFault); 8] = [
+    ("#\nhttps://a.test/a.js a.map\n", 2, ListFault::NoTab),
+    ("https://a.test/js\tmaps/\n", 1, ListFault::NoFolder),
+    ("\tmaps/\n", 1, ListFault::NoFolder),
+    ("\ta.map\n", 1, ListFault::BadUrl),
+    ("a\rb\ta.map\n", 1, ListFault::BadUrl),
+    ("a\tb\tc\na\td", 2, ListFault::Twice),
+    (
+        "app:///\tmaps/\r\n\r\napp:///\tother/\r\nx",
+        3,
+        ListFault::Twice,
+    ),
+    ("https://a.test/word.js\ta.map", 1, ListFault::Twice),
+];
+
+#[test]
+fn the_first_bad_line_is_reported(rt: HostRuntime) -> Result<(), Fail> {
+    let alloc = rt.alloc();
+    let words = words(alloc)?;
+    for (text, line, fault) in REFUSED {
+        let mut locations = Locations::new(alloc);
+        let refusal = add_list(alloc, &mut locations, &words, text);
+        assert_eq!(&rt; refusal, Err(ListRefusal { line, fault }));
+    }
+    Ok(())
+}
