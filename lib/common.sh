@@ -60,6 +60,19 @@ lines_of() {
 # crates_of CRATE..: the names of these crates and of all below them, in the same order.
 crates_of() { lines_of "$@" | sed 's/[ :].*//'; }
 
+# is_newer FILE FOLDER..: the file is there, and neither crates.txt nor what lies in these folders is newer.
+is_newer() {
+    file=$1
+    shift
+    [ -e "$file" ] && [ -z "$(find "$root/crates.txt" "$@" -newer "$file" 2>/dev/null | head -n 1)" ]
+}
+
+# Whether the program was built here, and is newer than all that it is proved and built from.
+is_built() {
+    # shellcheck disable=SC2046
+    (cd -- "$root/crates" && is_newer "$root/crates/smap_cli/out/smap_cli" $(crates_of smap_cli | sed 's|.*|&/src &/specs &/proofs|'))
+}
+
 # The crates at the top of what is made: `program`, or `packages` for all programs and libraries of the packages.
 tops_of() {
     case $1 in
