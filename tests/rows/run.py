@@ -13,6 +13,7 @@ import shutil
 import subprocess
 import sys
 import tempfile
+from concurrent.futures import ThreadPoolExecutor
 from pathlib import Path
 
 ROWS = Path(__file__).resolve().parents[2] / "crates" / "smap_rows"
@@ -47,42 +48,53 @@ def content(field: bytes) -> bytes:
 
 
 def answer(command: list[str], fields: list[bytes], folder: Path) -> list[bytes]:
-    """What the program answers to a row."""
+    """What the program answers to a row in this folder, which is as before afterwards."""
     words = [unescaped(word) for word in fields[1].split(b" ")[1:]]
+    before: dict[Path, bytes | None] = {}
     for path, text in zip(fields[3::2], fields[4::2]):
-        (folder / os.fsdecode(unescaped(path))).parent.mkdir(parents=True, exist_ok=True)
-        (folder / os.fsdecode(unescaped(path))).write_bytes(content(text))
+        file = folder / os.fsdecode(unescaped(path))
+        file.parent.mkdir(parents=True, exist_ok=True)
+        before[file] = file.read_bytes() if file.exists() else None
+        file.write_bytes(content(text))
     run = subprocess.run(
         [os.fsencode(word) for word in command] + words, input=content(fields[2]) if len(fields) > 2 else b"",
         capture_output=True, cwd=folder, check=False,
     )
+    for file, data in before.items():
+        if data is None:
+            file.unlink()
+        else:
+            file.write_bytes(data)
     return [str(run.returncode).encode(), run.stdout, run.stderr]
+
+
+def wrong_among(command: list[str], rows: list[tuple[int, bytes, bytes]]) -> list[str]:
+    """What is said of each of these rows that comes out otherwise. All are run in one folder."""
+    wrong = []
+    with tempfile.TemporaryDirectory() as name:
+        if (ROWS / "data").is_dir():
+            shutil.copytree(ROWS / "data", name, dirs_exist_ok=True)
+        for number, row, wanted in rows:
+            intervals = INTERVALS if b"%K" in row else ("64",)
+            given = [answer(command, row.replace(b"%K", k.encode()).split(b"\t"), Path(name)) for k in intervals]
+            if all(one == given[0] for one in given):
+                given = given[:1]
+            if [part for one in given for part in one] != [unescaped(field) for field in wanted.split(b"\t")]:
+                wrong.append(f"row {number}: {row[:200]!r} gives {given!r}"[:600])
+    return wrong
 
 
 def main() -> int:
     command = [shutil.which(sys.argv[1]) or sys.argv[1], *sys.argv[2:]]
     command = [os.path.abspath(word) if os.path.exists(word) else word for word in command]
-    rows = (ROWS / "stdin").read_bytes().split(b"\n")
+    asked = (ROWS / "stdin").read_bytes().split(b"\n")
     answers = (ROWS / "stdout").read_bytes().split(b"\n")
-    count = wrong = 0
-    for number, (row, wanted) in enumerate(zip(rows, answers), 1):
-        if not row.startswith(b"run\t"):
-            continue
-        intervals = INTERVALS if b"%K" in row else ("64",)
-        given = []
-        for interval in intervals:
-            with tempfile.TemporaryDirectory() as folder:
-                if (ROWS / "data").is_dir():
-                    shutil.copytree(ROWS / "data", folder, dirs_exist_ok=True)
-                given.append(answer(command, row.replace(b"%K", interval.encode()).split(b"\t"), Path(folder)))
-        if all(one == given[0] for one in given):
-            given = given[:1]
-        count += 1
-        if [part for one in given for part in one] != [unescaped(field) for field in wanted.split(b"\t")]:
-            wrong += 1
-            print(f"row {number}: {row[:200]!r} gives {given!r}"[:600])
-    print(f"{count} rows, {wrong} wrong")
-    return wrong > 0 or count == 0
+    rows = [it for it in zip(range(1, len(asked) + 1), asked, answers) if it[1].startswith(b"run\t")]
+    workers = len(os.sched_getaffinity(0))
+    with ThreadPoolExecutor(workers) as pool:
+        wrong = [line for lines in pool.map(lambda at: wrong_among(command, rows[at::workers]), range(workers)) for line in lines]
+    print(*wrong, f"{len(rows)} rows, {len(wrong)} wrong", sep="\n")
+    return bool(wrong) or not rows
 
 
 if __name__ == "__main__":
