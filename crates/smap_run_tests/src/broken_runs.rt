@@ -73,7 +73,8 @@ const ANSWERS: &[Run] = &[
     },
 ];
 
-// Traces of a line without an LF, of one with CR and LF, and of two lines.
+// Traces of a line without an LF, of one with CR and LF, and of two lines. Each line is written before more is read, so no
+// write goes over the end of one: of two lines, a write takes a third of one.
 const TRACES: &[Run] = &[
     Run {
         words: REWRITE,
@@ -93,7 +94,7 @@ const TRACES: &[Run] = &[
         words: REWRITE,
         input: "    at f (https://ex.test/app.js:1:6)\n    at f (https://ex.test/app.js:1:6)\n",
         is_read: true,
-        piece: 10,
+        piece: 12,
         written: "    at f (https://ex.test/a.ts:1:2)\n    at f (https://ex.test/a.ts:1:2)\n",
     },
 ];
