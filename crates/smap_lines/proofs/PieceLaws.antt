@@ -6,7 +6,7 @@ use Rattle.std.proofs.lemmas.List.{get_or-map, length-map, take-append-drop, tak
 use Rattle.std.proofs.lemmas.List.Folds.{concat-append}
 use Rattle.smap_io.specs.Device.{SinkSeen}
 use Rattle.smap_lines.specs.LineOutput.{FailsToPut, Puts}
-use Rattle.smap_lines.specs.PutLaws.{fails_first, fails_second, puts_both}
+use Rattle.smap_lines.specs.Laws.Put.{fails_first, fails_second, puts_both}
 use Rattle.smap_lines.specs.declared.line_output.LineOutput.{LineOutput}
 
 abbrev pub texts : List (Bor (List ℕ)) → List (List ℕ)

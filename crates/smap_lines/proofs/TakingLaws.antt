@@ -3,7 +3,7 @@ use Rattle.std.proofs.Common.{ℕ, List, [], ◌++◌, Option, Result, Ok, Err, 
 use Rattle.std.specs.Result.{OnOk}
 use Rattle.smap_io.specs.Device.{Takes, TakesFront}
 use Rattle.smap_lines.specs.Gathered.{HandsOn}
-use Rattle.smap_lines.specs.PutLaws.{takes_both}
+use Rattle.smap_lines.specs.Laws.Put.{takes_both}
 
 -- two facts of one result
 pub on_both : {T E : Type 0} (P Q : Type 0) (r : Result T E) → OnOk r P → OnOk r Q → OnOk r (P × Q)

@@ -15,8 +15,8 @@ use Rattle.smap_lines.proofs.LineLaws.{whole_begins}
 use Rattle.smap_lines.proofs.IsEditedLaws.{both_are_edited, ended_is_edited, front_is_edited, none_is_edited, steps_both, steps_ended}
 use Rattle.smap_lines.proofs.IsEditedLaws.{some_edited, steps_none, weaker_at}
 use Rattle.smap_lines.proofs.StateLaws.{begins_at, after_at, after_last_at, counted_at, ended_at, goes_on, kept_at, last_at, long_at}
-use Rattle.smap_lines.specs.PutLaws.{takes_both, takes_none}
-use Rattle.smap_lines.specs.StepLaws.{few_lines}
+use Rattle.smap_lines.specs.Laws.Put.{takes_both, takes_none}
+use Rattle.smap_lines.specs.Laws.Step.{few_lines}
 
 -- more was put after what was handed on of a text
 handed : (written waiting front rest whole part more all : List ℕ) → written ++ waiting ≡ whole ++ part → waiting ++ more ≡ front ++ rest → part ++ more ≡ all →

@@ -2,12 +2,9 @@ pub mod Limits
 pub mod Lines
 pub mod Bytes
 pub mod Numbers
-pub mod NumberLaws
 pub mod Edited
 pub mod Editing
 pub mod Gathered
 pub mod Private
 pub mod LineOutput
-pub mod PutLaws
-pub mod OneTextLaws
-pub mod StepLaws
+pub mod Laws

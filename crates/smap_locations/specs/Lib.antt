@@ -1,5 +1,5 @@
 pub mod Named
 pub mod Paths
 pub mod Locations
-pub mod KeyLaws
 pub mod ListLine
+pub mod Laws

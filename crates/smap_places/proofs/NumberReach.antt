@@ -9,7 +9,7 @@ use Rattle.std.proofs.lemmas.Fmt.{length-decimal-le}
 use Rattle.std.proofs.lemmas.List.{drop-append-le, length-take-le, take-append-le}
 use Rattle.std.proofs.lemmas.List.Folds.{prefix_len-append}
 use Rattle.std.proofs.lemmas.List.Sums.{prefix_len-le-length}
-use Rattle.smap_lines.specs.NumberLaws.{none_else, number_is}
+use Rattle.smap_lines.specs.Laws.Number.{none_else, number_is}
 use Rattle.smap_lines.specs.Numbers.{decimal_number}
 use Rattle.smap_places.specs.Places.{digits, number_after, numbers_after, with_column, with_line}
 

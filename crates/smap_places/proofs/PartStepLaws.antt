@@ -2,7 +2,7 @@
 use Rattle.std.proofs.Common.{◌≡◌, ℕ, List, [], ◌∷◌, ◌++◌, map, Option, unwrap_or, refl, sym, ap, subst, ◌∙◌, append_assoc, append-nil}
 use Rattle.std.specs.List.{FoldsTo}
 use Rattle.smap_record.specs.Record.{MapRecord}
-use Rattle.smap_trace.specs.LookedLaws.{looked_both, looked_none, looked_one}
+use Rattle.smap_trace.specs.Laws.Looked.{looked_both, looked_none, looked_one}
 use Rattle.smap_trace.specs.Rewriting.{Looked}
 use Rattle.smap_places.specs.Places.{Part, found, other}
 use Rattle.smap_places.specs.PlacesOver.{MayBe, MayBecome, PartStep, PlacesNow}

@@ -7,7 +7,7 @@ use Rattle.std.proofs.Math.Seq.{drop-append-add}
 use Rattle.std.proofs.lemmas.List.{drop-append-le, take-append-le}
 use Rattle.smap_io.specs.Device.{SinkSeen, Takes, TakesFront}
 use Rattle.smap_lines.specs.LineOutput.{FailsToPut, Puts}
-use Rattle.smap_lines.specs.PutLaws.{fails_second, puts_both, puts_none, takes_both}
+use Rattle.smap_lines.specs.Laws.Put.{fails_second, puts_both, puts_none, takes_both}
 use Rattle.smap_lines.specs.declared.line_output.LineOutput.{LineOutput}
 use Rattle.smap_record.specs.Record.{MapRecord}
 use Rattle.smap_trace.specs.Rewriting.{Looked}

@@ -8,7 +8,7 @@ use Rattle.smap_trace.specs.Table.{record_for}
 use Rattle.smap_trace.specs.declared.maps.TableMaps.{TableMaps}
 use Rattle.smap_trace.specs.declared.outcome.Summary.{Summary}
 use Rattle.smap_places.specs.Places.{Part, found, other, parts_of, place_at}
-use Rattle.smap_places.specs.PlacesByLaws.{places_by, places_by_table}
+use Rattle.smap_places.specs.Laws.PlacesBy.{places_by, places_by_table}
 use Rattle.smap_places.specs.PlacesOver.{MayBe, MayBecome, RewritesPlacesFrontOver, RewritesPlacesOver}
 use Rattle.smap_places.specs.PlacesRewriting.{RewritesPlaces, RewritesPlacesFront}
 use Rattle.smap_places.specs.PlacesRewritten.{maps_of, part_text, parts_text, placed_text, replacement}

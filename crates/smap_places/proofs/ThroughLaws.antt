@@ -10,7 +10,7 @@ use Rattle.std.proofs.lemmas.List.Folds.{list_any-append}
 use Rattle.std.proofs.Math.Seq.{drop-append-add}
 use Rattle.smap_io.specs.Device.{Takes, TakesFront}
 use Rattle.smap_lines.specs.Lines.{IsWholeLines, has_line_end, lines_with_ends}
-use Rattle.smap_lines.specs.PutLaws.{takes_both, takes_none}
+use Rattle.smap_lines.specs.Laws.Put.{takes_both, takes_none}
 use Rattle.smap_record.specs.Record.{MapRecord}
 use Rattle.smap_places.specs.Places.{Part, PlaceUrl, begun_at, found, other, parts_by, parts_from, parts_of}
 use Rattle.smap_places.specs.PlacesNear.{DecidedWithin, EndsAtLines}

@@ -9,5 +9,4 @@ pub mod PlacesRewritten
 pub mod PlacesRewriting
 pub mod PlacesBy
 pub mod Private
-pub mod PlacesSeenLaws
-pub mod PlacesByLaws
+pub mod Laws

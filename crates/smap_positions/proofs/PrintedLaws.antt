@@ -4,7 +4,7 @@ use Rattle.std.specs.Prelude.{filter, OnErr, OnOk}
 use Rattle.smap_io.specs.Device.{Takes, TakesFront}
 use Rattle.smap_io.specs.declared.device.DeviceFault.{DeviceFault}
 use Rattle.smap_lines.specs.Gathered.{HandsOn}
-use Rattle.smap_lines.specs.PutLaws.{takes_both}
+use Rattle.smap_lines.specs.Laws.Put.{takes_both}
 use Rattle.std.proofs.lemmas.Bool.{cond-false, ltb-true}
 use Rattle.smap_mappings.specs.Order.{IsAtOrBefore, IsInOrder}
 use Rattle.smap_mappings.specs.declared.mapping.Mapping.{Mapping}

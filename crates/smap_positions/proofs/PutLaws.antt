@@ -4,7 +4,7 @@ use Rattle.std.specs.Prelude.{OnOk, is_ok}
 use Rattle.smap_io.specs.Device.{SinkSeen}
 use Rattle.smap_io.specs.declared.device.DeviceFault.{DeviceFault}
 use Rattle.smap_lines.specs.LineOutput.{IsPut}
-use Rattle.smap_lines.specs.PutLaws.{fails_first, put_then}
+use Rattle.smap_lines.specs.Laws.Put.{fails_first, put_then}
 use Rattle.smap_lines.specs.declared.line_output.LineOutput.{LineOutput}
 use Rattle.smap_positions.specs.Private.GatheredLine.{IsPutBut}
 

@@ -8,3 +8,4 @@ pub mod Answering
 pub mod Mappings
 pub mod Sources
 pub mod Private
+pub mod Laws

@@ -1,6 +1,5 @@
 -- What contracts of private functions alone cite.
 pub mod Answerer
-pub mod AnswererLaws
 pub mod GrowingText
 pub mod ShortText
 pub mod GatheredLine

@@ -29,8 +29,8 @@ pub struct PositionAnswerer<'m> {
 
 impl LineEditor for PositionAnswerer<'_> {
     ghost use Rattle.smap_positions.specs.Private.Answerer.{after_position, answer_of, room_of};
-    ghost use Rattle.smap_lines.specs.OneTextLaws.{Only, OnlyStep};
-    ghost use Rattle.smap_positions.specs.Private.AnswererLaws.{room_after, same_after};
+    ghost use Rattle.smap_lines.specs.Laws.OneText.{Only, OnlyStep};
+    ghost use Rattle.smap_positions.specs.Laws.Answerer.{room_after, same_after};
     ghost use Rattle.std.specs.Prelude.{refl, ⊤};
 
     ghost Becomes = { λ answerer. Only (answer_of answerer) };

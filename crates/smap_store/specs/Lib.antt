@@ -1,10 +1,7 @@
 pub mod Loaded
 pub mod Cache
 pub mod Stored
-pub mod KeptLaws
 pub mod StoredMaps
-pub mod StoredLaws
-pub mod SeenLaws
 pub mod ByPath
-pub mod SameLaws
 pub mod MapList
+pub mod Laws

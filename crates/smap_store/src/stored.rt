@@ -49,7 +49,7 @@ impl<L: MapLoader> StoredMaps<'_, '_, L> {
 impl<L: MapLoader> Maps for StoredMaps<'_, '_, L> {
     ghost use Rattle.smap_store.specs.Stored.{FindsIn, GivesIn, found_in};
     ghost use Rattle.smap_store.specs.StoredMaps.{IsSameStore, stored_seen};
-    ghost use Rattle.smap_store.specs.StoredLaws.{given_in, same_in, some_in};
+    ghost use Rattle.smap_store.specs.Laws.Stored.{given_in, same_in, some_in};
 
     ghost Gives = { λ maps. GivesIn L.MayLoad (stored_seen maps) };
 

@@ -7,13 +7,13 @@ use Rattle.smap_lines.specs.declared.fault.LineFault.{LineFault}
 use Rattle.smap_lines.specs.declared.fault.LineFault.TheVariants.{Memory}
 use Rattle.smap_locations.specs.Locations.{key_for, path_for}
 use Rattle.smap_places.specs.Places.{PlaceUrl}
-use Rattle.smap_places.specs.PlacesSeenLaws.{places_front_seen, places_seen}
+use Rattle.smap_places.specs.Laws.PlacesSeen.{places_front_seen, places_seen}
 use Rattle.smap_record.specs.Record.{MapRecord}
 use Rattle.smap_store.specs.Cache.{Kept, kept_under}
-use Rattle.smap_store.specs.SeenLaws.{finds_seen, gives_seen, see_store}
+use Rattle.smap_store.specs.Laws.Seen.{finds_seen, gives_seen, see_store}
 use Rattle.smap_store.specs.Stored.{Asks, Comes, FindsIn, GivesIn, LoadsMay, LoadsStep, Recalls, StoredSeen, Untouched, found_in}
 use Rattle.smap_trace.specs.Rewriting.{Looked}
-use Rattle.smap_trace.specs.SeenLaws.{front_seen, looked_seen, rewrites_seen}
+use Rattle.smap_trace.specs.Laws.Seen.{front_seen, looked_seen, rewrites_seen}
 use Rattle.smap_trace.specs.Table.{record_for}
 use Rattle.smap_trace.specs.declared.outcome.RewriteCounts.{RewriteCounts}
 use Rattle.smap_replies.specs.Files.{MayRead}

@@ -1,9 +1,8 @@
 pub mod Lines
 pub mod Loader
-pub mod LoaderLaws
 pub mod RewriteFrom
 pub mod SameBytes
-pub mod SameBytesLaws
 pub mod Sources
 pub mod Trace
 pub mod Private
+pub mod Laws

@@ -93,7 +93,7 @@ impl<F: FileReader, E: ByteSink> FileLoader<'_, '_, '_, F, E> {
 impl<F: FileReader, E: ByteSink> MapLoader for FileLoader<'_, '_, '_, F, E> {
     ghost use Rattle.std.specs.Prelude.{option_copied};
     ghost use Rattle.smap_text_answers.specs.Loader.{IsSameLoader, Loads, MayLoad, loader_seen};
-    ghost use Rattle.smap_text_answers.specs.LoaderLaws.{given_load, same_load, some_load};
+    ghost use Rattle.smap_text_answers.specs.Laws.Loader.{given_load, same_load, some_load};
 
     ghost MayLoad = { λ loader. MayLoad (F.gives loader.maps.now.files.now) (option_copied loader.maps.now.base)
         loader.maps.now.interval loader.number };

@@ -6,14 +6,14 @@ use Rattle.smap_lines.specs.Edited.{StepsLines, is_short}
 use Rattle.smap_lines.specs.Editing.{DevicesSeen, EditsInto}
 use Rattle.smap_lines.specs.Limits.{most_text_bytes}
 use Rattle.smap_lines.specs.Lines.{Line, lines_with_ends}
-use Rattle.smap_lines.specs.OneTextLaws.{Only, edits_front_one}
+use Rattle.smap_lines.specs.Laws.OneText.{Only, edits_front_one}
 use Rattle.smap_lines.specs.declared.counts.LineCounts.{LineCounts}
 use Rattle.smap_lines.specs.declared.fault.LineFault.{LineFault}
-use Rattle.smap_lines.specs.StepLaws.{edits_front_wider, few_lines}
+use Rattle.smap_lines.specs.Laws.Step.{edits_front_wider, few_lines}
 use Rattle.smap_record.specs.Record.{MapRecord}
 use Rattle.smap_trace.specs.Frame.{FrameParts}
 use Rattle.smap_trace.specs.FrameOf.{frame_of}
-use Rattle.smap_trace.specs.MapsOfLaws.{in_table, rewrites_by, rewrites_by_table}
+use Rattle.smap_trace.specs.Laws.MapsOf.{in_table, rewrites_by, rewrites_by_table}
 use Rattle.smap_trace.specs.Rewriting.{BecomesFrame, Rewrites, RewritesFront, RewritesFrontOver, RewritesOver, TraceNow, TraceStep, hidden_in, mapped_in}
 use Rattle.smap_trace.specs.Rewriting.{staying_in}
 use Rattle.smap_trace.specs.Rewritten.{Fate, MayMeet, fate, fate_at, fate_of, hidden}

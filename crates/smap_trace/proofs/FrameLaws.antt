@@ -10,7 +10,7 @@ use Rattle.std.proofs.lemmas.Bool.Decides.{Decides-eqb}
 use Rattle.std.proofs.lemmas.List.{take_at, drop_at, take-append-drop, drop-drop, append_cancel_right}
 use Rattle.std.proofs.lemmas.Slice.Eq.{starts_is}
 use Rattle.smap_lines.specs.Bytes.{IsLineEnd, is_blank}
-use Rattle.smap_lines.specs.NumberLaws.{none_else, number_is, number_reads}
+use Rattle.smap_lines.specs.Laws.Number.{none_else, number_is, number_reads}
 use Rattle.smap_lines.specs.Numbers.{IsPrinted, decimal_number}
 use Rattle.smap_trace.specs.Cuts.{cut_at_first, cut_at_last, cut_at_call, without_last}
 use Rattle.smap_trace.specs.Frame.{FrameParts, is_line, IsCallFrame, IsPlainFrame, IsSignFrame, IsForm, IsFrame}

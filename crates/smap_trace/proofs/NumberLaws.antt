@@ -5,7 +5,7 @@ use Rattle.std.specs.Fmt.{decimal}
 use Rattle.std.specs.Str.{all_ascii_digits}
 use Rattle.std.proofs.lemmas.Bool.{and_parts, leb-true, ne_eqb, or_from}
 use Rattle.std.proofs.lemmas.Fmt.{decimal_nonempty}
-use Rattle.smap_lines.specs.NumberLaws.{AreDigits, printed_digits}
+use Rattle.smap_lines.specs.Laws.Number.{AreDigits, printed_digits}
 use Rattle.smap_lines.specs.Numbers.{IsPrinted}
 use Rattle.smap_trace.specs.Cuts.{without_last}
 use Rattle.smap_trace.specs.FrameOf.{ends_in_digit}

@@ -3,12 +3,9 @@ pub mod Frame
 pub mod FrameOf
 pub mod FrameSeen
 pub mod Table
-pub mod MapsLaws
 pub mod Rewritten
 pub mod Rewriting
-pub mod LookedLaws
-pub mod SeenLaws
 pub mod SightSeen
 pub mod MapsOf
-pub mod MapsOfLaws
 pub mod Private
+pub mod Laws

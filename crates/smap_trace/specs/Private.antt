@@ -1,4 +1,3 @@
 -- What contracts of private functions alone cite.
 pub mod LocationSeen
 pub mod FrameRewriter
-pub mod RewriterLaws

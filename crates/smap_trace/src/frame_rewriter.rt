@@ -29,8 +29,8 @@ pub struct FrameRewriter<'m, M: Maps> {
 
 impl<M: Maps> LineEditor for FrameRewriter<'_, M> {
     ghost use Rattle.smap_trace.specs.Private.FrameRewriter.{RewriterBecomes, RewriterReaches, RewriterSteps, room_of};
-    ghost use Rattle.smap_trace.specs.Private.RewriterLaws.{became_frame, room_after, same_frame, some_frame};
-    ghost use Rattle.smap_trace.specs.Private.RewriterLaws.{rewriter_goes_on, rewriter_stays};
+    ghost use Rattle.smap_trace.specs.Laws.Rewriter.{became_frame, room_after, same_frame, some_frame};
+    ghost use Rattle.smap_trace.specs.Laws.Rewriter.{rewriter_goes_on, rewriter_stays};
 
     ghost Becomes = { RewriterBecomes M.Gives };
 

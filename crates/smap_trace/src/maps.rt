@@ -43,7 +43,7 @@ pub struct TableMaps<'t>(pub &'t Table);
 impl Maps for TableMaps<'_> {
     ghost use Rattle.std.specs.Prelude.{◌≡◌, refl};
     ghost use Rattle.smap_trace.specs.Table.{record_for};
-    ghost use Rattle.smap_trace.specs.MapsLaws.{table_given, table_same};
+    ghost use Rattle.smap_trace.specs.Laws.Maps.{table_given, table_same};
 
     ghost Gives = { λ maps url stated. stated ≡ record_for url maps.0.now };
 

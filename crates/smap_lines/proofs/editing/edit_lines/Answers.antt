@@ -1,7 +1,7 @@
 use Rattle.std.proofs.Common.{◌≡◌, rules, ◌∙◌, ◌++◌, ◌+◌, [], arith, ap, refl, take, length-append, length-take, append-nil}
 use Rattle.smap_lines.proofs.EditingLaws.{gives_both, gives_none, read_fails, too_much, write_fails}
 use Rattle.smap_lines.proofs.LineLaws.{few_long}
-use Rattle.smap_lines.specs.StepLaws.{few_lines}
+use Rattle.smap_lines.specs.Laws.Step.{few_lines}
 use Rattle.smap_lines.proofs.ThroughLaws.{last_may, through_counted, through_end, through_end_front, through_few, through_last_front}
 use Rattle.smap_lines.proofs.ThroughLaws.{through_long, through_read, through_start}
 use Rattle.smap_lines.proofs.editing.edit_lines.Goals as goal

@@ -2,7 +2,7 @@ use Rattle.std.proofs.Common.{◌≡◌, refl}
 use Rattle.std.proofs.lemmas.Result.{IfOk-weaker, MatchResult-weaker}
 use Rattle.smap_trace.specs.Table.{record_for}
 use Rattle.smap_places.specs.Places.{place_at}
-use Rattle.smap_places.specs.PlacesSeenLaws.{front_of_none}
+use Rattle.smap_places.specs.Laws.PlacesSeen.{front_of_none}
 use Rattle.smap_places.proofs.TableLaws.{front_table, rewrites_table}
 use Rattle.smap_places.proofs.rewriting.rewrite_places.Goals as goal
 

@@ -1,6 +1,6 @@
 use Rattle.std.proofs.Common.{◌≡◌, ◌-◌, ℕ, List, [], ◌++◌, ap, arith, cond, count_by, drop, length, refl, rules, subst, take, ◌∙◌, length-drop}
-use Rattle.smap_trace.specs.LookedLaws.{looked_both}
-use Rattle.smap_places.specs.PlacesSeenLaws.{front_of_none}
+use Rattle.smap_trace.specs.Laws.Looked.{looked_both}
+use Rattle.smap_places.specs.Laws.PlacesSeen.{front_of_none}
 use Rattle.smap_places.specs.Private.PlaceRewriter.{IsPassed}
 use Rattle.smap_places.specs.Private.Window.{WindowState}
 use Rattle.smap_places.proofs.CountLaws.{byte_is, is_end}

@@ -1,9 +1,9 @@
 use Rattle.std.proofs.Common.{refl}
 use Rattle.std.proofs.lemmas.Result.{err_from_is_err_and}
-use Rattle.smap_lines.specs.OneTextLaws.{OnlyStep, edits_front_one, edits_one}
+use Rattle.smap_lines.specs.Laws.OneText.{OnlyStep, edits_front_one, edits_one}
 use Rattle.smap_positions.specs.Positions.{answered_line}
 use Rattle.smap_positions.specs.Private.Answerer.{after_position, answer_of}
-use Rattle.smap_positions.specs.Private.AnswererLaws.{AnswersFrom, only_answer}
+use Rattle.smap_positions.specs.Laws.Answerer.{AnswersFrom, only_answer}
 use Rattle.smap_positions.proofs.CountLaws.{answered_is, bad_is}
 use Rattle.smap_positions.proofs.answering.answer_positions.Goals as goal
 

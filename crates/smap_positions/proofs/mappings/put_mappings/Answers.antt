@@ -1,7 +1,7 @@
 use Rattle.std.proofs.Common.{◌≡◌, [], ◌++◌, rules, sym, ap, subst, ◌∙◌, append_assoc, append-nil}
 use Rattle.std.proofs.lemmas.Result.{err_from_is_err_and}
 use Rattle.smap_lines.specs.LineOutput.{FailsToPut, Puts}
-use Rattle.smap_lines.specs.PutLaws.{fails_first, fails_second, puts_both, puts_none}
+use Rattle.smap_lines.specs.Laws.Put.{fails_first, fails_second, puts_both, puts_none}
 use Rattle.smap_mappings.specs.Order.{IsInOrder}
 use Rattle.smap_index.specs.Parts.{joined}
 use Rattle.smap_positions.specs.Mappings.{mappings_text, printed_mappings}

@@ -1,7 +1,7 @@
 use Rattle.std.proofs.Common.{option_copied, refl}
 use Rattle.std.specs.Prelude.{Ok}
 use Rattle.smap_text_answers.specs.RewriteFrom.{request_seen}
-use Rattle.smap_text_answers.specs.SameBytesLaws.{same_run}
+use Rattle.smap_text_answers.specs.Laws.SameBytes.{same_run}
 use Rattle.smap_replies.specs.Streams.{streams_seen}
 use Rattle.smap_text_answers.proofs.rewriting.rewrite_from.Goals as goal
 

@@ -4,7 +4,7 @@ use Rattle.smap_lines.specs.Editing.{devices_seen}
 use Rattle.smap_store.specs.Stored.{FindsIn, StoredSeen, found_in}
 use Rattle.smap_store.specs.StoredMaps.{IsSameStore, same_store_on, same_store_self, stored_seen}
 use Rattle.smap_trace.specs.Rewriting.{Looked, RewritesOver}
-use Rattle.smap_trace.specs.SeenLaws.{looked_seen, rewrites_seen}
+use Rattle.smap_trace.specs.Laws.Seen.{looked_seen, rewrites_seen}
 use Rattle.smap_text_answers.specs.RewriteFrom.{store_of}
 use Rattle.smap_text_answers.proofs.rewriting.rewrite_stored.Goals as goal
 

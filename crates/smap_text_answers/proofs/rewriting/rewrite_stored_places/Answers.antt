@@ -1,12 +1,12 @@
 use Rattle.std.proofs.Common.{◌≡◌, ap, refl, rules, subst, sym}
 use Rattle.smap_lines.specs.Editing.{devices_seen}
 use Rattle.smap_places.specs.PlacesOver.{RewritesPlacesOver}
-use Rattle.smap_places.specs.PlacesSeenLaws.{front_of_none, places_seen}
+use Rattle.smap_places.specs.Laws.PlacesSeen.{front_of_none, places_seen}
 use Rattle.smap_places.specs.StoredPlaces.{MapsSeen, stored_place_at}
 use Rattle.smap_store.specs.Stored.{FindsIn, GivesIn, StoredSeen, found_in}
 use Rattle.smap_store.specs.StoredMaps.{IsSameStore, same_store_on, same_store_self, stored_seen}
 use Rattle.smap_trace.specs.Rewriting.{Looked}
-use Rattle.smap_trace.specs.SeenLaws.{looked_seen}
+use Rattle.smap_trace.specs.Laws.Seen.{looked_seen}
 use Rattle.smap_text_answers.specs.RewriteFrom.{places_of, store_of}
 use Rattle.smap_text_answers.proofs.rewriting.rewrite_stored_places.Goals as goal
 

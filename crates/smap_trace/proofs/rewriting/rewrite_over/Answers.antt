@@ -1,7 +1,7 @@
 use Rattle.std.proofs.Common.{◌≡◌, arith, refl, rules}
-use Rattle.smap_lines.specs.StepLaws.{edits_seen}
+use Rattle.smap_lines.specs.Laws.Step.{edits_seen}
 use Rattle.smap_trace.specs.Private.FrameRewriter.{RewriterSteps, trace_now}
-use Rattle.smap_trace.specs.Private.RewriterLaws.{step_seen}
+use Rattle.smap_trace.specs.Laws.Rewriter.{step_seen}
 use Rattle.smap_trace.specs.Rewriting.{TraceStep}
 use Rattle.smap_trace.proofs.CountLaws.{edits_add}
 use Rattle.smap_trace.proofs.rewriting.rewrite_over.Goals as goal

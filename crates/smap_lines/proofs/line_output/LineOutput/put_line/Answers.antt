@@ -1,6 +1,6 @@
 use Rattle.std.proofs.lemmas.Result.{err_from_is_err_and}
 use Rattle.smap_lines.specs.Lines.{end_in}
-use Rattle.smap_lines.specs.PutLaws.{fails_first, put_then}
+use Rattle.smap_lines.specs.Laws.Put.{fails_first, put_then}
 use Rattle.smap_lines.proofs.line_output.LineOutput.put_line.Goals as goal
 
 pub returns-in_err-put : goal.returns-in_err-put

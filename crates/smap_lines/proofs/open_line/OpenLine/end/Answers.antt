@@ -1,6 +1,6 @@
 use Rattle.std.proofs.Common.{◌∷◌, sym, []}
 use Rattle.std.proofs.lemmas.Result.{err_from_is_err_and}
-use Rattle.smap_lines.specs.PutLaws.{fails_first, fails_second, puts_both}
+use Rattle.smap_lines.specs.Laws.Put.{fails_first, fails_second, puts_both}
 use Rattle.smap_lines.proofs.OpenLaws.{after_passing, ended_passing}
 use Rattle.smap_lines.proofs.open_line.OpenLine.end.Goals as goal
 

@@ -1,5 +1,5 @@
 use Rattle.std.proofs.Common.{◌≡◌, ap, ◌∙◌, rules}
-use Rattle.smap_locations.specs.KeyLaws.{path_of_key}
+use Rattle.smap_locations.specs.Laws.Key.{path_of_key}
 use Rattle.smap_locations.specs.Locations.{key_for, path_for}
 use Rattle.smap_locations.proofs.locations.Locations.key_for.Goals as goal
 

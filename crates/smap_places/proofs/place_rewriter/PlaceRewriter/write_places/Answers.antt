@@ -2,7 +2,7 @@ use Rattle.std.proofs.Common.{◌≡◌, ◌+◌, ℕ, Option, refl, arith, ap, 
 use Rattle.std.proofs.lemmas.Result.{err_from_is_err_and}
 use Rattle.smap_lines.specs.LineOutput.{FailsToPut, Puts}
 use Rattle.smap_record.specs.Record.{MapRecord}
-use Rattle.smap_trace.specs.LookedLaws.{looked_both, looked_one}
+use Rattle.smap_trace.specs.Laws.Looked.{looked_both, looked_one}
 use Rattle.smap_places.specs.PlaceSeen.{IsNext, NoneBetween, place_seen}
 use Rattle.smap_places.specs.PlacesRewritten.{replacement}
 use Rattle.smap_places.proofs.CountLaws.{byte_is}

@@ -1,5 +1,5 @@
 use Rattle.std.proofs.Common.{[], rules, sym, ◌∙◌, append-nil}
-use Rattle.smap_lines.specs.PutLaws.{puts_none}
+use Rattle.smap_lines.specs.Laws.Put.{puts_none}
 use Rattle.smap_positions.proofs.PutLaws.{put_whole}
 use Rattle.smap_positions.proofs.answerer.PositionAnswerer.put_gathered.Goals as goal
 

@@ -2,7 +2,7 @@ use Rattle.std.proofs.Common.{◌≡◌, ◌∙◌, subst}
 use Rattle.std.proofs.lemmas.Result.{IfErr-weaker, IfOk-weaker}
 use Rattle.std.specs.Prelude.{Ok, option_copied}
 use Rattle.smap_locations.specs.Paths.{without_query}
-use Rattle.smap_text_answers.specs.LoaderLaws.{read_based, read_unbased, refused_based, refused_unbased}
+use Rattle.smap_text_answers.specs.Laws.Loader.{read_based, read_unbased, refused_based, refused_unbased}
 use Rattle.smap_replies.specs.Outcome.{OrMemory, failure_report}
 use Rattle.smap_text_answers.specs.Loader.{IsReadAs, IsReadRefusal}
 use Rattle.smap_text_answers.proofs.loader.FileLoader.map_at.Goals as goal

@@ -1,5 +1,5 @@
 use Rattle.std.specs.Prelude.{option_copied}
-use Rattle.smap_text_answers.specs.LoaderLaws.{fails_named}
+use Rattle.smap_text_answers.specs.Laws.Loader.{fails_named}
 use Rattle.smap_text_answers.proofs.loader.FileLoaderMapLoader.load.Goals as goal
 
 pub returns-in-Err : goal.returns-in-Err

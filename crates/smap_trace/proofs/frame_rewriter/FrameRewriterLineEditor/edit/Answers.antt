@@ -1,7 +1,7 @@
 use Rattle.std.proofs.Common.{arith, refl}
 use Rattle.std.proofs.lemmas.Result.{err_from_is_err_and}
-use Rattle.smap_lines.specs.PutLaws.{puts_none}
-use Rattle.smap_trace.specs.LookedLaws.{looked_one}
+use Rattle.smap_lines.specs.Laws.Put.{puts_none}
+use Rattle.smap_trace.specs.Laws.Looked.{looked_one}
 use Rattle.smap_trace.specs.Rewritten.{hidden, replaced}
 use Rattle.smap_trace.specs.SightSeen.{replaced_frame}
 use Rattle.smap_trace.proofs.frame_rewriter.FrameRewriterLineEditor.edit.Goals as goal

@@ -4,7 +4,7 @@ use Rattle.std.specs.List.{FoldsTo}
 use Rattle.std.proofs.Common.{ap, subst, sym, ◌∙◌}
 use Rattle.smap_lines.specs.Editing.{DevicesSeen}
 use Rattle.smap_lines.specs.Lines.{Line}
-use Rattle.smap_lines.specs.StepLaws.{edits_front_wider, edits_seen}
+use Rattle.smap_lines.specs.Laws.Step.{edits_front_wider, edits_seen}
 use Rattle.smap_lines.specs.declared.fault.LineFault.{LineFault}
 use Rattle.smap_record.specs.Record.{MapRecord}
 use Rattle.smap_trace.specs.Frame.{FrameParts}

@@ -8,16 +8,16 @@ use Rattle.smap_lines.specs.declared.fault.LineFault.{LineFault}
 use Rattle.smap_locations.specs.Paths.{without_query}
 use Rattle.smap_places.specs.Places.{PlaceUrl}
 use Rattle.smap_places.specs.PlacesBy.{RewritesPlacesBy}
-use Rattle.smap_places.specs.PlacesByLaws.{places_by}
+use Rattle.smap_places.specs.Laws.PlacesBy.{places_by}
 use Rattle.smap_places.specs.PlacesOver.{RewritesPlacesOver}
 use Rattle.smap_record.specs.Record.{MapRecord, record_of}
 use Rattle.smap_record.specs.declared.refusal.MapRefusal.{MapRefusal}
 use Rattle.smap_store.specs.ByPath.{IsGood, IsRight, MapsByPath, stored_maps}
 use Rattle.smap_store.specs.Loaded.{record_in}
-use Rattle.smap_store.specs.SameLaws.{good_before, right_after, right_start}
+use Rattle.smap_store.specs.Laws.Same.{good_before, right_after, right_start}
 use Rattle.smap_store.specs.Stored.{FindsIn, LoadsStep, StoredSeen, found_in}
 use Rattle.smap_trace.specs.MapsOf.{RewritesBy}
-use Rattle.smap_trace.specs.MapsOfLaws.{rewrites_by}
+use Rattle.smap_trace.specs.Laws.MapsOf.{rewrites_by}
 use Rattle.smap_trace.specs.Rewriting.{RewritesOver}
 use Rattle.smap_trace.specs.declared.outcome.RewriteCounts.{RewriteCounts}
 use Rattle.smap_trace.specs.declared.outcome.Summary.{Summary}

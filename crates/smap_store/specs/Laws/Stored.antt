@@ -2,12 +2,12 @@
 use Rattle.std.specs.Prelude.{◌≡◌, ◌⊎◌, ℕ, List, Option, Some, None, MatchOption}
 use Rattle.std.specs.Option.{IsSomeAnd}
 use Rattle.std.proofs.Common.{refl, sym, ap, subst, ◌∙◌, inl, inr}
-use Rattle.smap_locations.specs.KeyLaws.{path_of_key}
+use Rattle.smap_locations.specs.Laws.Key.{path_of_key}
 use Rattle.smap_locations.specs.Locations.{LocationsSeen, key_for, path_for}
 use Rattle.smap_record.specs.Record.{MapRecord}
 use Rattle.smap_trace.specs.Table.{record_for}
 use Rattle.smap_store.specs.Cache.{CacheSeen, Keeps, Kept, Remembers, counted, kept_of, kept_under}
-use Rattle.smap_store.specs.KeptLaws.{IsOf, other_remembered, own_remembered}
+use Rattle.smap_store.specs.Laws.Kept.{IsOf, other_remembered, own_remembered}
 use Rattle.smap_store.specs.Loaded.{record_in}
 use Rattle.smap_store.specs.Stored.{Asks, Comes, FindsIn, GivesIn, LoadsMay, LoadsStep, MayCome, Recalls, StoredSeen, Untouched, found_in, map_in, or_map}
 

@@ -9,8 +9,8 @@ use Rattle.smap_lines.specs.Edited.{StepsLines, after_line, after_text, edited, 
 use Rattle.smap_lines.specs.Editing.{DevicesSeen, EditsInto}
 use Rattle.smap_lines.specs.Limits.{most_text_bytes}
 use Rattle.smap_lines.specs.Lines.{Line, has_line_end, line_text, lines_with_ends}
-use Rattle.smap_lines.specs.OneTextLaws.{OnlyStep, steps_are}
-use Rattle.smap_lines.specs.StepLaws.{edits_seen}
+use Rattle.smap_lines.specs.Laws.OneText.{OnlyStep, steps_are}
+use Rattle.smap_lines.specs.Laws.Step.{edits_seen}
 use Rattle.smap_lines.specs.declared.counts.LineCounts.{LineCounts}
 use Rattle.smap_record.specs.Record.{MapRecord}
 use Rattle.smap_trace.specs.Frame.{FrameParts, has_cr_within, is_line}

@@ -2,13 +2,13 @@
 -- under a URL is then the same whenever it is looked for, however much is remembered and whatever was looked for before.
 use Rattle.std.specs.Prelude.{◌≡◌, ℕ, List, [], Option, Some, None, MatchOption}
 use Rattle.std.proofs.Common.{ap, arith, inl, inr, refl, subst, sym, ◌∙◌}
-use Rattle.smap_locations.specs.KeyLaws.{path_of_key}
+use Rattle.smap_locations.specs.Laws.Key.{path_of_key}
 use Rattle.smap_locations.specs.Locations.{LocationsSeen, key_for, path_for}
 use Rattle.smap_record.specs.Record.{MapRecord}
 use Rattle.smap_trace.specs.Table.{record_for}
 use Rattle.smap_store.specs.ByPath.{IsGood, IsRight, MapsByPath, by_path, stored_maps}
 use Rattle.smap_store.specs.Cache.{CacheSeen, Keeps, Kept, Remembers, counted, kept_of, kept_under, one_more}
-use Rattle.smap_store.specs.KeptLaws.{IsOf, other_remembered, own_remembered}
+use Rattle.smap_store.specs.Laws.Kept.{IsOf, other_remembered, own_remembered}
 use Rattle.smap_store.specs.Loaded.{record_in}
 use Rattle.smap_store.specs.Stored.{Asks, Comes, FindsIn, LoadsStep, Recalls, StoredSeen, Untouched, found_in, map_in, or_map}
 

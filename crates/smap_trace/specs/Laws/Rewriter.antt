@@ -7,7 +7,7 @@ use Rattle.smap_record.specs.Record.{MapRecord}
 use Rattle.smap_trace.specs.Frame.{FrameParts}
 use Rattle.smap_trace.specs.FrameOf.{frame_of}
 use Rattle.smap_trace.specs.Private.FrameRewriter.{RewriterBecomes, RewriterReaches, RewriterSteps, room_of, trace_now}
-use Rattle.smap_trace.specs.LookedLaws.{looked_both, looked_none}
+use Rattle.smap_trace.specs.Laws.Looked.{looked_both, looked_none}
 use Rattle.smap_trace.specs.Rewriting.{TraceStep, hidden_in, mapped_in, staying_in}
 use Rattle.smap_trace.specs.Rewritten.{Fate, FateStep, MayMeet, fate_at, hidden, line_after, no_frame, original_in, replaced, stays}
 use Rattle.smap_trace.specs.declared.frame_rewriter.FrameRewriter.{FrameRewriter}

@@ -4,7 +4,7 @@ use Rattle.std.specs.List.{FoldsTo}
 use Rattle.std.proofs.Common.{ap, arith, refl, subst, sym, ◌∙◌}
 use Rattle.smap_io.specs.Device.{Gives}
 use Rattle.smap_lines.specs.Editing.{DevicesSeen}
-use Rattle.smap_lines.specs.PutLaws.{takes_none}
+use Rattle.smap_lines.specs.Laws.Put.{takes_none}
 use Rattle.smap_lines.specs.declared.fault.LineFault.{LineFault}
 use Rattle.smap_lines.specs.declared.fault.LineFault.TheVariants.{Memory}
 use Rattle.smap_record.specs.Record.{MapRecord}

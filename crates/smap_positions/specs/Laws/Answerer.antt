@@ -3,7 +3,7 @@
 use Rattle.std.specs.Prelude.{◌≡◌, ◌≤◌, ◌+◌, ℕ, Bool, List}
 use Rattle.std.proofs.Common.{arith, ap, subst, sym, ◌∙◌}
 use Rattle.smap_lines.specs.Lines.{Line}
-use Rattle.smap_lines.specs.OneTextLaws.{OnlyStep}
+use Rattle.smap_lines.specs.Laws.OneText.{OnlyStep}
 use Rattle.smap_record.specs.Record.{MapRecord}
 use Rattle.smap_positions.specs.Private.Answerer.{after_position, answer_of, room_of}
 use Rattle.smap_positions.specs.Positions.{answered_line}

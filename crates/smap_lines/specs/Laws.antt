@@ -1,0 +1,4 @@
+pub mod Put
+pub mod Number
+pub mod Step
+pub mod OneText

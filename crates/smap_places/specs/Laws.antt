@@ -1,0 +1,2 @@
+pub mod PlacesBy
+pub mod PlacesSeen

@@ -1,0 +1,4 @@
+pub mod Seen
+pub mod Kept
+pub mod Stored
+pub mod Same

@@ -1,0 +1,2 @@
+pub mod SameBytes
+pub mod Loader
