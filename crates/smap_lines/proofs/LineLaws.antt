@@ -4,9 +4,8 @@ use Rattle.std.proofs.Common.{length-take, get_or, get_or-take, take, drop, refl
 use Rattle.std.proofs.Math.Bool.{not-not, or-true}
 use Rattle.std.specs.List.{filter, flat_map}
 use Rattle.std.specs.Prelude.{not}
-use Rattle.std.proofs.lemmas.Bool.{cond-false, cond_both, eqb-true, false_from_ne_true, or_from, or_parts}
+use Rattle.std.proofs.lemmas.Bool.{cond-false, cond_both, false_from_ne_true, or_from, or_parts}
 use Rattle.std.proofs.lemmas.Grind.{flat_map-append}
-use Rattle.std.proofs.lemmas.List.{drop_more, take-append-drop}
 use Rattle.std.proofs.lemmas.List.Elements.{filter-append}
 use Rattle.std.proofs.lemmas.List.Filters.{length-filter_both}
 use Rattle.std.proofs.lemmas.List.Folds.{list_any-append}
@@ -104,11 +103,6 @@ no_end_anywhere [] none = refl
 no_end_anywhere (x ∷ text) none =
     or_from (x == 10) (has_line_end text) (false_from_ne_true (x == 10) (none 0 (omega arith)))
     (no_end_anywhere text (λ k within. none (suc k) (omega (arith, within))))
-
--- the first LF, and what stands before and after it
-pub cut_there : (text : List ℕ) (k : ℕ) → k < length text → (get_or text k 0 == 10) ≡ true → text ≡ take k text ++ 10 ∷ drop (k + 1) text
-cut_there text k within here =
-    sym (take-append-drop k text) ∙ ap (λ l. take k text ++ l) (drop_more text k 0 within ∙ ap (λ b. b ∷ drop (k + 1) text) (eqb-true _ 10 here))
 
 pub no_end_before : (text : List ℕ) (k : ℕ) → k ≤ length text → ((i : ℕ) → i < k → (get_or text i 0 == 10) ≡ true → ⊥) → has_line_end (take k text) ≡ false
 no_end_before text k within none =

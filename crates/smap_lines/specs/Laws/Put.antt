@@ -4,7 +4,7 @@ use Rattle.std.proofs.Common.{sym, ap, ◌∙◌, append_assoc, append-nil}
 use Rattle.std.specs.Io.KnownBytes.{append_known}
 use Rattle.smap_io.specs.Device.{SinkSeen, Takes}
 use Rattle.smap_io.specs.declared.device.DeviceFault.{DeviceFault}
-use Rattle.smap_lines.specs.LineOutput.{FailsToPut, IsOnePut, IsPut, Puts}
+use Rattle.smap_lines.specs.LineOutput.{FailsToPut, IsPut, Puts}
 use Rattle.smap_lines.specs.declared.line_output.LineOutput.{LineOutput}
 
 pub takes_none : (old : Option (List ℕ)) → Takes old old []
@@ -66,16 +66,3 @@ module _ {W : Type 0} {seen : W → SinkSeen} where
         IsPut seen mid new second result → IsPut seen old new (first ++ second) result
     put_then new second (Ok done) two = puts_both two
     put_then new second (Err fault) fails = fails_second fails
-
--- one of the texts that are allowed was put
-module _ {W T : Type 0} (seen : W → SinkSeen) (old new : LineOutput W) where
-  pub one_put : (Allowed IsDone : List ℕ → Type 0) (text : List ℕ) (result : Result T DeviceFault) → Allowed text → IsDone text → IsPut seen old new text result
-      → IsOnePut seen old new Allowed IsDone result
-  one_put Allowed IsDone text (Ok done) is is_done put = (text, is_done, put)
-  one_put Allowed IsDone text (Err fault) is is_done fails = (text, is, fails)
-
-  -- what is so of a text in one place is so in another
-  pub one_put_wider : (Allowed Wider IsDone More : List ℕ → Type 0) (result : Result T DeviceFault) → ((text : List ℕ) → Allowed text → Wider text)
-      → ((text : List ℕ) → IsDone text → More text) → IsOnePut seen old new Allowed IsDone result → IsOnePut seen old new Wider More result
-  one_put_wider Allowed Wider IsDone More (Ok done) wider more put = (put.0, more put.0 put.1, put.2)
-  one_put_wider Allowed Wider IsDone More (Err fault) wider more fails = (fails.0, wider fails.0 fails.1, fails.2)
