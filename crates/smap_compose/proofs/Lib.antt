@@ -17,3 +17,5 @@ pub mod MovedLaws
 pub mod PartsLaws
 pub mod GivenLaws
 pub mod PrunedLaws
+pub mod PathPieceLaws
+pub mod PathLaws

@@ -1,10 +1,10 @@
 -- What the sources of an inner map are called in a composed map (this project's own): where the outer source's name is no
 -- URL, a name that is a relative path goes on from the folder of the outer source.
-use Rattle.std.specs.Prelude.{ℕ, ◌-◌, ◌==◌, ◌||◌, ◌&&◌, Bool, false, not, List, [], ◌∷◌, ◌++◌, Option, Some, None, codes, drop, get_or, length, take, if◌then◌else◌, option_map, slice_get}
+use Rattle.std.specs.Prelude.{◌≡◌, ℕ, ◌-◌, ◌==◌, ◌||◌, ◌&&◌, Bool, true, false, not, List, [], ◌∷◌, ◌++◌, Option, Some, None, codes, drop, get_or, length, take, if◌then◌else◌, option_map, slice_get}
 use Rattle.std.specs.Option.{option_map_or}
 use Rattle.std.specs.Bool.{nat_eq}
 use Rattle.std.specs.Char.{is_ascii_alphabetic, is_ascii_alphanumeric}
-use Rattle.std.specs.List.{fold, slice_split, starts_with}
+use Rattle.std.specs.List.{AllByRecursion, fold, slice_split, starts_with}
 use Rattle.std.specs.Str.{bytes_eq}
 use Rattle.smap_resolve.specs.SourceName.{Name}
 use Rattle.smap_resolve.specs.SourceName.Name.{resolved, kept}
@@ -92,6 +92,21 @@ root_of file =
 -- the path
 abbrev pub path_from : (file text : List ℕ) → List ℕ
 path_from file text = root_of file ++ joined_pieces (pieces_from file text)
+
+-- no piece is empty or `.`, and `..` stands in front alone, where the path does not begin at the root
+pub record IsWithoutDetours (rooted : Bool) (pieces : List (List ℕ)) : Type 0 where
+  pub none_stays : AllByRecursion (λ (piece : List ℕ). stays piece ≡ false) pieces
+  pub front : List (List ℕ)
+  pub behind : List (List ℕ)
+  pub pieces_are : pieces ≡ front ++ behind
+  pub all_back : AllByRecursion (λ (piece : List ℕ). goes_back piece ≡ true) front
+  pub none_back : AllByRecursion (λ (piece : List ℕ). goes_back piece ≡ false) behind
+  pub none_from_root : rooted ≡ true → front ≡ []
+
+-- the last piece of a path is the name of a file or a folder
+abbrev pub ends_in_name : (path : List ℕ) → Bool
+ends_in_name path =
+    option_map_or (λ last. not (stays last) && not (goes_back last)) (slice_get (pieces_of_path path) (length (pieces_of_path path) - 1)) false
 
 -- ---- names
 

@@ -77,7 +77,7 @@ same_line base a b =
     (λ no. ne_eqb (base + a) (base + b) (λ (same : base + a ≡ base + b). eqb-false a b no (omega (arith, same))) ∙ sym no)
     (cases_Bool (eqb a b))
 
-as_many : (b c : Bool) (x y : Mapping) (xs ys : List Mapping) → b ≡ c → length xs ≡ length ys → length (cond b (x ∷ xs) xs) ≡ length (cond c (y ∷ ys) ys)
+pub as_many : {A B : Type 0} (b c : Bool) (x : A) (y : B) (xs : List A) (ys : List B) → b ≡ c → length xs ≡ length ys → length (cond b (x ∷ xs) xs) ≡ length (cond c (y ∷ ys) ys)
 as_many b true x y xs ys is same = ap (λ b. length (cond b (x ∷ xs) xs)) is ∙ ap suc same
 as_many b false x y xs ys is same = ap (λ b. length (cond b (x ∷ xs) xs)) is ∙ same
 

@@ -14,7 +14,7 @@ use Rattle.smap_index.specs.Checkpoint.{mapping_of, state_of}
 use Rattle.smap_index.specs.Parts.{placed, joined}
 use Rattle.smap_index.specs.Answer.{answer_of, answer_at_or_before}
 use Rattle.smap_index.specs.Faults.{most_interval}
-use Rattle.smap_index.specs.Marks.{marks, IsCheckpointOf, used_lines_in}
+use Rattle.smap_index.specs.Marks.{marks, IsCheckpointOf, used_lines_in, HasFewMarksOnEachLine}
 use Rattle.smap_index.specs.Private.Search.{mappings_at, front_up_to, last_from, first_past, on_line, last_checkpoint, next_checkpoint}
 use Rattle.smap_index.specs.Index.{IndexContents, IsIndex}
 use Rattle.smap_index.specs.declared.answer.Answer.TheVariants.{Nothing}
@@ -26,6 +26,7 @@ use Rattle.smap_index.proofs.RefusalLaws.{faultless, all_in_range}
 use Rattle.smap_index.proofs.Tiles.{IsTiled}
 use Rattle.smap_index.proofs.TileLaws.{tiled, checkpoints_in_order}
 use Rattle.smap_index.proofs.FewLaws.{few_marks}
+use Rattle.smap_index.proofs.FewOnLineLaws.{few_on_each_line}
 use Rattle.smap_index.proofs.ResumeLaws.{IsResumed, resumed, none_resumed, none_answers, none_on_line, last_answers_on_line}
 
 module _ (index : IndexContents) (is : IsIndex index) where
@@ -54,6 +55,11 @@ module _ (index : IndexContents) (is : IsIndex index) where
       let few = few_marks index.parts index.k interval_within.0 is.holds.ordered in
       let here : count ≤ length (joined index.parts) / index.k + used_lines_in index.parts = omega (arith, few, is_length ∙ as_many index refl) in
       subst (λ (i : IndexContents). count ≤ length (joined i.parts) / i.k + used_lines_in i.parts) same here
+
+  -- and on a line of a part too
+  pub bounded_on_lines : (seen : IndexContents) → index ≡ seen → HasFewMarksOnEachLine seen.parts seen.k
+  bounded_on_lines seen same =
+      subst (λ (i : IndexContents). HasFewMarksOnEachLine i.parts i.k) same (few_on_each_line index.parts index.k interval_within.0)
 
   -- so what is compared is bounded by the number of marks
   pub compared : (seen : IndexContents) → index ≡ seen → (next count : ℕ) → ((b : ℕ) → length index.checkpoints < 2 ^ b → next ≤ count + b)

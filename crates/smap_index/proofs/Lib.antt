@@ -14,6 +14,7 @@ pub mod PassedLaws
 pub mod Tiles
 pub mod TileLaws
 pub mod FewLaws
+pub mod FewOnLineLaws
 pub mod AnswerLaws
 pub mod ResumeLaws
 pub mod IndexLaws

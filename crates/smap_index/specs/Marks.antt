@@ -1,6 +1,8 @@
 -- Which segments have a checkpoint, and what a checkpoint is of.
-use Rattle.std.specs.Prelude.{◌≡◌, ℕ, ◌+◌, ◌%◌, List, [], ◌∷◌, ◌++◌, Some, ◌==◌, if◌then◌else◌, length, map, filter, slice_get}
+use Rattle.std.specs.Prelude.{◌≡◌, ℕ, ◌+◌, ◌/◌, ◌%◌, ◌≤◌, List, [], ◌∷◌, ◌++◌, Some, Bool, false, ◌==◌, ◌&&◌, if◌then◌else◌, length, map, filter}
+use Rattle.std.specs.Prelude.{slice_get}
 use Rattle.std.specs.List.{AllZip, sum_by}
+use Rattle.std.specs.Option.{option_map_or}
 use Rattle.smap_mappings.specs.Counts.{used_lines_of}
 use Rattle.smap_mappings.specs.State.{IsAfter}
 use Rattle.smap_mappings.specs.declared.mapping.Mapping.{Mapping}
@@ -17,9 +19,13 @@ pub record Mark : Type 0 where
 abbrev pub mark_in : ℕ → ℕ → Mark
 mark_in part segment = record { part = part; segment = segment }
 
+-- how many of these mappings stand on this line
+abbrev pub count_on_line : ℕ → List Mapping → ℕ
+count_on_line line mappings = length (filter (λ mapping. mapping.line == line) mappings)
+
 -- the number of a mapping on its line, from 0, where these stand before it in its part
 abbrev pub number_on_line : List Mapping → Mapping → ℕ
-number_on_line before mapping = length (filter (λ earlier. earlier.line == mapping.line) before)
+number_on_line before mapping = count_on_line mapping.line before
 
 -- of some mappings of a part, where the others stand before them, the segment numbers of those whose number on their
 -- line is a multiple of the interval
@@ -37,6 +43,16 @@ marks_from i (part ∷ parts) interval = map (mark_in i) (marked_segments interv
 -- in order, the segments whose number on their part's line is a multiple of the interval
 abbrev pub marks : List Part → ℕ → List Mark
 marks parts interval = marks_from 0 parts interval
+
+-- the mark is of a segment on this line of this part, which has this number
+abbrev pub is_mark_on_line : Part → ℕ → ℕ → Mark → Bool
+is_mark_on_line part number line mark =
+    mark.part == number && option_map_or (λ mapping. mapping.line == line) (slice_get (placed part) mark.segment) false
+
+-- on a line of a part there are at most as many marks as its segments divided by the interval, rounded down, and one
+abbrev pub HasFewMarksOnEachLine : List Part → ℕ → Type 0
+HasFewMarksOnEachLine parts interval = (number line : ℕ) (part : Part) → slice_get parts number ≡ Some part
+    → length (filter (is_mark_on_line part number line) (marks parts interval)) ≤ count_on_line line (placed part) / interval + 1
 
 -- the checkpoint is of this segment of the part that has this number: its mapping is the segment's, at its place, and
 -- its state is the one after the segment

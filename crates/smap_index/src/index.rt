@@ -12,7 +12,7 @@ ghost use Rattle.smap_mappings.specs.Exact.{IsExactOr};
 ghost use Rattle.smap_mappings.specs.Meter.{HasRoom};
 ghost use Rattle.smap_mappings.specs.Order.{IsInOrder};
 ghost use Rattle.smap_index.specs.Parts.{most_parts, joined, bytes_in};
-ghost use Rattle.smap_index.specs.Marks.{marks, used_lines_in};
+ghost use Rattle.smap_index.specs.Marks.{marks, used_lines_in, HasFewMarksOnEachLine};
 ghost use Rattle.smap_index.specs.Faults.{build_fault, encode_all_fault};
 ghost use Rattle.smap_mappings.specs.Range.{is_mapping_past_limit};
 ghost use Rattle.smap_index.specs.Answer.{answer_at_or_before, answer_at_or_after};
@@ -182,6 +182,7 @@ impl Index {
         ensures count { result ≡ length (marks self.now.parts self.now.k) }
         ensures bound { let segments = length (joined self.now.parts) in
             result ≤ segments / self.now.k + used_lines_in self.now.parts }
+        ensures on_each_line { HasFewMarksOnEachLine self.now.parts self.now.k }
     {
         self.table.len() as u64
     }

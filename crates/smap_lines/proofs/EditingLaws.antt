@@ -29,16 +29,17 @@ byte_few true = omega arith
 byte_few false = omega arith
 
 -- a write failed
-pub write_fails : (Becomes : Line → List ℕ → Type 0) (most : ℕ) (before after : DevicesSeen) (bytes : List ℕ) → Gives before.input.left after.input.left bytes
+pub write_fails : (Becomes : Line → List ℕ → Type 0) (most : ℕ) (before after : DevicesSeen) (bytes : List ℕ) → length bytes ≤ most
+    → Gives before.input.left after.input.left bytes
     → TakesEditedFront Becomes before.output.taken after.output.taken bytes → EditsFrontInto Becomes most before after Write
-write_fails Becomes most before after bytes gives took = record {
+write_fails Becomes most before after bytes fits gives took = record {
   bytes = bytes;
   written = took.front.0;
   later = took.front.1;
   read = gives;
   taken = took.front.3;
   front = subst (λ l. IsEdited Becomes bytes l) took.front.2 took.edited;
-  many = λ e. absurd (cc);
+  many = (λ e. absurd (cc), λ less. absurd (omega (arith, less, fits)));
   whole = λ e. absurd (cc);
 }
 
@@ -50,10 +51,11 @@ module _ (E : Type 0) (Becomes : E → Line → List ℕ → Type 0) (Steps : E 
     (some : (editor : E) (line : Line) → (text : List ℕ) × Becomes editor line text)
     (first : E) (most : ℕ) (before after : DevicesSeen) (bytes : List ℕ) (now : Now E) where
   -- a read failed, where nothing waits
-  pub read_fails : IsThrough Becomes Steps room first before.output.taken bytes now [] → now.waiting ≡ [] → now.taken ≡ after.output.taken
+  pub read_fails : length bytes ≤ most → IsThrough Becomes Steps room first before.output.taken bytes now [] → now.waiting ≡ []
+      → now.taken ≡ after.output.taken
       → Gives before.input.left after.input.left bytes →
       EditsFrontInto (Becomes first) most before after Read
-  read_fails is none taken gives =
+  read_fails fits is none taken gives =
       let ahead = through_ahead E Becomes Steps room became same room_for_one some first before.output.taken bytes [] now is in record {
         bytes = bytes;
         written = is.written;
@@ -61,7 +63,7 @@ module _ (E : Type 0) (Becomes : E → Line → List ℕ → Type 0) (Steps : E 
         read = gives;
         taken = sym taken ∙ is.taken;
         front = subst (λ l. IsEdited (Becomes first) bytes (l ++ ahead.0)) (ap (λ w. is.written ++ w) none ∙ append-nil is.written) ahead.1;
-        many = λ e. absurd (cc);
+        many = (λ e. absurd (cc), λ less. absurd (omega (arith, less, fits)));
         whole = λ _ front rest bytes_is whole. through_whole E Becomes Steps room became same room_for_one some first before.output.taken bytes now is
             none front rest bytes_is whole;
       }
@@ -79,6 +81,6 @@ module _ (E : Type 0) (Becomes : E → Line → List ℕ → Type 0) (Steps : E 
         read = gives;
         taken = sym taken ∙ on.taken;
         front = subst (λ l. IsEdited (Becomes first) (bytes ++ more) l) (append_assoc on.written now.waiting ahead.0) ahead.1;
-        many = λ _. omega (arith, many, length-append bytes more);
+        many = (λ _. omega (arith, many, length-append bytes more), λ _. refl);
         whole = λ e. absurd (cc);
       }

@@ -1,5 +1,5 @@
 -- What editing a text line by line does to its devices.
-use Rattle.std.specs.Prelude.{◌≡◌, ◌<◌, ◌≤◌, ℕ, Bool, true, false, List, ◌++◌, length, Result, Ok, Err}
+use Rattle.std.specs.Prelude.{◌≡◌, ◌↔◌, ◌<◌, ◌≤◌, ℕ, Bool, true, false, List, ◌++◌, length, Result, Ok, Err}
 use Rattle.std.specs.Io.KnownBytes.{IsAtEnd}
 use Rattle.smap_io.specs.Device.{Gives, SinkSeen, SourceSeen, Takes}
 use Rattle.smap_lines.specs.Edited.{IsEdited, StepsText, edited, long_lines}
@@ -24,8 +24,8 @@ pub record Edits (becomes : Line → List ℕ) (most : ℕ) (before after : Devi
   pub written : Takes before.output.taken after.output.taken (edited becomes bytes)
   pub counted : lines ≡ length (lines_with_ends bytes)
 
--- these bytes were read, and a front of what they become was written; where a read failed, all of what their whole
--- lines become
+-- these bytes were read, and a front of what they become was written; they are more than `most` where that is the fault,
+-- and only there; where a read failed, all of what their whole lines become
 pub record EditsFront (becomes : Line → List ℕ) (most : ℕ) (before after : DevicesSeen) (fault : LineFault) : Type 0 where
   pub bytes : List ℕ
   pub written : List ℕ
@@ -33,7 +33,7 @@ pub record EditsFront (becomes : Line → List ℕ) (most : ℕ) (before after :
   pub read : Gives before.input.left after.input.left bytes
   pub taken : Takes before.output.taken after.output.taken written
   pub front : edited becomes bytes ≡ written ++ later
-  pub many : fault ≡ TooMuch → most < length bytes
+  pub many : (fault ≡ TooMuch) ↔ (most < length bytes)
   pub whole : fault ≡ Read → (first rest : List ℕ) → bytes ≡ first ++ rest → IsWholeLines first
       → (more : List ℕ) × (written ≡ edited becomes first ++ more)
 
@@ -53,8 +53,8 @@ pub record EditsInto {E : Type 0} (Steps : E → Line → List ℕ → E → Typ
   pub counted : counts.lines ≡ length (lines_with_ends bytes)
   pub long : counts.long ≡ long_lines bytes
 
--- these bytes were read, and a front of a text that they may become was written; where a read failed, all of a text that
--- their whole lines may become
+-- these bytes were read, and a front of a text that they may become was written; they are more than `most` where that is the
+-- fault, and only there; where a read failed, all of a text that their whole lines may become
 pub record EditsFrontInto (Becomes : Line → List ℕ → Type 0) (most : ℕ) (before after : DevicesSeen) (fault : LineFault) : Type 0 where
   pub bytes : List ℕ
   pub written : List ℕ
@@ -62,7 +62,7 @@ pub record EditsFrontInto (Becomes : Line → List ℕ → Type 0) (most : ℕ) 
   pub read : Gives before.input.left after.input.left bytes
   pub taken : Takes before.output.taken after.output.taken written
   pub front : IsEdited Becomes bytes (written ++ later)
-  pub many : fault ≡ TooMuch → most < length bytes
+  pub many : (fault ≡ TooMuch) ↔ (most < length bytes)
   pub whole : fault ≡ Read → (first rest : List ℕ) → bytes ≡ first ++ rest → IsWholeLines first
       → (text : List ℕ) × (more : List ℕ) × IsEdited Becomes first text × (written ≡ text ++ more)
 

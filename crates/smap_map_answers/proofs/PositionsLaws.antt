@@ -1,5 +1,5 @@
 -- What `positions` prints, by what answering them came to.
-use Rattle.std.proofs.Common.{◌≡◌, ℕ, Bool, false, List, [], Option, Some, None, Err, refl, sym, ap, ◌∙◌, append-nil}
+use Rattle.std.proofs.Common.{◌≡◌, ℕ, Bool, false, List, [], Option, Some, None, Err, refl, sym, ap, ◌∙◌, append-nil, arith}
 use Rattle.smap_io.specs.Device.{Gives, SinkSeen, SourceSeen, Takes}
 use Rattle.smap_lines.specs.Edited.{edited}
 use Rattle.smap_lines.specs.Editing.{DevicesSeen, EditsFront, devices_seen}
@@ -23,7 +23,7 @@ written_front before input mid after stated from json summary answers kept = rec
   read = answers.edits.read;
   taken = kept ∙ answers.edits.written;
   front = sym (append-nil (edited (answered_line stated from json) answers.bytes));
-  many = λ e. absurd (cc);
+  many = (λ e. absurd (cc), λ less. absurd (omega (arith, less, answers.edits.fits)));
   whole = λ e. absurd (cc);
 }
 
@@ -48,7 +48,7 @@ no_room stated from json now input_works output_works = record {
     read = gives_none now.input.left;
     taken = takes_none now.output.taken;
     front = refl;
-    many = λ e. absurd (cc);
+    many = (λ e. absurd (cc), λ less. absurd (omega (arith, less)));
     whole = λ e. absurd (cc);
   };
   input_failed = input_works;

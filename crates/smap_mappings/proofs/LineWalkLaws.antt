@@ -48,6 +48,9 @@ module _ (text : List ℕ) (j : ℕ) (start : Cursor) (end passed : ℕ) (kind :
     past = past;
   }
 
+  pub after_stop : IsAfter text (j + passed + 1) after
+  after_stop = (stepped.next (j + passed) so_far.after).after
+
 -- where no further segment is on the line of the state, none is on the first's
 pub later_from : (text : List ℕ) (j : ℕ) (start : Cursor) (end passed : ℕ) (kind : Kind) (at : Cursor)
     → IsPassed text j start end passed kind at → IsOnLaterLine text (j + passed) at.line → IsOnLaterLine text (j + passed) start.line

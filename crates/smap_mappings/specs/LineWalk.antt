@@ -1,5 +1,5 @@
 -- A walk along a line: over the segments after a state that stand on its line before a column.
-use Rattle.std.specs.Prelude.{◌≡◌, ℕ, ◌+◌, ◌-◌, ◌<◌, ◌≤◌, ◌⊎◌, List, Option, Some, None, slice_get, MatchOption}
+use Rattle.std.specs.Prelude.{◌≡◌, ℕ, ◌+◌, ◌-◌, ◌<◌, ◌≤◌, ◌⊎◌, List, Option, Some, None, slice_get, IfSome, MatchOption}
 use Rattle.smap_mappings.specs.Mappings.{mappings_of}
 use Rattle.smap_mappings.specs.State.{mapping_at, IsAfter, IsOnLaterLine}
 use Rattle.smap_mappings.specs.declared.cursor.Cursor.{Cursor}
@@ -23,13 +23,14 @@ pub record IsStop (text : List ℕ) (j : ℕ) (start : Cursor) (end : ℕ) (mapp
   pub past : end ≤ mapping.column
 
 -- the walk passed the segments that stand on the line before the column, or as many as it may, and stopped at the next
--- one, where that is on the line
+-- one, where that is on the line, with the state after that
 pub record IsWalked (text : List ℕ) (j : ℕ) (start : Cursor) (end most : ℕ) (walk : LineWalk) : Type 0 where
   pub few : walk.passed ≤ most
   pub passed : IsPassed text j start end walk.passed walk.kind walk.state
   pub stops : MatchOption walk.next
       ((walk.passed ≡ most) ⊎ IsOnLaterLine text (j + walk.passed) start.line)
       (λ next. IsStop text (j + walk.passed) start end (mapping_at next.0 next.1))
+  pub next_after : IfSome walk.next (λ next. IsAfter text (j + walk.passed + 1) next.1)
 
 -- how many segments the walk decoded, when it stopped at this one
 abbrev pub decoded_with : ℕ → Option (Kind × Cursor) → ℕ

@@ -58,7 +58,7 @@ module _ (table : List (List ℕ × MapRecord)) where
     read = is.read;
     taken = is.taken;
     front = sym (parts_may (parts_of (place_at table) is.bytes) (is.written ++ is.later) is.front);
-    many = is.many.0;
+    many = is.many;
     whole = λ failed first rest cut whole.
         let some = is.whole failed first rest cut whole in
         (some.1, some.3 ∙ ap (λ l. l ++ some.1) (parts_may (parts_of (place_at table) first) some.0 some.2));

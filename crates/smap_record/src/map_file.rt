@@ -8,7 +8,7 @@ ghost use Rattle.smap_mappings.specs.Meter.{HasRoom};
 ghost use Rattle.smap_mappings.specs.Order.{IsInOrder};
 ghost use Rattle.smap_mappings.specs.Within.{IsWithin};
 ghost use Rattle.smap_index.specs.Parts.{bytes_in, joined};
-ghost use Rattle.smap_index.specs.Marks.{marks, used_lines_in};
+ghost use Rattle.smap_index.specs.Marks.{marks, used_lines_in, HasFewMarksOnEachLine};
 ghost use Rattle.smap_record.specs.Limits.{most_file_bytes};
 ghost use Rattle.smap_record.specs.MapFile.{IsAnswerWithin, IsMapOf, IsRefusalOf};
 ghost use Rattle.smap_record.specs.ReadBack.{ReadsBackAs};
@@ -189,6 +189,7 @@ impl MapFile {
         ensures count { result ≡ length (marks self.now.stated.parts self.now.k) }
         ensures bound { let segments = length (joined self.now.stated.parts) in
             result ≤ segments / self.now.k + used_lines_in self.now.stated.parts }
+        ensures on_each_line { HasFewMarksOnEachLine self.now.stated.parts self.now.k }
     {
         self.index.checkpoints()
     }

@@ -28,7 +28,8 @@ returns-in_default-read-clause-front g c =
     let read = c.loop-count.invariant.read in
     read_fails g.row.E.Denot g.E.LineEditor.Becomes g.E.LineEditor.Steps g.E.LineEditor.room g.met.E.LineEditor.became g.met.E.LineEditor.same
     g.met.E.LineEditor.room_for_one g.met.E.LineEditor.some
-    c.args.editor.now _ _ _ read.0 _ read.3 c.loop-count.invariant.none refl (rw c.in_default-read.ensures.keeps read.1)
+    c.args.editor.now _ _ _ read.0 _ (omega (arith, read.2, c.loop-count.invariant.fits)) read.3 c.loop-count.invariant.none refl
+    (rw c.in_default-read.ensures.keeps read.1)
 
 pub returns-then-total-most-clause-front : goal.returns-then-total-most-clause-front
 returns-then-total-most-clause-front g c =
@@ -88,7 +89,9 @@ returns-in_default-edit_bytes-clause-front g c =
     let read = c.loop-count.invariant.read in
     let bytes = take c.in-Ok.count c.read.new.room in
     let sink : c.output-1.given.0 ≡ c.edit_bytes.new.output.sink.now = search rules in
-    rw sink (write_fails _ _ _ _ (read.0 ++ bytes) (gives_both _ _ _ _ _ read.1 c.in-Ok.ensures.gives)
+    rw sink (write_fails _ _ _ _ (read.0 ++ bytes)
+    (omega (arith, read.2, length-append read.0 bytes, c.if-total-most.false, c.in-Ok.ensures.fits, length-take c.in-Ok.count c.read.new.room))
+    (gives_both _ _ _ _ _ read.1 c.in-Ok.ensures.gives)
     (c.in_default-edit_bytes.ensures.front _ _ _
     (through_read g.row.E.Denot g.E.LineEditor.Becomes g.E.LineEditor.Steps g.E.LineEditor.room g.met.E.LineEditor.became g.met.E.LineEditor.same
     g.met.E.LineEditor.room_for_one g.met.E.LineEditor.some _ _ read.0 bytes _ read.3)))
@@ -105,7 +108,8 @@ returns-in_default-finish-clause-front g c =
     let read = c.loop-count.invariant.read in
     let gives = rw c.if-count-eq0.true at c.in-Ok.ensures.gives in
     let sink : c.output-in_default-finish-1.given.0 ≡ c.finish.new.output.sink.now = search rules in
-    rw sink (write_fails _ _ _ _ read.0 (rw (append-nil read.0) at (gives_both _ _ _ _ [] read.1 gives))
+    rw sink (write_fails _ _ _ _ read.0 (omega (arith, read.2, c.loop-count.invariant.fits))
+    (rw (append-nil read.0) at (gives_both _ _ _ _ [] read.1 gives))
     (through_last_front g.row.E.Denot g.E.LineEditor.Becomes g.E.LineEditor.Steps g.E.LineEditor.room g.met.E.LineEditor.became g.met.E.LineEditor.same
     g.met.E.LineEditor.room_for_one g.met.E.LineEditor.some _ _ read.0 _ _ _ read.3 c.in_default-finish.ensures.put.1 c.in_default-finish.ensures.put.2.front))
 
@@ -161,7 +165,8 @@ returns-clause-front g c =
     let read = c.loop-count.invariant.read in
     let gives = rw c.if-count-eq0.true at c.in-Ok.ensures.gives in
     let sink : c.output-2-1.given.0 ≡ c.write.new.self.sink.now = search rules in
-    rw sink (write_fails _ _ _ _ read.0 (rw (append-nil read.0) at (gives_both _ _ _ _ [] read.1 gives))
+    rw sink (write_fails _ _ _ _ read.0 (omega (arith, read.2, c.loop-count.invariant.fits))
+    (rw (append-nil read.0) at (gives_both _ _ _ _ [] read.1 gives))
     (through_end_front g.row.E.Denot g.E.LineEditor.Becomes g.E.LineEditor.Steps g.E.LineEditor.room g.met.E.LineEditor.became g.met.E.LineEditor.same
     g.met.E.LineEditor.room_for_one g.met.E.LineEditor.some _ _ read.0 _ _ _ _ _ read.3
     (last_may g.row.E.Denot g.E.LineEditor.Becomes g.E.LineEditor.Steps g.E.LineEditor.room g.met.E.LineEditor.became g.met.E.LineEditor.same

@@ -1,8 +1,8 @@
 use Rattle.std.proofs.Common.{◌+◌, arith, inl, inr, subst, sym}
 use Rattle.smap_mappings.specs.LineWalk.{IsPassed, IsStop}
-use Rattle.smap_mappings.specs.State.{mapping_at}
+use Rattle.smap_mappings.specs.State.{mapping_at, IsAfter}
 use Rattle.smap_mappings.specs.declared.cursor.Cursor.{Cursor}
-use Rattle.smap_mappings.proofs.LineWalkLaws.{none_passed, one_passed, stopped, later_from}
+use Rattle.smap_mappings.proofs.LineWalkLaws.{none_passed, one_passed, stopped, after_stop, later_from}
 use Rattle.smap_mappings.proofs.line_walk.walk_line.Goals as goal
 use Rattle.smap_mappings.proofs.line_walk.walk_line.Goals.{else-loop-passed-test, then-loop-passed-test+in_default}
 
@@ -24,6 +24,7 @@ returns-clause-walked c j after =
             (later_from c.args.bytes.now j c.args.cursor.now c.args.end c.loop-passed.passed c.loop-passed.kind c.loop-passed.at passed
             (w.in_default.ensures.none _ passed.after))
       ];
+      next_after = tt;
     }
 
 pub returns-then-after-end-clause-walked : goal.returns-then-after-end-clause-walked
@@ -33,11 +34,14 @@ returns-then-after-end-clause-walked c j after =
     let passed = c.loop-passed.invariant.passed j after in
     let stop = stopped text j start c.args.end c.loop-passed.passed c.loop-passed.kind c.loop-passed.at passed c.in-Some.next_kind
     c.in-Some.after c.in-Some.ensures.some c.if-after-end.true in
+    let after_it = after_stop text j start c.args.end c.loop-passed.passed c.loop-passed.kind c.loop-passed.at passed c.in-Some.next_kind
+    c.in-Some.after c.in-Some.ensures.some in
     record {
       few = c.loop-passed.invariant.few;
       passed = subst (IsPassed text j start c.args.end c.loop-passed.passed c.loop-passed.kind) (sym c.new.ensures) passed;
       stops = subst (λ (next : Cursor). IsStop text (j + c.loop-passed.passed) start c.args.end (mapping_at c.in-Some.next_kind next))
           (sym c.new-then-after-end.ensures) stop;
+      next_after = subst (IsAfter text (j + c.loop-passed.passed + 1)) (sym c.new-then-after-end.ensures) after_it;
     }
 
 pub loop-passed-preserved : goal.loop-passed-preserved
