@@ -146,6 +146,9 @@ uint32_t smap_map_mappings(smap_map *map, smap_bytes *bytes);
 uint32_t smap_bytes_by_source(smap_map *map, const uint8_t *generated, size_t length, uint64_t *sources, size_t places,
                               uint64_t *unmapped, uint32_t *refusal);
 
+/* Lends what the program prints on this refusal of smap_bytes_by_source, "NotUtf8" or "TooLarge". Returns 1 for another number. */
+uint32_t smap_generated_refusal_text(uint32_t refusal, smap_text *text);
+
 /* Gives how much the map holds. Returns 0. */
 uint32_t smap_counts(smap_map *map, smap_count *counts);
 
@@ -186,9 +189,12 @@ uint32_t smap_compose_all(smap_map *outer, smap_inners *inners, const smap_compo
 /* Frees the places with the maps in them, and leaves their handle empty. */
 void smap_inners_free(smap_inners *inners);
 
-/* Lends what the program prints on this refusal of smap_compose and smap_compose_all, "C1 SourceIndex" or "C2 TooLarge".
- * Returns 1 where they have none of this number. */
+/* Lends what the program prints on this refusal of smap_compose and smap_compose_all, "C1 SourceIndex" or "C2 TooLarge", and
+ * of 4, that no source has the name that a map is given for, "C4 NoSource". Returns 1 where they have none of this number. */
 uint32_t smap_compose_refusal_text(uint32_t refusal, smap_text *text);
+
+/* Lends what the program prints where smap_map_write returns 1, which is refusal 1: "O1 TextTooLong". Returns 1 for another number. */
+uint32_t smap_write_refusal_text(uint32_t refusal, smap_text *text);
 
 /* Lends bytes that were handed out. Returns 0. */
 uint32_t smap_bytes_text(smap_bytes *bytes, smap_text *text);
@@ -226,6 +232,9 @@ uint32_t smap_rewrite(smap_table *table, const uint8_t *trace, size_t length, bo
  * smap_bytes_free. */
 uint32_t smap_rewrite_anywhere(smap_table *table, const uint8_t *text, size_t length, smap_bytes *bytes,
                                smap_trace_count *counts);
+
+/* Lends what the program prints on this refusal of both, which is 3: "X3 TooMuch". Returns 1 for another number. */
+uint32_t smap_rewrite_refusal_text(uint32_t refusal, smap_text *text);
 
 /* Finds the URL of the next frame of a trace, from byte `from` on, at which a line begins: 0, or `next` of the frame
  * before. Returns 1 where no frame follows. With it the maps of a trace can be read once frames name them. */

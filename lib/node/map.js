@@ -5,7 +5,7 @@ const given = require('./given.js');
 const { isThere, parsed, parts } = require('./json.js');
 const { each } = require('./mappings.js');
 const { besideMap, isPath } = require('./paths.js');
-const { BAD_BASE, Refused, refusedGenerated, refusedMap } = require('./refused.js');
+const { BAD_BASE, Refused, refusedGenerated, refusedMap, refusedWriting } = require('./refused.js');
 
 // What `using` calls at the end of a block.
 const DISPOSE = Symbol.dispose || Symbol.for('nodejs.dispose');
@@ -190,7 +190,7 @@ class TraceMap {
   // The text of one regular map that states the same, as a Buffer.
   write() {
     const text = addon.write(open(this));
-    if (text === null) throw new Refused('refused: O1 TextTooLong');
+    if (text === null) throw refusedWriting();
     return text;
   }
 

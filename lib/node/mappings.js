@@ -1,7 +1,7 @@
 'use strict';
 // The mappings of a map one after the other, of numbers as the addon hands them out: eight each, which are the generated line and
 // column, the kind, the source, the original line and column, whether there is a name, and the name.
-const { Refused } = require('./refused.js');
+const { refusedWriting } = require('./refused.js');
 
 const NUMBERS = 8;
 const MAPPED = 2;
@@ -34,7 +34,7 @@ function segmentAt(numbers, at) {
 
 // So many lines of segments.
 function decoded(numbers, count) {
-  if (count > MOST_LINES) throw new Refused('refused: O1 TextTooLong');
+  if (count > MOST_LINES) throw refusedWriting();
   const lines = [];
   while (lines.length < count) lines.push([]);
   for (let at = 0; at < numbers.length; at += NUMBERS) lines[numbers[at]].push(segmentAt(numbers, at));

@@ -16,6 +16,9 @@ class Refused extends Error {
 
 const BAD_BASE = 0;
 const LONG_BASE = 18;
+const NO_SOURCE = 4;
+const TOO_MUCH = 3;
+const TOO_LONG = 1;
 
 const shown = (url) =>
   url.length <= 200 ? JSON.stringify(url) : `${JSON.stringify(url.slice(0, 200))} and ${url.length - 200} characters more`;
@@ -43,7 +46,7 @@ function refusedMap(bytes, numbers, base, url) {
 
 // Why no bytes are counted of a generated file.
 function refusedGenerated(number) {
-  return new Refused(`refused: ${['NotUtf8', 'TooLarge'][number - 1] || number}`, [number]);
+  return new Refused(`refused: ${addon.generatedRefusalText(number) || number}`, [number]);
 }
 
 // Why two maps are not composed.
@@ -53,7 +56,7 @@ function refusedComposition(number) {
 
 // Why no source gets the map of this name.
 function refusedSource(name) {
-  return new Refused(`refused: C4 NoSource ${name}`, [4]);
+  return new Refused(`refused: ${addon.composeRefusalText(NO_SOURCE)} ${name}`, [NO_SOURCE]);
 }
 
 // Why a table takes no map under this URL.
@@ -61,4 +64,24 @@ function refusedUrl(number, url) {
   return new Refused(`usage: ${addon.tableRefusalText(number) || number}: ${shown(url)}`, [number], url);
 }
 
-module.exports = { BAD_BASE, Refused, refusedComposition, refusedGenerated, refusedMap, refusedSource, refusedUrl };
+// Why a map is not written.
+function refusedWriting() {
+  return new Refused(`refused: ${addon.writeRefusalText(TOO_LONG)}`);
+}
+
+// Why a text is not rewritten.
+function refusedText() {
+  return new Refused(`refused: ${addon.rewriteRefusalText(TOO_MUCH)}`, [TOO_MUCH]);
+}
+
+module.exports = {
+  BAD_BASE,
+  Refused,
+  refusedComposition,
+  refusedGenerated,
+  refusedMap,
+  refusedSource,
+  refusedText,
+  refusedUrl,
+  refusedWriting,
+};

@@ -2,7 +2,8 @@
 // Traces and logs, rewritten as they come.
 const { Transform } = require('stream');
 const { steady } = require('./given.js');
-const { counted, open, rewriting, rewritten, tooMuch } = require('./table.js');
+const { refusedText } = require('./refused.js');
+const { counted, open, rewriting, rewritten } = require('./table.js');
 
 const LF = 10;
 // A line with more bytes is no frame.
@@ -78,7 +79,7 @@ class RewriteStream extends Transform {
   #keep(piece) {
     this.#pieces.push(Buffer.from(piece));
     this.#length += piece.length;
-    if (this.#length > MOST_TEXT) throw tooMuch();
+    if (this.#length > MOST_TEXT) throw refusedText();
     if (this.#how.places || this.#length <= MOST_LINE) return;
     this.#numbers[0] += 1;
     this.#pieces.forEach((part) => this.push(part));

@@ -3,7 +3,7 @@
 const addon = require('./addon.js');
 const given = require('./given.js');
 const { DISPOSE, TraceMap, empty, open: openMap, standingAt } = require('./map.js');
-const { Refused, refusedUrl } = require('./refused.js');
+const { refusedText, refusedUrl } = require('./refused.js');
 
 // Maps, each under the URL that frames name: an object or pairs of a URL and a map's text, Uint8Array or TraceMap. A
 // TraceMap that is given is closed: the table has it then. `load` is asked for the map of each URL that is not among them,
@@ -73,14 +73,12 @@ function rewriting(options) {
   return { hide, places };
 }
 
-const tooMuch = () => new Refused('refused: X3 TooMuch', [3]);
-
 // The text of these bytes, and in the numbers how many lines, frames or places it had, and how many were mapped and hidden.
 function rewritten(table, bytes, { hide, places }, numbers) {
   open(table);
   if (table.load) ask(table, bytes);
   const text = addon.rewrite(open(table), bytes, places, hide, numbers);
-  if (text === null) throw tooMuch();
+  if (text === null) throw refusedText();
   return text;
 }
 
@@ -99,4 +97,4 @@ function rewrite(table, trace, options) {
   return text;
 }
 
-module.exports = { Table, counted, open, rewrite, rewriting, rewritten, tooMuch };
+module.exports = { Table, counted, open, rewrite, rewriting, rewritten };

@@ -352,9 +352,16 @@ static void mistakes(const char *path) {
     smap_text none_reported = SMAP_TEXT;
     lends(smap_compose_refusal_text, 1, "C1 SourceIndex");
     lends(smap_compose_refusal_text, 2, "C2 TooLarge");
+    lends(smap_compose_refusal_text, 4, "C4 NoSource");
+    lends(smap_rewrite_refusal_text, 3, "X3 TooMuch");
+    lends(smap_write_refusal_text, 1, "O1 TextTooLong");
+    lends(smap_generated_refusal_text, 1, "NotUtf8");
+    lends(smap_generated_refusal_text, 2, "TooLarge");
     lends(smap_table_refusal_text, 1, "A1 BadUrl");
     lends(smap_table_refusal_text, 2, "A2 Twice");
-    if (smap_compose_refusal_text(3, &none_reported) != SMAP_REFUSED || smap_table_refusal_text(0, &none_reported) != SMAP_REFUSED)
+    if (smap_compose_refusal_text(3, &none_reported) != SMAP_REFUSED || smap_table_refusal_text(0, &none_reported) != SMAP_REFUSED ||
+        smap_generated_refusal_text(0, &none_reported) != SMAP_REFUSED || smap_rewrite_refusal_text(1, &none_reported) != SMAP_REFUSED ||
+        smap_write_refusal_text(2, &none_reported) != SMAP_REFUSED)
         fail("a text of no refusal");
     smap_map map = {0};
     smap_refusal refusal = {0};

@@ -41,7 +41,7 @@ pub record RunsOne (Reports : (before after : DevicesSeen) → Report → Type 0
   -- standard output before that is reported
   pub written : SinkSeen
   pub reports : Reports (devices_seen before.input before.sinks.output) (devices_seen after.input written) report
-  pub ends : Ends report status (sinks_seen written before.sinks.errors) after.sinks
+  pub ends : Ends report status (sinks_seen written before.sinks.errors before.sinks.code) after.sinks
 
 -- a run of a command over files of which reading gives this, and the status with which it ends
 abbrev pub Runs : MayRead → Command → (status : ℕ) → (before after : Streams) → Type 0

@@ -5,7 +5,7 @@
 //! let interval = USUAL_INTERVAL;
 //! let (base, after, json, explain) = (None, false, false, false);
 //! let command = Command::Lookup { path, line: 0, column: 5, base, interval, after, json, explain };
-//! let status = run_reading(rt.alloc(), &rt, &command, &mut input, &mut output, &mut errors);
+//! let status = run_reading(rt.alloc(), &rt, &command, &mut input, &mut output, &mut errors, &mut first);
 //! ```
 #![tactic(auto)]
 
@@ -16,4 +16,6 @@ pub use running::{run, run_reading};
 pub use smap_command::{
     Command, MOST_BYTES, USUAL_CACHE_BYTES, USUAL_INTERVAL, USUAL_LIMIT_BYTES, WriteOptions,
 };
-pub use smap_replies::{Failure, FileReader, Loaded, Reply, UnreadCause, refusal_line, report};
+pub use smap_replies::{
+    Failure, FileReader, Loaded, Reply, UnreadCause, print_error, refusal_line, report,
+};

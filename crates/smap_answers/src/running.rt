@@ -1,11 +1,12 @@
 //! Running a command over its files and streams.
-ghost use Rattle.std.specs.Prelude.{◌≡◌, false};
+ghost use Rattle.std.specs.Prelude.{◌≡◌, false, None, Option};
 ghost use Rattle.smap_replies.specs.Files.{gives_loaded};
 ghost use Rattle.smap_answers.specs.Run.{Runs};
 ghost use Rattle.smap_command.specs.Runnable.{IsRunnable};
 ghost use Rattle.smap_replies.specs.Streams.{streams_seen};
 
 use smap_check_answers::{CheckOptions, Form, answer_check, answer_explain, check_all};
+use smap_codes::Code;
 use smap_command::{Command, USUAL_INTERVAL};
 use smap_compose_answers::{
     ALL_WRITTEN, AllMaps, TwoMaps, answer_compose, answer_compose_all, answer_show,
@@ -35,18 +36,27 @@ pub fn run<R: ByteSource, W: ByteSink, E: ByteSink>(
     requires input_works { (R.seen input.old).failed ≡ false }
     requires output_works { (W.seen output.old).failed ≡ false }
     requires errors_work { (E.seen errors.old).failed ≡ false }
-    ensures { Runs (gives_loaded files.now) command.now result
-        (streams_seen (R.seen input.old) (W.seen output.old) (E.seen errors.old))
-        (streams_seen (R.seen input.new) (W.seen output.new) (E.seen errors.new)) }
+    ensures { (first : Option Code) × Runs (gives_loaded files.now) command.now result
+        (streams_seen (R.seen input.old) (W.seen output.old) (E.seen errors.old) None)
+        (streams_seen (R.seen input.new) (W.seen output.new) (E.seen errors.new) first) }
 {
-    run_reading(alloc, &LoadedFiles(files), command, input, output, errors)
+    let mut first = None;
+    run_reading(
+        alloc,
+        &LoadedFiles(files),
+        command,
+        input,
+        output,
+        errors,
+        &mut first,
+    )
 }
 
 /// Runs a command over the files that it names, and gives the exit status. Of several files each is let go once its map
 /// is read; one that can't be read is reported before any refusal, and the first of them ends the run; but `CheckAll`
-/// reports each file by itself, and goes on to the next, up to a failure of standard output. The caller gives a command
-/// at whose interval checkpoints may stand and whose numbers of bytes are in their ranges, and devices that have not
-/// failed.
+/// reports each file by itself, and goes on to the next, up to a failure of standard output. The code of the first refusal
+/// that is reported on standard error is put into `first`, where that has none. The caller gives a command at whose
+/// interval checkpoints may stand and whose numbers of bytes are in their ranges, and devices that have not failed.
 pub fn run_reading<F: FileReader, R: ByteSource, W: ByteSink, E: ByteSink>(
     alloc: Global,
     reader: &F,
@@ -54,14 +64,15 @@ pub fn run_reading<F: FileReader, R: ByteSource, W: ByteSink, E: ByteSink>(
     input: &mut R,
     output: &mut W,
     errors: &mut E,
+    first: &mut Option<Code>,
 ) -> u8
     requires command { IsRunnable command.now }
     requires input_works { (R.seen input.old).failed ≡ false }
     requires output_works { (W.seen output.old).failed ≡ false }
     requires errors_work { (E.seen errors.old).failed ≡ false }
     ensures { Runs (F.gives reader.now) command.now result
-        (streams_seen (R.seen input.old) (W.seen output.old) (E.seen errors.old))
-        (streams_seen (R.seen input.new) (W.seen output.new) (E.seen errors.new)) }
+        (streams_seen (R.seen input.old) (W.seen output.old) (E.seen errors.old) first.old)
+        (streams_seen (R.seen input.new) (W.seen output.new) (E.seen errors.new) first.new) }
 {
     let outcome = match command {
         Command::Raw {
@@ -96,7 +107,7 @@ pub fn run_reading<F: FileReader, R: ByteSource, W: ByteSink, E: ByteSink>(
             };
             let (json, explain) = (*json, *explain);
             let options = CheckOptions { json, explain };
-            return check_all(alloc, &maps, paths, options, output, errors);
+            return check_all(alloc, &maps, paths, options, output, errors, first);
         }
         Command::Show { path, base } => answer_show(alloc, reader, path, base.as_ref()),
         Command::ShowWith {
@@ -212,7 +223,7 @@ pub fn run_reading<F: FileReader, R: ByteSource, W: ByteSink, E: ByteSink>(
                 limit_bytes: *limit_bytes,
                 summary: *summary,
             };
-            return rewrite_from(alloc, &request, input, output, errors);
+            return rewrite_from(alloc, &request, input, output, errors, first);
         }
         Command::Compose {
             outer,
@@ -260,5 +271,5 @@ pub fn run_reading<F: FileReader, R: ByteSource, W: ByteSink, E: ByteSink>(
         }
         Command::Explain { code } => answer_explain(alloc, code.as_deref()),
     };
-    report(&outcome, output, errors)
+    report(&outcome, output, errors, first)
 }

@@ -2,9 +2,10 @@
 use Rattle.std.specs.Prelude.{◌≡◌, ◌⊎◌, ℕ, List, None, Option, IsUtf8, IsSomeAnd}
 use Rattle.smap_record.specs.MapFile.{Map}
 use Rattle.smap_record.specs.Record.{MapRecord}
+use Rattle.smap_codes.specs.Codes.{number_of}
+use Rattle.smap_trace.specs.Codes.{table_code}
 use Rattle.smap_trace.specs.Table.{IsWith, url_refusal}
 use Rattle.smap_trace.specs.declared.refusal.TableRefusal.{TableRefusal}
-use Rattle.smap_trace.specs.declared.refusal.TableRefusal.TheVariants.{BadUrl, Twice, Memory}
 
 abbrev pub Maps : Type 0
 Maps = List (List ℕ × MapRecord)
@@ -15,9 +16,7 @@ IsAdded old url map new = IsSomeAnd old (λ before. IsSomeAnd map (λ put. IsSom
 
 -- the number of a refusal
 abbrev pub table_number : TableRefusal → ℕ
-table_number BadUrl = 1
-table_number Twice = 2
-table_number Memory = 3
+table_number refusal = number_of (table_code refusal)
 
 -- why the table takes no map under this URL: it is not UTF-8, or it is refused
 abbrev pub IsNotAdded : Option Maps → (url : List ℕ) → ℕ → Type 0

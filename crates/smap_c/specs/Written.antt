@@ -4,9 +4,10 @@ use Rattle.smap_mappings.specs.Canonical.{canonical_text}
 use Rattle.smap_index.specs.Parts.{joined}
 use Rattle.smap_record.specs.Record.{MapRecord}
 use Rattle.smap_record.specs.Written.{written}
+use Rattle.smap_codes.specs.Codes.{number_of}
+use Rattle.smap_compose.specs.Codes.{compose_code}
 use Rattle.smap_compose.specs.Composition.{Composition, composition}
 use Rattle.smap_compose.specs.declared.refusal.ComposeRefusal.{ComposeRefusal}
-use Rattle.smap_compose.specs.declared.refusal.ComposeRefusal.TheVariants.{SourceIndex, TooLarge, Memory}
 
 -- the text of one regular map that states the same
 abbrev pub map_text : MapRecord → List ℕ
@@ -21,6 +22,4 @@ composed_text outer source inner = text_of_composition (composition outer source
 
 -- the number of a refusal of two maps
 abbrev pub compose_number : ComposeRefusal → ℕ
-compose_number SourceIndex = 1
-compose_number TooLarge = 2
-compose_number Memory = 3
+compose_number refusal = number_of (compose_code refusal)

@@ -132,15 +132,11 @@ pub extern "C" fn smap_compose_all(
 {
     match all_composed_text(alloc, outer.lend(), inners.lend(), options) {
         Ok(text) => hand_out(alloc, text, bytes),
-        Err(ComposeRefusal::SourceIndex) => {
-            *refusal = 1;
-            REFUSED
-        }
-        Err(ComposeRefusal::TooLarge) => {
-            *refusal = 2;
-            REFUSED
-        }
         Err(ComposeRefusal::Memory) => NO_MEMORY,
+        Err(why) => {
+            *refusal = why.code().number();
+            REFUSED
+        }
     }
 }
 

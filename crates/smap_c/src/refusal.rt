@@ -2,9 +2,10 @@
 ghost use Rattle.std.specs.Prelude.{◌≡◌, ◌≢◌, Some};
 ghost use Rattle.smap_record.specs.declared.refusal.MapRefusal.TheVariants.{Build, Memory};
 ghost use Rattle.smap_index.specs.declared.refusal.BuildRefusal.TheVariants as builds;
-ghost use Rattle.smap_c.specs.Refusal.{build_in, build_numbers, kind_in, kind_number, numbered};
-ghost use Rattle.smap_c.specs.Refusal.{numbers_of, refusal_in};
+ghost use Rattle.smap_c.specs.Refusal.{build_in, build_section, kind_in, numbered};
+ghost use Rattle.smap_c.specs.Refusal.{numbers_of, refusal_in, refusal_with};
 
+use smap_codes::Code;
 use smap_record::{BuildRefusal, Fault, FaultKind, MapRefusal};
 
 /// Why a map is refused. `number` is that of the refusal, 1 to 17, or 0 where the base is no URL, or 18 where the base is
@@ -26,38 +27,35 @@ pub struct Refusal {
     pub byte: u64,
 }
 
-// The numbers of a refusal.
-#[tactic(auto, using(crate::proofs::Refusals::kinds_read_back), unfolding(crate::specs::Refusal::refusal_in))]
+// The numbers of a refusal, which read back as it.
 pub(crate) fn numbers_of(refusal: MapRefusal) -> Refusal
     ensures numbers { result ≡ numbers_of refusal }
     ensures reads_back { refusal ≢ Memory → refusal ≢ Build builds.Memory
         → refusal_in result ≡ Some refusal }
 {
+    own_numbers(refusal)
+}
+
+// The numbers of its code and its parts.
+fn own_numbers(refusal: MapRefusal) -> Refusal
+    ensures { result ≡ numbers_of refusal }
+{
+    let number = refusal.code().number();
     match refusal {
-        MapRefusal::TooLarge => numbered(1, 0),
-        MapRefusal::NotJson => numbered(2, 0),
-        MapRefusal::NotObject => numbered(3, 0),
-        MapRefusal::Version => numbered(4, 0),
-        MapRefusal::Sections => numbered(5, 0),
-        MapRefusal::SectionOffset(section) => numbered(6, section),
-        MapRefusal::Nested(section) => numbered(7, section),
-        MapRefusal::Sources => numbered(8, 0),
-        MapRefusal::Names => numbered(9, 0),
-        MapRefusal::SourcesContent => numbered(10, 0),
-        MapRefusal::IgnoreList => numbered(11, 0),
-        MapRefusal::FileOrRoot => numbered(12, 0),
-        MapRefusal::Mappings => numbered(13, 0),
+        MapRefusal::SectionOffset(section) | MapRefusal::Nested(section) => numbered(
+            number, section,
+        ),
         MapRefusal::Text(section, fault) => Refusal {
-            number: 14,
-            fault: kind_number(fault.kind),
+            fault: fault.kind.code().number(),
             line: fault.line,
-            build: 0,
-            section,
             byte: fault.byte,
+            ..numbered(number, section)
         },
-        MapRefusal::Build(refusal) => build_numbers(refusal),
-        MapRefusal::Url => numbered(16, 0),
-        MapRefusal::Memory => numbered(17, 0),
+        MapRefusal::Build(refusal) => Refusal {
+            build: refusal.code().number(),
+            ..numbered(number, build_section(refusal))
+        },
+        _ => numbered(number, 0),
     }
 }
 
@@ -75,43 +73,15 @@ pub(crate) fn numbered(number: u32, section: u64) -> Refusal
     }
 }
 
-// Why an index is not built.
-fn build_numbers(refusal: BuildRefusal) -> Refusal
-    ensures { result ≡ build_numbers refusal }
+// The section in which an index is not built, where there is one.
+fn build_section(refusal: BuildRefusal) -> u64
+    ensures { result ≡ build_section refusal }
 {
-    let (build, section) = match refusal {
-        BuildRefusal::Interval => (1, 0),
-        BuildRefusal::SectionOrder(section) => (2, section),
-        BuildRefusal::SectionOverlap(section) => (3, section),
-        BuildRefusal::PositionRange(section) => (4, section),
-        BuildRefusal::Memory => (5, 0),
-    };
-    Refusal {
-        number: 15,
-        fault: 0,
-        line: 0,
-        build,
-        section,
-        byte: 0,
-    }
-}
-
-// The number of a kind of fault.
-fn kind_number(kind: FaultKind) -> u32
-    ensures { result ≡ kind_number kind }
-{
-    match kind {
-        FaultKind::BadDigit => 1,
-        FaultKind::Unended => 2,
-        FaultKind::TooLong => 3,
-        FaultKind::TooLarge => 4,
-        FaultKind::NegativeZero => 5,
-        FaultKind::FieldCount => 6,
-        FaultKind::Negative => 7,
-        FaultKind::PastLimit => 8,
-        FaultKind::ColumnFalls => 9,
-        FaultKind::SourceIndex => 10,
-        FaultKind::NameIndex => 11,
+    match refusal {
+        BuildRefusal::SectionOrder(section)
+        | BuildRefusal::SectionOverlap(section)
+        | BuildRefusal::PositionRange(section) => section,
+        BuildRefusal::Interval | BuildRefusal::Memory => 0,
     }
 }
 
@@ -120,70 +90,84 @@ fn kind_number(kind: FaultKind) -> u32
 pub(crate) fn refusal_in(refusal: &Refusal) -> Option<MapRefusal>
     ensures { result ≡ refusal_in refusal.now }
 {
-    let section = refusal.section;
-    match refusal.number {
-        1 => Some(MapRefusal::TooLarge),
-        2 => Some(MapRefusal::NotJson),
-        3 => Some(MapRefusal::NotObject),
-        4 => Some(MapRefusal::Version),
-        5 => Some(MapRefusal::Sections),
-        6 => Some(MapRefusal::SectionOffset(section)),
-        7 => Some(MapRefusal::Nested(section)),
-        8 => Some(MapRefusal::Sources),
-        9 => Some(MapRefusal::Names),
-        10 => Some(MapRefusal::SourcesContent),
-        11 => Some(MapRefusal::IgnoreList),
-        12 => Some(MapRefusal::FileOrRoot),
-        13 => Some(MapRefusal::Mappings),
-        14 => match kind_in(refusal.fault) {
-            Some(kind) => Some(MapRefusal::Text(
-                section,
-                Fault {
-                    byte: refusal.byte,
-                    line: refusal.line,
-                    kind,
-                },
-            )),
-            None => None,
-        },
-        15 => match build_in(refusal.build, section) {
-            Some(build) => Some(MapRefusal::Build(build)),
-            None => None,
-        },
-        16 => Some(MapRefusal::Url),
-        _ => None,
+    let Refusal {
+        number,
+        section,
+        ..
+    } = *refusal;
+    if number == Code::M14.number() {
+        let kind = kind_in(refusal.fault)?;
+        let fault = Fault {
+            byte: refusal.byte,
+            line: refusal.line,
+            kind,
+        };
+        return Some(MapRefusal::Text(section, fault));
     }
+    if number == Code::M15.number() {
+        return Some(MapRefusal::Build(build_in(refusal.build, section)?));
+    }
+    refusal_with(number, section)
+}
+
+// The refusal of this number that has no part but a section.
+fn refusal_with(number: u32, section: u64) -> Option<MapRefusal>
+    ensures { result ≡ refusal_with number section }
+{
+    let all = [
+        MapRefusal::TooLarge,
+        MapRefusal::NotJson,
+        MapRefusal::NotObject,
+        MapRefusal::Version,
+        MapRefusal::Sections,
+        MapRefusal::SectionOffset(section),
+        MapRefusal::Nested(section),
+        MapRefusal::Sources,
+        MapRefusal::Names,
+        MapRefusal::SourcesContent,
+        MapRefusal::IgnoreList,
+        MapRefusal::FileOrRoot,
+        MapRefusal::Mappings,
+        MapRefusal::Url,
+    ];
+    all.iter()
+        .find(|refusal| refusal.code().number() == number)
+        .copied()
 }
 
 // The kind of fault that has this number.
 fn kind_in(number: u32) -> Option<FaultKind>
     ensures { result ≡ kind_in number }
 {
-    match number {
-        1 => Some(FaultKind::BadDigit),
-        2 => Some(FaultKind::Unended),
-        3 => Some(FaultKind::TooLong),
-        4 => Some(FaultKind::TooLarge),
-        5 => Some(FaultKind::NegativeZero),
-        6 => Some(FaultKind::FieldCount),
-        7 => Some(FaultKind::Negative),
-        8 => Some(FaultKind::PastLimit),
-        9 => Some(FaultKind::ColumnFalls),
-        10 => Some(FaultKind::SourceIndex),
-        11 => Some(FaultKind::NameIndex),
-        _ => None,
-    }
+    let all = [
+        FaultKind::BadDigit,
+        FaultKind::Unended,
+        FaultKind::TooLong,
+        FaultKind::TooLarge,
+        FaultKind::NegativeZero,
+        FaultKind::FieldCount,
+        FaultKind::Negative,
+        FaultKind::PastLimit,
+        FaultKind::ColumnFalls,
+        FaultKind::SourceIndex,
+        FaultKind::NameIndex,
+    ];
+    all.iter()
+        .find(|kind| kind.code().number() == number)
+        .copied()
 }
 
 // Why an index is not built, by its number and the section.
 fn build_in(number: u32, section: u64) -> Option<BuildRefusal>
     ensures { result ≡ build_in number section }
 {
-    match number {
-        1 => Some(BuildRefusal::Interval),
-        2 => Some(BuildRefusal::SectionOrder(section)),
-        3 => Some(BuildRefusal::SectionOverlap(section)),
-        4 => Some(BuildRefusal::PositionRange(section)),
-        _ => None,
-    }
+    let all = [
+        BuildRefusal::Interval,
+        BuildRefusal::SectionOrder(section),
+        BuildRefusal::SectionOverlap(section),
+        BuildRefusal::PositionRange(section),
+    ];
+    all.iter()
+        .find(|refusal| refusal.code().number() == number)
+        .copied()
 }

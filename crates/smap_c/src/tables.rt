@@ -56,9 +56,8 @@ pub extern "C" fn smap_table_add(
     };
     match table.lend().add(owned, file) {
         Ok(()) => DONE,
-        Err((TableRefusal::BadUrl, _url, file)) => give_back(alloc, file, map, 1, refusal),
-        Err((TableRefusal::Twice, _url, file)) => give_back(alloc, file, map, 2, refusal),
         Err((TableRefusal::Memory, _url, _file)) => NO_MEMORY,
+        Err((why, _url, file)) => give_back(alloc, file, map, why.code().number(), refusal),
     }
 }
 

@@ -14,7 +14,10 @@ use crate::look_up::{Found, smap_look_up, smap_look_up_from};
 use crate::many::{Position, smap_look_up_many};
 use crate::read::{smap_map_free, smap_map_read};
 use crate::refusal::numbered;
-use crate::report::{smap_compose_refusal_text, smap_refusal_text, smap_table_refusal_text};
+use crate::report::{
+    smap_compose_refusal_text, smap_generated_refusal_text, smap_refusal_text,
+    smap_rewrite_refusal_text, smap_table_refusal_text, smap_write_refusal_text,
+};
 use crate::status::{DONE, REFUSED};
 use crate::tables::{smap_table_add, smap_table_free, smap_table_new};
 use crate::texts::{Source, Text, smap_file, smap_name, smap_source};
@@ -227,6 +230,16 @@ fn refusals_are_reported(rt: HostRuntime) -> Result<(), Fail> {
     assert_eq!(&rt; smap_table_refusal_text(1, &mut text), DONE);
     assert_eq!(&rt; text.text, "A1 BadUrl".as_bytes());
     assert_eq!(&rt; smap_table_refusal_text(3, &mut text), REFUSED);
+    assert_eq!(&rt; smap_compose_refusal_text(4, &mut text), DONE);
+    assert_eq!(&rt; text.text, "C4 NoSource".as_bytes());
+    assert_eq!(&rt; smap_write_refusal_text(1, &mut text), DONE);
+    assert_eq!(&rt; text.text, "O1 TextTooLong".as_bytes());
+    assert_eq!(&rt; smap_rewrite_refusal_text(3, &mut text), DONE);
+    assert_eq!(&rt; text.text, "X3 TooMuch".as_bytes());
+    assert_eq!(&rt; smap_generated_refusal_text(1, &mut text), DONE);
+    assert_eq!(&rt; text.text, "NotUtf8".as_bytes());
+    assert_eq!(&rt; smap_generated_refusal_text(2, &mut text), DONE);
+    assert_eq!(&rt; text.text, "TooLarge".as_bytes());
     Ok(())
 }
 

@@ -67,15 +67,11 @@ pub extern "C" fn smap_compose(
             Ok(text) => hand_out(alloc, text, bytes),
             Err(_) => NO_MEMORY,
         },
-        Err(ComposeRefusal::SourceIndex) => {
-            *refusal = 1;
-            REFUSED
-        }
-        Err(ComposeRefusal::TooLarge) => {
-            *refusal = 2;
-            REFUSED
-        }
         Err(ComposeRefusal::Memory) => NO_MEMORY,
+        Err(why) => {
+            *refusal = why.code().number();
+            REFUSED
+        }
     }
 }
 

@@ -1,9 +1,10 @@
 -- What `check` prints: of one file, or of each of several, in their order.
-use Rattle.std.specs.Prelude.{◌≡◌, ℕ, ◌⊎◌, ◌++◌, Bool, true, false, List, [], ◌∷◌, Option, Ok, Err, codes, if◌then◌else◌, max, suc}
+use Rattle.std.specs.Prelude.{◌≡◌, ℕ, ◌⊎◌, ◌++◌, Bool, true, false, List, [], ◌∷◌, Option, Some, Ok, Err, codes, if◌then◌else◌, max, suc}
 use Rattle.smap_explain.specs.Explain.{IsExplained}
 use Rattle.smap_explain.specs.declared.explanation.Explanation.{Explanation}
 use Rattle.smap_io.specs.declared.transfer.ReadFailure.TheVariants.{Device}
 use Rattle.smap_positions.specs.Json.{json_line}
+use Rattle.smap_record.specs.Codes.{map_code}
 use Rattle.smap_record.specs.Record.{record_of}
 use Rattle.smap_record.specs.declared.refusal.MapRefusal.{MapRefusal}
 use Rattle.smap_verdicts.specs.Counts.{counts_value, map_counts}
@@ -39,7 +40,7 @@ pub record IsWhyLine (bytes path : List ℕ) (refused : MapRefusal) (line : List
 -- a refusal is reported on standard error, and why, where that is asked
 abbrev pub IsLineReported : (bytes path : List ℕ) → (explain : Bool) → MapRefusal → Report → Type 0
 IsLineReported bytes path false refused report = report ≡ refusal_result path refused
-IsLineReported bytes path true refused report = (line : List ℕ) × IsWhyLine bytes path refused line × (report ≡ refusal line)
+IsLineReported bytes path true refused report = (line : List ℕ) × IsWhyLine bytes path refused line × (report ≡ refusal (Some (map_code refused)) line)
 
 -- the line of an object that reports a refusal, and why the map is refused
 pub record IsWhyObject (bytes path : List ℕ) (refused : MapRefusal) (line : List ℕ) : Type 0 where

@@ -7,6 +7,7 @@ ghost use Rattle.smap_replies.specs.Streams.{sinks_seen};
 ghost use Rattle.smap_record.specs.declared.refusal.MapRefusal.TheVariants.{Memory};
 
 use crate::lines;
+use smap_codes::Code;
 use smap_explain::explain;
 use smap_io::{ByteSink, ReadFailure};
 use smap_record::{MapFile, MapRefusal};
@@ -59,7 +60,8 @@ pub fn answer_check<F: FileReader>(
 /// Checks the map files at these paths, one after another: each is read, reported and let go before the next is read,
 /// whether it is accepted or refused, can't be read, or memory runs out. A file is reported by one line; with `json` a
 /// map, accepted or refused, is reported by one JSON object. Gives the greatest status of all. Where standard output
-/// fails, nothing more is read. The caller gives a standard output that has not failed.
+/// fails, nothing more is read. The code of the first refusal that is reported on standard error is put into `first`, where
+/// that has none. The caller gives a standard output that has not failed.
 pub fn check_all<F: FileReader, W: ByteSink, E: ByteSink>(
     alloc: Global,
     maps: &MapReader<'_, F>,
@@ -67,18 +69,19 @@ pub fn check_all<F: FileReader, W: ByteSink, E: ByteSink>(
     options: CheckOptions,
     output: &mut W,
     errors: &mut E,
+    first: &mut Option<Code>,
 ) -> u8
     requires output_works { (W.seen output.old).failed ≡ false }
     ensures { ChecksAll (F.gives maps.now.files.now) (option_copied maps.now.base) maps.now.interval
         (form_of options.json) options.explain 0 (map string_bytes paths.now) result
-        (sinks_seen (W.seen output.old) (E.seen errors.old))
-        (sinks_seen (W.seen output.new) (E.seen errors.new)) }
+        (sinks_seen (W.seen output.old) (E.seen errors.old) first.old)
+        (sinks_seen (W.seen output.new) (E.seen errors.new) first.new) }
 {
     let form = form_of(options.json);
     let mut status = DONE;
     for (number, path) in paths.iter().enumerate() {
         let outcome = answer_check(alloc, maps, number, path, form, options.explain);
-        status = status.max(report(&outcome, output, errors));
+        status = status.max(report(&outcome, output, errors, first));
         if output.failed() {
             break;
         }
@@ -189,7 +192,7 @@ fn line_failure(
         refusal_line(alloc, path, refused)
     };
     match line {
-        Ok(line) => Failure::Refusal(line),
+        Ok(line) => Failure::refusal(refused.code(), line),
         Err(_) => Failure::Memory,
     }
 }

@@ -2,9 +2,9 @@
 ghost use Rattle.std.specs.Prelude.{◌≡◌, option_copied, string_bytes, IfOk};
 ghost use Rattle.smap_check_answers.specs.Explain.{ReportsCalled, ReportsCode, no_code_text};
 ghost use Rattle.smap_replies.specs.Outcome.{OrMemory, report_of};
-ghost use Rattle.smap_codes.specs.Labels.{label_called, labels};
+ghost use Rattle.smap_code_texts.specs.Words.{code_called};
 
-use smap_codes::{all_codes_text, code_text, row_of};
+use smap_code_texts::{all_codes_text, code_called, code_text, row_of};
 use smap_command::shown;
 use smap_replies::{Failure, Reply};
 use std::alloc::{AllocError, Global};
@@ -21,12 +21,15 @@ pub fn answer_explain(alloc: Global, code: Option<&str>) -> Result<Reply, Failur
 
 // What the code or the name means; where there is none, which there are.
 fn answer_word(alloc: Global, word: &str) -> Result<Reply, Failure>
-    ensures { OrMemory (ReportsCalled word.now (label_called word.now labels))
+    ensures { OrMemory (ReportsCalled word.now (code_called word.now))
         (report_of result) }
 {
-    match row_of(word) {
-        Some(row) => Ok(Reply::Text(code_text(alloc, row)?)),
-        None => Err(Failure::Refusal(no_code_text(alloc, word)?)),
+    match code_called(word) {
+        Some(code) => Ok(Reply::Text(code_text(alloc, &row_of(code))?)),
+        None => {
+            let line = no_code_text(alloc, word)?;
+            Err(Failure::Refusal { code: None, line })
+        }
     }
 }
 

@@ -1,8 +1,5 @@
-//! `smap` answers questions about source maps from the command line: `smap lookup app.js.map 1 6` looks up line 1,
-//! column 6 of the generated file in its map file, `smap positions app.js.map` does so for each line of its standard input,
-//! `smap rewrite URL=app.js.map` rewrites the stack trace on its standard input, `smap check app.js.map lib.js.map` counts
-//! what map files hold, `smap show app.js.map` writes one as one regular map, `smap compose bundle.js.map 0 app.js.map`
-//! composes two map files, and `smap raw 1 6` looks a position up in the bare mappings text on its standard input.
+//! `smap` answers questions about source maps from the command line. The words are parsed by smap_arguments, and the command
+//! is run by smap_answers. Where a refusal goes to a terminal, a last line says which word of `explain` says more.
 #![tactic(auto)]
 
 mod hint;
@@ -11,8 +8,8 @@ mod usage;
 ghost use Rattle.std.specs.Prelude.{IfOk};
 ghost use Rattle.smap_answers.specs.Run.{IsRunnable};
 
-use hint::KeepingSink;
-use smap_answers::{Failure, Reply, report, run_reading};
+use hint::hint_line;
+use smap_answers::{Failure, Reply, print_error, report, run_reading};
 pub use smap_arguments::{Usage, parse};
 pub use smap_command::Command;
 use smap_io::FromStd;
@@ -25,7 +22,8 @@ fn main(rt: HostRuntime) -> ExitCode {
     let mut output = FromStd::new(rt.stdout());
     let errors = rt.stderr();
     let is_terminal = errors.is_terminal();
-    let mut errors = KeepingSink::new(rt.alloc(), FromStd::new(errors));
+    let mut errors = FromStd::new(errors);
+    let mut first = None;
     let status = match command_of(&rt) {
         Ok(command) => run_reading(
             rt.alloc(),
@@ -34,11 +32,15 @@ fn main(rt: HostRuntime) -> ExitCode {
             &mut input,
             &mut output,
             &mut errors,
+            &mut first,
         ),
-        Err(outcome) => report(&outcome, &mut output, &mut errors),
+        Err(outcome) => report(&outcome, &mut output, &mut errors, &mut first),
     };
-    if is_terminal {
-        errors.report_more(rt.alloc());
+    if let Some(code) = first
+        && is_terminal
+        && let Ok(hint) = hint_line(rt.alloc(), code)
+    {
+        print_error(&mut errors, hint.as_bytes());
     }
     ExitCode::from(status)
 }

@@ -1,1 +1,1 @@
-pub mod LabelLaws
+pub mod AllLaws

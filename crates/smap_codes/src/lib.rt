@@ -1,20 +1,10 @@
-//! What each code of a refusal means, what usually causes it, and what to do about it.
+//! The codes by which refusals and failures are called, as `M14 Text`. What each means stands in smap_code_texts.
 //!
 //! ```text
-//! if let Some(row) = row_of("M14") {
-//!     print(code_text(alloc, row)?);
-//! }
+//! print(refusal.code().text());
 //! ```
 #![tactic(auto)]
 
 mod code;
-mod index_codes;
-mod map_codes;
-mod mappings_codes;
-mod table;
-mod trace_codes;
-mod words;
-mod writing_codes;
 
-pub use code::{Code, code_text};
-pub use table::{all_codes_text, families, row_of};
+pub use code::{Code, all};

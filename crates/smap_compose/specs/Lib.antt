@@ -5,4 +5,5 @@ pub mod Inners
 pub mod Composition
 pub mod Pruned
 pub mod Composed
+pub mod Codes
 pub mod Private

@@ -17,7 +17,9 @@ use Rattle.smap_compose_answers.specs.Written.{report_or, written_of}
 use Rattle.smap_command.specs.declared.command.WriteOptions.{WriteOptions}
 use Rattle.smap_compose.specs.Composition.{all_composed}
 use Rattle.smap_replies.specs.Files.{MayRead}
-use Rattle.smap_replies.specs.Lines.{twice_line}
+use Rattle.smap_codes.specs.Codes.{text_of}
+use Rattle.smap_codes.specs.declared.code.Code.TheVariants.{A2}
+use Rattle.smap_replies.specs.Lines.{argument_refused_line}
 use Rattle.smap_replies.specs.Outcome.{OrMemory, Report, misuse, out_of_memory}
 use Rattle.smap_compose_answers.specs.Private.Inners.{inners_stated}
 use Rattle.smap_replies.specs.Arguments.{argument_text}
@@ -25,11 +27,11 @@ use Rattle.smap_replies.specs.Arguments.{argument_text}
 -- ---- words
 
 module _ (sources : List StatedSource) (words rest : List (List ℕ × List ℕ)) (name path : List ℕ) (old : Named) (is : words ≡ (name, path) ∷ rest) where
-  pub words_next : (new : Named) → NamesPair sources (misuse (twice_line (argument_text name path))) old name path (Ok new)
+  pub words_next : (new : Named) → NamesPair sources (misuse (argument_refused_line (argument_text name path) (text_of A2))) old name path (Ok new)
       → (result : Result Named Report) → NamesWords sources rest new result → NamesWords sources words old result
   words_next new pair result names = subst (λ left. NamesWords sources left old result) (sym is) (Ok new, pair, names)
 
-  pub words_refused : (report : Report) → NamesPair sources (misuse (twice_line (argument_text name path))) old name path (Err report)
+  pub words_refused : (report : Report) → NamesPair sources (misuse (argument_refused_line (argument_text name path) (text_of A2))) old name path (Err report)
       → NamesWords sources words old (Err report)
   words_refused report pair = subst (λ left. NamesWords sources left old (Err report)) (sym is) (Err report, pair, refl)
 

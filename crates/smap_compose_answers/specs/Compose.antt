@@ -2,22 +2,21 @@
 use Rattle.std.specs.Prelude.{ℕ, List, Option}
 use Rattle.smap_record.specs.Record.{MapRecord, record_of}
 use Rattle.smap_command.specs.declared.command.WriteOptions.{WriteOptions}
+use Rattle.smap_compose.specs.Codes.{compose_code}
 use Rattle.smap_compose.specs.Composition.{composed_of}
 use Rattle.smap_compose.specs.declared.refusal.ComposeRefusal.{ComposeRefusal}
-use Rattle.smap_compose.specs.declared.refusal.ComposeRefusal.TheVariants.{SourceIndex, TooLarge, Memory}
+use Rattle.smap_compose.specs.declared.refusal.ComposeRefusal.TheVariants.{Memory}
 use Rattle.smap_replies.specs.Files.{MayRead, OfFile}
-use Rattle.smap_compose_answers.specs.Lines.{composed_too_large_line, no_source_line}
 use Rattle.smap_replies.specs.Map.{IsResult, ReportsFound, refusal_result}
-use Rattle.smap_replies.specs.Outcome.{Report, out_of_memory, refusal}
+use Rattle.smap_replies.specs.Outcome.{Report, out_of_memory, refused_by}
 use Rattle.smap_compose_answers.specs.Written.{written_result}
 use Rattle.smap_command.specs.Limits.{usual_interval}
 use Rattle.url.specs.Parts.{Parts}
 
 -- why maps are not composed
 abbrev pub compose_refusal_result : ComposeRefusal → Report
-compose_refusal_result SourceIndex = refusal no_source_line
-compose_refusal_result TooLarge = refusal composed_too_large_line
 compose_refusal_result Memory = out_of_memory
+compose_refusal_result other = refused_by (compose_code other)
 
 -- what is said of the outer map, the number of its source, and the inner map
 abbrev pub compose_result : WriteOptions → (outer : MapRecord) (source : ℕ) (inner : MapRecord) → Report

@@ -6,6 +6,8 @@ use Rattle.std.specs.Option.{option_map_or}
 use Rattle.std.specs.Str.{bytes_eq}
 use Rattle.std.specs.Str.Lines.{lines}
 use Rattle.url.specs.Parts.{Parts}
+use Rattle.smap_codes.specs.Codes.{text_of}
+use Rattle.smap_codes.specs.declared.code.Code.TheVariants.{A2, C4}
 use Rattle.smap_command.specs.Limits.{usual_interval}
 use Rattle.smap_command.specs.declared.command.WriteOptions.{WriteOptions}
 use Rattle.smap_compose.specs.Composition.{all_composed}
@@ -20,9 +22,9 @@ use Rattle.smap_locations.specs.declared.refusal.ListFault.{ListFault}
 use Rattle.smap_locations.specs.declared.refusal.ListFault.TheVariants.{Twice}
 use Rattle.smap_compose_answers.specs.Compose.{compose_refusal_result}
 use Rattle.smap_replies.specs.Files.{MayRead, IsUnread}
-use Rattle.smap_replies.specs.Lines.{map_refused_line, twice_line}
+use Rattle.smap_replies.specs.Lines.{argument_refused_line}
 use Rattle.smap_compose_answers.specs.Lines.{no_source_named_line}
-use Rattle.smap_replies.specs.Map.{ReportsMap, refusal_result}
+use Rattle.smap_replies.specs.Map.{ReportsMap, refusal_result, refused_file}
 use Rattle.smap_replies.specs.Outcome.{OrMemory, Report, misuse, out_of_memory, refusal}
 use Rattle.smap_replies.specs.Lists.{list_bytes_refusal, list_refusal}
 use Rattle.smap_replies.specs.Arguments.{argument_text}
@@ -47,13 +49,13 @@ NamesPair sources twice old name path result =
     (result ≡ Err out_of_memory)
     ⊎ MatchBool (is_some (path_under name old)) (result ≡ Err twice)
     (MatchBool (list_any (is_called name) sources) ((new : Named) × IsWith old name path new × (result ≡ Ok new))
-    (result ≡ Err (refusal (no_source_named_line name))))
+    (result ≡ Err (refusal (Some C4) (no_source_named_line name))))
 
 -- the words of the command line, one after another, up to the first that is refused
 abbrev pub NamesWords : List StatedSource → List (List ℕ × List ℕ) → (old : Named) → Result Named Report → Type 0
 NamesWords sources [] old result = result ≡ Ok old
 NamesWords sources ((name, path) ∷ words) old result =
-    (next : Result Named Report) × NamesPair sources (misuse (twice_line (argument_text name path))) old name path next
+    (next : Result Named Report) × NamesPair sources (misuse (argument_refused_line (argument_text name path) (text_of A2))) old name path next
     × OrRefused next (NamesWords sources words) result
 
 -- a line of a list, whose number counts from 1, by what it says
@@ -77,7 +79,7 @@ abbrev pub NamesBytes : List StatedSource → (list bytes : List ℕ) → (old :
 NamesBytes sources list bytes old result =
     (result ≡ Err out_of_memory)
     ⊎ MatchOption (list_bytes_refusal bytes) (NamesLines sources list 1 (lines bytes) old result)
-    (λ reason. result ≡ Err (refusal (map_refused_line list reason)))
+    (λ code. result ≡ Err (refused_file list code))
 
 -- the list, where there is one, is the file of number 1
 abbrev pub NamesList : MayRead → List StatedSource → (list : Option (List ℕ)) → (old : Named) → Result Named Report → Type 0

@@ -6,8 +6,8 @@ use Rattle.smap_index.specs.Parts.{joined}
 use Rattle.smap_record.specs.Record.{MapRecord}
 use Rattle.smap_record.specs.Written.{written}
 use Rattle.smap_command.specs.Lines.{line_from}
-use Rattle.smap_compose_answers.specs.Lines.{written_text_too_long_line}
-use Rattle.smap_replies.specs.Outcome.{Report, answer, out_of_memory, refusal}
+use Rattle.smap_codes.specs.declared.code.Code.TheVariants.{O1}
+use Rattle.smap_replies.specs.Outcome.{Report, answer, out_of_memory, refused_by}
 use Rattle.smap_compose_answers.specs.Written.{written_result}
 use Rattle.smap_command.specs.declared.command.WriteOptions.{WriteOptions}
 use Rattle.smap_compose.specs.Composition.{all_composed}
@@ -22,14 +22,14 @@ written_line stated = line_from (
 -- the written map, where its mappings text is not too long
 abbrev pub show_result : MapRecord → Report
 show_result stated =
-    if is_text_too_long (joined stated.parts) then refusal written_text_too_long_line else answer (written_line stated)
+    if is_text_too_long (joined stated.parts) then refused_by O1 else answer (written_line stated)
 
 -- ---- without what is left out
 
 -- why such a map is not written
 abbrev pub show_refusal_result : ComposeRefusal → Report
 show_refusal_result SourceIndex = out_of_memory
-show_refusal_result TooLarge = refusal written_text_too_long_line
+show_refusal_result TooLarge = refused_by O1
 show_refusal_result Memory = out_of_memory
 
 -- what a map states, composed with no inner map

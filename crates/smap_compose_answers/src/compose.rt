@@ -7,12 +7,11 @@ ghost use Rattle.smap_compose_answers.specs.Written.{written_of};
 ghost use Rattle.smap_compose.specs.Composition.{composed_of};
 ghost use Rattle.smap_mappings.specs.Exact.{GivesOr};
 
-use crate::lines;
 use crate::written::written;
 use smap_command::{USUAL_INTERVAL, WriteOptions};
 use smap_compose::{ComposeRefusal, compose};
 use smap_record::{MapFile, Url};
-use smap_replies::{Failure, FileReader, Reply, file_bytes, map_of, refused};
+use smap_replies::{Failure, FileReader, Reply, file_bytes, map_of, refused_by};
 use std::alloc::Global;
 
 /// The maps of two files that are to be composed.
@@ -84,8 +83,7 @@ pub fn reported(alloc: Global, made: Result<Reply, ComposeRefusal>) -> Result<Re
 {
     match made {
         Ok(reply) => Ok(reply),
-        Err(ComposeRefusal::SourceIndex) => Err(refused(alloc, lines::NO_SOURCE)),
-        Err(ComposeRefusal::TooLarge) => Err(refused(alloc, lines::COMPOSED_TOO_LARGE)),
         Err(ComposeRefusal::Memory) => Err(Failure::Memory),
+        Err(refusal) => Err(refused_by(alloc, refusal.code())),
     }
 }

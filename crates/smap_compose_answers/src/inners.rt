@@ -5,7 +5,9 @@ ghost use Rattle.std.specs.Option.{option_map_or};
 ghost use Rattle.std.specs.Str.Lines.{lines};
 ghost use Rattle.smap_compose_answers.specs.ComposeAll.{NamesBytes, NamesEntry, NamesInners, NamesLines, NamesList, NamesPair, NamesWords};
 ghost use Rattle.smap_compose_answers.specs.ComposeAll.{ReadsInner, ReadsInners, ReadsSource, is_called, pair_of, with_name};
-ghost use Rattle.smap_replies.specs.Lines.{twice_line};
+ghost use Rattle.smap_codes.specs.Codes.{text_of};
+ghost use Rattle.smap_codes.specs.declared.code.Code.TheVariants.{A2};
+ghost use Rattle.smap_replies.specs.Lines.{argument_refused_line};
 ghost use Rattle.smap_replies.specs.Outcome.{OrMemory, failure_report, misuse, out_of_memory, or_reported};
 ghost use Rattle.smap_compose_answers.specs.Private.Inners.{IsNamed, IsUnnamed, inner_reported, inners_reported, map_reported, pair_seen};
 ghost use Rattle.smap_replies.specs.Lists.{list_refusal};
@@ -15,11 +17,13 @@ ghost use Rattle.smap_record.specs.Sources.{source_of};
 ghost use Rattle.smap_locations.specs.ListLine.{line_entry};
 
 use crate::lines;
+use smap_codes::Code;
 use smap_command::USUAL_INTERVAL;
 use smap_locations::{ListFault, ListRefusal, NamedPaths, entry_of_line};
 use smap_record::{MapFile, SourceEntry};
 use smap_replies::{
-    Failure, FileReader, MapReader, file_bytes, list_text, read_map_at, refused_list, twice_line,
+    Failure, FileReader, MapReader, file_bytes, list_text, read_map_at, refused_argument,
+    refused_list,
 };
 use std::alloc::Global;
 
@@ -88,14 +92,16 @@ fn with_word(
 ) -> Result<NamedPaths, Failure>
     requires counted { outer.now.count ≡ length outer.now.map.now.stated.sources }
     ensures { NamesPair outer.now.map.now.stated.sources
-        (misuse (twice_line (argument_text name.now path.now))) named name.now path.now (or_reported result) }
+        (misuse (argument_refused_line (argument_text name.now path.now) (text_of A2))) named
+        name.now path.now (or_reported result) }
 {
     match with_pair(alloc, outer, named, name, path) {
         Ok(named) => Ok(named),
-        Err(PairFault::Twice) => Err(Failure::Misuse(twice_line(alloc, name, path)?)),
-        Err(PairFault::NoSource) => Err(Failure::Refusal(lines::no_source_named_line(
-            alloc, name,
-        )?)),
+        Err(PairFault::Twice) => Err(refused_argument(alloc, Code::A2.text(), name, path)),
+        Err(PairFault::NoSource) => {
+            let line = lines::no_source_named_line(alloc, name)?;
+            Err(Failure::refusal(Code::C4, line))
+        }
         Err(PairFault::Memory) => Err(Failure::Memory),
     }
 }
@@ -171,7 +177,8 @@ fn with_line(
             Ok(named) => Ok(named),
             Err(PairFault::Twice) => Err(refused_line(alloc, list, number, ListFault::Twice)),
             Err(PairFault::NoSource) => {
-                Err(Failure::Refusal(lines::no_source_named_line(alloc, name)?))
+                let line = lines::no_source_named_line(alloc, name)?;
+                Err(Failure::refusal(Code::C4, line))
             }
             Err(PairFault::Memory) => Err(Failure::Memory),
         },

@@ -8,12 +8,12 @@ ghost use Rattle.smap_command.specs.Limits.{usual_interval};
 ghost use Rattle.smap_compose.specs.Composition.{all_composed};
 ghost use Rattle.smap_mappings.specs.Exact.{GivesOr};
 
-use crate::lines;
 use crate::written::{line_of, written};
+use smap_codes::Code;
 use smap_command::{USUAL_INTERVAL, WriteOptions};
 use smap_compose::{ComposeRefusal, compose_all};
 use smap_record::{MapFile, Url, WriteRefusal};
-use smap_replies::{Failure, FileReader, MapReader, Reply, read_map, refused};
+use smap_replies::{Failure, FileReader, MapReader, Reply, read_map, refused_by};
 use std::alloc::Global;
 
 /// Reads the map that the file at this path is, and writes what it states as one regular map.
@@ -41,7 +41,7 @@ fn written_map(alloc: Global, map: &MapFile) -> Result<Reply, Failure>
 {
     match map.write(alloc) {
         Ok(bytes) => Ok(Reply::Bytes(line_of(bytes)?)),
-        Err(WriteRefusal::TextTooLong) => Err(refused(alloc, lines::WRITTEN_TEXT_TOO_LONG)),
+        Err(WriteRefusal::TextTooLong) => Err(refused_by(alloc, Code::O1)),
         Err(WriteRefusal::Memory) => Err(Failure::Memory),
     }
 }
@@ -67,7 +67,7 @@ pub fn answer_show_with<F: FileReader>(
     let map = read_map(alloc, &maps, 0, path)?;
     match left_of_map(alloc, &map, options) {
         Ok(reply) => Ok(reply),
-        Err(ComposeRefusal::TooLarge) => Err(refused(alloc, lines::WRITTEN_TEXT_TOO_LONG)),
+        Err(ComposeRefusal::TooLarge) => Err(refused_by(alloc, Code::O1)),
         Err(_) => Err(Failure::Memory),
     }
 }

@@ -7,4 +7,5 @@ pub mod Faults
 pub mod Index
 pub mod Fields
 pub mod Joined
+pub mod Codes
 pub mod Private

@@ -1,4 +1,8 @@
 //! Why an index is not built, and why its mappings are not encoded.
+ghost use Rattle.std.specs.Prelude.{◌≡◌};
+ghost use Rattle.smap_index.specs.Codes.{build_code};
+
+use smap_codes::Code;
 
 /// Why an index is not built: the first of these that holds, in this order. Numbers of parts count from 0, and each is
 /// the least of its kind.
@@ -14,6 +18,21 @@ pub enum BuildRefusal {
     PositionRange(u64),
     /// B5: there is not enough memory for the table.
     Memory,
+}
+
+impl BuildRefusal {
+    /// The code by which it is called.
+    pub fn code(self) -> Code
+        ensures { result ≡ build_code self }
+    {
+        match self {
+            BuildRefusal::Interval => Code::B1,
+            BuildRefusal::SectionOrder(_) => Code::B2,
+            BuildRefusal::SectionOverlap(_) => Code::B3,
+            BuildRefusal::PositionRange(_) => Code::B4,
+            BuildRefusal::Memory => Code::B5,
+        }
+    }
 }
 
 /// Why the mappings of an index are not encoded.

@@ -5,6 +5,7 @@ pub mod Numbers
 pub mod Edited
 pub mod Editing
 pub mod Gathered
+pub mod Codes
 pub mod Private
 pub mod LineOutput
 pub mod Laws

@@ -13,16 +13,16 @@ use Rattle.smap_mappings.specs.Mappings.{mappings_of}
 use Rattle.smap_index.specs.Answer.{answer_at_or_before}
 use Rattle.smap_map_answers.specs.Raw.{IsRawReport, fault_or_answer, text_result, without_last_line_end, raw_result}
 use Rattle.smap_replies.specs.Lines.{input_failed_line}
-use Rattle.smap_replies.specs.Outcome.{OrMemory, Report, failure, refusal}
-use Rattle.smap_map_answers.specs.Lines.{text_too_long_line, not_utf8_line}
+use Rattle.smap_replies.specs.Outcome.{OrMemory, Report, failure, refused_by}
+use Rattle.smap_codes.specs.declared.code.Code.TheVariants.{NotUtf8, TextTooLong}
 use Rattle.smap_mappings.specs.Limits.{most_indices, most_text_bytes}
 
 -- ---- the tests of a text
 
-pub text_too_long : (text : List ℕ) (line column : ℕ) → most_text_bytes < length text → text_result text line column ≡ refusal text_too_long_line
+pub text_too_long : (text : List ℕ) (line column : ℕ) → most_text_bytes < length text → text_result text line column ≡ refused_by TextTooLong
 text_too_long text line column long = cond-true _ _ _ (lt-ltb most_text_bytes (length text) long)
 
-pub text_not_utf8 : (text : List ℕ) (line column : ℕ) → length text ≤ most_text_bytes → (IsUtf8 text → ⊥) → text_result text line column ≡ refusal not_utf8_line
+pub text_not_utf8 : (text : List ℕ) (line column : ℕ) → length text ≤ most_text_bytes → (IsUtf8 text → ⊥) → text_result text line column ≡ refused_by NotUtf8
 text_not_utf8 text line column short not_text =
     cond-false _ _ _ (le-ltb most_text_bytes (length text) short)
     ∙ cond-true _ _ _ (ap not (false_from_ne_true (is_utf8 text) (λ is. not_text (IsUtf8-from_is_utf8 text is))))
@@ -43,7 +43,7 @@ length_without bytes =
     (cases_Bool (eqb (get_or bytes (length bytes - 1) 0) 10))
 
 -- a text that is too long is so however much of it was read
-pub raw_too_long : (bytes : List ℕ) (line column : ℕ) → (most_text_bytes + 2) ≤ length bytes → raw_result bytes line column ≡ refusal text_too_long_line
+pub raw_too_long : (bytes : List ℕ) (line column : ℕ) → (most_text_bytes + 2) ≤ length bytes → raw_result bytes line column ≡ refused_by TextTooLong
 unfolding raw_result
 raw_too_long bytes line column long = text_too_long (without_last_line_end bytes) line column (omega (arith, length_without bytes))
 

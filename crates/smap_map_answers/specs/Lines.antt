@@ -1,6 +1,8 @@
 -- The lines that are printed of a map, and of a text of positions.
 use Rattle.std.specs.Prelude.{ℕ, ◌+◌, codes, Option, None, Some, List, [], ◌∷◌}
 use Rattle.std.specs.Fmt.{decimal}
+use Rattle.smap_codes.specs.Codes.{text_of}
+use Rattle.smap_codes.specs.declared.code.Code.TheVariants.{P1}
 use Rattle.smap_mappings.specs.declared.fault.Fault.{Fault}
 use Rattle.smap_command.specs.Lines.{line_from}
 use Rattle.smap_verdicts.specs.Refusal.{fault_text}
@@ -21,16 +23,6 @@ found_line source line column name = line_from (
 abbrev pub refused_line : Fault → List ℕ
 refused_line fault = line_from (codes "refused: " ∷ fault_text fault ∷ [])
 
-abbrev pub text_too_long_line : List ℕ
-text_too_long_line = line_from (codes "refused: TextTooLong" ∷ [])
-
-abbrev pub not_utf8_line : List ℕ
-not_utf8_line = line_from (codes "refused: NotUtf8" ∷ [])
-
 -- a line of standard input is no position; its number, from 1
 abbrev pub bad_position_refused_line : (number : ℕ) → List ℕ
-bad_position_refused_line number = line_from (codes "refused: P1 BadPosition " ∷ decimal number ∷ [])
-
--- a line of standard input is longer than a position is
-abbrev pub long_position_line : List ℕ
-long_position_line = line_from (codes "refused: P2 LongLine" ∷ [])
+bad_position_refused_line number = line_from (codes "refused: " ∷ text_of P1 ∷ codes " " ∷ decimal number ∷ [])

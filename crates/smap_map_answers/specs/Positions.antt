@@ -1,5 +1,6 @@
 -- What `positions` prints.
 use Rattle.std.specs.Prelude.{◌≡◌, ℕ, ◌==◌, ◌⊎◌, Bool, true, List, Option, Some, None, Result, Ok, Err, [], if◌then◌else◌}
+use Rattle.smap_codes.specs.declared.code.Code.TheVariants.{P1, P2}
 use Rattle.smap_lines.specs.Editing.{DevicesSeen, EditsFront, is_read_fault, is_write_fault}
 use Rattle.smap_lines.specs.Limits.{most_text_bytes}
 use Rattle.smap_lines.specs.declared.fault.LineFault.{LineFault}
@@ -9,9 +10,9 @@ use Rattle.smap_positions.specs.Answering.{AnswersPositions}
 use Rattle.smap_positions.specs.Positions.{answered_line}
 use Rattle.smap_positions.specs.declared.answering.PositionsSummary.{PositionsSummary}
 use Rattle.smap_replies.specs.Files.{MayRead}
-use Rattle.smap_map_answers.specs.Lines.{bad_position_refused_line, long_position_line}
+use Rattle.smap_map_answers.specs.Lines.{bad_position_refused_line}
 use Rattle.smap_replies.specs.Map.{IsStated, Never, ReportsMap}
-use Rattle.smap_replies.specs.Outcome.{OrMemory, Report, answer, fault_report, refusal}
+use Rattle.smap_replies.specs.Outcome.{OrMemory, Report, answer, fault_report, refusal, refused_by}
 use Rattle.url.specs.Parts.{Parts}
 
 -- ---- what is reported
@@ -19,12 +20,12 @@ use Rattle.url.specs.Parts.{Parts}
 -- nothing is added where each line is a position; else the first that is none is named
 abbrev pub bad_report : (first_bad : Option ℕ) → Report
 bad_report None = answer []
-bad_report (Some number) = refusal (bad_position_refused_line number)
+bad_report (Some number) = refusal (Some P1) (bad_position_refused_line number)
 
 -- of what was answered to its end: where each line is short enough to be answered the first bad one decides, and else a
 -- long one
 abbrev pub summary_report : PositionsSummary → Report
-summary_report summary = if summary.answered == summary.lines then bad_report summary.first_bad else refusal long_position_line
+summary_report summary = if summary.answered == summary.lines then bad_report summary.first_bad else refused_by P2
 
 abbrev pub positions_report : Result PositionsSummary LineFault → Report
 positions_report (Ok summary) = summary_report summary

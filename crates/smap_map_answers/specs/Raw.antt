@@ -1,6 +1,8 @@
 -- What `raw` prints of the bytes of its input.
 use Rattle.std.specs.Prelude.{◌≡◌, ℕ, ◌-◌, Bool, true, false, List, Option, Some, None, ◌==◌, IfSome, nat_lt, not, if◌then◌else◌, length, take, slice_index}
 use Rattle.std.specs.Str.{is_utf8}
+use Rattle.smap_codes.specs.declared.code.Code.TheVariants.{NotUtf8, TextTooLong}
+use Rattle.smap_mappings.specs.Codes.{kind_code}
 use Rattle.smap_mappings.specs.Faults.{first_fault}
 use Rattle.smap_mappings.specs.Mappings.{mappings_of}
 use Rattle.smap_mappings.specs.Limits.{most_indices, most_text_bytes}
@@ -10,9 +12,9 @@ use Rattle.smap_index.specs.declared.answer.Answer.{Answer}
 use Rattle.smap_index.specs.declared.answer.Answer.TheVariants.{Nothing, Unmapped, Found}
 use Rattle.smap_lines.specs.Editing.{DevicesSeen}
 use Rattle.smap_positions.specs.Lines.{none_line, unmapped_line}
-use Rattle.smap_map_answers.specs.Lines.{found_line, refused_line, text_too_long_line, not_utf8_line}
+use Rattle.smap_map_answers.specs.Lines.{found_line, refused_line}
 use Rattle.smap_replies.specs.Lines.{input_failed_line}
-use Rattle.smap_replies.specs.Outcome.{OrMemory, Report, answer, failure, refusal}
+use Rattle.smap_replies.specs.Outcome.{OrMemory, Report, answer, failure, refusal, refused_by}
 
 -- one LF at the very end is dropped
 abbrev pub without_last_line_end : List ℕ → List ℕ
@@ -25,14 +27,14 @@ answer_line (Found column origin) = found_line origin.source origin.line origin.
 
 -- the first fault of a text, where it has one, and else what a position in it answers
 abbrev pub fault_or_answer : Option Fault → Answer → Report
-fault_or_answer (Some fault) found = refusal (refused_line fault)
+fault_or_answer (Some fault) found = refusal (Some (kind_code fault.kind)) (refused_line fault)
 fault_or_answer None found = answer (answer_line found)
 
 -- what a text reports a generated line and column, from 0; its indices may be any
 abbrev pub text_result : List ℕ → ℕ → ℕ → Report
 text_result text line column =
-    if nat_lt most_text_bytes (length text) then refusal text_too_long_line
-    else (if not (is_utf8 text) then refusal not_utf8_line
+    if nat_lt most_text_bytes (length text) then refused_by TextTooLong
+    else (if not (is_utf8 text) then refused_by NotUtf8
     else fault_or_answer (first_fault text most_indices most_indices) (answer_at_or_before (mappings_of text) line column))
 
 -- what the bytes of the input say of a generated line and column, from 0

@@ -7,16 +7,11 @@ use smap_positions::from_one;
 use smap_verdicts::fault_text;
 use std::alloc::{AllocError, Global};
 
-/// Standard error: the input is longer than a mappings text may be.
-pub const TEXT_TOO_LONG: &str = "refused: TextTooLong\n";
-
-/// Standard error: the input is not UTF-8.
-pub const NOT_UTF8: &str = "refused: NotUtf8\n";
-
-/// Standard error: a line of standard input is no position; its number, from 1, and an LF follow.
+/// Standard error: a line of standard input is no position (P1); its number, from 1, and an LF follow. This and the next are
+/// made of their codes, and stand here whole since they are printed without taking memory.
 pub const BAD_POSITION: &str = "refused: P1 BadPosition ";
 
-/// Standard error: a line of standard input is longer than a position is.
+/// Standard error: a line of standard input is longer than a position is (P2).
 pub const LONG_POSITION: &str = "refused: P2 LongLine\n";
 
 /// Standard error: the map has no source of this index, or not its content.

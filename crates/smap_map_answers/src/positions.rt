@@ -2,13 +2,16 @@
 ghost use Rattle.std.specs.Prelude.{◌≡◌, ◌≤◌, ◌+◌, ◌++◌, [], false, length, option_copied, MatchOption};
 ghost use Rattle.std.specs.Prelude.{string_bytes, string_capacity, string_len};
 ghost use Rattle.smap_lines.specs.Editing.{devices_seen};
-ghost use Rattle.smap_map_answers.specs.Lines.{bad_position_refused_line, long_position_line};
-ghost use Rattle.smap_replies.specs.Outcome.{answer, refusal, report_of};
+ghost use Rattle.smap_codes.specs.declared.code.Code.TheVariants.{P2};
+ghost use Rattle.smap_map_answers.specs.Lines.{bad_position_refused_line};
+ghost use Rattle.smap_replies.specs.Lines.{code_refused_line};
+ghost use Rattle.smap_replies.specs.Outcome.{answer, failure_report, report_of};
 ghost use Rattle.smap_map_answers.specs.Positions.{AnsweredReports, PositionsReports, summary_report};
 ghost use Rattle.smap_map_answers.specs.Private.Room.{IsRoom};
 
 use crate::lines;
 use itoa::Buffer;
+use smap_codes::Code;
 use smap_io::{ByteSink, ByteSource};
 use smap_lines::LineFault;
 use smap_positions::{AnswerOptions, PositionsSummary};
@@ -63,39 +66,42 @@ fn answer_over<R: ByteSource, W: ByteSink>(
         Ok(summary) => summary,
         Err(fault) => return Err(Failure::Fault(fault)),
     };
-    let Some(line) = refusing_line(room, summary) else {
+    let Some(refused) = refused_positions(room, summary) else {
         return Ok(Reply::Rewritten);
     };
     match output.flush() {
-        Ok(()) => Err(Failure::Refusal(line)),
+        Ok(()) => Err(refused),
         Err(_) => Err(Failure::Fault(LineFault::Write)),
     }
 }
 
-// The line for positions that were answered to their end, where they are refused: put into the room, which takes no memory.
-fn refusing_line(room: String, summary: PositionsSummary) -> Option<String>
+// Why positions that were answered to their end are refused, where they are: the line is put into the room, which takes no
+// memory.
+fn refused_positions(room: String, summary: PositionsSummary) -> Option<Failure>
     requires { IsRoom room }
     ensures { MatchOption result (summary_report summary ≡ answer [])
-        (λ line. summary_report summary ≡ refusal (string_bytes line)) }
+        (λ failure. summary_report summary ≡ failure_report failure) }
 {
     if summary.answered != summary.lines {
-        return Some(long_line(room));
+        return Some(Failure::refusal(Code::P2, long_line(room)));
     }
     match summary.first_bad {
-        Some(number) => Some(bad_position(room, number)),
+        Some(number) => Some(Failure::refusal(Code::P1, bad_position(room, number))),
         None => None,
     }
 }
 
+#[tactic(auto, unfolding(smap_codes::specs::Codes::called))]
 fn long_line(mut room: String) -> String
     requires { IsRoom room }
-    ensures { string_bytes result ≡ long_position_line }
+    ensures { string_bytes result ≡ code_refused_line P2 }
 {
     put(&mut room, lines::LONG_POSITION);
     room
 }
 
 // The line of this number, from 1, is no position.
+#[tactic(auto, unfolding(smap_codes::specs::Codes::called))]
 fn bad_position(mut room: String, number: u64) -> String
     requires { IsRoom room }
     ensures { string_bytes result ≡ bad_position_refused_line number }

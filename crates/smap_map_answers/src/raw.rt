@@ -13,12 +13,13 @@ ghost use Rattle.smap_lines.specs.Editing.{devices_seen};
 ghost use Rattle.smap_io.specs.Device.{SinkSeen};
 
 use crate::lines;
+use smap_codes::Code;
 use smap_index::laws::one_text_is_its_mappings;
 use smap_index::{Answer, BuildRefusal, Index, Part};
 use smap_io::{ByteSource, ReadFailure, read_all};
 use smap_mappings::{MOST_BYTES, MOST_INDICES, Meter, PackedText, TextRefusal};
 use smap_positions::{NONE, UNMAPPED};
-use smap_replies::{Failure, Reply, refused};
+use smap_replies::{Failure, Reply, refused_by};
 use std::alloc::{AllocError, Global};
 
 /// Looks up a generated line and column, both from 0, in the mappings text on standard input, over checkpoints at this
@@ -83,11 +84,11 @@ fn answer_text(
         (report_of result) }
 {
     if bytes.len() > MOST_BYTES {
-        return Err(refused(alloc, lines::TEXT_TOO_LONG));
+        return Err(refused_by(alloc, Code::TextTooLong));
     }
     match String::from_utf8(bytes) {
         Ok(text) => answer_mappings(alloc, text, line, column, interval),
-        Err(_) => Err(refused(alloc, lines::NOT_UTF8)),
+        Err(_) => Err(refused_by(alloc, Code::NotUtf8)),
     }
 }
 
@@ -111,7 +112,8 @@ fn answer_mappings(
             Ok(Reply::Text(answer_line(alloc, &answer)?))
         }
         Err((TextRefusal::Fault(fault), _)) => {
-            Err(Failure::Refusal(lines::refused_line(alloc, fault)?))
+            let line = lines::refused_line(alloc, fault)?;
+            Err(Failure::refusal(fault.kind.code(), line))
         }
         Err((TextRefusal::TextTooLong, _)) => unreachable!(
             "the text is no longer than a text may be"

@@ -6,12 +6,11 @@ ghost use Rattle.smap_map_answers.specs.SourceList.{IsSourcesReported, ReportsGe
 ghost use Rattle.smap_command.specs.Limits.{usual_interval};
 
 use crate::lines;
+use smap_codes::Code;
 use smap_command::USUAL_INTERVAL;
 use smap_positions::sources_text;
 use smap_record::{MOST_FILE_BYTES, MapFile};
-use smap_replies::{
-    Failure, FileReader, MapReader, Reply, file_bytes, read_map, refused, refused_file,
-};
+use smap_replies::{Failure, FileReader, MapReader, Reply, file_bytes, read_map, refused_file};
 use std::alloc::Global;
 
 /// How the sources of a map are reported.
@@ -72,11 +71,11 @@ fn sources_in(
         bytes.items) (report_of result) }
 {
     if bytes.len() > MOST_FILE_BYTES {
-        return Err(refused_file(alloc, path, "TooLarge"));
+        return Err(refused_file(alloc, path, Code::M1));
     }
     match String::from_utf8(bytes) {
         Ok(text) => reported_sources(alloc, map, Some(&text), options),
-        Err(_) => Err(refused_file(alloc, path, "NotUtf8")),
+        Err(_) => Err(refused_file(alloc, path, Code::NotUtf8)),
     }
 }
 
@@ -118,7 +117,10 @@ fn reported_content(alloc: Global, map: &MapFile, source: u32) -> Result<Reply, 
 {
     match content_of(map, source) {
         Some(content) => Ok(Reply::Text(String::from_str(alloc, content)?)),
-        None => Err(refused(alloc, lines::NO_CONTENT)),
+        None => {
+            let line = String::from_str(alloc, lines::NO_CONTENT)?;
+            Err(Failure::Refusal { code: None, line })
+        }
     }
 }
 

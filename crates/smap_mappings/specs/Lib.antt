@@ -20,4 +20,5 @@ pub mod Faulty
 pub mod Measures
 pub mod PackedText
 pub mod Meter
+pub mod Codes
 pub mod Private

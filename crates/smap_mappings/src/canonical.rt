@@ -8,12 +8,14 @@ ghost use Rattle.smap_mappings.specs.Canonical.{canonical_text};
 ghost use Rattle.smap_mappings.specs.Exact.{IsExactOr};
 ghost use Rattle.smap_mappings.specs.Encode.{encode_fault, list_fault, mapping_fault};
 ghost use Rattle.smap_mappings.specs.Range.{is_mapping_past_limit};
+ghost use Rattle.smap_mappings.specs.Codes.{encode_code};
 
 use crate::limits::LIMIT;
 use crate::mapping::Mapping;
 use crate::position::Position;
 use crate::text_length::TextLength;
 use crate::text_writer::TextWriter;
+use smap_codes::Code;
 use std::alloc::{AllocError, Global};
 
 /// Why a list is not encoded: the first of these that holds, in this order. Numbers of mappings count from 0, and
@@ -28,6 +30,20 @@ pub enum EncodeRefusal {
     TooLong,
     /// E4: there is not enough memory for the text.
     Memory,
+}
+
+impl EncodeRefusal {
+    /// The code by which it is called.
+    pub fn code(self) -> Code
+        ensures { result ≡ encode_code self }
+    {
+        match self {
+            EncodeRefusal::NotSorted(_) => Code::E1,
+            EncodeRefusal::OutOfRange(_) => Code::E2,
+            EncodeRefusal::TooLong => Code::E3,
+            EncodeRefusal::Memory => Code::E4,
+        }
+    }
 }
 
 /// The canonical text of a list of mappings (ECMA-426, Mappings structure): each difference in its shortest spelling,

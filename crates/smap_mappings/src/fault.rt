@@ -1,4 +1,8 @@
 //! What is wrong with a text.
+ghost use Rattle.std.specs.Prelude.{◌≡◌};
+ghost use Rattle.smap_mappings.specs.Codes.{kind_code};
+
+use smap_codes::Code;
 
 /// What is wrong with a segment, in the order in which the kinds are asked: the least that holds is reported. A kind from
 /// `FieldCount` on is asked only where every number is spelled right, one from `Negative` on only where the number of
@@ -27,6 +31,27 @@ pub enum FaultKind {
     SourceIndex,
     /// F11: it has a name, and its name index is not below the number of names.
     NameIndex,
+}
+
+impl FaultKind {
+    /// The code by which it is called.
+    pub fn code(self) -> Code
+        ensures { result ≡ kind_code self }
+    {
+        match self {
+            FaultKind::BadDigit => Code::F1,
+            FaultKind::Unended => Code::F2,
+            FaultKind::TooLong => Code::F3,
+            FaultKind::TooLarge => Code::F4,
+            FaultKind::NegativeZero => Code::F5,
+            FaultKind::FieldCount => Code::F6,
+            FaultKind::Negative => Code::F7,
+            FaultKind::PastLimit => Code::F8,
+            FaultKind::ColumnFalls => Code::F9,
+            FaultKind::SourceIndex => Code::F10,
+            FaultKind::NameIndex => Code::F11,
+        }
+    }
 }
 
 /// The first faulty segment of a text.

@@ -13,4 +13,5 @@ pub mod Record
 pub mod Written
 pub mod ReadBack
 pub mod MapFile
+pub mod Codes
 pub mod Private

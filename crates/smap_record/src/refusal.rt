@@ -2,7 +2,9 @@
 ghost use Rattle.std.specs.Prelude.{◌≡◌};
 ghost use Rattle.smap_record.specs.declared.refusal.MapRefusal.TheVariants.{Memory};
 ghost use Rattle.smap_record.specs.Refusals.{name_refusal};
+ghost use Rattle.smap_record.specs.Codes.{map_code};
 
+use smap_codes::Code;
 use smap_index::BuildRefusal;
 use smap_mappings::Fault;
 use smap_resolve::ResolveRefusal;
@@ -69,6 +71,33 @@ pub enum MapRefusal {
     /// M17: there is not enough memory.
     #[error("out of memory")]
     Memory,
+}
+
+impl MapRefusal {
+    /// The code by which it is called.
+    pub fn code(self) -> Code
+        ensures { result ≡ map_code self }
+    {
+        match self {
+            MapRefusal::TooLarge => Code::M1,
+            MapRefusal::NotJson => Code::M2,
+            MapRefusal::NotObject => Code::M3,
+            MapRefusal::Version => Code::M4,
+            MapRefusal::Sections => Code::M5,
+            MapRefusal::SectionOffset(_) => Code::M6,
+            MapRefusal::Nested(_) => Code::M7,
+            MapRefusal::Sources => Code::M8,
+            MapRefusal::Names => Code::M9,
+            MapRefusal::SourcesContent => Code::M10,
+            MapRefusal::IgnoreList => Code::M11,
+            MapRefusal::FileOrRoot => Code::M12,
+            MapRefusal::Mappings => Code::M13,
+            MapRefusal::Text(_, _) => Code::M14,
+            MapRefusal::Build(_) => Code::M15,
+            MapRefusal::Url => Code::M16,
+            MapRefusal::Memory => Code::M17,
+        }
+    }
 }
 
 impl From<AllocError> for MapRefusal {

@@ -7,10 +7,12 @@ ghost use Rattle.smap_record.specs.Refusals.{encode_refusal};
 ghost use Rattle.smap_record.specs.Sources.{source_of};
 ghost use Rattle.smap_record.specs.Written.{written};
 ghost use Rattle.smap_record.specs.declared.write.WriteRefusal.TheVariants.{Memory};
+ghost use Rattle.smap_record.specs.Codes.{write_code};
 
 use crate::entry::SourceEntry;
 use crate::written::members;
 use serde_json::Value;
+use smap_codes::Code;
 use smap_index::EncodeAllRefusal;
 use smap_index::laws::one_text_is_its_mappings;
 use smap_mappings::laws::accepted_texts_have_no_fault;
@@ -23,6 +25,18 @@ pub enum WriteRefusal {
     TextTooLong,
     /// O2: there is not enough memory.
     Memory,
+}
+
+impl WriteRefusal {
+    /// The code by which it is called.
+    pub fn code(self) -> Code
+        ensures { result ≡ write_code self }
+    {
+        match self {
+            WriteRefusal::TextTooLong => Code::O1,
+            WriteRefusal::Memory => Code::O2,
+        }
+    }
 }
 
 impl From<AllocError> for WriteRefusal {

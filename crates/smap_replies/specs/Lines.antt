@@ -1,6 +1,8 @@
 -- The lines that several commands print.
 use Rattle.std.specs.Prelude.{ℕ, codes, List, [], ◌∷◌}
 use Rattle.std.specs.Fmt.{decimal}
+use Rattle.smap_codes.specs.Codes.{text_of}
+use Rattle.smap_codes.specs.declared.code.Code.{Code}
 use Rattle.smap_command.specs.Lines.{line_from}
 use Rattle.smap_command.specs.Shown.{shown}
 
@@ -23,21 +25,19 @@ memory_line = line_from (codes "memory" ∷ [])
 abbrev pub argument_not_utf8_line : List ℕ
 argument_not_utf8_line = line_from (codes "error: a word of the command line is not UTF-8" ∷ [])
 
--- an argument whose URL, or whose name of a source, has a map already
-abbrev pub twice_line : (word : List ℕ) → List ℕ
-twice_line word = line_from (codes "usage: A2 Twice: " ∷ shown word ∷ [])
+-- an argument that is refused, with the reason
+abbrev pub argument_refused_line : (word reason : List ℕ) → List ℕ
+argument_refused_line word reason = line_from (codes "usage: " ∷ reason ∷ codes ": " ∷ shown word ∷ [])
 
 -- the list at a path, of which the line with this number, from 1, is refused, with the reason
 abbrev pub list_refused_line : (path : List ℕ) (number : ℕ) (reason : List ℕ) → List ℕ
 list_refused_line path number reason =
     line_from (codes "usage: " ∷ shown path ∷ codes " line " ∷ decimal number ∷ codes ": " ∷ reason ∷ [])
 
--- why a text of standard input was not answered to its end
-abbrev pub trace_unread_line : List ℕ
-trace_unread_line = line_from (codes "device: X1 Read" ∷ [])
+-- the input is refused, and its code says why
+abbrev pub code_refused_line : Code → List ℕ
+code_refused_line code = line_from (codes "refused: " ∷ text_of code ∷ [])
 
-abbrev pub trace_unwritten_line : List ℕ
-trace_unwritten_line = line_from (codes "device: X2 Write" ∷ [])
-
-abbrev pub trace_too_long_line : List ℕ
-trace_too_long_line = line_from (codes "refused: X3 TooMuch" ∷ [])
+-- a device failed, and its code says which
+abbrev pub code_failed_line : Code → List ℕ
+code_failed_line code = line_from (codes "device: " ∷ text_of code ∷ [])

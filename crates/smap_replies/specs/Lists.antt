@@ -1,6 +1,9 @@
 -- Why a list of files is refused.
 use Rattle.std.specs.Prelude.{ℕ, List, Option, Some, None, codes, if◌then◌else◌, length, nat_lt, not}
 use Rattle.std.specs.Str.{is_utf8}
+use Rattle.smap_codes.specs.Codes.{text_of}
+use Rattle.smap_codes.specs.declared.code.Code.{Code}
+use Rattle.smap_codes.specs.declared.code.Code.TheVariants as called
 use Rattle.smap_locations.specs.declared.refusal.ListFault.{ListFault}
 use Rattle.smap_locations.specs.declared.refusal.ListFault.TheVariants.{NoTab, NoFolder, BadUrl, Twice, Memory}
 use Rattle.smap_locations.specs.declared.refusal.ListRefusal.{ListRefusal}
@@ -13,8 +16,8 @@ use Rattle.smap_replies.specs.Outcome.{Report, misuse, out_of_memory}
 abbrev pub reason_of : ListFault → Option (List ℕ)
 reason_of NoTab = Some (codes "no TAB")
 reason_of NoFolder = Some (codes "no folder")
-reason_of BadUrl = Some (codes "A1 BadUrl")
-reason_of Twice = Some (codes "A2 Twice")
+reason_of BadUrl = Some (text_of called.A1)
+reason_of Twice = Some (text_of called.A2)
 reason_of Memory = None
 
 -- what is reported where there is such a reason, and else that memory ran out
@@ -32,9 +35,9 @@ list_refusal list refused = misuse_for (list_refused_line list refused.line) (re
 abbrev pub most_list_bytes : ℕ
 most_list_bytes = 67108864
 
--- why the bytes of a list are refused, where they are
-abbrev pub list_bytes_refusal : (bytes : List ℕ) → Option (List ℕ)
+-- why the bytes of a list are refused, where they are, by name
+abbrev pub list_bytes_refusal : (bytes : List ℕ) → Option Code
 list_bytes_refusal bytes =
-    if nat_lt most_list_bytes (length bytes) then Some (codes "TooLarge")
-    else if not (is_utf8 bytes) then Some (codes "NotUtf8")
+    if nat_lt most_list_bytes (length bytes) then Some called.M1
+    else if not (is_utf8 bytes) then Some called.NotUtf8
     else None

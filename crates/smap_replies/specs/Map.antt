@@ -1,5 +1,8 @@
 -- What a command reports a map file: what the map states decides, or why the map is refused.
-use Rattle.std.specs.Prelude.{◌≡◌, ℕ, ◌⊎◌, List, Option, Result, Ok, Err}
+use Rattle.std.specs.Prelude.{◌≡◌, ℕ, ◌⊎◌, List, Option, Result, Ok, Err, Some}
+use Rattle.smap_codes.specs.Codes.{name_of}
+use Rattle.smap_codes.specs.declared.code.Code.{Code}
+use Rattle.smap_record.specs.Codes.{map_code}
 use Rattle.smap_record.specs.Record.{MapRecord, record_of}
 use Rattle.smap_record.specs.declared.refusal.MapRefusal.{MapRefusal}
 use Rattle.smap_record.specs.declared.refusal.MapRefusal.TheVariants.{Url}
@@ -9,13 +12,13 @@ use Rattle.smap_replies.specs.Outcome.{Report, answer, refusal}
 use Rattle.smap_verdicts.specs.Refusal.{refusal_text}
 use Rattle.url.specs.Parts.{Parts}
 
--- the file at this path is refused, in these words
-abbrev pub refused_file : (path words : List ℕ) → Report
-refused_file path words = refusal (map_refused_line path words)
+-- the file at this path is refused, and the name of this code says why
+abbrev pub refused_file : (path : List ℕ) → Code → Report
+refused_file path code = refusal (Some code) (map_refused_line path (name_of code))
 
 -- the map of the file at this path is refused
 abbrev pub refusal_result : (path : List ℕ) → MapRefusal → Report
-refusal_result path refused = refused_file path (refusal_text refused)
+refusal_result path refused = refusal (Some (map_code refused)) (map_refused_line path (refusal_text refused))
 
 -- a map that is found decides what is reported, and so does its refusal; one that is not refused may yet be refused since
 -- resolving a source gave a URL that is too long: when that is so, `url` decides

@@ -6,7 +6,7 @@
 //!     Ok(map) => Ok(Reply::Bytes(map.write(alloc)?)),
 //!     Err(failure) => Err(failure),
 //! };
-//! let status = report(&outcome, &mut output, &mut errors);
+//! let status = report(&outcome, &mut output, &mut errors, &mut first);
 //! ```
 #![tactic(auto)]
 
@@ -19,9 +19,9 @@ mod refusal;
 mod reporting;
 
 pub use files::{FileReader, Loaded, LoadedFiles, UnreadCause};
-pub use lines::{NO_MEMORY, file_failed_line, map_refused_line, shown_argument, twice_line};
+pub use lines::{NO_MEMORY, file_failed_line};
 pub use lists::{list_text, reason_of, refused_list};
 pub use map::{MapReader, file_bytes, map_of, read_map, read_map_at};
 pub use outcome::{DONE, FAILED, Failure, REFUSED, Reply};
-pub use refusal::{refusal_line, refusal_of, refused, refused_file};
+pub use refusal::{refusal_line, refusal_of, refused_argument, refused_by, refused_file};
 pub use reporting::{print_error, report};

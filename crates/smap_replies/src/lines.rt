@@ -1,22 +1,24 @@
 //! The lines that several commands print, each with its LF.
 ghost use Rattle.std.specs.Prelude.{◌≡◌, string_bytes, IfOk};
-ghost use Rattle.smap_replies.specs.Lines.{file_failed_line, list_refused_line, map_refused_line, twice_line};
+ghost use Rattle.smap_replies.specs.Lines.{argument_refused_line, code_refused_line, file_failed_line, list_refused_line, map_refused_line};
 ghost use Rattle.smap_replies.specs.Arguments.{argument_text};
 ghost use Rattle.smap_command.specs.Shown.{shown};
 
+use smap_codes::Code;
 use smap_command::shown;
 use std::alloc::{AllocError, Global};
 
 /// Standard error: an argument of the command line is not UTF-8.
 pub const ARGUMENT_NOT_UTF8: &str = "error: a word of the command line is not UTF-8\n";
 
-/// Standard error: the trace could not be read.
+/// Standard error: the text could not be read. This line and the next two are made of the codes X1 to X3, and stand here
+/// whole since they are printed without taking memory.
 pub const TRACE_UNREAD: &str = "device: X1 Read\n";
 
-/// Standard error: the trace could not be written.
+/// Standard error: the text could not be written.
 pub const TRACE_UNWRITTEN: &str = "device: X2 Write\n";
 
-/// Standard error: the trace is longer than one may be.
+/// Standard error: the text is longer than one may be.
 pub const TRACE_TOO_LONG: &str = "refused: X3 TooMuch\n";
 
 /// Standard error: standard input failed.
@@ -44,13 +46,26 @@ pub fn file_failed_line(alloc: Global, path: &str) -> Result<String, AllocError>
     format!(in alloc; "device: read {path}\n")
 }
 
-/// Standard error: an argument whose URL, or whose name of a source, has a map already.
-pub fn twice_line(alloc: Global, url: &str, path: &str) -> Result<String, AllocError>
+/// Standard error: the input is refused, and its code says why.
+pub fn code_refused_line(alloc: Global, code: Code) -> Result<String, AllocError>
+    ensures { IfOk result (λ text. string_bytes text ≡ code_refused_line code) }
+{
+    let code = code.text();
+    format!(in alloc; "refused: {code}\n")
+}
+
+/// Standard error: an argument that is a pair, such as a URL and a path, and is refused, with the reason.
+pub fn argument_refused_line(
+    alloc: Global,
+    reason: &str,
+    url: &str,
+    path: &str,
+) -> Result<String, AllocError>
     ensures { IfOk result (λ text. string_bytes text
-        ≡ twice_line (argument_text url.now path.now)) }
+        ≡ argument_refused_line (argument_text url.now path.now) reason.now) }
 {
     let word = shown_argument(alloc, url, path)?;
-    format!(in alloc; "usage: A2 Twice: {word}\n")
+    format!(in alloc; "usage: {reason}: {word}\n")
 }
 
 /// Standard error: the list at a path, of which the line with this number, from 1, is refused, with the reason.
@@ -67,8 +82,8 @@ pub fn list_refused_line(
     format!(in alloc; "usage: {path} line {number}: {reason}\n")
 }
 
-/// An argument that is a pair, for one line.
-pub fn shown_argument(alloc: Global, url: &str, path: &str) -> Result<String, AllocError>
+// An argument that is a pair, for one line.
+fn shown_argument(alloc: Global, url: &str, path: &str) -> Result<String, AllocError>
     ensures { IfOk result (λ text. string_bytes text
         ≡ shown (argument_text url.now path.now)) }
 {

@@ -1,11 +1,13 @@
 //! Lists of files.
 ghost use Rattle.std.specs.Prelude.{◌≡◌, None, option_copied, IfErr, IfOk, IsSomeAnd, OnOk};
-ghost use Rattle.smap_replies.specs.Lines.{map_refused_line};
 ghost use Rattle.smap_replies.specs.Lists.{list_bytes_refusal, list_refusal, reason_of};
-ghost use Rattle.smap_replies.specs.Outcome.{OrMemory, failure_report, refusal};
+ghost use Rattle.smap_replies.specs.Map.{refused_file};
+ghost use Rattle.smap_replies.specs.Outcome.{OrMemory, failure_report};
 
 use crate::lines;
 use crate::outcome::Failure;
+use crate::refusal::refused_file;
+use smap_codes::Code;
 use smap_locations::{ListFault, ListRefusal};
 use std::alloc::Global;
 
@@ -18,14 +20,14 @@ pub fn list_text<'a>(alloc: Global, list: &str, bytes: &'a [u8]) -> Result<&'a s
     ensures short { OnOk result (list_bytes_refusal bytes.now ≡ None) }
     ensures refused { IfErr result (λ failure. OrMemory (λ report. IsSomeAnd
         (list_bytes_refusal bytes.now)
-        (λ reason. report ≡ refusal (map_refused_line list.now reason))) (failure_report failure)) }
+        (λ code. report ≡ refused_file list.now code)) (failure_report failure)) }
 {
     if bytes.len() > MOST_LIST_BYTES {
-        return Err(Failure::Refusal(lines::map_refused_line(alloc, list, "TooLarge")?));
+        return Err(refused_file(alloc, list, Code::M1));
     }
     match str::from_utf8(bytes) {
         Ok(text) => Ok(text),
-        Err(_) => Err(Failure::Refusal(lines::map_refused_line(alloc, list, "NotUtf8")?)),
+        Err(_) => Err(refused_file(alloc, list, Code::NotUtf8)),
     }
 }
 
@@ -50,8 +52,8 @@ pub fn reason_of(fault: ListFault) -> Option<&'static str>
     match fault {
         ListFault::NoTab => Some("no TAB"),
         ListFault::NoFolder => Some("no folder"),
-        ListFault::BadUrl => Some("A1 BadUrl"),
-        ListFault::Twice => Some("A2 Twice"),
+        ListFault::BadUrl => Some(Code::A1.text()),
+        ListFault::Twice => Some(Code::A2.text()),
         ListFault::Memory => None,
     }
 }

@@ -1,9 +1,10 @@
 //! What a command comes to, and how that is reported.
-ghost use Rattle.std.specs.Prelude.{◌≡◌};
-ghost use Rattle.smap_replies.specs.Outcome.{failure_report, fault_report, reply_report};
+ghost use Rattle.std.specs.Prelude.{◌≡◌, Some, string_bytes};
+ghost use Rattle.smap_replies.specs.Outcome.{failure_report, fault_report, refusal, reply_report};
 ghost use Rattle.smap_replies.specs.declared.outcome.Failure.TheVariants.{Memory};
 
 use crate::lines;
+use smap_codes::Code;
 use smap_lines::LineFault;
 use std::alloc::AllocError;
 
@@ -34,8 +35,8 @@ pub enum Reply {
 /// Why a command does not answer: for standard error. Each text is whole, with its last LF.
 #[derive(Drop)]
 pub enum Failure {
-    /// Why the input is refused: status 1.
-    Refusal(String),
+    /// Why the input is refused, and the code of that, where it has one: status 1.
+    Refusal { code: Option<Code>, line: String },
     /// Why the arguments of the command line give no command: status 2.
     Misuse(String),
     /// An argument of the command line is not UTF-8: status 2.
@@ -84,12 +85,22 @@ impl Reply {
 }
 
 impl Failure {
+    /// A refusal of this code, which is reported by this line.
+    pub fn refusal(code: Code, line: String) -> Failure
+        ensures { failure_report result ≡ refusal (Some code) (string_bytes line) }
+    {
+        Failure::Refusal {
+            code: Some(code),
+            line,
+        }
+    }
+
     /// The exit status. The call takes no memory.
     pub fn status(&self) -> u8
         ensures { result ≡ (failure_report self.now).status }
     {
         match self {
-            Failure::Refusal(_) | Failure::Fault(LineFault::TooMuch) => REFUSED,
+            Failure::Refusal { .. } | Failure::Fault(LineFault::TooMuch) => REFUSED,
             Failure::Misuse(_) | Failure::ArgumentNotUtf8 => MISUSED,
             Failure::Unreadable(_) | Failure::InputFailure | Failure::Fault(_) | Failure::Memory =>
                 FAILED,
@@ -101,7 +112,7 @@ impl Failure {
         ensures { result.now ≡ (failure_report self.now).text }
     {
         match self {
-            Failure::Refusal(text) => text.as_bytes(),
+            Failure::Refusal { line, .. } => line.as_bytes(),
             Failure::Misuse(text) => text.as_bytes(),
             Failure::ArgumentNotUtf8 => lines::ARGUMENT_NOT_UTF8.as_bytes(),
             Failure::Unreadable(text) => text.as_bytes(),
@@ -110,9 +121,21 @@ impl Failure {
             Failure::Memory => lines::NO_MEMORY.as_bytes(),
         }
     }
+
+    /// The code of a refusal, where it has one. The call takes no memory.
+    pub fn code(&self) -> Option<Code>
+        ensures { result ≡ (failure_report self.now).code }
+    {
+        match self {
+            Failure::Refusal { code, .. } => *code,
+            Failure::Fault(LineFault::TooMuch) => Some(LineFault::TooMuch.code()),
+            _ => None,
+        }
+    }
 }
 
 // Why a trace is not rewritten to its end.
+#[tactic(auto, unfolding(smap_codes::specs::Codes::called))]
 fn fault_line(fault: LineFault) -> &'static str
     ensures { result.now ≡ (fault_report fault).text }
 {

@@ -1,13 +1,15 @@
-//! Saying why a map file is refused.
+//! Saying why a file or an argument is refused.
 ghost use Rattle.std.specs.Prelude.{◌≡◌, ◌≢◌, string_bytes, IfOk};
-ghost use Rattle.smap_replies.specs.Lines.{map_refused_line};
+ghost use Rattle.smap_replies.specs.Arguments.{argument_text};
+ghost use Rattle.smap_replies.specs.Lines.{argument_refused_line, map_refused_line};
 ghost use Rattle.smap_replies.specs.Map.{refusal_result, refused_file};
-ghost use Rattle.smap_replies.specs.Outcome.{OrMemory, failure_report, refusal};
+ghost use Rattle.smap_replies.specs.Outcome.{OrMemory, failure_report, misuse, refused_by};
 ghost use Rattle.smap_verdicts.specs.Refusal.{refusal_text};
 ghost use Rattle.smap_record.specs.declared.refusal.MapRefusal.TheVariants.{Memory};
 
 use crate::lines;
 use crate::outcome::Failure;
+use smap_codes::Code;
 use smap_record::MapRefusal;
 use smap_verdicts::refusal_text;
 use std::alloc::{AllocError, Global};
@@ -18,7 +20,7 @@ pub fn refusal_of(alloc: Global, path: &str, refused: MapRefusal) -> Failure
         (failure_report result) }
 {
     match refusal_line(alloc, path, refused) {
-        Ok(line) => Failure::Refusal(line),
+        Ok(line) => Failure::refusal(refused.code(), line),
         Err(_) => Failure::Memory,
     }
 }
@@ -36,22 +38,34 @@ pub fn refusal_line(alloc: Global, path: &str, refused: MapRefusal) -> Result<St
     lines::map_refused_line(alloc, path, &refused)
 }
 
-/// A refusal that is reported by this line.
-pub fn refused(alloc: Global, line: &str) -> Failure
-    ensures { OrMemory (λ report. report ≡ refusal line.now) (failure_report result) }
+/// A refusal that its code says whole.
+pub fn refused_by(alloc: Global, code: Code) -> Failure
+    ensures { OrMemory (λ report. report ≡ refused_by code) (failure_report result) }
 {
-    match String::from_str(alloc, line) {
-        Ok(line) => Failure::Refusal(line),
+    match lines::code_refused_line(alloc, code) {
+        Ok(line) => Failure::refusal(code, line),
         Err(_) => Failure::Memory,
     }
 }
 
-/// The file at this path is refused, in these words.
-pub fn refused_file(alloc: Global, path: &str, words: &str) -> Failure
-    ensures { OrMemory (λ report. report ≡ refused_file path.now words.now) (failure_report result) }
+/// The file at this path is refused, and the name of this code says why.
+pub fn refused_file(alloc: Global, path: &str, code: Code) -> Failure
+    ensures { OrMemory (λ report. report ≡ refused_file path.now code) (failure_report result) }
 {
-    match lines::map_refused_line(alloc, path, words) {
-        Ok(line) => Failure::Refusal(line),
+    match lines::map_refused_line(alloc, path, code.name()) {
+        Ok(line) => Failure::refusal(code, line),
+        Err(_) => Failure::Memory,
+    }
+}
+
+/// An argument that is a pair, such as a URL and a path, is refused, with the reason.
+pub fn refused_argument(alloc: Global, reason: &str, url: &str, path: &str) -> Failure
+    ensures { OrMemory (λ report. report
+        ≡ misuse (argument_refused_line (argument_text url.now path.now) reason.now))
+        (failure_report result) }
+{
+    match lines::argument_refused_line(alloc, reason, url, path) {
+        Ok(line) => Failure::Misuse(line),
         Err(_) => Failure::Memory,
     }
 }

@@ -6,21 +6,24 @@ ghost use Rattle.smap_replies.specs.Streams.{Ends, IsReportedTo, sinks_seen};
 
 use crate::lines;
 use crate::outcome::{FAILED, Failure, Reply};
+use smap_codes::Code;
 use smap_io::{ByteSink, DeviceFault, write_all};
 
 /// Writes the text of what a command comes to to the stream that it is for and flushes that, and gives the exit status.
 /// Where standard output fails, standard error says so. A failure of standard error is passed over. The caller gives a
-/// standard output that has not failed where there is an answer for it. The call takes no memory.
+/// standard output that has not failed where there is an answer for it. The code of a refusal is put into `first`, where
+/// that has none. The call takes no memory.
 pub fn report<W: ByteSink, E: ByteSink>(
     outcome: &Result<Reply, Failure>,
     output: &mut W,
     errors: &mut E,
+    first: &mut Option<Code>,
 ) -> u8
     requires output_works { (report_of outcome.now).is_answer ≡ true
         → (W.seen output.old).failed ≡ false }
     ensures { Ends (report_of outcome.now) result
-        (sinks_seen (W.seen output.old) (E.seen errors.old))
-        (sinks_seen (W.seen output.new) (E.seen errors.new)) }
+        (sinks_seen (W.seen output.old) (E.seen errors.old) first.old)
+        (sinks_seen (W.seen output.new) (E.seen errors.new) first.new) }
 {
     match outcome {
         Ok(reply) => match print(output, reply.bytes()) {
@@ -32,6 +35,7 @@ pub fn report<W: ByteSink, E: ByteSink>(
         },
         Err(failure) => {
             print_error(errors, failure.bytes());
+            *first = first.or(failure.code());
             failure.status()
         }
     }

@@ -1,2 +1,3 @@
 pub mod SourceName
+pub mod Codes
 pub mod Private

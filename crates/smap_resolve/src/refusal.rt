@@ -1,7 +1,9 @@
 //! Why a source gets no name.
 ghost use Rattle.std.specs.Prelude.{◌≡◌};
 ghost use Rattle.smap_resolve.specs.declared.refusal.ResolveRefusal.TheVariants.{Memory};
+ghost use Rattle.smap_resolve.specs.Codes.{resolve_code};
 
+use smap_codes::Code;
 use std::alloc::AllocError;
 
 /// Why a source gets no name. Neither says whether its text is a URL.
@@ -11,6 +13,18 @@ pub enum ResolveRefusal {
     UrlTooLong,
     /// U2: there is not enough memory for the name, or on the way to it.
     Memory,
+}
+
+impl ResolveRefusal {
+    /// The code by which it is called.
+    pub fn code(self) -> Code
+        ensures { result ≡ resolve_code self }
+    {
+        match self {
+            ResolveRefusal::UrlTooLong => Code::U1,
+            ResolveRefusal::Memory => Code::U2,
+        }
+    }
 }
 
 impl From<AllocError> for ResolveRefusal {

@@ -45,8 +45,9 @@ fn run(
             &mut input,
             &mut output,
             &mut errors,
+            &mut None,
         ),
-        Err(usage) => report(&outcome_of(usage), &mut output, &mut errors),
+        Err(usage) => report(&outcome_of(usage), &mut output, &mut errors, &mut None),
     };
     answer.put_number(u64::from(status))?;
     answer.put(output.bytes())?;

@@ -83,6 +83,7 @@ fn nothing_waits_while_more_is_awaited(rt: HostRuntime) -> Result<(), Fail> {
         &mut input,
         &mut output,
         &mut errors,
+        &mut None,
     );
     assert_eq!(rt; status, 0);
     assert_eq!(rt;

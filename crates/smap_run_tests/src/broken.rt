@@ -114,6 +114,7 @@ pub fn left_broken(
         &mut FromStd::new(&mut reader),
         &mut FromStd::new(&mut writer),
         &mut errors,
+        &mut None,
     );
     left_text(alloc, status, &writer.bytes, errors.bytes())
 }

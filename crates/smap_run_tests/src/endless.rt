@@ -70,6 +70,7 @@ fn assert_left<R: io::Read + Drop>(
         &mut FromStd::new(reader),
         &mut FromStd::new(Taking(most)),
         &mut errors,
+        &mut None,
     );
     let left = left_text(alloc, status, b"", errors.bytes())?;
     assert_same(rt, wanted, &left, wanted);

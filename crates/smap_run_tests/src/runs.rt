@@ -111,7 +111,15 @@ pub fn run_over<F: FileReader>(
     let mut input = MemorySource::new(input.to_vec(alloc)?, reads.0.max(1), reads.1);
     let mut output = MemorySink::new(room, writes.0.max(1), writes.1);
     let mut errors = MemorySink::new(more, reports.0.max(1), reports.1);
-    let status = run_reading(alloc, files, command, &mut input, &mut output, &mut errors);
+    let status = run_reading(
+        alloc,
+        files,
+        command,
+        &mut input,
+        &mut output,
+        &mut errors,
+        &mut None,
+    );
     left_text(alloc, status, output.bytes(), errors.bytes())
 }
 

@@ -4,6 +4,8 @@ use Rattle.std.specs.Prelude.{true, Some, None, Ok, Err}
 use Rattle.std.specs.Fmt.{decimal}
 use Rattle.std.specs.Str.{is_utf8, chars}
 use lib.Utf8.{encode}
+use Rattle.smap_codes.specs.Codes.{called}
+use Rattle.smap_codes.specs.declared.code.Code.TheVariants.{NotUtf8}
 use Rattle.smap_command.specs.Shown.{shown}
 use Rattle.smap_locations.specs.Locations.{LocationsSeen}
 use Rattle.smap_locations.specs.declared.refusal.ListFault.TheVariants.{NoTab, NoFolder, BadUrl, Twice, Memory}
@@ -22,11 +24,11 @@ unfolding shown
 a_prefix_without_slash = refl
 
 a_bad_prefix : folder_refusal BadUrl (codes "eval at /") (codes "maps/") ≡ misuse (codes "usage: A1 BadUrl: eval at /=maps/\n")
-unfolding shown
+unfolding shown called
 a_bad_prefix = refl
 
 a_prefix_twice : folder_refusal Twice (codes "app:///") (codes "a\nb/") ≡ misuse (codes "usage: A2 Twice: app:///=a?b/\n")
-unfolding shown
+unfolding shown called
 a_prefix_twice = refl
 
 a_line_without_tab : list_refusal (codes "all.txt") (record { line = 3; fault = NoTab })
@@ -37,7 +39,7 @@ a_line_without_tab = refl
 a_line_without_memory : list_refusal (codes "all.txt") (record { line = 3; fault = Memory }) ≡ out_of_memory
 a_line_without_memory = refl
 
-bytes_of_no_text : list_bytes_refusal (255 ∷ []) ≡ Some (codes "NotUtf8")
+bytes_of_no_text : list_bytes_refusal (255 ∷ []) ≡ Some NotUtf8
 unfolding is_utf8 chars
 bytes_of_no_text = refl
 

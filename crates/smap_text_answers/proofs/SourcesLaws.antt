@@ -3,13 +3,14 @@ use Rattle.std.proofs.Common.{◌≡◌, ℕ, ◌⊎◌, List, ◌∷◌, refl, 
 use Rattle.std.specs.Prelude.{true, false, Option, Some, None, Result, Ok, Err, MatchBool, MatchOption}
 use Rattle.std.specs.Option.{IsSomeAnd}
 use Rattle.std.specs.Str.Lines.{lines}
+use Rattle.smap_codes.specs.declared.code.Code.{Code}
 use Rattle.smap_locations.specs.Locations.{LocationsSeen}
 use Rattle.smap_store.specs.MapList.{AreTaken, IsRefusedAt, PutsFolder, folder_fault}
 use Rattle.smap_locations.specs.ListLine.{is_folder}
 use Rattle.smap_locations.specs.declared.refusal.ListFault.{ListFault}
 use Rattle.smap_locations.specs.declared.refusal.ListRefusal.{ListRefusal}
-use Rattle.smap_replies.specs.Lines.{map_refused_line}
-use Rattle.smap_replies.specs.Outcome.{OrMemory, Report, out_of_memory, refusal}
+use Rattle.smap_replies.specs.Map.{refused_file}
+use Rattle.smap_replies.specs.Outcome.{OrMemory, Report, out_of_memory}
 use Rattle.smap_text_answers.specs.Private.Sources.{IsFolderRefusal}
 use Rattle.smap_text_answers.specs.Sources.{AddsLines, AddsList, NamesFolders, folder_refusal}
 use Rattle.smap_replies.specs.Lists.{list_bytes_refusal, list_refusal}
@@ -61,19 +62,19 @@ module _ (arguments rest : List (List ℕ × List ℕ)) (url path : List ℕ) (o
 
 module _ (list bytes : List ℕ) (words : Maps) (old : LocationsSeen) where
   -- its bytes are refused
-  refused_for : (why : Option (List ℕ)) (report : Report) → IsSomeAnd why (λ reason. report ≡ refusal (map_refused_line list reason))
-      → MatchOption why (AddsLines list bytes words old (Err report)) (λ reason. ◌≡◌ {A = Result MapSources Report} (Err report) (Err (refusal (map_refused_line list reason))))
+  refused_for : (why : Option Code) (report : Report) → IsSomeAnd why (λ code. report ≡ refused_file list code)
+      → MatchOption why (AddsLines list bytes words old (Err report)) (λ code. ◌≡◌ {A = Result MapSources Report} (Err report) (Err (refused_file list code)))
   refused_for None report reported = absurd reported
-  refused_for (Some reason) report reported = ap Err reported
+  refused_for (Some code) report reported = ap Err reported
 
-  pub adds_no_text : (report : Report) → OrMemory (λ t. IsSomeAnd (list_bytes_refusal bytes) (λ reason. t ≡ refusal (map_refused_line list reason))) report
+  pub adds_no_text : (report : Report) → OrMemory (λ t. IsSomeAnd (list_bytes_refusal bytes) (λ code. t ≡ refused_file list code)) report
       → AddsList list bytes words old (Err report)
   adds_no_text report (inl no_memory) = inl (ap Err no_memory)
   adds_no_text report (inr reported) = inr (refused_for (list_bytes_refusal bytes) report reported)
 
   of_lines : list_bytes_refusal bytes ≡ None → (result : Result MapSources Report) → AddsLines list bytes words old result → AddsList list bytes words old result
   of_lines is_text result adds =
-      inr (subst (λ r. MatchOption r (AddsLines list bytes words old result) (λ reason. result ≡ Err (refusal (map_refused_line list reason))))
+      inr (subst (λ r. MatchOption r (AddsLines list bytes words old result) (λ code. result ≡ Err (refused_file list code)))
       (sym is_text) adds)
 
   -- whose lines are taken

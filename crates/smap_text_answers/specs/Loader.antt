@@ -1,6 +1,8 @@
 -- The maps that are read when a text names them: each from its file, and what is said of one that can't be had.
 use Rattle.std.specs.Prelude.{◌≡◌, ◌⊎◌, ℕ, ◌+◌, ◌-◌, ◌^◌, ◌==◌, List, Option, Some, None, Result, Ok, MatchBool, cond, length, max, min, nat_lt}
 use Rattle.url.specs.Parts.{Parts}
+use Rattle.std.specs.Option.{option_or}
+use Rattle.smap_codes.specs.declared.code.Code.{Code}
 use Rattle.smap_io.specs.Device.{SinkSeen}
 use Rattle.smap_locations.specs.Paths.{without_query}
 use Rattle.smap_record.specs.Record.{MapRecord, record_of}
@@ -26,16 +28,23 @@ IsReadRefusal base k url path bytes report =
 
 -- ---- what reads maps
 
--- what it shows: standard error, the greatest status of what was reported, how many maps could not be had, and how many of these
--- were refused
+-- what it shows: standard error, the greatest status of what was reported, the code of the first refusal, how many maps could not
+-- be had, and how many of these were refused
 pub record LoaderSeen : Type 0 where
   pub errors : SinkSeen
   pub status : ℕ
+  pub code : Option Code
   pub reported : ℕ
   pub refused : ℕ
 
 abbrev pub loader_seen : {F E : Type 0} → (seen : E → SinkSeen) → FileLoader F E → LoaderSeen
-loader_seen seen loader = record { errors = seen loader.errors.now; status = loader.status; reported = loader.reported; refused = loader.refused }
+loader_seen seen loader = record {
+  errors = seen loader.errors.now;
+  status = loader.status;
+  code = loader.code;
+  reported = loader.reported;
+  refused = loader.refused;
+}
 
 -- it reads the same files into the same standard error
 pub record IsSameLoader {F E : Type 0} (old new : FileLoader F E) : Type 0 where
@@ -74,6 +83,7 @@ one_more count = min (count + 1) (2 ^ 64 - 1)
 -- why a map can't be had is reported, of the first 100, and counted
 pub record Notes (old : LoaderSeen) (report : Report) (new : LoaderSeen) : Type 0 where
   pub status : new.status ≡ max old.status report.status
+  pub code : new.code ≡ cond (nat_lt old.reported 100) (option_or old.code report.code) old.code
   pub reported : new.reported ≡ one_more old.reported
   pub refused : new.refused ≡ cond (report.status == 1) (one_more old.refused) old.refused
   pub errors : MatchBool (nat_lt old.reported 100) (IsReportedTo old.errors new.errors report.text) (new.errors ≡ old.errors)

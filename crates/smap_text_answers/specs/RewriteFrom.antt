@@ -5,6 +5,7 @@ use Rattle.std.specs.Prelude.{option_copied}
 use Rattle.std.specs.Fmt.{decimal}
 use Rattle.std.specs.List.{concat}
 use Rattle.url.specs.Parts.{Parts}
+use Rattle.smap_codes.specs.declared.code.Code.{Code}
 use Rattle.smap_io.specs.Device.{SinkSeen}
 use Rattle.smap_lines.specs.Editing.{DevicesSeen, devices_seen, is_read_fault}
 use Rattle.smap_lines.specs.declared.fault.LineFault.{LineFault}
@@ -61,12 +62,12 @@ abbrev pub store_of : {L : Type 0} → MapSources → CacheSeen → (loader : L)
 store_of sources cache loader = record { words = sources.words; locations = sources.locations; cache = cache; loader = loader }
 
 -- the store before anything was read into it
-abbrev pub store_start : MapSources → (cache_bytes : ℕ) → (errors : SinkSeen) → StoredSeen LoaderSeen
-store_start sources cache_bytes errors = record {
+abbrev pub store_start : MapSources → (cache_bytes : ℕ) → (errors : SinkSeen) → (code : Option Code) → StoredSeen LoaderSeen
+store_start sources cache_bytes errors code = record {
   words = sources.words;
   locations = sources.locations;
   cache = record { kept = []; most = cache_bytes; read = 0; missing = 0; shortages = 0 };
-  loader = record { errors = errors; status = 0; reported = 0; refused = 0 };
+  loader = record { errors = errors; status = 0; code = code; reported = 0; refused = 0 };
 }
 
 -- which place begins a text over them
@@ -111,9 +112,10 @@ both_counted one other = min (one + other) (2 ^ 64 - 1)
 pub record IsOverStore (Reads : MayRead) (base : Option Parts) (k : ℕ) (request : RequestSeen) (sources : MapSources) (end : StoreEnd) (before after : Streams) : Type 0 where
   pub last : StoredSeen LoaderSeen
   pub rewritten : IsStoredRewritten Reads base k (length request.arguments + 1) sources request.anywhere request.hide_ignored request.limit_bytes
-      (store_start sources request.cache_bytes before.sinks.errors) last
+      (store_start sources request.cache_bytes before.sinks.errors before.sinks.code) last
       (devices_seen before.input before.sinks.output) (devices_seen after.input after.sinks.output) end.result
   pub errors : after.sinks.errors ≡ last.loader.errors
+  pub code : after.sinks.code ≡ last.loader.code
   pub input_failed : after.input.failed ≡ is_read_fault end.result
   pub untouched : end.result ≡ Err fault.Memory → (after.input ≡ before.input) × (after.sinks.output ≡ before.sinks.output)
   pub status : end.status ≡ last.loader.status
@@ -181,7 +183,7 @@ ClosesWith end summary counts status before after =
 -- how the run ends, by what rewriting came to, and with which status
 abbrev pub EndsResult : StoreEnd → (summary : Bool) → Result RewriteCounts LineFault → (status : ℕ) → (before after : Sinks) → Type 0
 EndsResult end summary (Ok counts) status before after =
-    (reported : ℕ) × (between : Sinks) × (closed : ℕ) × Ends (answer []) reported before between × (after.output ≡ between.output)
+    (reported : ℕ) × (between : Sinks) × (closed : ℕ) × Ends (answer []) reported before between × (after.output ≡ between.output) × (after.code ≡ between.code)
     × ClosesWith end summary counts closed between.errors after.errors × (status ≡ max (max end.status reported) closed)
 EndsResult end summary (Err fault) status before after =
     (reported : ℕ) × Ends (fault_report fault) reported before after × (status ≡ max end.status reported)

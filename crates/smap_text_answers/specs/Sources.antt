@@ -10,10 +10,10 @@ use Rattle.smap_locations.specs.ListLine.{is_folder}
 use Rattle.smap_locations.specs.declared.refusal.ListFault.{ListFault}
 use Rattle.smap_locations.specs.declared.refusal.ListRefusal.{ListRefusal}
 use Rattle.smap_replies.specs.Files.{MayRead, IsUnread}
-use Rattle.smap_text_answers.specs.Lines.{folder_refused_line}
-use Rattle.smap_replies.specs.Lines.{map_refused_line}
+use Rattle.smap_replies.specs.Lines.{argument_refused_line}
 use Rattle.smap_replies.specs.Lists.{list_bytes_refusal, list_refusal, misuse_for, reason_of}
-use Rattle.smap_replies.specs.Outcome.{OrMemory, Report, out_of_memory, refusal}
+use Rattle.smap_replies.specs.Map.{refused_file}
+use Rattle.smap_replies.specs.Outcome.{OrMemory, Report, out_of_memory}
 use Rattle.smap_text_answers.specs.Trace.{Gathers, Maps}
 use Rattle.smap_replies.specs.Arguments.{argument_text}
 use Rattle.smap_text_answers.specs.declared.sources.MapSources.{MapSources}
@@ -22,7 +22,7 @@ use Rattle.smap_text_answers.specs.declared.sources.MapSources.{MapSources}
 
 -- an argument that names a folder is refused
 abbrev pub folder_refusal : ListFault → (prefix folder : List ℕ) → Report
-folder_refusal fault prefix folder = misuse_for (folder_refused_line (argument_text prefix folder)) (reason_of fault)
+folder_refusal fault prefix folder = misuse_for (argument_refused_line (argument_text prefix folder)) (reason_of fault)
 
 -- the folders among these arguments, each a URL and a path, go into the locations, argument by argument, up to the first that is
 -- refused, unless memory runs out; files are passed over
@@ -53,7 +53,7 @@ abbrev pub AddsList : (list bytes : List ℕ) → Maps → LocationsSeen → Res
 AddsList list bytes words locations result =
     (result ≡ Err out_of_memory)
     ⊎ MatchOption (list_bytes_refusal bytes) (AddsLines list bytes words locations result)
-    (λ reason. result ≡ Err (refusal (map_refused_line list reason)))
+    (λ code. result ≡ Err (refused_file list code))
 
 -- the list, where there is one, is read under this number, and adds to the locations
 abbrev pub ReadsList : MayRead → (number : ℕ) → (list : Option (List ℕ)) → Maps → LocationsSeen → Result MapSources Report → Type 0

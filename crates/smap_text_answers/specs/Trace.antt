@@ -9,15 +9,16 @@ use Rattle.smap_lines.specs.Editing.{DevicesSeen, is_read_fault, is_write_fault}
 use Rattle.smap_lines.specs.declared.fault.LineFault.{LineFault}
 use Rattle.smap_lines.specs.declared.fault.LineFault.TheVariants as fault
 use Rattle.smap_locations.specs.ListLine.{is_folder}
+use Rattle.smap_codes.specs.Codes.{text_of}
+use Rattle.smap_trace.specs.Codes.{table_code}
 use Rattle.smap_trace.specs.Rewriting.{Rewrites, RewritesFront}
 use Rattle.smap_trace.specs.Table.{IsWith, url_refusal}
 use Rattle.smap_trace.specs.declared.outcome.Summary.{Summary}
 use Rattle.smap_trace.specs.declared.refusal.TableRefusal.{TableRefusal}
-use Rattle.smap_trace.specs.declared.refusal.TableRefusal.TheVariants.{BadUrl, Twice, Memory}
-use Rattle.smap_text_answers.specs.Lines.{bad_url_line}
+use Rattle.smap_trace.specs.declared.refusal.TableRefusal.TheVariants.{Memory}
 use Rattle.smap_replies.specs.Arguments.{argument_text}
 use Rattle.smap_replies.specs.Base.{base_of}
-use Rattle.smap_replies.specs.Lines.{twice_line}
+use Rattle.smap_replies.specs.Lines.{argument_refused_line}
 use Rattle.smap_replies.specs.Files.{MayRead, IsUnread}
 use Rattle.smap_replies.specs.Map.{refusal_result}
 use Rattle.smap_replies.specs.Outcome.{OrMemory, Report, answer, fault_report, misuse, out_of_memory}
@@ -34,9 +35,8 @@ Maps = List (List ℕ × MapRecord)
 
 -- why the map of the file at this path is not put under this URL
 abbrev pub url_refusal_result : TableRefusal → (url path : List ℕ) → Report
-url_refusal_result BadUrl url path = misuse (bad_url_line (argument_text url path))
-url_refusal_result Twice url path = misuse (twice_line (argument_text url path))
 url_refusal_result Memory url path = out_of_memory
+url_refusal_result other url path = misuse (argument_refused_line (argument_text url path) (text_of (table_code other)))
 
 -- a map goes under a URL, or is refused
 abbrev pub Puts : Maps → (url path : List ℕ) → MapRecord → Option TableRefusal → Result Maps Report → Type 0

@@ -3,7 +3,7 @@
 //!
 //! ```text
 //! let outcome = answer_rewrite(alloc, &maps, &arguments, hide_ignored, &mut input, &mut output);
-//! let status = rewrite_from(alloc, &request, &mut input, &mut output, &mut errors);
+//! let status = rewrite_from(alloc, &request, &mut input, &mut output, &mut errors, &mut first);
 //! ```
 #![tactic(auto)]
 

@@ -6,6 +6,7 @@ ghost use Rattle.smap_replies.specs.Outcome.{OrMemory, failure_report, failure};
 ghost use Rattle.smap_locations.specs.Paths.{without_query};
 
 use crate::lines;
+use smap_codes::Code;
 use smap_io::ByteSink;
 use smap_locations::without_query;
 use smap_record::MapFile;
@@ -27,6 +28,8 @@ pub struct FileLoader<'m, 'r, 'e, F: FileReader, E: ByteSink> {
     pub errors: &'e mut E,
     /// The greatest status of what was reported, or would have been.
     pub status: u8,
+    /// The code of the first refusal that was reported.
+    pub code: Option<Code>,
     /// How many maps could not be had.
     pub reported: u64,
     /// How many of them were refused.
@@ -85,6 +88,7 @@ impl<F: FileReader, E: ByteSink> FileLoader<'_, '_, '_, F, E> {
         }
         if self.reported < MOST_REPORTED {
             print_error(self.errors, failure.bytes());
+            self.code = self.code.or(failure.code());
         }
         self.reported = self.reported.saturating_add(1);
     }

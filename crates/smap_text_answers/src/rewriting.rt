@@ -11,6 +11,7 @@ ghost use Rattle.smap_trace.specs.Rewriting.{Looked, RewritesFrontOver, Rewrites
 
 use crate::loader::FileLoader;
 use crate::sources::{MapSources, sources_of};
+use smap_codes::Code;
 use smap_io::{ByteSink, ByteSource};
 use smap_places::{StoredPlaceFinder, rewrite_places_over};
 use smap_replies::{
@@ -42,29 +43,30 @@ pub struct RewriteRequest<'a, 'r, F: FileReader> {
 }
 
 /// Reads the maps that are words of the command line, and rewrites the text on standard input over them and over those
-/// that it names itself, and gives the exit status: the greatest of all that was reported. The caller gives devices that
-/// have not failed, and takes less than 2^63 bytes.
+/// that it names itself, and gives the exit status: the greatest of all that was reported. The code of the first refusal
+/// is put into `first`, where that has none. The caller gives devices that have not failed, and takes less than 2^63 bytes.
 pub fn rewrite_from<F: FileReader, R: ByteSource, W: ByteSink, E: ByteSink>(
     alloc: Global,
     request: &RewriteRequest<'_, '_, F>,
     input: &mut R,
     output: &mut W,
     errors: &mut E,
+    first: &mut Option<Code>,
 ) -> u8
     requires input_works { (R.seen input.old).failed ≡ false }
     requires output_works { (W.seen output.old).failed ≡ false }
     requires limit { request.now.limit_bytes < 2 ^ 63 }
     ensures { RewritesFrom (F.gives request.now.maps.now.files.now)
         (option_copied request.now.maps.now.base) request.now.maps.now.interval (request_seen request.now) result
-        (streams_seen (R.seen input.old) (W.seen output.old) (E.seen errors.old))
-        (streams_seen (R.seen input.new) (W.seen output.new) (E.seen errors.new)) }
+        (streams_seen (R.seen input.old) (W.seen output.old) (E.seen errors.old) first.old)
+        (streams_seen (R.seen input.new) (W.seen output.new) (E.seen errors.new) first.new) }
 {
     match sources_of(alloc, request.maps, request.arguments, request.list) {
         Ok(sources) => {
-            let end = over_store(alloc, request, &sources, input, output, errors);
-            finish(alloc, request.summary, &end, output, errors)
+            let end = over_store(alloc, request, &sources, input, output, errors, first);
+            finish(alloc, request.summary, &end, output, errors, first)
         }
-        Err(failure) => report(&Err(failure), output, errors),
+        Err(failure) => report(&Err(failure), output, errors, first),
     }
 }
 
@@ -93,14 +95,15 @@ fn over_store<F: FileReader, R: ByteSource, W: ByteSink, E: ByteSink>(
     input: &mut R,
     output: &mut W,
     errors: &mut E,
+    first: &mut Option<Code>,
 ) -> StoreEnd
     requires input_works { (R.seen input.old).failed ≡ false }
     requires output_works { (W.seen output.old).failed ≡ false }
     requires limit { request.now.limit_bytes < 2 ^ 63 }
     ensures over { IsOverStore (F.gives request.now.maps.now.files.now)
         (option_copied request.now.maps.now.base) request.now.maps.now.interval (request_seen request.now) sources.now result
-        (streams_seen (R.seen input.old) (W.seen output.old) (E.seen errors.old))
-        (streams_seen (R.seen input.new) (W.seen output.new) (E.seen errors.new)) }
+        (streams_seen (R.seen input.old) (W.seen output.old) (E.seen errors.old) first.old)
+        (streams_seen (R.seen input.new) (W.seen output.new) (E.seen errors.new) first.new) }
     ensures output_failure { (W.seen output.new).failed ≡ is_write_fault result.result }
 {
     let mut cache = MapCache::new(alloc, request.cache_bytes);
@@ -109,6 +112,7 @@ fn over_store<F: FileReader, R: ByteSource, W: ByteSink, E: ByteSink>(
         number: request.arguments.len() + 1,
         errors,
         status: DONE,
+        code: *first,
         reported: 0,
         refused: 0,
     };
@@ -123,6 +127,7 @@ fn over_store<F: FileReader, R: ByteSource, W: ByteSink, E: ByteSink>(
     };
     let result = rewrite_text(&asked, &mut cache, &mut loader, input, output);
     let (status, refused) = (loader.status, loader.refused);
+    *first = loader.code;
     StoreEnd {
         result,
         status,
@@ -274,20 +279,21 @@ fn finish<W: ByteSink, E: ByteSink>(
     end: &StoreEnd,
     output: &mut W,
     errors: &mut E,
+    first: &mut Option<Code>,
 ) -> u8
     requires output_works { (W.seen output.old).failed ≡ is_write_fault end.now.result }
     ensures { EndsFrom end.now summary result
-        (sinks_seen (W.seen output.old) (E.seen errors.old))
-        (sinks_seen (W.seen output.new) (E.seen errors.new)) }
+        (sinks_seen (W.seen output.old) (E.seen errors.old) first.old)
+        (sinks_seen (W.seen output.new) (E.seen errors.new) first.new) }
 {
     match end.result {
         Ok(counts) => {
-            let reported = report(&Ok(Reply::Rewritten), output, errors);
+            let reported = report(&Ok(Reply::Rewritten), output, errors, first);
             let closed = close(alloc, summary, end, &counts, errors);
             end.status.max(reported).max(closed)
         }
         Err(fault) => {
-            let reported = report(&Err(Failure::Fault(fault)), output, errors);
+            let reported = report(&Err(Failure::Fault(fault)), output, errors, first);
             end.status.max(reported)
         }
     }

@@ -6,11 +6,11 @@ ghost use Rattle.smap_text_answers.specs.Sources.{AddsList, GathersSources, Name
 ghost use Rattle.smap_replies.specs.Arguments.{argument_of};
 ghost use Rattle.smap_store.specs.MapList.{PutsFolder, folder_fault};
 
-use crate::lines;
 use crate::trace::table_of;
 use smap_locations::{ListFault, Locations, is_folder};
 use smap_replies::{
-    Failure, FileReader, MapReader, file_bytes, list_text, reason_of, refused_list,
+    Failure, FileReader, MapReader, file_bytes, list_text, reason_of, refused_argument,
+    refused_list,
 };
 use smap_store::{add_folder, add_list};
 use smap_trace::Table;
@@ -89,10 +89,7 @@ fn refused_folder(alloc: Global, fault: ListFault, prefix: &str, folder: &str) -
     let Some(reason) = reason_of(fault) else {
         return Failure::Memory;
     };
-    match lines::folder_refused_line(alloc, reason, prefix, folder) {
-        Ok(line) => Failure::Misuse(line),
-        Err(_) => Failure::Memory,
-    }
+    refused_argument(alloc, reason, prefix, folder)
 }
 
 // The sources with those that the list of this number and path names.

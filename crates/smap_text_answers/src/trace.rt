@@ -7,10 +7,11 @@ ghost use Rattle.smap_locations.specs.ListLine.{is_folder};
 ghost use Rattle.smap_text_answers.specs.Trace.{Gathers, PutsNext, IsTraceRewritten, RewriteReports, rewrite_report, url_refusal_result};
 ghost use Rattle.smap_replies.specs.Arguments.{argument_of};
 
-use crate::lines;
 use smap_io::{ByteSink, ByteSource};
 use smap_locations::is_folder;
-use smap_replies::{Failure, FileReader, MapReader, Reply, file_bytes, read_map_at, twice_line};
+use smap_replies::{
+    Failure, FileReader, MapReader, Reply, file_bytes, read_map_at, refused_argument,
+};
 use smap_trace::{RewriteFault, Summary, Table, TableRefusal, rewrite};
 use std::alloc::Global;
 
@@ -101,13 +102,8 @@ fn refused_url(alloc: Global, refusal: TableRefusal, url: &str, path: &str) -> F
     ensures { OrMemory (λ report. report ≡ url_refusal_result refusal url.now path.now)
         (failure_report result) }
 {
-    let line = match refusal {
-        TableRefusal::BadUrl => lines::bad_url_line(alloc, url, path),
-        TableRefusal::Twice => twice_line(alloc, url, path),
-        TableRefusal::Memory => return Failure::Memory,
-    };
-    match line {
-        Ok(line) => Failure::Misuse(line),
-        Err(_) => Failure::Memory,
+    match refusal {
+        TableRefusal::Memory => Failure::Memory,
+        _ => refused_argument(alloc, refusal.code().text(), url, path),
     }
 }

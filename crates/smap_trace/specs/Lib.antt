@@ -7,5 +7,6 @@ pub mod Rewritten
 pub mod Rewriting
 pub mod SightSeen
 pub mod MapsOf
+pub mod Codes
 pub mod Private
 pub mod Laws

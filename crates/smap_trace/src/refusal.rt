@@ -1,4 +1,8 @@
 //! Why a map is not put into a table.
+ghost use Rattle.std.specs.Prelude.{◌≡◌};
+ghost use Rattle.smap_trace.specs.Codes.{table_code};
+
+use smap_codes::Code;
 
 /// Of `Table::add`, which hands the URL and the map back. The first two are reported before the third.
 #[derive(Clone, Copy, Debug, PartialEq, Eq)]
@@ -9,4 +13,17 @@ pub enum TableRefusal {
     Twice,
     /// A3: there is not enough memory.
     Memory,
+}
+
+impl TableRefusal {
+    /// The code by which it is called.
+    pub fn code(self) -> Code
+        ensures { result ≡ table_code self }
+    {
+        match self {
+            TableRefusal::BadUrl => Code::A1,
+            TableRefusal::Twice => Code::A2,
+            TableRefusal::Memory => Code::A3,
+        }
+    }
 }

@@ -1,6 +1,5 @@
 pub mod Texts
 pub mod Shown
-pub mod Named
 pub mod Counts
 pub mod Segment
 pub mod Explanation

@@ -9,7 +9,11 @@ use Rattle.smap_record.specs.declared.refusal.MapRefusal.{MapRefusal}
 use Rattle.smap_record.specs.declared.refusal.MapRefusal.TheVariants.{SectionOffset, Nested, Text, Build}
 use Rattle.smap_explain.specs.declared.explanation.Explanation.{Explanation}
 use Rattle.smap_verdicts.specs.Facts.{with_explanation}
-use Rattle.smap_verdicts.specs.Named.{Named, build_named, kind_named, named_text, refusal_named}
+use Rattle.smap_codes.specs.Codes.{label_of, name_of, text_of}
+use Rattle.smap_codes.specs.declared.code.Code.{Code}
+use Rattle.smap_index.specs.Codes.{build_code}
+use Rattle.smap_mappings.specs.Codes.{kind_code}
+use Rattle.smap_record.specs.Codes.{map_code}
 use Rattle.smap_verdicts.specs.Texts.{count, text_from}
 
 -- ---- as text
@@ -17,7 +21,7 @@ use Rattle.smap_verdicts.specs.Texts.{count, text_from}
 -- a fault of a mappings text; its line counts from 0, and prints from 1, its byte from 0
 abbrev pub fault_text : Fault → List ℕ
 fault_text fault = text_from (
-    named_text (kind_named fault.kind) ∷ codes " line " ∷ decimal (fault.line + 1) ∷ codes " byte " ∷ decimal fault.byte ∷ [])
+    text_of (kind_code fault.kind) ∷ codes " line " ∷ decimal (fault.line + 1) ∷ codes " byte " ∷ decimal fault.byte ∷ [])
 
 -- the section in which an index is not built, which counts from 0, where there is one
 abbrev pub build_section_text : BuildRefusal → List ℕ
@@ -31,36 +35,36 @@ abbrev pub parts_text : MapRefusal → List ℕ
 parts_text (SectionOffset section) = codes " " ++ decimal section
 parts_text (Nested section) = codes " " ++ decimal section
 parts_text (Text section fault) = text_from (codes " " ∷ decimal section ∷ codes " " ∷ fault_text fault ∷ [])
-parts_text (Build refusal) = text_from (codes " " ∷ named_text (build_named refusal) ∷ build_section_text refusal ∷ [])
+parts_text (Build refusal) = text_from (codes " " ∷ text_of (build_code refusal) ∷ build_section_text refusal ∷ [])
 parts_text other = []
 
 -- the whole of it
 abbrev pub refusal_text : MapRefusal → List ℕ
-refusal_text refusal = named_text (refusal_named refusal) ++ parts_text refusal
+refusal_text refusal = text_of (map_code refusal) ++ parts_text refusal
 
 -- ---- as JSON, whose keys stand in the order of their bytes
 
 -- its name and number, `ok`, which is false, and the path of the map
-abbrev pub refused_members : (path : List ℕ) → Named → Members → Members
-refused_members path called rest =
-    member (codes "name") (string called.name)
+abbrev pub refused_members : (path : List ℕ) → Code → Members → Members
+refused_members path code rest =
+    member (codes "name") (string (name_of code))
     (member (codes "ok") (boolean false)
     (member (codes "path") (string path)
-    (member (codes "refusal") (string called.number) rest)))
+    (member (codes "refusal") (string (label_of code)) rest)))
 
 -- the first fault of the mappings of a section
 abbrev pub fault_members : Fault → Members → Members
 fault_members fault rest =
     member (codes "byte") (count fault.byte)
-    (member (codes "fault") (string (kind_named fault.kind).number)
-    (member (codes "faultName") (string (kind_named fault.kind).name)
+    (member (codes "fault") (string (label_of (kind_code fault.kind)))
+    (member (codes "faultName") (string (name_of (kind_code fault.kind)))
     (member (codes "line") (count (fault.line + 1)) rest)))
 
 -- why the index is not built
 abbrev pub index_members : BuildRefusal → Members → Members
 index_members refusal rest =
-    member (codes "index") (string (build_named refusal).number)
-    (member (codes "indexName") (string (build_named refusal).name) rest)
+    member (codes "index") (string (label_of (build_code refusal)))
+    (member (codes "indexName") (string (name_of (build_code refusal))) rest)
 
 -- the section, which counts from 0
 abbrev pub section_member : (section : ℕ) → Members
@@ -74,13 +78,13 @@ build_section_member other = no_members
 
 -- the refusal of the map at a path
 abbrev pub refusal_members : (path : List ℕ) → MapRefusal → Members
-refusal_members path (SectionOffset section) = refused_members path (refusal_named (SectionOffset section)) (section_member section)
-refusal_members path (Nested section) = refused_members path (refusal_named (Nested section)) (section_member section)
+refusal_members path (SectionOffset section) = refused_members path (map_code (SectionOffset section)) (section_member section)
+refusal_members path (Nested section) = refused_members path (map_code (Nested section)) (section_member section)
 refusal_members path (Text section fault) =
-    fault_members fault (refused_members path (refusal_named (Text section fault)) (section_member section))
+    fault_members fault (refused_members path (map_code (Text section fault)) (section_member section))
 refusal_members path (Build refusal) =
-    index_members refusal (refused_members path (refusal_named (Build refusal)) (build_section_member refusal))
-refusal_members path other = refused_members path (refusal_named other) no_members
+    index_members refusal (refused_members path (map_code (Build refusal)) (build_section_member refusal))
+refusal_members path other = refused_members path (map_code other) no_members
 
 -- and what is known of why the map is refused
 abbrev pub refusal_value : (path : List ℕ) → MapRefusal → Explanation → Data

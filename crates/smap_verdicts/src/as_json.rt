@@ -3,14 +3,13 @@ ghost use Rattle.std.specs.Prelude.{◌≡◌, string_bytes, IfOk, OnOk};
 ghost use Rattle.serde_json.specs.Data.{no_members, put, string};
 ghost use Rattle.serde_json.specs.View.{members_view, view};
 ghost use Rattle.serde_json.specs.Written.{compact_text};
-ghost use Rattle.smap_verdicts.specs.Named.{named};
 ghost use Rattle.smap_verdicts.specs.Private.Put.{part_members, put_all};
 ghost use Rattle.smap_verdicts.specs.Refusal.{build_section_member, fault_members, index_members};
 ghost use Rattle.smap_verdicts.specs.Refusal.{refusal_members, refusal_value, refused_members, section_member};
 
 use crate::facts_json::put_explanation;
-use crate::label::{Label, build_label, kind_label, refusal_label};
 use serde_json::{Map, Value, put};
+use smap_codes::Code;
 use smap_explain::Explanation;
 use smap_record::{BuildRefusal, Fault, MapRefusal};
 use std::alloc::{AllocError, Global};
@@ -54,25 +53,21 @@ fn refusal_members(
     ensures { IfOk result (λ members. members_view members.entries
         ≡ refusal_members path.now refusal) }
 {
-    let mut members = refused_members(alloc, path, refusal_label(refusal))?;
+    let mut members = refused_members(alloc, path, refusal.code())?;
     put_parts(&mut members, alloc, refusal)?;
     Ok(members)
 }
 
 // How the refusal is called, and of which map it is.
-fn refused_members(
-    alloc: Global,
-    path: &str,
-    label: Label,
-) -> Result<Map<String, Value>, AllocError>
+fn refused_members(alloc: Global, path: &str, code: Code) -> Result<Map<String, Value>, AllocError>
     ensures { IfOk result (λ members. members_view members.entries
-        ≡ refused_members path.now (named label.number.now label.name.now) no_members) }
+        ≡ refused_members path.now code no_members) }
 {
     let mut members = Map::new(alloc);
-    put_text(&mut members, alloc, "name", label.name)?;
+    put_text(&mut members, alloc, "name", code.name())?;
     put(&mut members, alloc, "ok", Value::Bool(false))?;
     put_text(&mut members, alloc, "path", path)?;
-    put_text(&mut members, alloc, "refusal", label.number)?;
+    put_text(&mut members, alloc, "refusal", code.label())?;
     Ok(members)
 }
 
@@ -107,10 +102,10 @@ fn put_fault(
     ensures { OnOk result (members_view members.new.entries
         ≡ put_all (fault_members fault no_members) (members_view members.old.entries)) }
 {
-    let label = kind_label(fault.kind);
+    let kind = fault.kind.code();
     put(members, alloc, "byte", Value::from(fault.byte))?;
-    put_text(members, alloc, "fault", label.number)?;
-    put_text(members, alloc, "faultName", label.name)?;
+    put_text(members, alloc, "fault", kind.label())?;
+    put_text(members, alloc, "faultName", kind.name())?;
     put(
         members,
         alloc,
@@ -129,9 +124,9 @@ fn put_build(
         ≡ put_all (index_members refusal (build_section_member refusal))
         (members_view members.old.entries)) }
 {
-    let label = build_label(refusal);
-    put_text(members, alloc, "index", label.number)?;
-    put_text(members, alloc, "indexName", label.name)?;
+    let code = refusal.code();
+    put_text(members, alloc, "index", code.label())?;
+    put_text(members, alloc, "indexName", code.name())?;
     match refusal {
         BuildRefusal::SectionOrder(section)
         | BuildRefusal::SectionOverlap(section)

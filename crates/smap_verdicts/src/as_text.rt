@@ -1,10 +1,8 @@
 //! Why a map file is refused, as text.
 ghost use Rattle.std.specs.Prelude.{◌≡◌, string_bytes, IfOk};
-ghost use Rattle.smap_verdicts.specs.Named.{named, named_text};
 ghost use Rattle.smap_verdicts.specs.Refusal.{build_section_text, fault_text, parts_text};
 ghost use Rattle.smap_verdicts.specs.Refusal.{refusal_text};
 
-use crate::label::{Label, build_label, kind_label, refusal_label};
 use smap_record::{BuildRefusal, Fault, MapRefusal};
 use std::alloc::{AllocError, Global};
 
@@ -12,7 +10,7 @@ use std::alloc::{AllocError, Global};
 pub fn fault_text(alloc: Global, fault: Fault) -> Result<String, AllocError>
     ensures { IfOk result (λ text. string_bytes text ≡ fault_text fault) }
 {
-    let kind = label_text(alloc, kind_label(fault.kind))?;
+    let kind = fault.kind.code().text();
     let (line, byte) = (u64::from(fault.line) + 1, fault.byte);
     format!(in alloc; "{kind} line {line} byte {byte}")
 }
@@ -21,18 +19,9 @@ pub fn fault_text(alloc: Global, fault: Fault) -> Result<String, AllocError>
 pub fn refusal_text(alloc: Global, refusal: MapRefusal) -> Result<String, AllocError>
     ensures { IfOk result (λ text. string_bytes text ≡ refusal_text refusal) }
 {
-    let called = label_text(alloc, refusal_label(refusal))?;
+    let code = refusal.code().text();
     let parts = parts_text(alloc, refusal)?;
-    format!(in alloc; "{called}{parts}")
-}
-
-// A number and a name.
-fn label_text(alloc: Global, label: Label) -> Result<String, AllocError>
-    ensures { IfOk result (λ text. string_bytes text
-        ≡ named_text (named label.number.now label.name.now)) }
-{
-    let Label { number, name } = label;
-    format!(in alloc; "{number} {name}")
+    format!(in alloc; "{code}{parts}")
 }
 
 // The parts of a refusal, where it has some, each after a space.
@@ -48,9 +37,9 @@ fn parts_text(alloc: Global, refusal: MapRefusal) -> Result<String, AllocError>
             format!(in alloc; " {section} {fault}")
         }
         MapRefusal::Build(refusal) => {
-            let called = label_text(alloc, build_label(refusal))?;
+            let code = refusal.code().text();
             let section = build_section_text(alloc, refusal)?;
-            format!(in alloc; " {called}{section}")
+            format!(in alloc; " {code}{section}")
         }
         _ => Ok(String::new(alloc)),
     }

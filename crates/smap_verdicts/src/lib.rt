@@ -14,7 +14,6 @@ mod counts;
 mod explained;
 mod facts_json;
 mod facts_text;
-mod label;
 mod measure_text;
 mod nearest_lines;
 mod segment_lines;

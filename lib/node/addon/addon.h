@@ -89,7 +89,8 @@ call look_up, look_up_many, mappings, bytes_by_source;
 /* map.c */
 call read_map, counts, source_name, source_content, is_ignored, name, file, write_map;
 /* refusals.c */
-call refusal_text, refusal_explain, compose_refusal_text, table_refusal_text;
+call refusal_text, refusal_explain, compose_refusal_text, table_refusal_text, generated_refusal_text;
+call rewrite_refusal_text, write_refusal_text;
 /* compose.c */
 call compose, compose_all;
 /* table.c */

@@ -11,7 +11,8 @@ NAPI_MODULE_INIT() {
         {"counts", counts}, {"sourceName", source_name}, {"sourceContent", source_content}, {"isIgnored", is_ignored},
         {"name", name}, {"file", file}, {"write", write_map}, {"compose", compose}, {"composeAll", compose_all}, {"newTable", new_table},
         {"add", add}, {"rewrite", rewrite}, {"nextFrameUrl", next_frame_url}, {"composeRefusalText", compose_refusal_text},
-        {"tableRefusalText", table_refusal_text},
+        {"tableRefusalText", table_refusal_text}, {"generatedRefusalText", generated_refusal_text},
+        {"rewriteRefusalText", rewrite_refusal_text}, {"writeRefusalText", write_refusal_text},
     };
     napi_value buffer, room;
     napi_ref kept;

@@ -53,11 +53,24 @@ static napi_value lent(napi_env env, napi_callback_info info, lend_text *lend) {
     return lend(n, &text) == SMAP_DONE ? string(env, text) : null(env);
 }
 
-/* composeRefusalText(number), tableRefusalText(number) */
+/* composeRefusalText(number), tableRefusalText(number), generatedRefusalText(number),
+ * rewriteRefusalText(number), writeRefusalText(number) */
 napi_value compose_refusal_text(napi_env env, napi_callback_info info) {
     return lent(env, info, smap_compose_refusal_text);
 }
 
 napi_value table_refusal_text(napi_env env, napi_callback_info info) {
     return lent(env, info, smap_table_refusal_text);
+}
+
+napi_value generated_refusal_text(napi_env env, napi_callback_info info) {
+    return lent(env, info, smap_generated_refusal_text);
+}
+
+napi_value rewrite_refusal_text(napi_env env, napi_callback_info info) {
+    return lent(env, info, smap_rewrite_refusal_text);
+}
+
+napi_value write_refusal_text(napi_env env, napi_callback_info info) {
+    return lent(env, info, smap_write_refusal_text);
 }

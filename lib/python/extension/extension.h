@@ -83,5 +83,8 @@ PyObject *refusal_text(PyObject *module, PyObject *words);
 PyObject *explained(PyObject *module, PyObject *words);
 PyObject *compose_refusal_text(PyObject *module, PyObject *value);
 PyObject *table_refusal_text(PyObject *module, PyObject *value);
+PyObject *generated_refusal_text(PyObject *module, PyObject *value);
+PyObject *rewrite_refusal_text(PyObject *module, PyObject *value);
+PyObject *write_refusal_text(PyObject *module, PyObject *value);
 
 #endif

@@ -13,6 +13,9 @@ static PyMethodDef functions[] = {
     {"explained", explained, METH_VARARGS, NULL},
     {"compose_refusal_text", compose_refusal_text, METH_O, NULL},
     {"table_refusal_text", table_refusal_text, METH_O, NULL},
+    {"generated_refusal_text", generated_refusal_text, METH_O, NULL},
+    {"rewrite_refusal_text", rewrite_refusal_text, METH_O, NULL},
+    {"write_refusal_text", write_refusal_text, METH_O, NULL},
     {NULL, NULL, 0, NULL},
 };
 

@@ -75,3 +75,18 @@ PyObject *table_refusal_text(PyObject *module, PyObject *value) {
     (void)module;
     return lent(value, smap_table_refusal_text);
 }
+
+PyObject *generated_refusal_text(PyObject *module, PyObject *value) {
+    (void)module;
+    return lent(value, smap_generated_refusal_text);
+}
+
+PyObject *rewrite_refusal_text(PyObject *module, PyObject *value) {
+    (void)module;
+    return lent(value, smap_rewrite_refusal_text);
+}
+
+PyObject *write_refusal_text(PyObject *module, PyObject *value) {
+    (void)module;
+    return lent(value, smap_write_refusal_text);
+}

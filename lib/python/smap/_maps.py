@@ -7,7 +7,7 @@ from typing import List, Optional, Tuple, Type, TypeVar, Union
 
 from . import _given, _smap
 from ._answers import Source
-from ._reported import BAD_BASE, Refused, refused_base, refused_composition, refused_generated, refused_map
+from ._reported import BAD_BASE, Refused, refused_base, refused_composition, refused_generated, refused_map, refused_writing
 
 # Of the answers of a look-up among many: seven numbers of 32 bits each.
 _ANSWER_BYTES = 7 * 4
@@ -94,7 +94,7 @@ class SourceMap(_smap.Map):
         """The map as the text of one regular map."""
         text = self._written()
         if text is None:
-            raise Refused("refused: O1 TextTooLong")
+            raise refused_writing()
         return text
 
 

@@ -45,6 +45,7 @@ class Why(NamedTuple):
 
 
 BAD_BASE, LONG_BASE = 0, 18
+NO_SOURCE, TOO_LONG, TOO_MUCH = 4, 1, 3
 
 
 def refused_map(held: Held, refusal: Refusal, name: Optional[str], base: str, url: Optional[str] = None) -> Refused:
@@ -74,12 +75,12 @@ def refused_composition(number: int) -> Refused:
 
 def refused_source(name: str) -> Refused:
     """Why no source gets this name's map."""
-    return Refused(f"refused: C4 NoSource {name}", 4)
+    return Refused(f"refused: {_smap.compose_refusal_text(NO_SOURCE)} {name}", NO_SOURCE)
 
 
 def refused_generated(number: int, name: Optional[str]) -> Refused:
     """Why the bytes of a generated file, of this name if it has one, are not counted."""
-    why = {1: "NotUtf8", 2: "TooLarge"}.get(number, str(number))
+    why = _smap.generated_refusal_text(number) or number
     return Refused(f"refused: {name}: {why}" if name else f"refused: {why}", number)
 
 
@@ -87,6 +88,16 @@ def refused_url(number: int, url: str) -> Refused:
     """Why a table takes no map under this URL."""
     why = _smap.table_refusal_text(number) or number if number else "the URL is no UTF-8"
     return Refused(f"usage: {why}: {_shown(url)}", number, url=url)
+
+
+def refused_writing() -> Refused:
+    """Why a map is not written."""
+    return Refused(f"refused: {_smap.write_refusal_text(TOO_LONG)}")
+
+
+def refused_text() -> Refused:
+    """Why a text is not rewritten."""
+    return Refused(f"refused: {_smap.rewrite_refusal_text(TOO_MUCH)}", TOO_MUCH)
 
 
 def _shown(url: str) -> str:

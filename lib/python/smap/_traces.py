@@ -6,7 +6,7 @@ from typing import Callable, Dict, Mapping, Optional, Set, Union
 
 from . import _given, _smap
 from ._maps import SourceMap
-from ._reported import Refused, refused_url
+from ._reported import refused_text, refused_url
 
 # What a table takes under a URL.
 Given = Union[_given.FileData, SourceMap]
@@ -82,7 +82,7 @@ class Rewriter(_smap.Table):
                 self._ask(self._load, held)
         reported = self._rewrite(held, bool(hide_ignored), bool(anywhere))
         if reported is None:
-            raise Refused("refused: X3 TooMuch", 3)
+            raise refused_text()
         text, (lines, places, mapped, hidden) = reported
         self.counts = {"lines": lines, "places": places, "mapped": mapped} if anywhere else {
             "lines": lines, "frames": places, "mapped": mapped, "hidden": hidden}

@@ -108,9 +108,9 @@ pub same_run : (Reads : MayRead) (base : Option Parts) (k : ℕ) (request : Requ
 same_run Reads base k request sources end before after over bytes_at load same settled counts result silent enough =
     let P : Result RewriteCounts LineFault → Type 0 = λ result.
     IsStoredRewritten Reads base k (length request.arguments + 1) sources request.anywhere request.hide_ignored request.limit_bytes
-    (store_start sources request.cache_bytes before.sinks.errors) over.last
+    (store_start sources request.cache_bytes before.sinks.errors before.sinks.code) over.last
     (devices_seen before.input before.sinks.output) (devices_seen after.input after.sinks.output) result in
     same_settled Reads base k (length request.arguments + 1) bytes_at same load settled sources request.anywhere request.hide_ignored request.limit_bytes
     (devices_seen before.input before.sinks.output) (devices_seen after.input after.sinks.output)
-    (store_start sources request.cache_bytes before.sinks.errors) over.last counts (subst P result over.rewritten) refl
+    (store_start sources request.cache_bytes before.sinks.errors before.sinks.code) over.last counts (subst P result over.rewritten) refl
     (sym over.status ∙ silent) (sym over.shortages ∙ enough)

@@ -11,9 +11,9 @@ loop-number-preserved g c =
     let works = sym c.failed.ensures ∙ c.if-failed.false in
     let is = next_of string_bytes c.args.paths.now c.loop-number.number c.index-paths-number.result (omega (arith, c.loop-number-test.true))
     c.index-paths-number.is in
-    let before = sinks_seen (g.W.ByteSink.seen c.args.output.now) (g.E.ByteSink.seen c.args.errors.now) in
-    let now = sinks_seen (g.W.ByteSink.seen c.loop-number.output) (g.E.ByteSink.seen c.loop-number.errors) in
-    let between = sinks_seen (g.W.ByteSink.seen c.report.new.output) (g.E.ByteSink.seen c.report.new.errors) in
+    let before = sinks_seen (g.W.ByteSink.seen c.args.output.now) (g.E.ByteSink.seen c.args.errors.now) c.args.first.now in
+    let now = sinks_seen (g.W.ByteSink.seen c.loop-number.output) (g.E.ByteSink.seen c.loop-number.errors) c.loop-number.first in
+    let between = sinks_seen (g.W.ByteSink.seen c.report.new.output) (g.E.ByteSink.seen c.report.new.errors) c.report.new.first in
     rw c.max-status.ensures (
       works,
       goes_on (g.F.FileReader.gives c.args.maps.now.files.now) (option_copied c.args.maps.now.base) c.args.maps.now.interval (form_of c.args.options.json) c.args.options.explain _ _ _ _
@@ -23,8 +23,8 @@ loop-number-preserved g c =
 
 pub returns-after-loop-number : goal.returns-after-loop-number
 returns-after-loop-number g c =
-    let before = sinks_seen (g.W.ByteSink.seen c.args.output.now) (g.E.ByteSink.seen c.args.errors.now) in
-    let now = sinks_seen (g.W.ByteSink.seen c.loop-number.output) (g.E.ByteSink.seen c.loop-number.errors) in
+    let before = sinks_seen (g.W.ByteSink.seen c.args.output.now) (g.E.ByteSink.seen c.args.errors.now) c.args.first.now in
+    let now = sinks_seen (g.W.ByteSink.seen c.loop-number.output) (g.E.ByteSink.seen c.loop-number.errors) c.loop-number.first in
     all_reported (g.F.FileReader.gives c.args.maps.now.files.now) (option_copied c.args.maps.now.base) c.args.maps.now.interval (form_of c.args.options.json) c.args.options.explain
     c.args.paths.now c.loop-number.number c.loop-number.status before now (omega (arith, c.loop-number-test.false)) c.loop-number.invariant.1
 
@@ -33,9 +33,9 @@ returns-then-failed g c =
     let failed = sym c.failed.ensures ∙ c.if-failed.true in
     let is = next_of string_bytes c.args.paths.now c.loop-number.number c.index-paths-number.result (omega (arith, c.loop-number-test.true))
     c.index-paths-number.is in
-    let before = sinks_seen (g.W.ByteSink.seen c.args.output.now) (g.E.ByteSink.seen c.args.errors.now) in
-    let now = sinks_seen (g.W.ByteSink.seen c.loop-number.output) (g.E.ByteSink.seen c.loop-number.errors) in
-    let between = sinks_seen (g.W.ByteSink.seen c.report.new.output) (g.E.ByteSink.seen c.report.new.errors) in
+    let before = sinks_seen (g.W.ByteSink.seen c.args.output.now) (g.E.ByteSink.seen c.args.errors.now) c.args.first.now in
+    let now = sinks_seen (g.W.ByteSink.seen c.loop-number.output) (g.E.ByteSink.seen c.loop-number.errors) c.loop-number.first in
+    let between = sinks_seen (g.W.ByteSink.seen c.report.new.output) (g.E.ByteSink.seen c.report.new.errors) c.report.new.first in
     rw c.max-status.ensures (stops (g.F.FileReader.gives c.args.maps.now.files.now) (option_copied c.args.maps.now.base) c.args.maps.now.interval
     (form_of c.args.options.json) c.args.options.explain _ _ _ _ c.loop-number.number c.loop-number.status c.report.result before now between _ is
     c.loop-number.invariant.1 (rw (c.deref.ensures, c.form_of-form.ensures) at c.answer_check-outcome.ensures) c.report.ensures failed)

@@ -11,4 +11,4 @@ invariant-loop-number g l =
     ((g.W.ByteSink.seen l.output).failed ≡ false)
     × Makes (g.F.FileReader.gives l.fn.maps.files.now) (option_copied l.fn.maps.base) l.fn.maps.interval (form_of l.fn.options.json) l.fn.options.explain
     (map string_bytes l.paths) (map string_bytes (drop l.number l.paths)) l.number l.status
-    (sinks_seen (g.W.ByteSink.seen l.fn.output) (g.E.ByteSink.seen l.fn.errors)) (sinks_seen (g.W.ByteSink.seen l.output) (g.E.ByteSink.seen l.errors))
+    (sinks_seen (g.W.ByteSink.seen l.fn.output) (g.E.ByteSink.seen l.fn.errors) l.fn.first) (sinks_seen (g.W.ByteSink.seen l.output) (g.E.ByteSink.seen l.errors) l.first)

@@ -25,4 +25,4 @@ pub returns : goal.returns
 returns c =
     let short : length c.args.bytes.items ≤ most_text_bytes = omega (arith, c.len.ensures) in
     rw (text_not_utf8 c.args.bytes.items c.args.line c.args.column short (λ is_text. false≢true (c.in-Err.ensures.succeeds is_text)))
-    c.refused-in-Err.ensures
+    c.refused_by-in-Err.ensures

@@ -23,7 +23,7 @@ returns-clause-over g c =
       words = c.args.sources.now.words;
       locations = c.args.sources.now.locations;
       cache = cache;
-      loader = record { errors = seen c.args.errors.now; status = 0; reported = 0; refused = 0 };
+      loader = record { errors = seen c.args.errors.now; status = 0; code = c.args.first.now; reported = 0; refused = 0 };
     } in
     let last : StoredSeen LoaderSeen = store_of c.args.sources.now c.rewrite_text-result.new.cache (loader_seen seen c.rewrite_text-result.new.loader) in
     let rewritten = rewritten_from gives seen _ _ _ refl c.args.sources.now request.anywhere request.hide_ignored request.limit_bytes before after c.rewrite_text-result.result
@@ -38,6 +38,7 @@ returns-clause-over g c =
           request.hide_ignored request.limit_bytes
           (start cache) last before after c.rewrite_text-result.result) c.new-cache.ensures numbered;
       errors = ap seen errors;
+      code = refl;
       input_failed = made.ensures.input_failure;
       untouched = λ memory. (
         ap g.R.ByteSource.seen (untouched_by c.rewrite_text-result.result _ made.ensures.memory_input memory),

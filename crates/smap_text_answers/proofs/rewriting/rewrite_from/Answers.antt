@@ -14,7 +14,7 @@ returns-in-Ok g c =
       c.in-Ok.ensures,
       (
         run.result,
-        streams_seen (g.R.ByteSource.seen run.new.input) (g.W.ByteSink.seen run.new.output) (g.E.ByteSink.seen run.new.errors),
+        streams_seen (g.R.ByteSource.seen run.new.input) (g.W.ByteSink.seen run.new.output) (g.E.ByteSink.seen run.new.errors) run.new.first,
         over,
         same_run (g.F.FileReader.gives request.maps.now.files.now) (option_copied request.maps.now.base) request.maps.now.interval (request_seen request)
             c.in-Ok.sources run.result _ _ over,

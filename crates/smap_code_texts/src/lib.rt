@@ -1,0 +1,22 @@
+//! What each code of a refusal means, what usually causes it, and what to do about it.
+//!
+//! ```text
+//! if let Some(code) = code_called("M14") {
+//!     print(code_text(alloc, &row_of(code))?);
+//! }
+//! ```
+#![tactic(auto)]
+
+mod alone_codes;
+mod index_codes;
+mod map_codes;
+mod mappings_codes;
+mod row;
+mod table;
+mod trace_codes;
+mod word;
+mod writing_codes;
+
+pub use row::{Row, code_text};
+pub use table::row_of;
+pub use word::{all_codes_text, code_called};
