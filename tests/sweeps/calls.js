@@ -332,7 +332,7 @@ const FREE = [
   { call: 'free frame', answer: 'https://ex.test/app.js 1 6' },
   { call: 'free Table::new', answer: 'takes a map' },
   { call: 'free Composed::mappings', answer: '0,0,1,0,0 0,5,1,1,4' },
-  { call: 'free mappings_about', answer: '0 3' },
+  { call: 'free neighbours', answer: '0 3' },
   { call: 'free Locations::new, MapCache::new', answer: 'false 0' },
 ];
 

@@ -3,7 +3,7 @@ use Rattle.std.specs.Prelude.{◌≡◌, ◌≢◌, ◌++◌, ◌⊎◌, ◌∷�
 use Rattle.std.specs.declared.alloc.Global.{Global}
 use Rattle.std.specs.Option.{IsSome}
 use Rattle.std.specs.String.{string_bytes}
-use Rattle.smap_command.specs.Shown.{shown}
+use Rattle.smap_text.specs.Shown.{shown}
 use Rattle.url.specs.Parser.{IsOutOfRoom, parse_url}
 use Rattle.url.specs.Parts.{Parts}
 use Rattle.url.specs.declared.error.ParseError.{ParseError}

@@ -2,7 +2,7 @@
 ghost use Rattle.std.specs.Prelude.{◌≡◌, string_bytes, IfOk};
 ghost use Rattle.smap_arguments.specs.Refusals.{no_pair_line};
 
-use smap_command::shown;
+use smap_text::shown;
 use std::alloc::{AllocError, Global};
 
 /// Standard error: the base is no URL.

@@ -5,7 +5,7 @@ use Rattle.smap_code_texts.specs.Words.{code_called}
 use Rattle.smap_code_texts.specs.declared.row.Row.{Row}
 use Rattle.smap_codes.specs.Codes.{all_codes}
 use Rattle.smap_codes.specs.declared.code.Code.{Code}
-use Rattle.smap_command.specs.Shown.{shown}
+use Rattle.smap_text.specs.Shown.{shown}
 use Rattle.smap_replies.specs.Outcome.{Report, answer, refusal}
 
 -- how all codes are called, one a line

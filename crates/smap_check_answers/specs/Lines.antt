@@ -1,7 +1,7 @@
 -- The lines that are printed of a map that is accepted.
 use Rattle.std.specs.Prelude.{ℕ, codes, List, [], ◌∷◌}
 use Rattle.smap_command.specs.Lines.{line_from}
-use Rattle.smap_command.specs.Shown.{shown}
+use Rattle.smap_text.specs.Shown.{shown}
 use Rattle.smap_verdicts.specs.Counts.{counts_text}
 use Rattle.smap_verdicts.specs.declared.counts.MapCounts.{MapCounts}
 

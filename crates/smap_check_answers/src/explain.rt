@@ -5,8 +5,8 @@ ghost use Rattle.smap_replies.specs.Outcome.{OrMemory, report_of};
 ghost use Rattle.smap_code_texts.specs.Words.{code_called};
 
 use smap_code_texts::{all_codes_text, code_called, code_text, row_of};
-use smap_command::shown;
 use smap_replies::{Failure, Reply};
+use smap_text::shown;
 use std::alloc::{AllocError, Global};
 
 /// What the code or the name means, what usually causes it and what to do about it; without one, how all codes are called.

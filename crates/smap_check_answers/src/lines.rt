@@ -2,7 +2,7 @@
 ghost use Rattle.std.specs.Prelude.{◌≡◌, ◌∷◌, ◌++◌, [], string_bytes, IfOk};
 ghost use Rattle.smap_check_answers.specs.Lines.{counts_line, map_counts_line};
 
-use smap_command::shown;
+use smap_text::shown;
 use smap_verdicts::{MapCounts, counts_text};
 use std::alloc::{AllocError, Global};
 

@@ -1,2 +1,1 @@
 mod SameLimits
-mod ShownLaws

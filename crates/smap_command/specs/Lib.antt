@@ -3,4 +3,3 @@ pub mod Interval
 pub mod Limits
 pub mod Lines
 pub mod Runnable
-pub mod Shown

@@ -3,7 +3,7 @@ use Rattle.std.specs.Prelude.{ℕ, codes, List, [], ◌∷◌}
 use Rattle.smap_codes.specs.Codes.{text_of}
 use Rattle.smap_codes.specs.declared.code.Code.TheVariants.{C4}
 use Rattle.smap_command.specs.Lines.{line_from}
-use Rattle.smap_command.specs.Shown.{shown}
+use Rattle.smap_text.specs.Shown.{shown}
 
 -- no source of the outer map has this name
 abbrev pub no_source_named_line : (name : List ℕ) → List ℕ

@@ -3,7 +3,7 @@ ghost use Rattle.std.specs.Prelude.{◌≡◌, string_bytes, IfOk};
 ghost use Rattle.smap_compose_answers.specs.Lines.{no_source_named_line};
 
 use smap_codes::Code;
-use smap_command::shown;
+use smap_text::shown;
 use std::alloc::{AllocError, Global};
 
 /// Standard error: no source of the outer map has this name.

@@ -26,8 +26,8 @@ part_before parts zero = None
 part_before parts (suc section) = slice_get parts section
 
 -- the part before the one with this number, and that one
-abbrev pub neighbours : List Part → ℕ → Option (Part × Part)
-neighbours parts section =
+abbrev pub adjacent_at : List Part → ℕ → Option (Part × Part)
+adjacent_at parts section =
     option_and_then (λ part. option_map (λ before. (before, part)) (part_before parts section)) (slice_get parts section)
 
 -- a part begins before the one before it
@@ -56,7 +56,7 @@ range_facts section part = record {
 -- what is known of an index that is not built of these parts; nothing where the refusal is of none of them
 abbrev pub build_facts : List Part → BuildRefusal → Option BuildFacts
 build_facts parts Interval = None
-build_facts parts (SectionOrder section) = option_map (order_facts section) (neighbours parts section)
-build_facts parts (SectionOverlap section) = option_map (overlap_facts section) (neighbours parts section)
+build_facts parts (SectionOrder section) = option_map (order_facts section) (adjacent_at parts section)
+build_facts parts (SectionOverlap section) = option_map (overlap_facts section) (adjacent_at parts section)
 build_facts parts (PositionRange section) = option_map (range_facts section) (slice_get parts section)
 build_facts parts Memory = None

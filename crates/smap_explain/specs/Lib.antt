@@ -2,7 +2,6 @@ pub mod Beginning
 pub mod Build
 pub mod Excerpt
 pub mod Stop
-pub mod Nearest
 pub mod Sections
 pub mod Found
 pub mod Rule

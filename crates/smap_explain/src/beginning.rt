@@ -1,11 +1,10 @@
 //! What the bytes of a file begin as.
 ghost use Rattle.std.specs.Prelude.{◌≡◌, ◌≤◌, ◌<◌, ◌+◌, ◌||◌, length};
 ghost use Rattle.smap_explain.specs.Beginning.{begins_as, has_bytes, has_wide_characters, has_wide_mark, is_blank, is_data_url, is_gzip, is_high_first, is_html, is_json, is_letter, is_low_first, is_zip, names_a_map, text_begins_as, without_blanks};
-ghost use Rattle.smap_record.specs.FileText.{without_mark};
 
 use crate::explanation::Beginning;
 use memchr::memmem;
-use smap_record::json_text;
+use smap_record::{json_text, without_mark};
 
 /// What the bytes of a file begin as. A byte order mark of UTF-8, a guard line and blanks may stand before a text.
 #[tactic(auto, unfolding(crate::specs::Beginning::begins_as))]
@@ -97,17 +96,6 @@ fn is_high_first(bytes: &[u8], at: usize) -> bool
     ensures { result ≡ is_high_first bytes.now at }
 {
     bytes[at] == 0 && bytes[at + 1] != 0
-}
-
-// The bytes after a byte order mark of UTF-8, where one stands there.
-fn without_mark(bytes: &[u8]) -> &[u8]
-    ensures { result.now ≡ without_mark bytes.now }
-{
-    if bytes.starts_with(&[0xEF, 0xBB, 0xBF]) {
-        &bytes[3..]
-    } else {
-        bytes
-    }
 }
 
 // The text from its first byte on that is no blank.

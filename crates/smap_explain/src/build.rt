@@ -2,7 +2,7 @@
 ghost use Rattle.std.specs.Prelude.{◌≡◌, ◌+◌, option_map, slice_get, IfOk, IfSome};
 ghost use Rattle.smap_mappings.specs.Range.{at_position};
 ghost use Rattle.smap_index.specs.Position.{IsFarBelow};
-ghost use Rattle.smap_explain.specs.Build.{build_facts, order_facts, overlap_facts, range_facts, neighbours, offset_place, place_of};
+ghost use Rattle.smap_explain.specs.Build.{build_facts, order_facts, overlap_facts, range_facts, adjacent_at, offset_place, place_of};
 
 use crate::explanation::{BuildFacts, Place};
 use smap_index::{BuildRefusal, Part, first_after_offset, first_past_limit};
@@ -27,8 +27,8 @@ pub fn build_facts(
 }
 
 // The part with this number, and the one before it.
-fn neighbours(parts: &[Part], section: u64) -> Option<(&Part, &Part)>
-    ensures { option_map (λ pair. (pair.0.now, pair.1.now)) result ≡ neighbours parts.now section }
+fn adjacent_at(parts: &[Part], section: u64) -> Option<(&Part, &Part)>
+    ensures { option_map (λ pair. (pair.0.now, pair.1.now)) result ≡ adjacent_at parts.now section }
 {
     let part = parts.get(section as usize)?;
     let before = parts.get(section.checked_sub(1)? as usize)?;
@@ -36,9 +36,9 @@ fn neighbours(parts: &[Part], section: u64) -> Option<(&Part, &Part)>
 }
 
 fn order_facts(parts: &[Part], section: u64) -> Option<BuildFacts>
-    ensures { result ≡ option_map (order_facts section) (neighbours parts.now section) }
+    ensures { result ≡ option_map (order_facts section) (adjacent_at parts.now section) }
 {
-    let (before, part) = neighbours(parts, section)?;
+    let (before, part) = adjacent_at(parts, section)?;
     Some(BuildFacts {
         section,
         offset: offset_place(part),
@@ -53,9 +53,9 @@ fn overlap_facts(
     section: u64,
 ) -> Result<Option<BuildFacts>, AllocError>
     ensures { IfOk result (λ facts. facts
-        ≡ option_map (overlap_facts section) (neighbours parts.now section)) }
+        ≡ option_map (overlap_facts section) (adjacent_at parts.now section)) }
 {
-    let Some((before, part)) = neighbours(parts, section) else {
+    let Some((before, part)) = adjacent_at(parts, section) else {
         return Ok(None);
     };
     let mapping = first_after_offset(alloc, before, part)?;

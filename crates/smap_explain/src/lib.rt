@@ -8,7 +8,6 @@ mod explaining;
 mod explanation;
 mod found;
 mod key_place;
-mod nearest_mappings;
 mod rule;
 mod sections;
 mod segment;
@@ -21,5 +20,4 @@ pub use explanation::{
     Beginning, BuildFacts, Explanation, Found, Key, KeyFacts, Measure, NotJsonFacts, Place,
     Quantity, SegmentFacts, Stop,
 };
-pub use nearest_mappings::{Nearest, mappings_about};
 pub use segment::segment_facts;

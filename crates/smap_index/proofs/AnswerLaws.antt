@@ -1,28 +1,18 @@
 -- In a list in order the last mapping up to a position decides what answers at the position or before it, and the first
 -- that is not before it what answers at it or after.
-use Rattle.std.proofs.Common.{◌≡◌, ℕ, ◌<◌, true, false, List, [], ◌∷◌, take, filter, Option, Some, None, refl, sym, ap, ◌∙◌, arith, ⊎_elim, inr}
+use Rattle.std.proofs.Common.{◌≡◌, ℕ, ◌<◌, true, false, List, [], ◌∷◌, take, filter, Option, Some, None, leb, refl, sym, ap, ◌∙◌, arith, ⊎_elim, inr}
 use Rattle.std.specs.List.{find, last_or}
 use Rattle.std.proofs.lemmas.Bool.{cond-true, cond-false, cases_Bool, eqb-true, eq-eqb, ne_eqb, leb-true, le-leb, and_parts, and_from, and_left}
 use Rattle.std.proofs.lemmas.Bool.{both_ways, not-true, not_from_false, false_from_ne_true}
 use Rattle.smap_mappings.specs.Order.{IsAtOrBefore, IsInOrder}
 use Rattle.smap_mappings.specs.Range.{position_at}
 use Rattle.smap_mappings.specs.declared.mapping.Mapping.{Mapping}
-use Rattle.smap_index.specs.Answer.{is_on_line_at_or_before, is_on_line_at_or_after, answer_of, answer_of_last, answer_at_or_before, answer_at_or_after}
-use Rattle.smap_index.specs.Private.Search.{is_up_to, front_up_to, last_up_to, first_past, on_line}
-use Rattle.smap_index.specs.declared.answer.Answer.TheVariants.{Nothing}
-use Rattle.smap_index.specs.declared.bound.Bound.{Bound}
-use Rattle.smap_index.specs.declared.bound.Side.TheVariants.{Before, Through}
+use Rattle.smap_index.specs.Answer.{is_on_line_at_or_before, is_on_line_at_or_after, answer_of_last, answer_at_or_before, answer_at_or_after}
+use Rattle.smap_index.specs.Private.Search.{is_up_to, through, up_to, front_up_to, last_up_to, first_past, on_line, from_line}
 use Rattle.smap_index.proofs.BoundLaws.{passes_back}
 use Rattle.smap_index.proofs.LastLaws.{passes, stops, first_passes, first_stops}
 use Rattle.smap_index.proofs.ListLaws.{tail_in_order}
 use Rattle.smap_index.proofs.PositionLaws.{not_before, from_not_before}
-
--- the bounds of the two look-ups
-abbrev pub through : (line column : ℕ) → Bound
-through line column = record { line = line; column = column; side = Through }
-
-abbrev pub up_to : (line column : ℕ) → Bound
-up_to line column = record { line = line; column = column; side = Before }
 
 module _ (line column : ℕ) where
   pub on_line_same : (m : Mapping) → m.line ≡ line → on_line line (Some m) ≡ Some m
@@ -136,20 +126,22 @@ module _ (line column : ℕ) where
           (not_before (position_at line column) a past)
 
   -- where the first mapping that is not before the position stands on the line, it answers, else nothing does
-  first_answers : (list : List Mapping) → IsInOrder list
+  pub first_answers : (list : List Mapping) → IsInOrder list
       → answer_at_or_after list line column ≡ answer_of_last (on_line line (first_past (up_to line column) list))
   unfolding answer_at_or_after
   first_answers list order = ap answer_of_last (found_first list order)
 
-  module _ (list : List Mapping) (order : IsInOrder list) where
-    answers : (first : Option Mapping) → first ≡ first_past (up_to line column) list → answer_of_last (on_line line first) ≡ answer_at_or_after list line column
-    answers first is = ap (λ o. answer_of_last (on_line line o)) is ∙ sym (first_answers list order)
+-- ---- on a line or after it
 
-    pub first_on_line : (m : Mapping) → Some m ≡ first_past (up_to line column) list → m.line ≡ line → answer_of m ≡ answer_at_or_after list line column
-    first_on_line m first same = sym (ap answer_of_last (on_line_same m same)) ∙ answers (Some m) first
+pub from_first : (mapping : Option Mapping) → from_line 0 mapping ≡ mapping
+from_first None = refl
+from_first (Some m) = cond-true (leb 0 m.line) (Some m) None (le-leb 0 m.line (omega arith))
 
-    pub first_on_another : (m : Mapping) → Some m ≡ first_past (up_to line column) list → (m.line ≡ line → ⊥) → Nothing ≡ answer_at_or_after list line column
-    first_on_another m first other = sym (ap answer_of_last (on_line_other m other)) ∙ answers (Some m) first
-
-    pub none_at_or_after : None ≡ first_past (up_to line column) list → Nothing ≡ answer_at_or_after list line column
-    none_at_or_after none = answers None none
+pub on_from : (line : ℕ) (mapping : Option Mapping) → on_line line (from_line line mapping) ≡ on_line line mapping
+on_from line None = refl
+on_from line (Some m) =
+    ⊎_elim
+    (λ least. ap (on_line line) (cond-true (leb line m.line) (Some m) None least))
+    (λ above. ap (on_line line) (cond-false (leb line m.line) (Some m) None above)
+    ∙ sym (on_line_other line 0 m (λ same. both_ways _ above (le-leb line m.line (omega arith)))))
+    (cases_Bool (leb line m.line))

@@ -1,10 +1,12 @@
 -- What stands up to a bound, on either side of its position.
-use Rattle.std.proofs.Common.{◌≡◌, ℕ, ◌+◌, ◌-◌, ◌<◌, ◌≤◌, Bool, true, false, cond, eqb, sym, ap, subst, ◌∙◌, arith, ⊎_elim, inl, inr}
-use Rattle.std.proofs.lemmas.Bool.{cases_lt, both_ways, not-true, not_from_false, not_from_true}
+use Rattle.std.proofs.Common.{◌≡◌, ℕ, ◌+◌, ◌-◌, ◌<◌, ◌≤◌, Bool, true, false, cond, eqb, ltb, sym, ap, subst, ◌∙◌, arith, ⊎_elim, inl, inr}
+use Rattle.std.proofs.lemmas.Bool.{cases_lt, cases_Bool, cond-true, cond-false, ltb-true, ltb-false, both_ways, or_parts, false_from_ne_true}
+use Rattle.std.proofs.lemmas.Bool.{not-true, not_from_false, not_from_true}
+use Rattle.smap_mappings.specs.Limits.{limit}
 use Rattle.smap_mappings.specs.Order.{IsAtOrBefore}
-use Rattle.smap_mappings.specs.Range.{position_at}
+use Rattle.smap_mappings.specs.Range.{position_at, is_mapping_past_limit}
 use Rattle.smap_mappings.specs.declared.mapping.Mapping.{Mapping}
-use Rattle.smap_index.specs.Private.Search.{is_on_side, is_up_to, end_on_side, end_of}
+use Rattle.smap_index.specs.Private.Search.{is_on_side, is_up_to, end_on_side, end_of, through, bound_on}
 use Rattle.smap_index.specs.Private.Walk.{end_in}
 use Rattle.smap_index.specs.Parts.{placed_mapping}
 use Rattle.smap_index.specs.declared.part.Part.{Part}
@@ -57,6 +59,45 @@ side_past : (side : Side) (line column : ℕ) (m : Mapping) → m.line ≡ line 
     → is_on_side side (position_at line column) m ≡ false
 side_past Before line column m same least = from_not_before (position_at line column) m (inr (sym same, least))
 side_past Through line column m same least = not_from_true _ (from_before (position_at line column) m (inr (sym same, omega arith)))
+
+-- ---- the bound on a line that is not after its own
+
+module _ (bound : Bound) (l : ℕ) where
+  at_end : ltb l bound.line ≡ true → bound_on l bound ≡ through l 4294967295
+  at_end above = cond-true (ltb l bound.line) (through l 4294967295) bound above
+
+  at_itself : ltb l bound.line ≡ false → bound_on l bound ≡ bound
+  at_itself here = cond-false (ltb l bound.line) (through l 4294967295) bound here
+
+  pub line_on : l ≤ bound.line → (bound_on l bound).line ≡ l
+  line_on most =
+      ⊎_elim
+      (λ above. ap (λ (b : Bound). b.line) (at_end above))
+      (λ here. let least = ltb-false l bound.line here in let same : bound.line ≡ l = omega arith in ap (λ (b : Bound). b.line) (at_itself here) ∙ same)
+      (cases_Bool (ltb l bound.line))
+
+  -- what is on the line stands up to both bounds or to neither
+  pub same_side : (m : Mapping) → m.line ≡ l → is_mapping_past_limit m ≡ false → is_up_to (bound_on l bound) m ≡ is_up_to bound m
+  same_side m on within =
+      ⊎_elim
+      (λ above.
+      let column : m.column ≤ limit = ltb-false limit m.column (or_parts _ _ (or_parts _ _ within).0).1 in
+      let line = ltb-true l bound.line above in
+      ap (λ b. is_up_to b m) (at_end above) ∙ side_reaches Through l 4294967295 m on (omega arith) ∙ sym (lines_above bound m (omega arith)))
+      (λ here. ap (λ b. is_up_to b m) (at_itself here))
+      (cases_Bool (ltb l bound.line))
+
+  -- and what does not stand up to the bound does not to the one on the line
+  pub past_on : (m : Mapping) → is_up_to bound m ≡ false → is_up_to (bound_on l bound) m ≡ false
+  past_on m past =
+      ⊎_elim
+      (λ above.
+      let line = ltb-true l bound.line above in
+      let least = line_past bound m past in
+      ap (λ b. is_up_to b m) (at_end above)
+      ∙ false_from_ne_true _ (λ reached. let most = line_up_to (through l 4294967295) m reached in omega arith))
+      (λ here. ap (λ b. is_up_to b m) (at_itself here) ∙ past)
+      (cases_Bool (ltb l bound.line))
 
 column_before : (first : Bool) (offset column end : ℕ) → column < cond first (end - offset) end → cond first (offset + column) column < end
 column_before true offset column end less = omega arith

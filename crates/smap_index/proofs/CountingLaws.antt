@@ -2,12 +2,10 @@
 -- number on its line, but for multiples of the interval. And what one mapping more adds to the marks of a part.
 use Rattle.std.proofs.Common.{◌≡◌, ℕ, ◌+◌, ◌-◌, ◌%◌, ◌<◌, List, [], ◌∷◌, ◌++◌, ◌&&◌, Bool, true, false, Some, length, map, take, drop, cond, suc}
 use Rattle.std.proofs.Common.{refl, ap, sym, subst, ◌∙◌, arith, eqb, ltb, ⊎_elim}
-use Rattle.std.specs.Prelude.{option_map}
 use Rattle.std.specs.List.{AllZip, slice_get}
 use Rattle.std.proofs.Math.Nat.{zero-mod}
 use Rattle.std.proofs.lemmas.Bool.{cases_Bool, cond-true, cond-false, lt-ltb, le-ltb, eq-eqb, ne_eqb, eqb-true, eqb-false}
 use Rattle.std.proofs.lemmas.List.{append-nil, append_assoc, take-append-drop, length-take-le, take-map}
-use Rattle.std.proofs.lemmas.Option.{slice_get-map}
 use Rattle.smap_mappings.specs.Mappings.{mappings_of}
 use Rattle.smap_mappings.specs.Order.{IsInOrder}
 use Rattle.smap_mappings.specs.State.{IsAfter, IsMappingAt, IsNext}
@@ -22,7 +20,7 @@ use Rattle.smap_index.proofs.CheckpointLaws.{shown_state, shown_mapping}
 use Rattle.smap_index.proofs.ListLaws.{take_next}
 use Rattle.smap_index.proofs.MarkLaws.{AllZip-append}
 use Rattle.smap_index.proofs.NumberLaws.{next_remainder, front_in_order, next_number}
-use Rattle.smap_index.proofs.WalkLaws.{length-placed, placed_next}
+use Rattle.smap_index.proofs.WalkLaws.{length-placed, placed_there, placed_next}
 
 -- ---- numbers but for multiples of the interval
 
@@ -150,8 +148,7 @@ module _ (part : Part) (j n : ℕ) (m : Mapping) (after : Cursor) (next : IsNext
   number_there interval line number new_number ordered so_far number_is = number_at part j m interval line number next.mapping_is ordered so_far ∙ sym number_is
 
   there : slice_get (placed part) j ≡ Some (placed_mapping part m)
-  unfolding placed
-  there = slice_get-map (placed_mapping part) (mappings_of part.text) j ∙ ap (option_map (placed_mapping part)) next.mapping_is
+  there = placed_there part j m next.mapping_is
 
   pub marked_next : (interval number : ℕ) (start old new : List Checkpoint) (new_number : ℕ) (state : Cursor) → after ≡ state → IsMappingAt after m
       → number_on_line (take j (placed part)) (placed_mapping part m) % interval ≡ new_number

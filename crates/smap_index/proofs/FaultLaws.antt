@@ -9,7 +9,7 @@ use Rattle.std.proofs.lemmas.Bool.{cases_Bool, cases_lt, cond-true, cond-false}
 use Rattle.std.proofs.lemmas.List.{drop_more, length-drop}
 use Rattle.smap_index.specs.declared.part.Part.{Part}
 use Rattle.std.proofs.lemmas.Option.{slice_get_past, slice_get-get_or}
-use Rattle.smap_index.specs.Faults.{neighbours, is_overlapping}
+use Rattle.smap_index.specs.Faults.{adjacent, is_overlapping}
 use Rattle.smap_index.specs.Private.Walk.{is_overlapping_next}
 
 -- ---- places
@@ -45,27 +45,27 @@ get_or_same [] i d within = absurd (omega arith)
 get_or_same (x ∷ xs) zero d within = refl
 get_or_same (x ∷ xs) (suc i) d within = get_or_same xs i d (omega arith)
 
--- ---- neighbours
+-- ---- adjacent parts
 
-neighbours-short : (parts : List Part) → length parts ≤ 1 → neighbours parts ≡ []
-neighbours-short [] few = refl
-neighbours-short (a ∷ []) few = refl
-neighbours-short (a ∷ b ∷ parts) few = absurd (omega arith)
+adjacent-short : (parts : List Part) → length parts ≤ 1 → adjacent parts ≡ []
+adjacent-short [] few = refl
+adjacent-short (a ∷ []) few = refl
+adjacent-short (a ∷ b ∷ parts) few = absurd (omega arith)
 
 module _ (test : Part × Part → Bool) (parts : List Part) where
   -- from the last part on there is no pair
-  pub no_pair : (i n : ℕ) → length parts ≤ i + 1 → position_from test n (neighbours (drop i parts)) ≡ None
-  no_pair i n few = ap (position_from test n) (neighbours-short (drop i parts) (omega (arith, length-drop i parts)))
+  pub no_pair : (i n : ℕ) → length parts ≤ i + 1 → position_from test n (adjacent (drop i parts)) ≡ None
+  no_pair i n few = ap (position_from test n) (adjacent-short (drop i parts) (omega (arith, length-drop i parts)))
 
   -- the first pair decides, or those after it
   pub next_pair : (i n : ℕ) (a b : Part) → n ≡ i + 1 → n < length parts → a ≡ get_or parts i a → b ≡ get_or parts n b
-      → position_from test n (neighbours (drop i parts)) ≡ cond (test (a, b)) (Some n) (position_from test (n + 1) (neighbours (drop n parts)))
+      → position_from test n (adjacent (drop i parts)) ≡ cond (test (a, b)) (Some n) (position_from test (n + 1) (adjacent (drop n parts)))
   next_pair i n a b next within is_a is_b =
       let at_n : drop n parts ≡ b ∷ drop (n + 1) parts = drop_at parts n b within is_b in
       let at_i : drop i parts ≡ a ∷ b ∷ drop (n + 1) parts =
       drop_at parts i a (omega arith) is_a ∙ ap (λ j. a ∷ drop j parts) (sym next) ∙ ap (λ rest. a ∷ rest) at_n in
-      ap (λ rest. position_from test n (neighbours rest)) at_i
-      ∙ ap (λ rest. cond (test (a, b)) (Some n) (position_from test (n + 1) (neighbours rest))) (sym at_n)
+      ap (λ rest. position_from test n (adjacent rest)) at_i
+      ∙ ap (λ rest. cond (test (a, b)) (Some n) (position_from test (n + 1) (adjacent rest))) (sym at_n)
 
 -- ---- a part and the next one
 
@@ -76,10 +76,10 @@ copied_get None parts n past = sym (slice_get_past parts n past)
 copied_get (Some x) parts n (within, is) = ap Some (is x.now) ∙ sym (slice_get-get_or parts n x.now within)
 
 pub overlap_step : (parts : List Part) (i n : ℕ) (part : Part) → n ≡ i + 1 → i < length parts → part ≡ get_or parts i part
-    → position_from is_overlapping n (neighbours (drop i parts))
-    ≡ cond (is_overlapping_next part (slice_get parts n)) (Some n) (position_from is_overlapping (n + 1) (neighbours (drop n parts)))
+    → position_from is_overlapping n (adjacent (drop i parts))
+    ≡ cond (is_overlapping_next part (slice_get parts n)) (Some n) (position_from is_overlapping (n + 1) (adjacent (drop n parts)))
 overlap_step parts i n part next within is =
-    let after = position_from is_overlapping (n + 1) (neighbours (drop n parts)) in
+    let after = position_from is_overlapping (n + 1) (adjacent (drop n parts)) in
     ⊎_elim
     (λ (more : n < length parts).
     let b = get_or parts n part in

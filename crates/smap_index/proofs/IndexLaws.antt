@@ -1,9 +1,10 @@
 -- What the table of every index meets.
-use Rattle.std.proofs.Common.{◌≡◌, ℕ, ◌+◌, ◌-◌, ◌/◌, ◌^◌, ◌<◌, ◌≤◌, length, take, drop, Option, Some, None, false, refl, sym, ap, subst, ◌∙◌, arith, get_or}
+use Rattle.std.proofs.Common.{◌≡◌, ℕ, ◌+◌, ◌-◌, ◌/◌, ◌^◌, ◌<◌, ◌≤◌, List, length, take, drop, Option, Some, None, false, leb, refl, sym, ap}
+use Rattle.std.proofs.Common.{subst, ◌∙◌, arith, get_or}
 use Rattle.std.specs.Prelude.{option_map}
-use Rattle.std.specs.List.{list_any}
+use Rattle.std.specs.List.{list_any, last_or, slice_get}
 use Rattle.std.specs.Option.{option_or}
-use Rattle.std.proofs.lemmas.Bool.{and_parts, leb-true}
+use Rattle.std.proofs.lemmas.Bool.{and_parts, cond-true, cond-false, leb-true, le-leb, false_from_ne_true}
 use Rattle.std.proofs.lemmas.Option.{slice_get_within, get_or_from_slice_get, slice_get-map}
 use Rattle.std.proofs.lemmas.Slice.Zip.{AllZip-long}
 use Rattle.smap_mappings.specs.Order.{IsInOrder}
@@ -12,22 +13,20 @@ use Rattle.smap_mappings.specs.State.{IsAfter, IsBetween}
 use Rattle.smap_mappings.specs.declared.mapping.Mapping.{Mapping}
 use Rattle.smap_index.specs.Checkpoint.{mapping_of, state_of}
 use Rattle.smap_index.specs.Parts.{placed, joined}
-use Rattle.smap_index.specs.Answer.{answer_of, answer_at_or_before}
 use Rattle.smap_index.specs.Faults.{most_interval}
 use Rattle.smap_index.specs.Marks.{marks, IsCheckpointOf, used_lines_in, HasFewMarksOnEachLine}
-use Rattle.smap_index.specs.Private.Search.{mappings_at, front_up_to, last_from, first_past, on_line, last_checkpoint, next_checkpoint}
+use Rattle.smap_index.specs.Private.Search.{mappings_at, bound_on, front_up_to, last_from, last_up_to, first_past, on_line, from_line}
+use Rattle.smap_index.specs.Private.Search.{last_checkpoint, next_checkpoint}
 use Rattle.smap_index.specs.Index.{IndexContents, IsIndex}
-use Rattle.smap_index.specs.declared.answer.Answer.TheVariants.{Nothing}
 use Rattle.smap_index.specs.declared.bound.Bound.{Bound}
 use Rattle.smap_index.specs.declared.part.Part.{Part}
 use Rattle.smap_index.specs.declared.checkpoint.Checkpoint.{Checkpoint}
-use Rattle.smap_index.proofs.AnswerLaws.{through}
 use Rattle.smap_index.proofs.RefusalLaws.{faultless, all_in_range}
 use Rattle.smap_index.proofs.Tiles.{IsTiled}
 use Rattle.smap_index.proofs.TileLaws.{tiled, checkpoints_in_order}
 use Rattle.smap_index.proofs.FewLaws.{few_marks}
 use Rattle.smap_index.proofs.FewOnLineLaws.{few_on_each_line}
-use Rattle.smap_index.proofs.ResumeLaws.{IsResumed, resumed, none_resumed, none_answers, none_on_line, last_answers_on_line}
+use Rattle.smap_index.proofs.ResumeLaws.{IsResumed, walked, resumed, none_resumed, some_last}
 
 module _ (index : IndexContents) (is : IsIndex index) where
   -- its interval is one at which checkpoints may stand
@@ -72,7 +71,14 @@ module _ (index : IndexContents) (is : IsIndex index) where
   -- ---- the checkpoints next to a bound
 
   module _ (bound : Bound) where
-    -- where no checkpoint stands up to it, the first past it is the next checkpoint's mapping
+    -- where no checkpoint stands up to it, no mapping does
+    pub none_before : (seen : IndexContents) → index ≡ seen → (from : ℕ) → last_checkpoint bound index.checkpoints ≡ None
+        → None ≡ from_line from (last_up_to bound (joined seen.parts))
+    none_before seen same from none =
+        ap (from_line from) (sym (none_resumed bound index.parts index.k (joined index.parts) index.checkpoints checkpoints_tiled none).0)
+        ∙ ap (λ (i : IndexContents). from_line from (last_up_to bound (joined i.parts))) same
+
+    -- and the first past it is the next checkpoint's mapping
     pub first_of_checkpoints : (seen : IndexContents) → index ≡ seen → last_checkpoint bound index.checkpoints ≡ None
         → option_map mapping_of (next_checkpoint bound index.checkpoints) ≡ first_past bound (joined seen.parts)
     first_of_checkpoints seen same none =
@@ -82,18 +88,35 @@ module _ (index : IndexContents) (is : IsIndex index) where
 
     module _ (checkpoint : Checkpoint) (last : Some checkpoint ≡ last_checkpoint bound index.checkpoints) where
       pub found : IsResumed bound index.parts index.k (joined index.parts) index.checkpoints checkpoint
-      found = resumed bound index.parts index.k (joined index.parts) index.checkpoints checkpoint is.holds.ordered checkpoints_tiled (sym last)
+      found = resumed bound index.parts index.k (joined index.parts) index.checkpoints checkpoint is.holds.ordered is.holds.in_range
+          checkpoints_tiled (sym last)
 
       pub part_within : checkpoint.part < length index.parts
       part_within = slice_get_within index.parts checkpoint.part found.part found.part_is
 
-      -- it is so too where the last one that does stands on another line
-      pub first_elsewhere : (seen : IndexContents) → index ≡ seen → ((mapping_of checkpoint).line ≡ bound.line → ⊥)
+      -- it is so too where the last one that does stands on a line before
+      pub first_elsewhere : (seen : IndexContents) → index ≡ seen → (mapping_of checkpoint).line < bound.line
           → option_map mapping_of (next_checkpoint bound index.checkpoints) ≡ first_past bound (joined seen.parts)
-      first_elsewhere seen same other =
+      first_elsewhere seen same above =
           sym (slice_get-map mapping_of index.checkpoints (front_up_to bound (mappings_at index.checkpoints)))
-          ∙ sym (found.first_elsewhere other)
+          ∙ sym (found.first_elsewhere above)
           ∙ ap (λ (i : IndexContents). first_past bound (joined i.parts)) same
+
+      -- the last mapping up to the bound is on the line of that checkpoint
+      before_is : (seen : IndexContents) → index ≡ seen → (from : ℕ) (m : Mapping)
+          → last_from bound (Some (mapping_of checkpoint)) (walked bound index.parts index.k found.part found.segment) ≡ Some m
+          → from_line from (Some m) ≡ from_line from (last_up_to bound (joined seen.parts))
+      before_is seen same from m last = ap (from_line from) (sym (found.last_is None ∙ last))
+          ∙ ap (λ (i : IndexContents). from_line from (last_up_to bound (joined i.parts))) same
+
+      pub none_from : (seen : IndexContents) → index ≡ seen → (from : ℕ) → (mapping_of checkpoint).line < from
+          → None ≡ from_line from (last_up_to bound (joined seen.parts))
+      none_from seen same from above =
+          let after = walked bound index.parts index.k found.part found.segment in
+          let m = some_last (mapping_of checkpoint) (take (front_up_to bound after) after) in
+          let line = found.last_line m.0 m.1 in
+          sym (cond-false (leb from (m.0).line) (Some m.0) None (false_from_ne_true _ (λ least. let most = leb-true from (m.0).line least in omega arith)))
+          ∙ before_is seen same from m.0 m.1
 
       module _ (part : Part) (read : part ≡ get_or index.parts checkpoint.part part) where
         -- the part that is read is the checkpoint's
@@ -106,58 +129,54 @@ module _ (index : IndexContents) (is : IsIndex index) where
         pub state_after : IsAfter part.text (found.segment + 1) (state_of part checkpoint)
         state_after = subst (λ (part : Part). IsAfter part.text (found.segment + 1) (state_of part checkpoint)) same_part found.state_is
 
-        -- where the checkpoint is on the bound's line, the state is too
-        pub state_on_line : (mapping_of checkpoint).line ≡ bound.line → part.line + (state_of part checkpoint).line ≡ bound.line
-        state_on_line same = ap (λ (part : Part). part.line + (state_of part checkpoint).line) (sym same_part) ∙ found.line_is ∙ same
+        -- the state is on the line of the bound up to which is decoded
+        pub state_on_line : (end : Bound) → end ≡ bound_on (mapping_of checkpoint).line bound → part.line + (state_of part checkpoint).line ≡ end.line
+        state_on_line end is_end = ap (λ (part : Part). part.line + (state_of part checkpoint).line) (sym same_part) ∙ found.line_is
+            ∙ sym (ap (λ (end : Bound). end.line) is_end ∙ found.end_line)
 
         -- no mapping of its part is past the limit
         pub part_in_range : list_any is_mapping_past_limit (placed part) ≡ false
         part_in_range = all_in_range index.parts checkpoint.part part (faultless index.parts index.k is.sound).range part_within read
 
-        -- the first past the bound is decoded after it, or is the next checkpoint's mapping
-        pub first_after : (seen : IndexContents) → index ≡ seen → (decoded : Option Mapping)
+        -- what the part holds after the checkpoint has the same front up to both bounds
+        front_up_to_end : (end : Bound) → end ≡ bound_on (mapping_of checkpoint).line bound
+            → front_up_to end (take (index.k - 1) (drop (found.segment + 1) (placed part)))
+            ≡ front_up_to bound (take (index.k - 1) (drop (found.segment + 1) (placed part)))
+        front_up_to_end end is_end =
+            let after : Part → List Mapping = λ part. take (index.k - 1) (drop (found.segment + 1) (placed part)) in
+            ap (λ (end : Bound). front_up_to end (after part)) is_end
+            ∙ subst (λ (part : Part). front_up_to (bound_on (mapping_of checkpoint).line bound) (after part) ≡ front_up_to bound (after part))
+            same_part found.front_is
+
+        -- the last up to the bound is decoded after it
+        pub before_after : (seen : IndexContents) → index ≡ seen → (from : ℕ) → from ≤ (mapping_of checkpoint).line
+            → (end : Bound) → end ≡ bound_on (mapping_of checkpoint).line bound → (m : Mapping)
             → ((j : ℕ) → IsAfter part.text j (state_of part checkpoint)
-            → decoded ≡ on_line bound.line (first_past bound (take (index.k - 1) (drop j (placed part)))))
+            → Some m ≡ last_from end (Some (mapping_of checkpoint)) (take (index.k - 1) (drop j (placed part))))
+            → Some m ≡ from_line from (last_up_to bound (joined seen.parts))
+        before_after seen same from least end is_end m is_last =
+            let after = take (index.k - 1) (drop (found.segment + 1) (placed part)) in
+            let here = ap (λ (part : Part). last_from bound (Some (mapping_of checkpoint)) (take (index.k - 1) (drop (found.segment + 1) (placed part)))) same_part
+            ∙ ap (λ n. last_or (Some (mapping_of checkpoint)) (take n after)) (sym (front_up_to_end end is_end))
+            ∙ sym (is_last (found.segment + 1) state_after) in
+            let line = found.last_line m here in
+            sym (cond-true (leb from m.line) (Some m) None (le-leb from m.line (omega arith))) ∙ before_is seen same from m here
+
+        -- the first past the bound is decoded after it, or is the next checkpoint's mapping
+        pub first_after : (seen : IndexContents) → index ≡ seen → (end : Bound) → end ≡ bound_on (mapping_of checkpoint).line bound
+            → (decoded : Option Mapping)
+            → ((j : ℕ) → IsAfter part.text j (state_of part checkpoint)
+            → decoded ≡ on_line end.line (first_past end (take (index.k - 1) (drop j (placed part)))))
             → option_or decoded (option_map mapping_of (next_checkpoint bound index.checkpoints)) ≡ first_past bound (joined seen.parts)
-        first_after seen same decoded is_first =
+        first_after seen same end is_end decoded is_first =
             let checkpoints = mappings_at index.checkpoints in
-            let is_here = is_first (found.segment + 1) state_after in
-            let moved = ap (λ (part : Part). on_line bound.line
+            let after = take (index.k - 1) (drop (found.segment + 1) (placed part)) in
+            let line : end.line ≡ (mapping_of checkpoint).line = ap (λ (end : Bound). end.line) is_end ∙ found.end_line in
+            let is_here = is_first (found.segment + 1) state_after
+            ∙ ap (λ line. on_line line (first_past end after)) line
+            ∙ ap (λ n. on_line (mapping_of checkpoint).line (slice_get after n)) (front_up_to_end end is_end) in
+            let moved = ap (λ (part : Part). on_line (mapping_of checkpoint).line
             (first_past bound (take (index.k - 1) (drop (found.segment + 1) (placed part))))) (sym same_part) in
             ap (option_or decoded) (sym (slice_get-map mapping_of index.checkpoints (front_up_to bound checkpoints)))
             ∙ ap (λ first. option_or first (first_past bound checkpoints)) (is_here ∙ moved)
             ∙ sym found.first_is ∙ ap (λ (i : IndexContents). first_past bound (joined i.parts)) same
-
-  -- ---- the answers
-
-  module _ (line column : ℕ) where
-    -- nothing answers, where no checkpoint is at the position or before it
-    pub none_at_or_before : (seen : IndexContents) → index ≡ seen → last_checkpoint (through line column) index.checkpoints ≡ None
-        → answer_at_or_before (joined seen.parts) line column ≡ Nothing
-    none_at_or_before seen same none =
-        ap (λ (i : IndexContents). answer_at_or_before (joined i.parts) line column) (sym same)
-        ∙ none_answers line column index.parts index.k (joined index.parts) index.checkpoints is.holds.ordered checkpoints_tiled none
-
-    module _ (checkpoint : Checkpoint) (last : Some checkpoint ≡ last_checkpoint (through line column) index.checkpoints) where
-      -- nothing answers, where the last one stands on another line
-      pub none_on_its_line : (seen : IndexContents) → index ≡ seen → ((mapping_of checkpoint).line ≡ line → ⊥)
-          → answer_at_or_before (joined seen.parts) line column ≡ Nothing
-      none_on_its_line seen same other =
-          ap (λ (i : IndexContents). answer_at_or_before (joined i.parts) line column) (sym same)
-          ∙ none_on_line line column index.parts index.k (joined index.parts) index.checkpoints checkpoint is.holds.ordered
-          (found (through line column) checkpoint last) other
-
-      -- what is last after it answers, where it stands on the line
-      pub last_answers_after : (part : Part) (read : part ≡ get_or index.parts checkpoint.part part) (seen : IndexContents) → index ≡ seen
-          → (mapping_of checkpoint).line ≡ line → (m : Mapping)
-          → ((j : ℕ) → IsAfter part.text j (state_of part checkpoint)
-          → Some m ≡ last_from (through line column) (Some (mapping_of checkpoint)) (take (index.k - 1) (drop j (placed part))))
-          → answer_of m ≡ answer_at_or_before (joined seen.parts) line column
-      last_answers_after part read seen same on_line m is_last =
-          let here = found (through line column) checkpoint last in
-          let is_here = is_last (here.segment + 1) (state_after (through line column) checkpoint last part read) in
-          let moved = ap (λ (part : Part). last_from (through line column) (Some (mapping_of checkpoint))
-          (take (index.k - 1) (drop (here.segment + 1) (placed part)))) (sym (same_part (through line column) checkpoint last part read)) in
-          sym (last_answers_on_line line column index.parts index.k (joined index.parts) index.checkpoints checkpoint is.holds.ordered here
-          on_line m (is_here ∙ moved))
-          ∙ ap (λ (i : IndexContents). answer_at_or_before (joined i.parts) line column) same

@@ -1,21 +1,19 @@
 -- The last mapping at the front of a list and the first after it, one mapping of the list after another.
 use Rattle.std.proofs.Common.{◌≡◌, ℕ, ◌+◌, suc, zero, List, [], ◌∷◌, ◌++◌, length, take, drop, Option, Some, false, true, refl, ap, sym, ◌∙◌, arith}
 use Rattle.std.proofs.Common.{one-add, ⊎_elim}
-use Rattle.std.specs.Prelude.{option_map}
 use Rattle.std.specs.List.{slice_get, last_or}
 use Rattle.std.specs.Option.{option_or}
 use Rattle.std.proofs.lemmas.Bool.{cond-true, cond-false, cases_Bool}
-use Rattle.std.proofs.lemmas.Option.{slice_get-map}
+use Rattle.std.proofs.Math.Seq.{drop-length}
 use Rattle.smap_mappings.specs.State.{IsNext}
 use Rattle.smap_mappings.specs.Counts.{segment_count}
-use Rattle.smap_mappings.specs.Mappings.{mappings_of}
 use Rattle.smap_mappings.specs.declared.cursor.Cursor.{Cursor}
 use Rattle.smap_mappings.specs.declared.mapping.Mapping.{Mapping}
 use Rattle.smap_index.specs.Parts.{placed_mapping, placed}
 use Rattle.smap_index.specs.Private.Search.{is_up_to, front_up_to, last_from, first_past}
 use Rattle.smap_index.specs.declared.bound.Bound.{Bound}
 use Rattle.smap_index.specs.declared.part.Part.{Part}
-use Rattle.smap_index.proofs.WalkLaws.{length-placed}
+use Rattle.smap_index.proofs.WalkLaws.{length-placed, placed_there}
 
 module _ (bound : Bound) where
   pub passes : (m : Mapping) (xs : List Mapping) → is_up_to bound m ≡ true → front_up_to bound (m ∷ xs) ≡ suc (front_up_to bound xs)
@@ -50,18 +48,14 @@ drop_next [] n m there = absurd (cc)
 drop_next (x ∷ xs) zero m there = let e : x ≡ m = cc in ap (λ x. x ∷ xs) e
 drop_next (x ∷ xs) (suc n) m there = let more : suc n + 1 ≡ suc (n + 1) = omega arith in drop_next xs n m there ∙ ap (λ k. m ∷ drop k (x ∷ xs)) (sym more)
 
-drop_all : {A : Type 0} (xs : List A) → drop (length xs) xs ≡ []
-drop_all [] = refl
-drop_all (x ∷ xs) = drop_all xs
-
 -- the mapping of the next segment is the first that is left
 pub next_left : (part : Part) (n : ℕ) (m : Mapping) (after : Cursor) → IsNext part.text n m after
     → drop n (placed part) ≡ placed_mapping part m ∷ drop (n + 1) (placed part)
 unfolding placed
 next_left part n m after next =
     drop_next (placed part) n (placed_mapping part m)
-    (slice_get-map (placed_mapping part) (mappings_of part.text) n ∙ ap (option_map (placed_mapping part)) next.mapping_is)
+    (placed_there part n m next.mapping_is)
 
 -- after the last segment none is left
 pub none_left : (part : Part) (n : ℕ) → n ≡ segment_count part.text → drop n (placed part) ≡ []
-none_left part n all = ap (λ n. drop n (placed part)) (all ∙ sym (length-placed part)) ∙ drop_all (placed part)
+none_left part n all = ap (λ n. drop n (placed part)) (all ∙ sym (length-placed part)) ∙ drop-length (placed part)

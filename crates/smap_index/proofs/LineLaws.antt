@@ -19,11 +19,8 @@ use Rattle.smap_index.specs.declared.bound.Bound.{Bound}
 use Rattle.smap_index.specs.declared.part.Part.{Part}
 use Rattle.smap_index.proofs.AnswerLaws.{on_line_same, on_line_other}
 use Rattle.smap_index.proofs.BoundLaws.{line_up_to, reaches_in, past_in}
-use Rattle.smap_index.proofs.ListLaws.{last_taken}
-use Rattle.smap_index.proofs.WalkLaws.{length-mappings_of, none_at}
-
-some_equal : {A : Type 0} (a b : A) → Some a ≡ Some b → a ≡ b
-some_equal a b same = cc
+use Rattle.smap_index.proofs.ListLaws.{some_same, last_taken}
+use Rattle.smap_index.proofs.WalkLaws.{length-mappings_of, placed_there, in_range_at}
 
 taken : {A : Type 0} (n : ℕ) (xs : List A) (i : ℕ) (x : A) → slice_get (take n xs) i ≡ Some x → (i < n) × (slice_get xs i ≡ Some x)
 taken zero xs i x there = absurd (cc)
@@ -47,13 +44,8 @@ dropped (suc j) (x ∷ xs) i = let e : suc (j + i) ≡ suc j + i = omega arith i
 
 mapped : {A B : Type 0} (f : A → B) (xs : List A) (i : ℕ) (y : B) → slice_get (map f xs) i ≡ Some y → (x : A) × (slice_get xs i ≡ Some x) × (f x ≡ y)
 mapped f [] i y there = absurd (cc)
-mapped f (x ∷ xs) zero y there = (x, refl, some_equal (f x) y there)
+mapped f (x ∷ xs) zero y there = (x, refl, some_same (f x) y there)
 mapped f (x ∷ xs) (suc i) y there = mapped f xs i y there
-
-map_there : {A B : Type 0} (f : A → B) (xs : List A) (i : ℕ) (x : A) → slice_get xs i ≡ Some x → slice_get (map f xs) i ≡ Some (f x)
-map_there f [] i x there = absurd (cc)
-map_there f (a ∷ xs) zero x there = ap (λ x. Some (f x)) (some_equal a x there)
-map_there f (a ∷ xs) (suc i) x there = map_there f xs i x there
 
 module _ (bound : Bound) where
   -- the front ends where all before a place stand up to the bound and what is there does not
@@ -64,7 +56,7 @@ module _ (bound : Bound) where
   front_is (x ∷ xs) zero before past = cond-false _ _ _ (past x refl)
   front_is (x ∷ xs) (suc n) before past =
       let first = before 0 (omega arith) in
-      let same : x ≡ first.0 = some_equal x first.0 first.1 in
+      let same : x ≡ first.0 = some_same x first.0 first.1 in
       let rest = front_is xs n (λ i less. before (suc i) (omega arith)) past in
       let counted = cond-true (is_up_to bound x) (1 + front_up_to bound xs) 0 (ap (is_up_to bound) same ∙ first.2) in
       omega (arith, rest, counted)
@@ -73,13 +65,6 @@ pub there_is : {A : Type 0} (xs : List A) (i : ℕ) → i < length xs → (x : A
 there_is [] i less = absurd (omega arith)
 there_is (x ∷ xs) zero less = (x, refl)
 there_is (x ∷ xs) (suc i) less = there_is xs i (omega arith)
-
--- where no mapping of a part is past the limit, this one is not
-in_range_at : (part : Part) (i : ℕ) (m : Mapping) → list_any is_mapping_past_limit (placed part) ≡ false
-    → slice_get (mappings_of part.text) i ≡ Some m → is_mapping_past_limit (placed_mapping part m) ≡ false
-unfolding placed
-in_range_at part i m none there = none_at is_mapping_past_limit (placed part) i (placed_mapping part m) none
-    (map_there (placed_mapping part) (mappings_of part.text) i m there)
 
 module _ (part : Part) (j : ℕ) (start : Cursor) (end most : ℕ) (walk : LineWalk) (walked : IsWalked part.text j start end most walk)
     (none : list_any is_mapping_past_limit (placed part) ≡ false) where
@@ -101,8 +86,7 @@ module _ (bound : Bound) (part : Part) (j : ℕ) (start : Cursor) (end most : �
     (end_is : end ≡ end_in part bound start.line) where
   get : (i : ℕ) (m : Mapping) → i < most → slice_get (mappings_of part.text) (j + i) ≡ Some m
       → slice_get (take most (drop j (placed part))) i ≡ Some (placed_mapping part m)
-  unfolding placed
-  get i m less there = take_there most _ i _ less (dropped j (placed part) i ∙ map_there (placed_mapping part) (mappings_of part.text) (j + i) m there)
+  get i m less there = take_there most _ i _ less (dropped j (placed part) i ∙ placed_there part (j + i) m there)
 
   got : (i : ℕ) (p : Mapping) → slice_get (take most (drop j (placed part))) i ≡ Some p
       → (i < most) × ((m : Mapping) × (slice_get (mappings_of part.text) (j + i) ≡ Some m) × (placed_mapping part m ≡ p))
@@ -121,7 +105,7 @@ module _ (bound : Bound) (part : Part) (j : ℕ) (start : Cursor) (end most : �
       → walk.passed < most → (m : Mapping) → slice_get (mappings_of part.text) (j + walk.passed) ≡ Some m → is_up_to bound (placed_mapping part m) ≡ false
   stop_past None stops less m there = ⊎_elim (λ all. absurd (omega (arith, all, less))) (λ later. later_past m (later m there)) stops
   stop_past (Some next) stops less m there =
-      subst (λ m. is_up_to bound (placed_mapping part m) ≡ false) (some_equal _ m (sym stops.mapping_is ∙ there))
+      subst (λ m. is_up_to bound (placed_mapping part m) ≡ false) (some_same _ m (sym stops.mapping_is ∙ there))
       (past_in bound part (mapping_at next.0 next.1) start.line end next.1.column same stops.line end_is refl stops.past)
 
   front : front_up_to bound (take most (drop j (placed part))) ≡ walk.passed

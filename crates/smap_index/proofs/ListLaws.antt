@@ -4,6 +4,9 @@ use Rattle.std.specs.List.{slice_get, last_or}
 use Rattle.smap_mappings.specs.Order.{IsInOrder}
 use Rattle.smap_mappings.specs.declared.mapping.Mapping.{Mapping}
 
+pub some_same : {A : Type 0} (a b : A) → Some a ≡ Some b → a ≡ b
+some_same a b same = cc
+
 pub tail_in_order : (a : Mapping) (xs : List Mapping) → IsInOrder (a ∷ xs) → IsInOrder xs
 tail_in_order a [] order = tt
 tail_in_order a (b ∷ xs) order = order.1

@@ -13,7 +13,7 @@ use Rattle.smap_mappings.specs.declared.cursor.Cursor.{Cursor}
 use Rattle.smap_mappings.specs.declared.mapping.Mapping.{Mapping}
 use Rattle.smap_index.specs.declared.part.Part.{Part}
 use Rattle.smap_index.specs.Parts.{placed_mapping, placed, joined}
-use Rattle.smap_index.specs.Faults.{neighbours, is_out_of_order, is_after_offset, is_overlapping, order_fault, overlap_fault}
+use Rattle.smap_index.specs.Faults.{adjacent, is_out_of_order, is_after_offset, is_overlapping, order_fault, overlap_fault}
 use Rattle.smap_index.specs.Position.{offset_of}
 use Rattle.smap_index.specs.Private.Walk.{position_of, IsTextInOrder}
 use Rattle.smap_index.proofs.FaultLaws.{none_from}
@@ -93,8 +93,8 @@ All-append : (P : Mapping → Type 0) (xs ys : List Mapping) → AllByRecursion 
 All-append P [] ys all_x all_y = all_y
 All-append P (x ∷ xs) ys all_x all_y = (all_x.0, All-append P xs ys all_x.1 all_y)
 
-joined_from : (i : ℕ) (part : Part) (parts : List Part) → position_from is_out_of_order i (neighbours (part ∷ parts)) ≡ None
-    → position_from is_overlapping i (neighbours (part ∷ parts)) ≡ None → AllByRecursion IsTextInOrder (part ∷ parts)
+joined_from : (i : ℕ) (part : Part) (parts : List Part) → position_from is_out_of_order i (adjacent (part ∷ parts)) ≡ None
+    → position_from is_overlapping i (adjacent (part ∷ parts)) ≡ None → AllByRecursion IsTextInOrder (part ∷ parts)
     → IsInOrder (joined (part ∷ parts)) × AllByRecursion (IsFrom part) (joined (part ∷ parts))
 unfolding placed
 joined_from i part [] in_order apart texts =
@@ -103,8 +103,8 @@ joined_from i part [] in_order apart texts =
       subst (AllByRecursion (IsFrom part)) alone (all_placed_from part (mappings_of part.text)),
     )
 joined_from i part (next ∷ parts) in_order apart texts =
-    let orders = none_from is_out_of_order i (part, next) (neighbours (next ∷ parts)) in_order in
-    let overlaps = none_from is_overlapping i (part, next) (neighbours (next ∷ parts)) apart in
+    let orders = none_from is_out_of_order i (part, next) (adjacent (next ∷ parts)) in_order in
+    let overlaps = none_from is_overlapping i (part, next) (adjacent (next ∷ parts)) apart in
     let rest = joined_from (i + 1) next parts orders.1 overlaps.1 texts.1 in (
       append_in_order next (placed part) (joined (next ∷ parts)) (places_in_order part (mappings_of part.text) texts.0) rest.0
           (all_up_to next (placed part) overlaps.0) rest.1,

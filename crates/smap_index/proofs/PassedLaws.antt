@@ -1,13 +1,12 @@
 -- A walk along a line passes mappings that have no checkpoint: the count goes on, and the table stays.
 use Rattle.std.proofs.Common.{◌≡◌, ℕ, ◌+◌, ◌-◌, ◌<◌, ◌≤◌, zero, suc, Bool, false, List, [], ◌∷◌, ◌++◌, length, take, drop, Option, Some, None, refl}
 use Rattle.std.proofs.Common.{ap, sym, subst, ◌∙◌, arith, eqb, ⊎_elim}
-use Rattle.std.specs.Prelude.{◌⊎◌, IfSome, MatchOption, option_map}
+use Rattle.std.specs.Prelude.{◌⊎◌, IfSome, MatchOption}
 use Rattle.std.specs.List.{All, AllByRecursion, AllZip, last_or, list_any, slice_get}
 use Rattle.std.proofs.lemmas.Bool.{and_from, cond-true, cond-false, lt-ltb, eq-eqb, ne_eqb, or_parts}
 use Rattle.std.proofs.lemmas.List.{append-nil, take-append-drop}
 use Rattle.std.proofs.lemmas.List.Elements.{recursion_from_All}
 use Rattle.std.proofs.lemmas.List.Folds.{list_any-append}
-use Rattle.std.proofs.lemmas.Option.{slice_get-map}
 use Rattle.std.specs.Prelude.{pos}
 use Rattle.smap_mappings.specs.Limits.{limit}
 use Rattle.smap_mappings.specs.LineWalk.{IsPassed, IsStop, decoded_with}
@@ -29,7 +28,7 @@ use Rattle.smap_index.specs.declared.part.Part.{Part}
 use Rattle.smap_index.proofs.CountingLaws.{IsCounting, IsMarked, counting_more, marked_segments-push, number_at, ordered_at}
 use Rattle.smap_index.proofs.LineLaws.{there_is}
 use Rattle.smap_index.proofs.ListLaws.{take_next, last_taken}
-use Rattle.smap_index.proofs.WalkLaws.{length-mappings_of}
+use Rattle.smap_index.proofs.WalkLaws.{length-mappings_of, placed_there}
 
 same_natural : {m n : ℕ} → pos m ≡ pos n → m ≡ n
 same_natural same = cc
@@ -126,7 +125,7 @@ module _ (part : Part) (n : ℕ) (start after : Cursor) (end p : ℕ) (kind : Ki
         let here = placed_mapping part m in
         let front = take (n + i) (placed part) in
         let place : n + suc i ≡ n + i + 1 = omega arith in
-        let there = slice_get-map (placed_mapping part) (mappings_of part.text) (n + i) ∙ ap (option_map (placed_mapping part)) at.1 in
+        let there = placed_there part (n + i) m at.1 in
         let number_is = number_at part (n + i) m interval start.line (number + i) at.1 ordered (counting_to i (omega arith))
         ∙ next_counted i m (omega arith) at.2 in
         let other = ap (λ n. eqb n 0) number_is ∙ ne_eqb (number + i + 1) 0 (λ e. absurd (omega (arith, e))) in

@@ -1,10 +1,11 @@
 -- What stands next to a bound is found from the last checkpoint that stands up to it, in the checkpoint's tile, or it is
 -- the next checkpoint's mapping.
-use Rattle.std.proofs.Common.{◌≡◌, ℕ, ◌+◌, ◌-◌, ◌<◌, ◌≤◌, suc, zero, true, false, List, [], ◌∷◌, ◌++◌, length, take, drop, map, eqb, eq-eqb, Option}
-use Rattle.std.proofs.Common.{Some, None, refl, sym, ap, subst, ◌∙◌, arith, ⊎_elim}
-use Rattle.std.specs.List.{AllByRecursion, slice_get, last_or}
+use Rattle.std.proofs.Common.{◌≡◌, ℕ, ◌+◌, ◌-◌, ◌<◌, ◌≤◌, suc, zero, true, false, cond, List, [], ◌∷◌, ◌++◌, length, take, drop, map, eqb, eq-eqb}
+use Rattle.std.proofs.Common.{Option, Some, None, refl, sym, ap, subst, ◌∙◌, arith, ⊎_elim}
+use Rattle.std.specs.List.{AllByRecursion, list_any, slice_get, last_or}
 use Rattle.std.specs.Option.{option_or}
-use Rattle.std.proofs.lemmas.Bool.{cases_Bool, cases_lt, cond-true, cond-false, both_ways}
+use Rattle.std.proofs.lemmas.Bool.{cases_Bool, cond-true, cond-false, both_ways, or_parts}
+use Rattle.std.proofs.lemmas.List.Folds.{list_any-append}
 use Rattle.std.proofs.Math.Seq.{take-append-add}
 use Rattle.smap_mappings.specs.Order.{IsInOrder}
 use Rattle.smap_mappings.specs.Mappings.{mappings_of}
@@ -12,15 +13,13 @@ use Rattle.smap_mappings.specs.State.{IsAfter}
 use Rattle.smap_mappings.specs.declared.mapping.Mapping.{Mapping}
 use Rattle.smap_index.specs.Checkpoint.{mapping_of, state_of}
 use Rattle.smap_index.specs.Parts.{placed, placed_mapping}
-use Rattle.smap_index.specs.Answer.{answer_of, answer_of_last, answer_at_or_before}
-use Rattle.smap_index.specs.Private.Search.{mappings_at, is_up_to, front_up_to, last_from, first_past, last_checkpoint, on_line}
-use Rattle.smap_index.specs.declared.answer.Answer.TheVariants.{Nothing}
+use Rattle.smap_mappings.specs.Range.{is_mapping_past_limit}
+use Rattle.smap_index.specs.Private.Search.{mappings_at, is_up_to, bound_on, front_up_to, last_from, first_past, last_checkpoint, on_line}
 use Rattle.smap_index.specs.declared.bound.Bound.{Bound}
 use Rattle.smap_index.specs.declared.part.Part.{Part}
 use Rattle.smap_index.specs.declared.checkpoint.Checkpoint.{Checkpoint}
-use Rattle.smap_index.proofs.AnswerLaws.{through, on_line_same, on_line_other, last_answers}
-use Rattle.smap_index.proofs.BoundLaws.{line_up_to, lines_above, line_past}
-use Rattle.smap_index.proofs.ListLaws.{tail_in_order}
+use Rattle.smap_index.proofs.BoundLaws.{line_up_to, lines_above, line_on, same_side, past_on}
+use Rattle.smap_index.proofs.ListLaws.{some_same, tail_in_order}
 use Rattle.smap_index.proofs.LastLaws.{passes, stops, last_passes, last_stops, first_passes, first_stops, first_of_both}
 use Rattle.smap_index.proofs.MarkLaws.{slice_get-after}
 use Rattle.smap_index.proofs.NumberLaws.{back_in_order}
@@ -41,15 +40,9 @@ or_after : {A : Type 0} (a b c : Option A) → option_or (option_or a b) c ≡ o
 or_after None b c = refl
 or_after (Some x) b c = refl
 
-below : (m n : ℕ) → m ≤ n → (m ≡ n → ⊥) → m < n
-below m n most other = ⊎_elim (λ less. less) (λ (least : n ≤ m). let same : m ≡ n = omega arith in absurd (other same)) (cases_lt m n)
-
-some_last : {A : Type 0} (a : A) (xs : List A) → (m : A) × (last_or (Some a) xs ≡ Some m)
+pub some_last : {A : Type 0} (a : A) (xs : List A) → (m : A) × (last_or (Some a) xs ≡ Some m)
 some_last a [] = (a, refl)
 some_last a (x ∷ xs) = some_last x xs
-
-some_same : {A : Type 0} (a b : A) → Some a ≡ Some b → a ≡ b
-some_same a b same = cc
 
 none_or : {A : Type 0} (a b : Option A) (x : A) → option_or a b ≡ Some x → (a ≡ Some x → ⊥) → b ≡ Some x
 none_or None b x is not_first = is
@@ -133,25 +126,23 @@ module _ (bound : Bound) where
   first_later (suc n) [] ys m after is = absurd (cc)
   first_later (suc n) (x ∷ xs) ys m after is = first_stops bound x (xs ++ ys) after ∙ sym (first_stops bound x (take n xs) after) ∙ is
 
-  first_among : (l : ℕ) (xs : List Mapping) (m : Mapping) → AllByRecursion (λ (m : Mapping). m.line ≡ l) xs → first_past bound xs ≡ Some m
-      → (m.line ≡ l) × (is_up_to bound m ≡ false)
+  -- of mappings on a line, so is the first that does not stand up to the bound
+  first_among : (l : ℕ) (xs : List Mapping) (m : Mapping) → AllByRecursion (λ (m : Mapping). m.line ≡ l) xs → first_past bound xs ≡ Some m → m.line ≡ l
   first_among l [] m all is = absurd (cc)
   first_among l (x ∷ xs) m all is =
       ⊎_elim
       (λ reached. first_among l xs m all.1 (sym (first_passes bound x xs reached) ∙ is))
-      (λ past.
-      let same : x ≡ m = some_same x m (sym (first_stops bound x xs past) ∙ is) in
-      (sym (ap (λ (m : Mapping). m.line) same) ∙ all.0, sym (ap (is_up_to bound) same) ∙ past))
+      (λ past. sym (ap (λ (m : Mapping). m.line) (some_same x m (sym (first_stops bound x xs past) ∙ is))) ∙ all.0)
       (cases_Bool (is_up_to bound x))
 
-  -- of the mappings on the line of one that stands up to the bound, the first that does not is on the bound's line
-  past_on_line : (a : Mapping) (xs : List Mapping) (m : Mapping) → is_up_to bound a ≡ true
-      → AllByRecursion (λ (m : Mapping). m.line ≡ a.line) xs → first_past bound xs ≡ Some m → m.line ≡ bound.line
-  past_on_line a xs m reached all is =
-      let first = first_among a.line xs m all is in
-      let most = line_up_to bound a reached in
-      let least = line_past bound m first.1 in
-      omega (arith, first.0)
+  -- mappings on a line have the front up to the bound that they have up to the bound on the line
+  same_front : (l : ℕ) (xs ys : List Mapping) → AllByRecursion (λ (m : Mapping). m.line ≡ l) xs → list_any is_mapping_past_limit xs ≡ false
+      → IsPast ys → front_up_to (bound_on l bound) (xs ++ ys) ≡ front_up_to bound (xs ++ ys)
+  same_front l [] [] all within after = refl
+  same_front l [] (y ∷ ys) all within after = stops (bound_on l bound) y ys (past_on bound l y after) ∙ sym (stops bound y ys after)
+  same_front l (x ∷ xs) ys all within after =
+      ap (λ reached. cond reached (1 + front_up_to (bound_on l bound) (xs ++ ys)) 0) (same_side bound l x all.0 (or_parts _ _ within).0)
+      ∙ ap (λ n. cond (is_up_to bound x) (1 + n) 0) (same_front l xs ys all.1 (or_parts _ _ within).1 after)
 
   -- all on a line before the bound's stand up to it
   first_above : (l : ℕ) (xs : List Mapping) → l < bound.line → AllByRecursion (λ (m : Mapping). m.line ≡ l) xs → first_past bound xs ≡ None
@@ -177,7 +168,8 @@ module _ (bound : Bound) where
     walked part segment = take (interval - 1) (drop (segment + 1) (placed part))
 
     -- what is next to the bound is found from this checkpoint: the last up to it on the checkpoint's line, and the first
-    -- after that one there too, or it is the next checkpoint's mapping; which it is where the line is another
+    -- after that one there too, or it is the next checkpoint's mapping, which it is where the bound's line is another. A
+    -- walk along the checkpoint's line alone finds them.
     pub record IsResumed (list : List Mapping) (checkpoints : List Checkpoint) (c : Checkpoint) : Type 0 where
       pub part : Part
       pub segment : ℕ
@@ -186,15 +178,24 @@ module _ (bound : Bound) where
       pub last_is : (e : Option Mapping) → last_from bound e list ≡ last_from bound (Some (mapping_of c)) (walked part segment)
       pub last_line : (m : Mapping) → last_from bound (Some (mapping_of c)) (walked part segment) ≡ Some m → m.line ≡ (mapping_of c).line
       pub line_is : part.line + (state_of part c).line ≡ (mapping_of c).line
-      pub first_is : first_past bound list ≡ option_or (on_line bound.line (first_past bound (walked part segment)))
+      pub end_line : (bound_on (mapping_of c).line bound).line ≡ (mapping_of c).line
+      pub front_is : front_up_to (bound_on (mapping_of c).line bound) (walked part segment) ≡ front_up_to bound (walked part segment)
+      pub first_is : first_past bound list ≡ option_or (on_line (mapping_of c).line (first_past bound (walked part segment)))
           (first_past bound (mappings_at checkpoints))
-      pub first_elsewhere : ((mapping_of c).line ≡ bound.line → ⊥) → first_past bound list ≡ first_past bound (mappings_at checkpoints)
+      pub first_elsewhere : (mapping_of c).line < bound.line → first_past bound list ≡ first_past bound (mappings_at checkpoints)
+
+    -- where no mapping is past the limit, none after the checkpoint is, and none of the rest
+    tile_within : (list : List Mapping) (c : Checkpoint) (rest : List Mapping) (tile : IsTile parts interval list c rest)
+        → list_any is_mapping_past_limit list ≡ false → (list_any is_mapping_past_limit tile.after ≡ false) × (list_any is_mapping_past_limit rest ≡ false)
+    tile_within list c rest tile within =
+        let inside = (or_parts _ _ (sym (ap (list_any is_mapping_past_limit) tile.list_is) ∙ within)).1 in
+        or_parts _ _ (sym (list_any-append is_mapping_past_limit tile.after rest) ∙ inside)
 
     -- a checkpoint that stands up to the bound, where the rest does not
     in_tile : (list : List Mapping) (c : Checkpoint) (rest : List Mapping) (checkpoints : List Checkpoint) → IsTile parts interval list c rest
-        → is_up_to bound (mapping_of c) ≡ true → IsPast rest → first_past bound rest ≡ first_past bound (mappings_at checkpoints)
-        → IsResumed list (c ∷ checkpoints) c
-    in_tile list c rest checkpoints tile reached after next =
+        → list_any is_mapping_past_limit list ≡ false → is_up_to bound (mapping_of c) ≡ true → IsPast rest
+        → first_past bound rest ≡ first_past bound (mappings_at checkpoints) → IsResumed list (c ∷ checkpoints) c
+    in_tile list c rest checkpoints tile within reached after next =
         let n = interval - 1 - length tile.after in
         let all : interval - 1 ≡ length tile.after + n = omega (arith, tile.few) in
         let there : walked tile.part tile.segment ≡ tile.after ++ take n tile.part_rest =
@@ -221,7 +222,10 @@ module _ (bound : Bound) where
           last_line = λ m last. last_on_line (mapping_of c).line (mapping_of c) tile.after (front_up_to bound tile.after) m refl
               tile.on_line (sym short ∙ last);
           line_is = line_there (mapping_of c) tile.part tile.segment tile.mapping_is;
-          first_is = or_on_line bound.line (first_past bound (walked tile.part tile.segment))
+          end_line = line_on bound (mapping_of c).line (line_up_to bound (mapping_of c) reached);
+          front_is = subst (λ xs. front_up_to (bound_on (mapping_of c).line bound) xs ≡ front_up_to bound xs) (sym there)
+              (same_front (mapping_of c).line tile.after (take n tile.part_rest) tile.on_line (tile_within list c rest tile within).0 stopped);
+          first_is = or_on_line (mapping_of c).line (first_past bound (walked tile.part tile.segment))
               (first_past bound (mappings_at (c ∷ checkpoints))) (first_past bound list) (
               first ∙ ap (option_or (first_past bound tile.after)) (sym taken)
               ∙ sym (or_after (first_past bound tile.after) (first_past bound (take n tile.part_rest)) (first_past bound rest))
@@ -230,9 +234,8 @@ module _ (bound : Bound) where
               let front = sym (ap (first_past bound) there ∙ first_of_both bound tile.after (take n tile.part_rest)) ∙ is in
               others ∙ ap (first_past bound) tile.rest_is
               ∙ first_later n tile.part_rest tile.later m past
-              (none_or _ _ m front (λ in_tile. other (past_on_line (mapping_of c) tile.after m reached tile.on_line in_tile))));
-          first_elsewhere = λ other.
-              let above : (mapping_of c).line < bound.line = let line = line_up_to bound (mapping_of c) reached in below _ _ line other in
+              (none_or _ _ m front (λ in_tile. other (first_among (mapping_of c).line tile.after m tile.on_line in_tile))));
+          first_elsewhere = λ above.
               first ∙ ap (λ o. option_or o (first_past bound rest)) (first_above (mapping_of c).line tile.after above tile.on_line) ∙ sym others;
         }
 
@@ -258,8 +261,10 @@ module _ (bound : Bound) where
               ∙ sym (last_passes bound None (mapping_of next) after reached) ∙ ap (last_from bound None) (sym begins) ∙ resumed.last_is None;
           last_line = resumed.last_line;
           line_is = resumed.line_is;
-          first_is = first ∙ resumed.first_is ∙ ap (option_or (on_line bound.line (first_past bound (walked resumed.part resumed.segment)))) (sym others);
-          first_elsewhere = λ other. first ∙ resumed.first_elsewhere other ∙ sym others;
+          end_line = resumed.end_line;
+          front_is = resumed.front_is;
+          first_is = first ∙ resumed.first_is ∙ ap (option_or (on_line (mapping_of found).line (first_past bound (walked resumed.part resumed.segment)))) (sym others);
+          first_elsewhere = λ above. first ∙ resumed.first_elsewhere above ∙ sym others;
         }
 
     rest_in_order : (list : List Mapping) (c : Checkpoint) (rest : List Mapping) → IsTile parts interval list c rest → IsInOrder list → IsInOrder rest
@@ -274,17 +279,18 @@ module _ (bound : Bound) where
 
     -- both are found from the last checkpoint that stands up to the bound
     pub resumed : (list : List Mapping) (checkpoints : List Checkpoint) (found : Checkpoint) → IsInOrder list
-        → IsTiled parts interval list checkpoints → last_checkpoint bound checkpoints ≡ Some found → IsResumed list checkpoints found
-    resumed list [] found order tiled last = absurd (cc)
-    resumed list (c ∷ []) found order (rest, tile, tiled) last =
+        → list_any is_mapping_past_limit list ≡ false → IsTiled parts interval list checkpoints → last_checkpoint bound checkpoints ≡ Some found
+        → IsResumed list checkpoints found
+    resumed list [] found order within tiled last = absurd (cc)
+    resumed list (c ∷ []) found order within (rest, tile, tiled) last =
         ⊎_elim
         (λ reached.
         let same : c ≡ found = let e = checkpoint_passes None c [] reached in cc (e, last) in
-        subst (IsResumed list (c ∷ [])) same (in_tile list c rest [] tile reached (subst IsPast (sym tiled) tt) (ap (first_past bound) tiled)))
+        subst (IsResumed list (c ∷ [])) same (in_tile list c rest [] tile within reached (subst IsPast (sym tiled) tt) (ap (first_past bound) tiled)))
         (λ past. absurd (let e = checkpoint_stops None c [] past in cc (e, last)))
         (cases_Bool (is_up_to bound (mapping_of c)))
-    resumed list (c ∷ next ∷ checkpoints) found order (rest, tile, tiled) last =
-        let tail = resumed rest (next ∷ checkpoints) found (rest_in_order list c rest tile order) tiled in
+    resumed list (c ∷ next ∷ checkpoints) found order within (rest, tile, tiled) last =
+        let tail = resumed rest (next ∷ checkpoints) found (rest_in_order list c rest tile order) (tile_within list c rest tile within).1 tiled in
         let begins = tiled.1.list_is in
         ⊎_elim
         (λ reached.
@@ -297,7 +303,7 @@ module _ (bound : Bound) where
         let same : c ≡ found = let e = checkpoint_passes None c (next ∷ checkpoints) reached
         in let f = checkpoint_stops (Some c) next checkpoints after in cc (e, f, last) in
         subst (IsResumed list (c ∷ next ∷ checkpoints)) same
-        (in_tile list c rest (next ∷ checkpoints) tile reached (subst IsPast (sym begins) after) (begins_past rest next checkpoints tiled after)))
+        (in_tile list c rest (next ∷ checkpoints) tile within reached (subst IsPast (sym begins) after) (begins_past rest next checkpoints tiled after)))
         (cases_Bool (is_up_to bound (mapping_of next))))
         (λ past. absurd (let e = checkpoint_stops None c (next ∷ checkpoints) past in cc (e, last)))
         (cases_Bool (is_up_to bound (mapping_of c)))
@@ -316,31 +322,3 @@ module _ (bound : Bound) where
           begins_past list c checkpoints (rest, tile, tiled) past,
         ))
         (cases_Bool (is_up_to bound (mapping_of c)))
-
-module _ (line column : ℕ) (parts : List Part) (interval : ℕ) where
-  -- ---- the answer
-
-  -- where no checkpoint is at the position or before it, nothing answers
-  pub none_answers : (list : List Mapping) (checkpoints : List Checkpoint) → IsInOrder list → IsTiled parts interval list checkpoints
-      → last_checkpoint (through line column) checkpoints ≡ None → answer_at_or_before list line column ≡ Nothing
-  none_answers list checkpoints order tiled none =
-      last_answers line column list order
-      ∙ ap (λ o. answer_of_last (on_line line o)) (none_resumed (through line column) parts interval list checkpoints tiled none).0
-
-  module _ (list : List Mapping) (checkpoints : List Checkpoint) (c : Checkpoint) (order : IsInOrder list)
-      (resumed : IsResumed (through line column) parts interval list checkpoints c) where
-    -- where the checkpoint stands on the line, the last up to the position answers
-    pub last_answers_on_line : (mapping_of c).line ≡ line → (m : Mapping)
-        → Some m ≡ last_from (through line column) (Some (mapping_of c)) (walked (through line column) parts interval resumed.part resumed.segment)
-        → answer_at_or_before list line column ≡ answer_of m
-    last_answers_on_line same m is =
-        last_answers line column list order ∙ ap (λ o. answer_of_last (on_line line o)) (resumed.last_is None ∙ sym is)
-        ∙ ap answer_of_last (on_line_same line column m (resumed.last_line m (sym is) ∙ same))
-
-    -- where it stands on another line, nothing does
-    pub none_on_line : ((mapping_of c).line ≡ line → ⊥) → answer_at_or_before list line column ≡ Nothing
-    none_on_line other =
-        let after = walked (through line column) parts interval resumed.part resumed.segment in
-        let m = some_last (mapping_of c) (take (front_up_to (through line column) after) after) in
-        last_answers line column list order ∙ ap (λ o. answer_of_last (on_line line o)) (resumed.last_is None ∙ m.1)
-        ∙ ap answer_of_last (on_line_other line column m.0 (λ same. other (sym (resumed.last_line m.0 m.1) ∙ same)))

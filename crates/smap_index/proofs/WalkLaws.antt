@@ -30,6 +30,11 @@ pub length-placed : (part : Part) → length (placed part) ≡ segment_count par
 unfolding placed
 length-placed part = length-map (mappings_of part.text) (placed_mapping part) ∙ length-mappings_of part.text
 
+-- a mapping of a part's text stands in the part, at its place
+pub placed_there : (part : Part) (j : ℕ) (m : Mapping) → slice_get (mappings_of part.text) j ≡ Some m → slice_get (placed part) j ≡ Some (placed_mapping part m)
+unfolding placed
+placed_there part j m there = slice_get-map (placed_mapping part) (mappings_of part.text) j ∙ ap (option_map (placed_mapping part)) there
+
 -- after the last segment the whole lists are there
 pub all_taken : (text : List ℕ) (j : ℕ) → j ≡ segment_count text → take j (mappings_of text) ≡ mappings_of text
 all_taken text j all = take_all j (mappings_of text) (omega (arith, length-mappings_of text))
@@ -73,11 +78,10 @@ module _ (part : Part) (j n : ℕ) (m : Mapping) (after : Cursor) (next : IsNext
   after_next state is = subst (IsAfter part.text n) is (subst (λ n. IsAfter part.text n after) (sym counted) next.after)
 
   pub placed_next : take n (placed part) ≡ take j (placed part) ++ placed_mapping part m ∷ []
-  unfolding placed
   placed_next =
       ap (λ n. take n (placed part)) counted
       ∙ take_next (placed part) j (placed_mapping part m)
-      (slice_get-map (placed_mapping part) (mappings_of part.text) j ∙ ap (option_map (placed_mapping part)) next.mapping_is)
+      (placed_there part j m next.mapping_is)
 
   pub last_next : (state : Cursor) → after ≡ state → IsMappingAt after m → IfSome (last_or None (take n (mappings_of part.text))) (IsMappingAt state)
   last_next state same at =
@@ -109,16 +113,13 @@ none_at test (x ∷ list) zero m none there = let e : x ≡ m = cc in sym (ap te
 none_at test (x ∷ list) (suc j) m none there = none_at test list j m (or_parts _ _ none).1 there
 
 -- where no mapping is past the limit, this one is not
-pub within_at : (part : Part) (j : ℕ) (m : Mapping) (after : Cursor) → IsNext part.text j m after
-    → list_any is_mapping_past_limit (placed part) ≡ false → is_mapping_past_limit (placed_mapping part m) ≡ false
-unfolding placed
-within_at part j m after next none =
-    let there = slice_get-map (placed_mapping part) (mappings_of part.text) j ∙ ap (option_map (placed_mapping part)) next.mapping_is in
-    none_at is_mapping_past_limit (placed part) j (placed_mapping part m) none there
+pub in_range_at : (part : Part) (j : ℕ) (m : Mapping) → list_any is_mapping_past_limit (placed part) ≡ false
+    → slice_get (mappings_of part.text) j ≡ Some m → is_mapping_past_limit (placed_mapping part m) ≡ false
+in_range_at part j m none there = none_at is_mapping_past_limit (placed part) j (placed_mapping part m) none (placed_there part j m there)
 
 -- so it has its place
 pub placed_in_range : (part : Part) (j : ℕ) (m : Mapping) (after : Cursor) → IsNext part.text j m after
     → list_any is_mapping_past_limit (placed part) ≡ false → cond (is_mapping_past_limit (placed_mapping part m)) None (Some (placed_mapping part m)) ≡ None → ⊥
 placed_in_range part j m after next none kept =
-    let e = cond-false (is_mapping_past_limit (placed_mapping part m)) None (Some (placed_mapping part m)) (within_at part j m after next none) in
+    let e = cond-false (is_mapping_past_limit (placed_mapping part m)) None (Some (placed_mapping part m)) (in_range_at part j m none next.mapping_is) in
     cc (e, kept)

@@ -1,11 +1,13 @@
 -- What a look-up answers: of the mappings on the asked line, the last whose column is not after the asked one or, in the
 -- other direction, the first whose column is not before it.
-use Rattle.std.specs.Prelude.{ℕ, List, Option, Some, None, Bool, ◌&&◌, ◌==◌, nat_le, filter}
-use Rattle.std.specs.List.{find, last_or}
+use Rattle.std.specs.Prelude.{ℕ, List, Option, Some, None, Bool, not, ◌&&◌, ◌==◌, nat_le, filter, take, slice_get}
+use Rattle.std.specs.List.{find, last_or, prefix_len}
+use Rattle.smap_mappings.specs.Range.{position_at, stands_before}
 use Rattle.smap_mappings.specs.declared.mapping.Mapping.{Mapping}
 use Rattle.smap_mappings.specs.declared.mapping.Origin.{Origin}
 use Rattle.smap_index.specs.declared.answer.Answer.{Answer}
 use Rattle.smap_index.specs.declared.answer.Answer.TheVariants.{Nothing, Unmapped, Found}
+use Rattle.smap_index.specs.declared.answer.Neighbours.{Neighbours}
 
 -- the mapping stands on this line, at this column or before it
 abbrev pub is_on_line_at_or_before : ℕ → ℕ → Mapping → Bool
@@ -38,3 +40,11 @@ is_on_line_at_or_after line column mapping = mapping.line == line && nat_le colu
 -- of the mappings on the line whose column is not before the asked one, the first answers
 unfoldable pub answer_at_or_after : List Mapping → ℕ → ℕ → Answer
 answer_at_or_after list line column = answer_of_last (find (is_on_line_at_or_after line column) list)
+
+-- ---- on any line
+
+-- of mappings in order, the last of those in front that do not stand after the position, and the first after them
+unfoldable pub neighbours : List Mapping → (line column : ℕ) → Neighbours
+neighbours list line column =
+    let n = prefix_len (λ mapping. not (stands_before (position_at line column) mapping)) list in
+    record { before = last_or None (take n list); after = slice_get list n }

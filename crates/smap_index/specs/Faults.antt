@@ -17,10 +17,10 @@ use Rattle.smap_index.specs.Parts.{placed}
 use Rattle.smap_index.specs.Position.{offset_of}
 
 -- each part with the one after it
-abbrev pub neighbours : List Part → List (Part × Part)
-neighbours [] = []
-neighbours (part ∷ []) = []
-neighbours (part ∷ next ∷ parts) = (part, next) ∷ neighbours (next ∷ parts)
+abbrev pub adjacent : List Part → List (Part × Part)
+adjacent [] = []
+adjacent (part ∷ []) = []
+adjacent (part ∷ next ∷ parts) = (part, next) ∷ adjacent (next ∷ parts)
 
 -- ---- the order of the offsets
 
@@ -30,7 +30,7 @@ is_out_of_order (part, next) = stands_before (offset_of next) (offset_of part)
 
 -- the number of the first part whose offset stands before that of the part before it
 unfoldable pub order_fault : List Part → Option ℕ
-order_fault parts = position_from is_out_of_order 1 (neighbours parts)
+order_fault parts = position_from is_out_of_order 1 (adjacent parts)
 
 -- ---- what reaches past an offset
 
@@ -44,7 +44,7 @@ is_overlapping (part, next) = list_any (is_after_offset next) (placed part)
 
 -- the number of the first part after whose offset a mapping of the part before it stands
 unfoldable pub overlap_fault : List Part → Option ℕ
-overlap_fault parts = position_from is_overlapping 1 (neighbours parts)
+overlap_fault parts = position_from is_overlapping 1 (adjacent parts)
 
 -- ---- what is past the limit
 

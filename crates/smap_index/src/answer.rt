@@ -1,7 +1,8 @@
 //! What a look-up answers.
 
 ghost use Rattle.std.specs.Prelude.{◌≡◌};
-ghost use Rattle.smap_index.specs.Answer.{answer_of};
+ghost use Rattle.smap_index.specs.Answer.{answer_of, answer_of_last};
+ghost use Rattle.smap_index.specs.Private.Search.{on_line};
 
 use smap_mappings::{Mapping, Origin};
 
@@ -16,7 +17,28 @@ pub enum Answer {
     Found { column: u32, origin: Origin },
 }
 
-pub fn answer_of(mapping: &Mapping) -> Answer
+/// The mappings next to a generated position.
+#[derive(Clone, Copy)]
+pub struct Neighbours {
+    /// The last mapping at the position or before it, on its line or on one before.
+    pub before: Option<Mapping>,
+    /// The first mapping after it, on its line or on one below.
+    pub after: Option<Mapping>,
+}
+
+// What a mapping answers for a position on this line, where there is one and it stands there.
+#[inline(always)]
+pub fn answer_on(line: u32, mapping: Option<Mapping>) -> Answer
+    ensures { result ≡ answer_of_last (on_line line mapping) }
+{
+    match mapping {
+        Some(mapping) if mapping.line == line => answer_of(&mapping),
+        Some(_) => Answer::Nothing,
+        None => Answer::Nothing,
+    }
+}
+
+fn answer_of(mapping: &Mapping) -> Answer
     ensures { result ≡ answer_of mapping.now }
 {
     let column = mapping.column;

@@ -1,7 +1,7 @@
 //! The bound of a search: a position, and whether the mappings at it are before the bound or after it.
 
 ghost use Rattle.std.specs.Prelude.{◌≡◌, ◌+◌, ◌*◌, ◌^◌};
-ghost use Rattle.smap_index.specs.Private.Search.{end_of, is_up_to};
+ghost use Rattle.smap_index.specs.Private.Search.{bound_on, end_of, is_up_to};
 
 use smap_mappings::Mapping;
 
@@ -21,6 +21,26 @@ pub struct Bound {
 }
 
 impl Bound {
+    // The bound on this side of a position.
+    #[inline(always)]
+    pub fn new(line: u32, column: u32, side: Side) -> Bound
+        ensures { result ≡ record { line = line; column = column; side = side } }
+    {
+        Bound { line, column, side }
+    }
+
+    // The bound on a line: the end of one before its own, and else itself.
+    #[inline(always)]
+    pub fn on(&self, line: u32) -> Bound
+        ensures { result ≡ bound_on line self.now }
+    {
+        if line < self.line {
+            Bound::new(line, u32::MAX, Side::Through)
+        } else {
+            *self
+        }
+    }
+
     // Whether the mapping stands up to the bound.
     #[inline(always)]
     pub fn reaches(&self, mapping: &Mapping) -> bool

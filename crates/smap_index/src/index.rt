@@ -15,10 +15,10 @@ ghost use Rattle.smap_index.specs.Parts.{most_parts, joined, bytes_in};
 ghost use Rattle.smap_index.specs.Marks.{marks, used_lines_in, HasFewMarksOnEachLine};
 ghost use Rattle.smap_index.specs.Faults.{build_fault, encode_all_fault};
 ghost use Rattle.smap_mappings.specs.Range.{is_mapping_past_limit};
-ghost use Rattle.smap_index.specs.Answer.{answer_at_or_before, answer_at_or_after};
-ghost use Rattle.smap_index.specs.Private.Search.{first_past};
+ghost use Rattle.smap_index.specs.Answer.{answer_at_or_before, answer_at_or_after, neighbours};
+ghost use Rattle.smap_index.specs.Private.Search.{first_past, from_line, last_up_to};
 
-use crate::answer::{Answer, answer_of};
+use crate::answer::{Answer, Neighbours, answer_on};
 use crate::bound::{Bound, Side};
 use crate::checkpoint::Checkpoint;
 use crate::checkpoints::Checkpoints;
@@ -111,20 +111,8 @@ impl Index {
         ensures onward { (meter.old.comparisons ≤ meter.new.comparisons)
             × (meter.old.segments ≤ meter.new.segments) }
     {
-        let through = Bound {
-            line,
-            column,
-            side: Side::Through,
-        };
-        let nearest = nearest_checkpoints(&self.table, &through, meter);
-        match nearest.last {
-            Some(checkpoint) if checkpoint.line == line => {
-                let part = &self.parts[checkpoint.part as usize];
-                answer_of(&decode_after(part, checkpoint, self.k - 1, &through, meter).last)
-            }
-            Some(_) => Answer::Nothing,
-            None => Answer::Nothing,
-        }
+        let bound = Bound::new(line, column, Side::Through);
+        answer_on(line, self.next_to(&bound, line, meter).before)
     }
 
     /// Looks a generated position up in the other direction, from 0 and in UTF-16 code units: the first mapping on the
@@ -140,23 +128,37 @@ impl Index {
         ensures onward { (meter.old.comparisons ≤ meter.new.comparisons)
             × (meter.old.segments ≤ meter.new.segments) }
     {
-        let before = Bound {
-            line,
-            column,
-            side: Side::Before,
-        };
-        match self.first_past(&before, meter) {
-            Some(mapping) if mapping.line == line => answer_of(&mapping),
-            Some(_) => Answer::Nothing,
-            None => Answer::Nothing,
-        }
+        let bound = Bound::new(line, column, Side::Before);
+        answer_on(line, self.next_to(&bound, line, meter).after)
     }
 
-    // The first mapping that does not stand up to the bound, if there is one. Where the last checkpoint that does stands
-    // on the bound's line, it may be one of those after that checkpoint; otherwise it is the next checkpoint's.
-    fn first_past(&self, bound: &Bound, meter: &mut Meter) -> Option<Mapping>
+    /// The mappings next to a generated position, from 0 and in UTF-16 code units, on any line. Of fewer than 2 ^ b
+    /// checkpoints the call compares at most b, and it decodes fewer than `k` segments; the meter has room for both. It
+    /// takes no memory.
+    pub fn neighbours(&self, line: u32, column: u32, meter: &mut Meter) -> Neighbours
         requires room { HasRoom meter.old }
-        ensures first { result ≡ first_past bound.now (joined self.now.parts) }
+        ensures both { result ≡ neighbours (joined self.now.parts) line column }
+        ensures compared { (b : ℕ) → length (marks self.now.parts self.now.k) < 2 ^ b →
+            meter.new.comparisons ≤ meter.old.comparisons + b }
+        ensures decoded { meter.new.segments ≤ meter.old.segments + (self.now.k - 1) }
+        ensures onward { (meter.old.comparisons ≤ meter.new.comparisons)
+            × (meter.old.segments ≤ meter.new.segments) }
+    {
+        let bound = Bound::new(line, column, Side::Through);
+        self.next_to(&bound, 0, meter)
+    }
+
+    // The mappings next to a bound: the last that stands up to it, where that is on line `from` or on one after it, and
+    // the first that does not. Where the last checkpoint that stands up to it is on a line before `from`, nothing is
+    // decoded: so a look-up, which asks for its line alone, decodes none of another. The call is inlined, since a look-up
+    // asks for one of the two.
+    #[inline(always)]
+    fn next_to(&self, bound: &Bound, from: u32, meter: &mut Meter) -> Neighbours
+        requires room { HasRoom meter.old }
+        requires from { from ≤ bound.now.line }
+        ensures before { result.before
+            ≡ from_line from (last_up_to bound.now (joined self.now.parts)) }
+        ensures after { result.after ≡ first_past bound.now (joined self.now.parts) }
         ensures ordered { IsInOrder (joined self.now.parts) }
         ensures compared { (b : ℕ) → length (marks self.now.parts self.now.k) < 2 ^ b →
             meter.new.comparisons ≤ meter.old.comparisons + b }
@@ -167,13 +169,23 @@ impl Index {
         let nearest = nearest_checkpoints(&self.table, bound, meter);
         let next = mapping_at(nearest.next);
         match nearest.last {
-            Some(checkpoint) if checkpoint.line == bound.line => {
+            Some(checkpoint) if checkpoint.line >= from => {
                 let part = &self.parts[checkpoint.part as usize];
-                let decoded = decode_after(part, checkpoint, self.k - 1, bound, meter);
-                decoded.next.or(next)
+                let end = bound.on(checkpoint.line);
+                let decoded = decode_after(part, checkpoint, self.k - 1, &end, meter);
+                Neighbours {
+                    before: Some(decoded.last),
+                    after: decoded.next.or(next),
+                }
             }
-            Some(_) => next,
-            None => next,
+            Some(_) => Neighbours {
+                before: None,
+                after: next,
+            },
+            None => Neighbours {
+                before: None,
+                after: next,
+            },
         }
     }
 

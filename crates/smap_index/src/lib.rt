@@ -9,6 +9,7 @@
 //!     Answer::Nothing => ..,
 //! }
 //! let next = index.look_up_from(line, column, &mut meter);
+//! let about = index.neighbours(line, column, &mut meter);
 //! ```
 #![tactic(auto)]
 
@@ -31,7 +32,7 @@ mod resume;
 mod search;
 mod totals;
 
-pub use answer::Answer;
+pub use answer::{Answer, Neighbours};
 pub use index::Index;
 pub use interval::MOST_INTERVAL;
 pub use joined::JoinedMappings;

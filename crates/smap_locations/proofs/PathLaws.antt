@@ -4,19 +4,20 @@ use Rattle.std.specs.List.{list_all}
 use Rattle.std.specs.Str.{bytes_eq}
 use Rattle.std.proofs.lemmas.Bool.{and_parts, both_ways}
 use Rattle.std.proofs.lemmas.Slice.Eq.{bytes_eq-Decides}
-use Rattle.smap_locations.specs.Locations.{folder_path, is_prefix, path_within}
+use Rattle.smap_locations.specs.ListLine.{is_folder}
+use Rattle.smap_locations.specs.Locations.{folder_path, path_within}
 use Rattle.smap_locations.specs.Named.{Named, path_under}
 use Rattle.smap_locations.specs.Paths.{map_path}
 
-another : (text url : List ℕ) → is_prefix url ≡ true → is_prefix text ≡ false → bytes_eq text url ≡ false
+another : (text url : List ℕ) → is_folder url ≡ true → is_folder text ≡ false → bytes_eq text url ≡ false
 another text url on off = go (bytes_eq text url) (bytes_eq-Decides text url).0
   where
     go : (same : Bool) → (same ≡ true → text ≡ url) → same ≡ false
     go false is = refl
-    go true is = absurd (both_ways (is_prefix text) off (ap is_prefix (is refl) ∙ on))
+    go true is = absurd (both_ways (is_folder text) off (ap is_folder (is refl) ∙ on))
 
 -- a text that is no prefix has no folder
-pub no_folder : (folders : Named) (text : List ℕ) → list_all (λ e. is_prefix e.0) folders ≡ true → is_prefix text ≡ false → path_under text folders ≡ None
+pub no_folder : (folders : Named) (text : List ℕ) → list_all (λ e. is_folder e.0) folders ≡ true → is_folder text ≡ false → path_under text folders ≡ None
 no_folder [] text all off = refl
 no_folder (folder ∷ folders) text all off =
     ap (λ same. cond same (Some folder.1) (path_under text folders)) (another text folder.0 (and_parts _ _ all).0 off)

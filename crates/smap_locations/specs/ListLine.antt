@@ -25,6 +25,6 @@ entry_or_fault (Some entry) = Ok (Some entry)
 abbrev pub line_entry : (line : List ℕ) → Result (Option (List ℕ × List ℕ)) ListFault
 line_entry line = if is_passed_over line then Ok None else entry_or_fault (entry_of line)
 
--- the path is that of a folder
+-- the path is that of a folder, and a prefix that of URLs: it ends in `/`
 abbrev pub is_folder : (path : List ℕ) → Bool
 is_folder path = ends_with nat_eq path (codes "/")

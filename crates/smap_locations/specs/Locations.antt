@@ -1,8 +1,7 @@
 -- Where the map of a URL is (this project's own): in the file that is named for it, or for it without its query and its
 -- fragment; else in the folder of the longest prefix of the latter.
-use Rattle.std.specs.Prelude.{ℕ, zero, suc, Bool, List, Option, Some, None, codes, is_some, length, take, drop, if◌then◌else◌}
-use Rattle.std.specs.Bool.{nat_eq}
-use Rattle.std.specs.List.{ends_with}
+use Rattle.std.specs.Prelude.{ℕ, zero, suc, List, Option, Some, None, is_some, length, take, drop, if◌then◌else◌}
+use Rattle.smap_locations.specs.ListLine.{is_folder}
 use Rattle.smap_locations.specs.Named.{Named, path_under, twice}
 use Rattle.smap_locations.specs.Paths.{map_path, without_query}
 use Rattle.smap_locations.specs.declared.refusal.LocationRefusal.{LocationRefusal}
@@ -43,10 +42,6 @@ key_for locations url = if is_some (path_under url locations.files) then url els
 
 -- ---- what is added
 
--- a folder's prefix ends in `/`
-abbrev pub is_prefix : List ℕ → Bool
-is_prefix url = ends_with nat_eq url (codes "/")
-
 -- why a folder is not put under a prefix, memory aside
 abbrev pub prefix_refusal : Named → (prefix : List ℕ) → Option LocationRefusal
-prefix_refusal folders prefix = if is_prefix prefix then twice folders prefix else Some NoFolder
+prefix_refusal folders prefix = if is_folder prefix then twice folders prefix else Some NoFolder

@@ -1,10 +1,11 @@
 //! The files and the folders that maps are in.
 ghost use Rattle.std.specs.Prelude.{◌≡◌, [], is_some, string_bytes, option_map, MatchOption};
 ghost use Rattle.std.specs.Prelude.{OnErr, OnOk, IfErr, IfOk, IsErrAnd, length, map};
-ghost use Rattle.smap_locations.specs.Locations.{is_prefix, key_for, path_for, path_in_folders, prefix_refusal};
+ghost use Rattle.smap_locations.specs.Locations.{key_for, path_for, path_in_folders, prefix_refusal};
 ghost use Rattle.smap_locations.specs.Named.{IsWith, path_under, twice};
 ghost use Rattle.smap_locations.specs.declared.refusal.LocationRefusal.TheVariants.{Memory};
 
+use crate::list_line::is_folder;
 use crate::named::NamedPaths;
 use crate::paths::{map_path, without_query};
 use crate::refusal::LocationRefusal;
@@ -21,7 +22,8 @@ pub struct Locations {
 impl Model for Locations {
     ghost use Rattle.std.specs.Prelude.{◌≡◌, true};
     ghost use Rattle.std.specs.List.{list_all};
-    ghost use Rattle.smap_locations.specs.Locations.{LocationsSeen, is_prefix};
+    ghost use Rattle.smap_locations.specs.ListLine.{is_folder};
+    ghost use Rattle.smap_locations.specs.Locations.{LocationsSeen};
 
     ghost Value = { LocationsSeen };
 
@@ -30,7 +32,7 @@ impl Model for Locations {
       folders = locations.folders;
     } };
 
-    ghost invariant = { λ locations. list_all (λ e. is_prefix e.0) locations.folders ≡ true };
+    ghost invariant = { λ locations. list_all (λ e. is_folder e.0) locations.folders ≡ true };
 }
 
 impl Locations {
@@ -67,7 +69,7 @@ impl Locations {
     pub fn has_folder(&self, prefix: &[u8]) -> bool
         ensures { result ≡ is_some (path_under prefix.now self.now.folders) }
     {
-        is_prefix(prefix) && self.folders.path_under(prefix).is_some()
+        is_folder(prefix) && self.folders.path_under(prefix).is_some()
     }
 
     /// How many bytes the URLs have for which files are named, one after another in the order of the URLs.
@@ -95,7 +97,7 @@ impl Locations {
         ensures refused { MatchOption (prefix_refusal self.old.folders (string_bytes prefix))
             (IfErr result (λ refusal. refusal ≡ Memory)) (λ refusal. IsErrAnd result (λ e. e ≡ refusal)) }
     {
-        if !is_prefix(prefix.as_bytes()) {
+        if !is_folder(prefix.as_bytes()) {
             return Err(LocationRefusal::NoFolder);
         }
         self.folders.add(prefix, folder)
@@ -137,7 +139,7 @@ impl Locations {
         let mut end = url.len();
         while end > 0 {
             let (prefix, rest) = url.split_at(end);
-            if is_prefix(prefix) {
+            if is_folder(prefix) {
                 if let Some(folder) = self.folders.path_under(prefix) {
                     return map_path(alloc, folder, rest);
                 }
@@ -146,11 +148,4 @@ impl Locations {
         }
         Ok(None)
     }
-}
-
-// Whether a URL is a folder's prefix.
-fn is_prefix(url: &[u8]) -> bool
-    ensures { result ≡ is_prefix url.now }
-{
-    url.ends_with(b"/")
 }

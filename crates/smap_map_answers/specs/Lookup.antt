@@ -1,6 +1,6 @@
 -- What `lookup` prints: as text or as JSON.
 use Rattle.std.specs.Prelude.{ℕ, ◌++◌, Bool, false, true, List, if◌then◌else◌}
-use Rattle.smap_explain.specs.Nearest.{nearest}
+use Rattle.smap_index.specs.Answer.{neighbours}
 use Rattle.smap_index.specs.Parts.{joined}
 use Rattle.smap_record.specs.Record.{MapRecord}
 use Rattle.smap_positions.specs.Json.{lookup_json}
@@ -9,7 +9,7 @@ use Rattle.smap_verdicts.specs.Nearest.{nearest_text}
 
 -- which mappings stand nearest to the position
 abbrev pub about_text : (line column : ℕ) → MapRecord → List ℕ
-about_text line column stated = nearest_text line (nearest line column (joined stated.parts))
+about_text line column stated = nearest_text line (neighbours (joined stated.parts) line column)
 
 -- the answer as text and, where that is asked, the mappings nearest to the position
 abbrev pub lookup_lines : (after explain : Bool) (line column : ℕ) → MapRecord → List ℕ

@@ -4,9 +4,8 @@ ghost use Rattle.smap_map_answers.specs.Lookup.{about_text, lookup_lines, lookup
 ghost use Rattle.smap_replies.specs.Map.{IsLine, ReportsMap};
 ghost use Rattle.smap_replies.specs.Outcome.{OrMemory, report_of};
 
-use smap_explain::mappings_about;
 use smap_positions::{lookup_as_json, lookup_text};
-use smap_record::MapFile;
+use smap_record::{MapFile, Meter};
 use smap_replies::{Failure, FileReader, MapReader, Reply, read_map};
 use smap_verdicts::nearest_text;
 use std::alloc::{AllocError, Global};
@@ -81,5 +80,6 @@ fn lookup_lines(
 fn about_text(alloc: Global, map: &MapFile, line: u32, column: u32) -> Result<String, AllocError>
     ensures { IfOk result (λ text. string_bytes text ≡ about_text line column map.now.stated) }
 {
-    nearest_text(alloc, mappings_about(alloc, map, line, column), line)
+    let mut meter = Meter::new(alloc);
+    nearest_text(alloc, map.neighbours(line, column, &mut meter), line)
 }

@@ -1,11 +1,10 @@
 //! What is known of why a map is refused, and of the mappings about a position.
 use crate::same::assert_same;
 use smap_explain::{
-    Beginning, Explanation, Found, Quantity, begins_as, build_facts, explain, mappings_about,
-    segment_facts,
+    Beginning, Explanation, Found, Quantity, begins_as, build_facts, explain, segment_facts,
 };
 use smap_mappings::{FaultKind, faulty_segment, segment_numbers};
-use smap_record::{BuildRefusal, MapFile, MapRefusal, file_parts};
+use smap_record::{BuildRefusal, MapFile, MapRefusal, Meter, file_parts};
 use smap_verdicts::{explanation_text, refusal_json};
 use std::test::Fail;
 
@@ -110,16 +109,17 @@ fn a_mapping_past_the_next_section_is_reported(rt: HostRuntime) -> Result<(), Fa
 }
 
 #[test]
-fn mappings_about_a_position_are_reported(rt: HostRuntime) -> Result<(), Fail> {
+fn neighbours_of_a_position_are_reported(rt: HostRuntime) -> Result<(), Fail> {
     let bytes = br#"{"version":3,"sources":["a.js"],"mappings":"AAAA,KAAA;;EAAA"}"#;
     let map = MapFile::read(rt.alloc(), bytes, None, 64)?;
-    let about = mappings_about(rt.alloc(), &map, 0, 4);
+    let mut meter = Meter::new(rt.alloc());
+    let about = map.neighbours(0, 4, &mut meter);
     assert!(&rt; about.before.ok_or("none before")?.column == 0);
     assert!(&rt; about.after.ok_or("none after")?.column == 5);
-    let about = mappings_about(rt.alloc(), &map, 1, 0);
+    let about = map.neighbours(1, 0, &mut meter);
     assert!(&rt; about.before.ok_or("none before")?.column == 5);
     assert!(&rt; about.after.ok_or("none after")?.line == 2);
-    let about = mappings_about(rt.alloc(), &map, 2, 2);
+    let about = map.neighbours(2, 2, &mut meter);
     assert!(&rt; about.before.ok_or("none before")?.line == 2 && about.after.is_none());
     Ok(())
 }

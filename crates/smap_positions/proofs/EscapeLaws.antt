@@ -5,7 +5,7 @@ use Rattle.std.specs.List.{list_any}
 use Rattle.std.proofs.lemmas.Bool.{cond-false, cond-true}
 use Rattle.std.proofs.lemmas.List.Concat.{flat_map_single}
 use Rattle.json.specs.Print.{escape, escape_byte, escape_letter}
-use Rattle.smap_command.specs.Shown.{shown, shown_byte}
+use Rattle.smap_text.specs.Shown.{shown, shown_byte}
 use Rattle.smap_positions.specs.Private.Escapes.{is_escaped, short_escape, shown_piece}
 
 or_parts : (a b : Bool) → (a || b) ≡ false → (a ≡ false) × (b ≡ false)

@@ -9,8 +9,8 @@ use Rattle.smap_index.specs.declared.answer.Answer.{Answer}
 use Rattle.smap_index.specs.declared.answer.Answer.TheVariants.{Nothing, Unmapped, Found}
 use Rattle.smap_record.specs.Record.{MapRecord}
 use Rattle.smap_record.specs.Sources.{StatedSource}
-use Rattle.smap_record.specs.Written.{member_where, value_of_text}
-use Rattle.smap_positions.specs.Lookup.{answer_excerpt, is_ignored, lookup_answer, source_name}
+use Rattle.smap_record.specs.Written.{is_ignored_where, member_where, text_of_source, value_of_text}
+use Rattle.smap_positions.specs.Lookup.{answer_excerpt, lookup_answer}
 use Rattle.smap_positions.specs.declared.printed_position.PrintedPosition.{PrintedPosition}
 
 abbrev pub count : ℕ → Data
@@ -49,7 +49,7 @@ origin_members origin source name =
     member (codes "name") (value_of_text name)
     (member (codes "originalColumn") (count (origin.column + 1))
     (member (codes "originalLine") (count (origin.line + 1))
-    (member (codes "source") (value_of_text (source_name source))
+    (member (codes "source") (value_of_text (option_and_then text_of_source source))
     (member (codes "sourceIndex") (count origin.source) no_members))))
 
 -- where the mapping comes from that answers and stands at this column; and the excerpt that shows it, where there is one
@@ -59,7 +59,7 @@ found_value excerpt position column origin source name = object (
     (member (codes "column") (count position.column)
     (member_where (codes "excerpt") (option_map excerpt_value excerpt)
     (member (codes "generatedColumn") (count (column + 1))
-    (member (codes "ignored") (boolean (is_ignored source))
+    (member (codes "ignored") (boolean (is_ignored_where source))
     (member (codes "line") (count position.line) (origin_members origin source name)))))))
 
 -- what a map answers for a position, with the excerpt that shows it, where there is one

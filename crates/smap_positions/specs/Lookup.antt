@@ -1,36 +1,28 @@
 -- What `lookup` answers: where a generated place comes from, by the names that the map gives.
-use Rattle.std.specs.Prelude.{ℕ, Bool, false, List, [], ◌∷◌, ◌++◌, Option, Some, None, codes, if◌then◌else◌, option_and_then, slice_get}
+use Rattle.std.specs.Prelude.{ℕ, Bool, List, [], ◌∷◌, ◌++◌, Option, Some, None, codes, if◌then◌else◌, option_and_then, slice_get}
 use Rattle.std.specs.Fmt.{decimal}
 use Rattle.smap_mappings.specs.declared.mapping.Origin.{Origin}
 use Rattle.smap_index.specs.declared.answer.Answer.{Answer}
 use Rattle.smap_index.specs.declared.answer.Answer.TheVariants.{Nothing, Unmapped, Found}
 use Rattle.smap_record.specs.Sources.{StatedSource}
 use Rattle.smap_record.specs.Record.{MapRecord, answer_of_map, answer_of_map_from}
-use Rattle.smap_record.specs.Written.{text_of_source}
+use Rattle.smap_record.specs.Written.{is_ignored_where, text_of_source}
 use Rattle.smap_text.specs.Excerpt.{excerpt_of}
-use Rattle.smap_command.specs.Shown.{shown}
+use Rattle.smap_text.specs.Shown.{shown}
 use Rattle.smap_command.specs.Lines.{line_from}
 use Rattle.smap_positions.specs.Lines.{none_line, unmapped_line, place_line}
-
--- the name of a source, where it has one
-abbrev pub source_name : Option StatedSource → Option (List ℕ)
-source_name source = option_and_then text_of_source source
 
 -- how a source of this index prints: by its name or, where it has none, by its index in brackets
 abbrev pub source_text : (name : Option (List ℕ)) → ℕ → List ℕ
 source_text (Some name) i = shown name
 source_text None i = codes "[" ++ decimal i ++ codes "]"
 
-abbrev pub is_ignored : Option StatedSource → Bool
-is_ignored (Some source) = source.ignored
-is_ignored None = false
-
 -- the line for a place in a source
 abbrev pub origin_line : MapRecord → Origin → List ℕ
 origin_line stated origin =
     let source = slice_get stated.sources origin.source in
-    place_line (source_text (source_name source) origin.source) origin.line origin.column
-    (option_and_then (slice_get stated.names) origin.name) (is_ignored source)
+    place_line (source_text (option_and_then text_of_source source) origin.source) origin.line origin.column
+    (option_and_then (slice_get stated.names) origin.name) (is_ignored_where source)
 
 -- the line for an answer
 abbrev pub answer_line : MapRecord → Answer → List ℕ

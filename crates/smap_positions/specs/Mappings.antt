@@ -10,8 +10,9 @@ use Rattle.smap_index.specs.Answer.{answer_of}
 use Rattle.smap_index.specs.Parts.{joined}
 use Rattle.smap_record.specs.Record.{MapRecord}
 use Rattle.smap_record.specs.Sources.{StatedSource}
+use Rattle.smap_record.specs.Written.{is_ignored_where}
 use Rattle.smap_positions.specs.Json.{count, json_line, origin_members}
-use Rattle.smap_positions.specs.Lookup.{answer_line, is_ignored}
+use Rattle.smap_positions.specs.Lookup.{answer_line}
 
 -- ---- a mapping
 
@@ -33,7 +34,7 @@ mapped_value line column origin source name = object (
     member (codes "answer") (string (codes "found"))
     (member (codes "generatedColumn") (count (column + 1))
     (member (codes "generatedLine") (count (line + 1))
-    (member (codes "ignored") (boolean (is_ignored source)) (origin_members origin source name)))))
+    (member (codes "ignored") (boolean (is_ignored_where source)) (origin_members origin source name)))))
 
 abbrev pub value_with : MapRecord → (line column : ℕ) → Option Origin → Data
 value_with stated line column None = bare_value line column

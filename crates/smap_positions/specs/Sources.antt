@@ -1,18 +1,18 @@
 -- What `sources` prints of a map: each of its sources, and how much of the generated text it makes. Indices count from 0.
-use Rattle.std.specs.Prelude.{◌≡◌, ℕ, Bool, false, List, [], ◌∷◌, ◌++◌, Option, Some, None, codes, if◌then◌else◌, is_some, length, option_map, slice_get}
+use Rattle.std.specs.Prelude.{◌≡◌, ℕ, Bool, false, List, [], ◌∷◌, ◌++◌, Option, Some, None, codes, if◌then◌else◌, is_some, length, option_and_then, option_map, slice_get}
 use Rattle.std.specs.Fmt.{decimal}
 use Rattle.std.specs.List.{flat_map}
 use Rattle.serde_json.specs.Data.{Data, Members, boolean, object, no_members, member}
 use Rattle.smap_index.specs.Parts.{joined}
 use Rattle.smap_record.specs.Record.{MapRecord}
 use Rattle.smap_record.specs.Sources.{StatedSource}
-use Rattle.smap_record.specs.Written.{member_where, value_of_text}
+use Rattle.smap_record.specs.Written.{is_ignored_where, member_where, text_of_source, value_of_text}
 use Rattle.smap_shares.specs.Rows.{IsOrderedRows, rows_of, unmapped_in}
 use Rattle.smap_shares.specs.declared.rows.SourceRow.{SourceRow}
 use Rattle.smap_positions.specs.Json.{count, json_line}
 use Rattle.smap_positions.specs.Lines.{ignored_text}
 use Rattle.smap_command.specs.Lines.{line_from}
-use Rattle.smap_positions.specs.Lookup.{is_ignored, source_name, source_text}
+use Rattle.smap_positions.specs.Lookup.{source_text}
 
 -- the map has the source's content
 abbrev pub has_content : Option StatedSource → Bool
@@ -32,7 +32,7 @@ no_content_text held = if held then [] else codes " no content"
 abbrev pub row_line : SourceRow → Option StatedSource → List ℕ
 row_line row source = line_from (
     decimal row.source ∷ codes " " ∷ decimal row.segments ∷ bytes_text row.bytes ∷ codes " "
-    ∷ source_text (source_name source) row.source ∷ ignored_text (is_ignored source) ∷ no_content_text (has_content source) ∷ [])
+    ∷ source_text (option_and_then text_of_source source) row.source ∷ ignored_text (is_ignored_where source) ∷ no_content_text (has_content source) ∷ [])
 
 -- the bytes that come from no source, and all
 abbrev pub totals_lines : (unmapped total : ℕ) → List ℕ
@@ -45,9 +45,9 @@ totals_lines unmapped total =
 abbrev pub row_members : SourceRow → Option StatedSource → Members
 row_members row source =
     member (codes "content") (boolean (has_content source))
-    (member (codes "ignored") (boolean (is_ignored source))
+    (member (codes "ignored") (boolean (is_ignored_where source))
     (member (codes "segments") (count row.segments)
-    (member (codes "source") (value_of_text (source_name source))
+    (member (codes "source") (value_of_text (option_and_then text_of_source source))
     (member (codes "sourceIndex") (count row.source) no_members))))
 
 -- and the bytes, where they are known

@@ -1,7 +1,7 @@
 //! What a map answers for a position, and what the map reports the source and the name in it.
 ghost use Rattle.std.specs.Prelude.{◌≡◌, ◌+◌, option_and_then, option_map, slice_get, string_bytes, IfOk};
 ghost use Rattle.smap_record.specs.Sources.{source_of};
-ghost use Rattle.smap_positions.specs.Lookup.{answer_excerpt, is_ignored, lookup_answer, source_excerpt, source_name};
+ghost use Rattle.smap_positions.specs.Lookup.{answer_excerpt, lookup_answer, source_excerpt};
 
 use smap_record::{Answer, MapFile, Meter, Origin, SourceEntry};
 use smap_text::excerpt;
@@ -54,23 +54,7 @@ fn source_excerpt(
     }
 }
 
-/// Whether the map says to ignore a source.
-pub fn is_ignored(entry: Option<&SourceEntry>) -> bool
-    ensures { result ≡ is_ignored (option_map (λ entry. source_of entry.now) entry.entry) }
-{
-    match entry {
-        Some(entry) => entry.ignored,
-        None => false,
-    }
-}
-
-pub fn source_name(entry: Option<&SourceEntry>) -> Option<&str>
-    ensures { option_map (λ name. name.now) result
-        ≡ source_name (option_map (λ entry. source_of entry.now) entry.entry) }
-{
-    Some(entry?.name.as_ref()?.text())
-}
-
+/// A name of the map, where there is one.
 pub fn name_at(map: &MapFile, index: Option<u32>) -> Option<&str>
     ensures { option_map (λ name. name.now) result
         ≡ option_and_then (slice_get map.now.stated.names) index }

@@ -6,14 +6,14 @@ ghost use Rattle.serde_json.specs.Written.{compact_text, members_text};
 ghost use Rattle.smap_record.specs.Sources.{source_of};
 ghost use Rattle.smap_positions.specs.Json.{answer_value, bad_position_value, excerpt_value, found_value, json_line};
 ghost use Rattle.smap_positions.specs.Json.{none_value, origin_members, unmapped_value};
-ghost use Rattle.smap_positions.specs.Lookup.{is_ignored};
+ghost use Rattle.smap_record.specs.Written.{is_ignored_where};
 ghost use Rattle.smap_positions.specs.Mappings.{bare_value, mapped_value, mapping_value};
 ghost use Rattle.smap_positions.specs.Private.Members.{excerpt_member, ignored_member};
 
-use crate::answer::{from_one, is_ignored, name_at, source_name};
+use crate::answer::{from_one, name_at};
 use crate::map_text::put_json_text;
 use crate::output::{Output, put_number};
-use smap_record::{Answer, MapFile, Mapping, Origin, SourceEntry};
+use smap_record::{Answer, MapFile, Mapping, Origin, SourceEntry, is_ignored, source_name};
 
 /// The generated line and column that were asked for, both from 1.
 #[derive(Clone, Copy)]
@@ -107,7 +107,7 @@ fn put_found<O: Output>(
 /// Puts whether a source is ignored, behind other members.
 pub fn put_ignored<O: Output>(entry: Option<&SourceEntry>, output: &mut O)
     ensures { O.Puts output.old output.new (ignored_member
-        (is_ignored (option_map (λ entry. source_of entry.now) entry.entry))) }
+        (is_ignored_where (option_map (λ entry. source_of entry.now) entry.entry))) }
 {
     output.put(b",\"ignored\":");
     output.put(bool_text(is_ignored(entry)));

@@ -5,11 +5,12 @@ ghost use Rattle.std.specs.Char.{digit_char};
 ghost use Rattle.json.specs.Print.{escape, escape_byte, quoted};
 ghost use Rattle.serde_json.specs.Written.{compact_text};
 ghost use Rattle.smap_record.specs.Written.{value_of_text};
-ghost use Rattle.smap_command.specs.Shown.{shown, shown_byte};
+ghost use Rattle.smap_text.specs.Shown.{shown};
 ghost use Rattle.smap_positions.specs.Private.Escapes.{is_escaped, short_escape};
 
 use crate::output::Output;
 use smap_lines::has_control;
+use smap_text::shown_byte;
 
 /// Puts a text of the user's as it prints: a `?` stands for each ASCII control character.
 pub fn put_shown<O: Output>(text: &str, output: &mut O)
@@ -22,12 +23,6 @@ pub fn put_shown<O: Output>(text: &str, output: &mut O)
     for byte in bytes {
         output.put(&[shown_byte(*byte)]);
     }
-}
-
-fn shown_byte(byte: u8) -> u8
-    ensures { result ≡ shown_byte byte }
-{
-    if byte.is_ascii_control() { b'?' } else { byte }
 }
 
 /// Puts a text as JSON, and `null` for none.

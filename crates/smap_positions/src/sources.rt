@@ -10,13 +10,12 @@ ghost use Rattle.smap_positions.specs.Sources.{IsSourcesText, bytes_text, has_co
 ghost use Rattle.smap_positions.specs.Sources.{printed_row, printed_totals, row_line, row_members, row_value};
 ghost use Rattle.smap_positions.specs.Sources.{totals_lines, totals_value};
 
-use crate::answer::{is_ignored, source_name};
 use crate::growing_text::GrowingText;
 use crate::json_form::{bool_text, put_ignored};
 use crate::map_text::put_json_text;
 use crate::output::{Output, put_number};
 use crate::text_form::put_source;
-use smap_record::{MapFile, SourceEntry};
+use smap_record::{MapFile, SourceEntry, is_ignored, source_name};
 use smap_shares::{SourceRow, source_table};
 use std::alloc::{AllocError, Global};
 

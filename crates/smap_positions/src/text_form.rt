@@ -3,10 +3,10 @@ ghost use Rattle.std.specs.Prelude.{◌++◌, codes, option_map};
 ghost use Rattle.smap_positions.specs.Lines.{ignored_text, name_suffix};
 ghost use Rattle.smap_positions.specs.Lookup.{answer_line, origin_line, source_text};
 
-use crate::answer::{from_one, is_ignored, name_at, source_name};
+use crate::answer::{from_one, name_at};
 use crate::map_text::put_shown;
 use crate::output::{Output, put_number};
-use smap_record::{Answer, MapFile, Origin};
+use smap_record::{Answer, MapFile, Origin, is_ignored, source_name};
 
 /// No mapping stands at the position or before it on its line.
 pub const NONE: &str = "none\n";

@@ -1,7 +1,7 @@
 -- The text of a written map (ECMA-426, Source map format): one regular map as a JSON object without blanks, its keys in
 -- the order of their bytes. Which keys are written is this project's own choice, and so is their order. `sourceRoot` is
 -- not written, since it stands in the names of the sources.
-use Rattle.std.specs.Prelude.{ℕ, List, Option, Some, None, Bool, is_some, if◌then◌else◌, filter, map, option_map, codes}
+use Rattle.std.specs.Prelude.{ℕ, List, Option, Some, None, Bool, false, is_some, if◌then◌else◌, filter, map, option_map, codes}
 use Rattle.std.specs.List.{enumerate_from, list_any}
 use Rattle.serde_json.specs.Data.{Data, null, number, string, array, object, unsigned, Members, no_members, member}
 use Rattle.serde_json.specs.View.{items_of}
@@ -34,6 +34,11 @@ has_content source = is_some source.content
 
 abbrev pub is_ignored_source : StatedSource → Bool
 is_ignored_source source = source.ignored
+
+-- the same where there is a source
+abbrev pub is_ignored_where : Option StatedSource → Bool
+is_ignored_where None = false
+is_ignored_where (Some source) = is_ignored_source source
 
 -- the indices of the sources that are ignored, from 0, rising
 abbrev pub ignored_indices : List StatedSource → List ℕ

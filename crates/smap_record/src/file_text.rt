@@ -47,8 +47,8 @@ pub fn json_text(bytes: &[u8]) -> &[u8]
     without_guard_line(without_mark(bytes))
 }
 
-// The bytes after a byte order mark, where one stands there.
-fn without_mark(bytes: &[u8]) -> &[u8]
+/// The bytes after a byte order mark of UTF-8, where one stands there.
+pub fn without_mark(bytes: &[u8]) -> &[u8]
     ensures { result.now ≡ without_mark bytes.now }
 {
     if bytes.starts_with(&[0xEF, 0xBB, 0xBF]) {

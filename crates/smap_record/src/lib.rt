@@ -27,12 +27,12 @@ mod sources;
 mod write;
 mod written;
 
-pub use entry::SourceEntry;
-pub use file_text::{file_members, json_text};
+pub use entry::{SourceEntry, is_ignored, source_name};
+pub use file_text::{file_members, json_text, without_mark};
 pub use map_file::MapFile;
 pub use parts::file_parts;
 pub use refusal::MapRefusal;
-pub use smap_index::{Answer, BuildRefusal, JoinedMappings};
+pub use smap_index::{Answer, BuildRefusal, JoinedMappings, Neighbours};
 pub use smap_mappings::{Fault, FaultKind, Mapping, Meter, Origin};
 pub use smap_resolve::SourceName;
 pub use url::Url;

@@ -7,6 +7,7 @@ ghost use Rattle.smap_mappings.specs.Limits.{most_text_bytes};
 ghost use Rattle.smap_mappings.specs.Meter.{HasRoom};
 ghost use Rattle.smap_mappings.specs.Order.{IsInOrder};
 ghost use Rattle.smap_mappings.specs.Within.{IsWithin};
+ghost use Rattle.smap_index.specs.Answer.{neighbours};
 ghost use Rattle.smap_index.specs.Parts.{bytes_in, joined};
 ghost use Rattle.smap_index.specs.Marks.{marks, used_lines_in, HasFewMarksOnEachLine};
 ghost use Rattle.smap_record.specs.Limits.{most_file_bytes};
@@ -26,7 +27,7 @@ use crate::refusal::MapRefusal;
 use crate::sources::sources;
 use crate::write::{WriteRefusal, write_owned};
 use serde_json::{Map, Value};
-use smap_index::{Answer, Index, JoinedMappings};
+use smap_index::{Answer, Index, JoinedMappings, Neighbours};
 use smap_mappings::{Mapping, Meter};
 use std::alloc::{AllocError, Global};
 use std::marker::Model;
@@ -227,6 +228,21 @@ impl MapFile {
             × (meter.old.segments ≤ meter.new.segments) }
     {
         self.index.look_up_from(line, column, meter)
+    }
+
+    /// The mappings next to a generated position, from 0 and in UTF-16 code units, on any line. Of fewer than 2 ^ b
+    /// checkpoints it compares at most b, and it decodes fewer than `k` segments; the meter has room for both. The call
+    /// takes no memory.
+    pub fn neighbours(&self, line: u32, column: u32, meter: &mut Meter) -> Neighbours
+        requires room { HasRoom meter.old }
+        ensures both { result ≡ neighbours (joined self.now.stated.parts) line column }
+        ensures compared { (b : ℕ) → length (marks self.now.stated.parts self.now.k) < 2 ^ b
+            → meter.new.comparisons ≤ meter.old.comparisons + b }
+        ensures decoded { meter.new.segments ≤ meter.old.segments + (self.now.k - 1) }
+        ensures onward { (meter.old.comparisons ≤ meter.new.comparisons)
+            × (meter.old.segments ≤ meter.new.segments) }
+    {
+        self.index.neighbours(line, column, meter)
     }
 
     /// A walk through all mappings, section after section, in order. It takes no memory.

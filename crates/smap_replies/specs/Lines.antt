@@ -4,7 +4,7 @@ use Rattle.std.specs.Fmt.{decimal}
 use Rattle.smap_codes.specs.Codes.{text_of}
 use Rattle.smap_codes.specs.declared.code.Code.{Code}
 use Rattle.smap_command.specs.Lines.{line_from}
-use Rattle.smap_command.specs.Shown.{shown}
+use Rattle.smap_text.specs.Shown.{shown}
 
 -- a map file that is refused, with the words for the refusal
 abbrev pub map_refused_line : (path refusal : List ℕ) → List ℕ

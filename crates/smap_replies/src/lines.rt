@@ -2,10 +2,10 @@
 ghost use Rattle.std.specs.Prelude.{◌≡◌, string_bytes, IfOk};
 ghost use Rattle.smap_replies.specs.Lines.{argument_refused_line, code_refused_line, file_failed_line, list_refused_line, map_refused_line};
 ghost use Rattle.smap_replies.specs.Arguments.{argument_text};
-ghost use Rattle.smap_command.specs.Shown.{shown};
+ghost use Rattle.smap_text.specs.Shown.{shown};
 
 use smap_codes::Code;
-use smap_command::shown;
+use smap_text::shown;
 use std::alloc::{AllocError, Global};
 
 /// Standard error: an argument of the command line is not UTF-8.

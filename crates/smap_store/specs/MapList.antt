@@ -2,7 +2,7 @@
 use Rattle.std.specs.Prelude.{◌≡◌, ◌⊎◌, ℕ, ◌+◌, ◌||◌, false, not, List, [], ◌∷◌, ◌++◌, Option, Some, None, is_some, Result}
 use Rattle.std.specs.Prelude.{MatchBool, MatchResult, if◌then◌else◌, length}
 use Rattle.smap_locations.specs.ListLine.{entry_of, is_folder, is_passed_over}
-use Rattle.smap_locations.specs.Locations.{LocationsSeen, is_prefix}
+use Rattle.smap_locations.specs.Locations.{LocationsSeen}
 use Rattle.smap_locations.specs.Named.{IsWith, path_under}
 use Rattle.smap_record.specs.Record.{MapRecord}
 use Rattle.smap_trace.specs.Table.{is_bad_url, record_for}
@@ -20,7 +20,7 @@ file_fault words locations url =
 
 abbrev pub folder_fault : LocationsSeen → (prefix : List ℕ) → Option ListFault
 folder_fault locations prefix =
-    if not (is_prefix prefix) then Some NoFolder
+    if not (is_folder prefix) then Some NoFolder
     else if is_bad_url prefix then Some BadUrl
     else if is_some (path_under prefix locations.folders) then Some Twice
     else None

@@ -4,4 +4,5 @@ mod LineLaws
 mod UnitLaws
 mod PlaceLaws
 mod ExcerptLaws
+mod ShownLaws
 mod Examples

@@ -1,9 +1,9 @@
 -- The excerpt that shows a place in a line: a part of the line, and a caret under the place.
 use Rattle.std.specs.Prelude.{◌-◌, ◌+◌, ℕ, List, [], ◌∷◌, ◌++◌, Option, Some, None, option_map, option_and_then, nat_lt, ◌==◌, if◌then◌else◌, map}
 use Rattle.std.specs.Prelude.{take, drop, slice_get, replicate}
-use Rattle.std.specs.Char.{is_ascii_control}
 use Rattle.std.specs.Str.{chars, encode_utf8_all}
 use Rattle.smap_text.specs.Lines.{lines_of}
+use Rattle.smap_text.specs.Shown.{shown_byte}
 use Rattle.smap_text.specs.Units.{units_of}
 
 -- the number of a line's characters before the one that has this unit; at the line's end all, past it none is
@@ -13,9 +13,9 @@ characters_before (c ∷ cs) column =
     if nat_lt column (units_of c) then Some 0
     else option_map (λ n. n + 1) (characters_before cs (column - units_of c))
 
--- a character as it shows: a tab as a space, every other ASCII control character as `?`
+-- a character as it shows: a tab as a space
 abbrev pub shown_character : ℕ → ℕ
-shown_character c = if c == 0x09 then 0x20 else (if is_ascii_control c then 0x3F else c)
+shown_character c = if c == 0x09 then 0x20 else shown_byte c
 
 -- 120 characters of a line, from 60 before the one of this number on, and a caret under that one
 abbrev pub excerpt_text : (line : List ℕ) (number : ℕ) → List ℕ

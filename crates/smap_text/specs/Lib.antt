@@ -1,5 +1,6 @@
 pub mod Lines
 pub mod Units
 pub mod Place
+pub mod Shown
 pub mod Excerpt
 pub mod Private

@@ -5,6 +5,7 @@ ghost use Rattle.smap_text.specs.Excerpt.{excerpt_of, excerpt_text, line_excerpt
 
 use crate::lines::line_at;
 use crate::place::{Place, unit_place};
+use crate::texts::shown_char;
 use std::alloc::{AllocError, Global};
 use std::iter::repeat_n;
 
@@ -90,9 +91,5 @@ fn push_spaces(shown: &mut String, count: usize) -> Result<(), AllocError>
 fn shown_character(char: char) -> char
     ensures { result ≡ shown_character char }
 {
-    match char {
-        '\t' => ' ',
-        _ if char.is_ascii_control() => '?',
-        _ => char,
-    }
+    if char == '\t' { ' ' } else { shown_char(char) }
 }

@@ -1,5 +1,5 @@
-//! Places in a text as ECMAScript counts them: lines by its line ends, columns in UTF-16 code units; and an excerpt that
-//! shows such a place.
+//! Places in a text as ECMAScript counts them: lines by its line ends, columns in UTF-16 code units; an excerpt that shows
+//! such a place; and how a text of the user's prints.
 //!
 //! ```
 //! let line = line_at(content, 3)?;
@@ -8,7 +8,8 @@
 //!     Place::Inside(byte) => {}
 //!     Place::Past(units) => {}
 //! }
-//! let shown = excerpt(alloc, content, 3, 5)?;
+//! let marked = excerpt(alloc, content, 3, 5)?;
+//! print(shown(alloc, "a\nb.map")?); // a?b.map
 //! ```
 #![tactic(auto)]
 
@@ -16,8 +17,10 @@ mod code_units;
 mod excerpts;
 mod lines;
 mod place;
+mod texts;
 
 pub use code_units::units;
 pub use excerpts::excerpt;
 pub use lines::line_at;
 pub use place::{Place, unit_place};
+pub use texts::{shown, shown_byte};

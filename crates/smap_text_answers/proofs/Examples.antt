@@ -6,7 +6,7 @@ use Rattle.std.specs.Str.{is_utf8, chars}
 use lib.Utf8.{encode}
 use Rattle.smap_codes.specs.Codes.{called}
 use Rattle.smap_codes.specs.declared.code.Code.TheVariants.{NotUtf8}
-use Rattle.smap_command.specs.Shown.{shown}
+use Rattle.smap_text.specs.Shown.{shown}
 use Rattle.smap_locations.specs.Locations.{LocationsSeen}
 use Rattle.smap_locations.specs.declared.refusal.ListFault.TheVariants.{NoTab, NoFolder, BadUrl, Twice, Memory}
 use Rattle.smap_trace.specs.Table.{is_bad_url}

@@ -1,7 +1,7 @@
 -- The line that is printed where a text is rewritten.
 use Rattle.std.specs.Prelude.{ℕ, codes, List, [], ◌∷◌}
 use Rattle.smap_command.specs.Lines.{line_from}
-use Rattle.smap_command.specs.Shown.{shown}
+use Rattle.smap_text.specs.Shown.{shown}
 
 -- memory ran out while the map of a file was read
 abbrev pub map_memory_line : (path : List ℕ) → List ℕ

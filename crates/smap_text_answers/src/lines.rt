@@ -2,7 +2,7 @@
 ghost use Rattle.std.specs.Prelude.{◌≡◌, string_bytes, IfOk};
 ghost use Rattle.smap_text_answers.specs.Lines.{map_memory_line};
 
-use smap_command::shown;
+use smap_text::shown;
 use std::alloc::{AllocError, Global};
 
 /// Standard error: memory ran out while the map of a file was read.

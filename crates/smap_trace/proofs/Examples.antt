@@ -1,6 +1,5 @@
 -- Worked examples of the definitions: each holds by computing both sides.
-use Rattle.std.proofs.Common.{◌≡◌, true, false, [], ◌∷◌, ◌++◌, Option, Some, None, refl, codes}
-use Rattle.smap_resolve.specs.SourceName.{Name, kept}
+use Rattle.std.proofs.Common.{◌≡◌, ℕ, true, false, List, [], ◌∷◌, ◌++◌, Option, Some, None, refl, codes}
 use Rattle.smap_trace.specs.Frame.{FrameParts}
 use Rattle.smap_trace.specs.FrameOf.{frame_of}
 use Rattle.smap_trace.specs.Rewritten.{SourceLocation, fate_at, hidden, line_after, location_text, printable, replaced, stays}
@@ -47,17 +46,17 @@ unfolding is_bad_url
 urls = refl
 
 -- a frame of an ignored source is hidden where that is asked, also where the source has no name; else it stays there
-abbrev of_ignored : Option Name → SourceLocation
+abbrev of_ignored : Option (List ℕ) → SourceLocation
 of_ignored name = record { name = printable name; ignored = true; line = 1; column = 2 }
 
 abbrev a_parts : FrameParts
 a_parts = record { head = codes "f@"; url = codes "u"; line = 1; column = 6; tail = [] }
 
-hiding : fate_at true a_parts (Some (of_ignored None)) ∷ fate_at true a_parts (Some (of_ignored (Some (kept (codes "a")))))
+hiding : fate_at true a_parts (Some (of_ignored None)) ∷ fate_at true a_parts (Some (of_ignored (Some (codes "a"))))
     ∷ fate_at true a_parts None ∷ [] ≡ hidden ∷ hidden ∷ stays ∷ []
 hiding = refl
 
-not_hiding : fate_at false a_parts (Some (of_ignored None)) ∷ fate_at false a_parts (Some (of_ignored (Some (kept (codes "a"))))) ∷ []
+not_hiding : fate_at false a_parts (Some (of_ignored None)) ∷ fate_at false a_parts (Some (of_ignored (Some (codes "a")))) ∷ []
     ≡ stays ∷ replaced (codes "f@" ++ location_text (codes "a") 1 2 ++ []) ∷ []
 not_hiding = refl
 

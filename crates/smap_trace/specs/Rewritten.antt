@@ -11,7 +11,7 @@ use Rattle.smap_lines.specs.Edited.{edited}
 use Rattle.smap_lines.specs.Lines.{Line, end_in, line_text, lines_with_ends}
 use Rattle.smap_record.specs.Record.{MapRecord, answer_of_map}
 use Rattle.smap_record.specs.Sources.{StatedSource}
-use Rattle.smap_resolve.specs.SourceName.{Name, name_text}
+use Rattle.smap_record.specs.Written.{is_ignored_where, text_of_source}
 use Rattle.smap_trace.specs.Frame.{FrameParts}
 use Rattle.smap_trace.specs.FrameOf.{frame_of}
 use Rattle.smap_trace.specs.Table.{record_for}
@@ -20,18 +20,12 @@ use Rattle.smap_trace.specs.Table.{record_for}
 
 -- a name that a frame can print: it has a byte, and none is a control character of ASCII, which could break a line of a
 -- trace or steer a terminal
-abbrev pub printable : Option Name → Option (List ℕ)
+abbrev pub printable : Option (List ℕ) → Option (List ℕ)
 printable None = None
-printable (Some name) = if length (name_text name) == 0 || list_any is_ascii_control (name_text name) then None else Some (name_text name)
+printable (Some name) = if length name == 0 || list_any is_ascii_control name then None else Some name
 
 abbrev pub name_in : Option StatedSource → Option (List ℕ)
-name_in None = None
-name_in (Some source) = printable source.name
-
--- the map says to ignore the source
-abbrev pub is_ignored : Option StatedSource → Bool
-is_ignored None = false
-is_ignored (Some source) = source.ignored
+name_in source = printable (option_and_then text_of_source source)
 
 -- ---- a place
 
@@ -49,7 +43,7 @@ location_of_answer stated Nothing = None
 location_of_answer stated (Unmapped column) = None
 location_of_answer stated (Found column origin) =
     let source = slice_get stated.sources origin.source in
-    Some (record { name = name_in source; ignored = is_ignored source; line = origin.line + 1; column = origin.column + 1 })
+    Some (record { name = name_in source; ignored = is_ignored_where source; line = origin.line + 1; column = origin.column + 1 })
 
 -- where a place comes from, if its map has an origin for it; the line and the column count from 1
 abbrev pub original_at : MapRecord → (line column : ℕ) → Option SourceLocation

@@ -1,11 +1,11 @@
 //! Where a place of a generated program comes from.
 ghost use Rattle.std.specs.Prelude.{◌≡◌, option_map};
 ghost use Rattle.smap_record.specs.Sources.{source_of};
-ghost use Rattle.smap_trace.specs.Rewritten.{is_ignored, name_in, original_at};
+ghost use Rattle.smap_trace.specs.Rewritten.{name_in, original_at};
 ghost use Rattle.smap_trace.specs.SightSeen.{original_seen};
 
 use smap_lines::has_control;
-use smap_record::{Answer, MapFile, Meter, SourceEntry};
+use smap_record::{Answer, MapFile, Meter, SourceEntry, is_ignored, source_name};
 use std::alloc::Global;
 
 /// Where a place comes from: a source, by its name, where it has one that can be printed, and whether its map says to
@@ -51,22 +51,12 @@ pub fn original_at<'t>(
     })
 }
 
-// Whether the map says to ignore a source.
-fn is_ignored(source: Option<&SourceEntry>) -> bool
-    ensures { result ≡ is_ignored (option_map (λ entry. source_of entry.now) source.entry) }
-{
-    match source {
-        Some(entry) => entry.ignored,
-        None => false,
-    }
-}
-
 // The name of a source, where it has one that can be printed: it has a byte, and none is a control character of ASCII.
 fn printable_name(source: Option<&SourceEntry>) -> Option<&str>
     ensures { option_map (λ name. name.now) result
         ≡ name_in (option_map (λ entry. source_of entry.now) source.entry) }
 {
-    let name = source?.name.as_ref()?.text();
+    let name = source_name(source)?;
     if name.is_empty() || has_control(name.as_bytes()) {
         return None;
     }

@@ -1,2 +1,1 @@
-mod ShownLaws
 pub mod FactsLaws

@@ -9,7 +9,7 @@ use Rattle.smap_explain.specs.declared.explanation.Found.TheVariants as founds
 use Rattle.smap_explain.specs.declared.explanation.NotJsonFacts.{NotJsonFacts}
 use Rattle.smap_explain.specs.declared.explanation.Place.{Place}
 use Rattle.smap_explain.specs.declared.explanation.Stop.{Stop}
-use Rattle.smap_verdicts.specs.Shown.{shown}
+use Rattle.smap_text.specs.Shown.{shown}
 use Rattle.smap_verdicts.specs.Texts.{text_from}
 
 -- ---- a file that is no JSON

@@ -1,5 +1,4 @@
 pub mod Texts
-pub mod Shown
 pub mod Counts
 pub mod Segment
 pub mod Explanation

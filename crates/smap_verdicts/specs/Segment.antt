@@ -12,7 +12,7 @@ use Rattle.smap_explain.specs.declared.explanation.Measure.{Measure}
 use Rattle.smap_explain.specs.declared.explanation.Quantity.{Quantity}
 use Rattle.smap_explain.specs.declared.explanation.Quantity.TheVariants as quantities
 use Rattle.smap_explain.specs.declared.explanation.SegmentFacts.{SegmentFacts}
-use Rattle.smap_verdicts.specs.Shown.{shown}
+use Rattle.smap_text.specs.Shown.{shown}
 use Rattle.smap_verdicts.specs.Texts.{text_from}
 
 -- what a value is called

@@ -4,8 +4,8 @@ ghost use Rattle.smap_verdicts.specs.Explanation.{at_text, before_text, beginnin
 ghost use Rattle.smap_verdicts.specs.Explanation.{mapping_text, not_json_text, section_text};
 ghost use Rattle.smap_verdicts.specs.Explanation.{stop_place_text, stop_text};
 
-use crate::shown::shown;
 use smap_explain::{Beginning, BuildFacts, Found, NotJsonFacts, Place, Stop};
+use smap_text::shown;
 use std::alloc::{AllocError, Global};
 
 /// What the file begins as, and where reading stopped, in lines that each end with an LF.

@@ -17,7 +17,6 @@ mod facts_text;
 mod measure_text;
 mod nearest_lines;
 mod segment_lines;
-mod shown;
 
 pub use as_json::refusal_json;
 pub use as_text::{fault_text, refusal_text};

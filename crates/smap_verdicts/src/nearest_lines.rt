@@ -5,14 +5,14 @@ ghost use Rattle.smap_explain.specs.Build.{place_of};
 ghost use Rattle.smap_verdicts.specs.Nearest.{has_line, is_on, line_text, mapping_text, nearest_text, origin_text};
 
 use crate::facts_text::at_text;
-use smap_explain::{Nearest, Place};
-use smap_record::{Mapping, Origin};
+use smap_explain::Place;
+use smap_record::{Mapping, Neighbours, Origin};
 use std::alloc::{AllocError, Global};
 
 /// Where the mappings nearest to a position on this line, from 0, stand, in whole sentences: lines that begin with two
 /// blanks and end with an LF. Lines and columns print from 1.
 #[tactic(auto, unfolding(crate::specs::Nearest::nearest_text))]
-pub fn nearest_text(alloc: Global, about: Nearest, line: u32) -> Result<String, AllocError>
+pub fn nearest_text(alloc: Global, about: Neighbours, line: u32) -> Result<String, AllocError>
     ensures { IfOk result (λ text. string_bytes text ≡ nearest_text line about) }
 {
     let none = line_text(alloc, line, about)?;
@@ -33,7 +33,7 @@ pub fn nearest_text(alloc: Global, about: Nearest, line: u32) -> Result<String, 
 
 // That the line has no mapping.
 #[tactic(auto, unfolding(crate::specs::Nearest::line_text))]
-fn line_text(alloc: Global, line: u32, about: Nearest) -> Result<String, AllocError>
+fn line_text(alloc: Global, line: u32, about: Neighbours) -> Result<String, AllocError>
     ensures { IfOk result (λ text. string_bytes text ≡ line_text line about) }
 {
     if has_line(line, about) {
@@ -43,7 +43,7 @@ fn line_text(alloc: Global, line: u32, about: Nearest) -> Result<String, AllocEr
     format!(in alloc; "  line {line} has no mapping\n")
 }
 
-fn has_line(line: u32, about: Nearest) -> bool
+fn has_line(line: u32, about: Neighbours) -> bool
     ensures { result ≡ has_line line about }
 {
     is_on_where(line, about.before) || is_on_where(line, about.after)

@@ -4,9 +4,9 @@ ghost use Rattle.smap_verdicts.specs.Segment.{column_text, more_text, next_numbe
 ghost use Rattle.smap_verdicts.specs.Segment.{of_its_own, of_section, place_text, segment_text, unmeasured, wrong_text};
 
 use crate::measure_text::measure_text;
-use crate::shown::shown;
 use smap_explain::{Measure, SegmentFacts};
 use smap_record::FaultKind;
+use smap_text::shown;
 use std::alloc::{AllocError, Global};
 
 /// The text of a segment, where it stands, what it spells and what is wrong with it, in lines that each end with an LF.

@@ -1,5 +1,5 @@
 -- What the search over a table in order finds on either side of a bound, and so the walk after a checkpoint.
-use Rattle.std.specs.Prelude.{ℕ, ◌+◌, List, Option, Some, None, Bool, not, ◌==◌, if◌then◌else◌, map, take, slice_get}
+use Rattle.std.specs.Prelude.{ℕ, ◌+◌, List, Option, Some, None, Bool, not, ◌==◌, nat_lt, nat_le, if◌then◌else◌, map, take, slice_get}
 use Rattle.std.specs.List.{last_or, prefix_len}
 use Rattle.smap_mappings.specs.Range.{position_at, stands_before}
 use Rattle.smap_mappings.specs.declared.mapping.Mapping.{Mapping}
@@ -31,10 +31,26 @@ end_on_side Through column = column + 1
 abbrev pub end_of : Bound → ℕ
 end_of bound = end_on_side bound.side bound.column
 
+-- the bounds in front of a position and behind it
+abbrev pub up_to : (line column : ℕ) → Bound
+up_to line column = record { line = line; column = column; side = Before }
+
+abbrev pub through : (line column : ℕ) → Bound
+through line column = record { line = line; column = column; side = Through }
+
+-- the bound on a line: the end of one before its own, and else itself
+abbrev pub bound_on : ℕ → Bound → Bound
+bound_on line bound = if nat_lt line bound.line then through line 4294967295 else bound
+
 -- the mapping, where it stands on this line
 abbrev pub on_line : ℕ → Option Mapping → Option Mapping
 on_line line None = None
 on_line line (Some mapping) = if mapping.line == line then Some mapping else None
+
+-- the mapping, where it stands on this line or on one after it
+abbrev pub from_line : ℕ → Option Mapping → Option Mapping
+from_line line None = None
+from_line line (Some mapping) = if nat_le line mapping.line then Some mapping else None
 
 -- how many mappings at the front stand up to the bound
 abbrev pub front_up_to : Bound → List Mapping → ℕ

@@ -1,7 +1,7 @@
 -- What stands for a byte of a text.
 use Rattle.std.specs.Prelude.{ℕ, Bool, List, [], ◌∷◌, Option, Some, None, ◌==◌, ◌||◌, nat_lt, if◌then◌else◌}
 use Rattle.json.specs.Print.{escape_letter}
-use Rattle.smap_command.specs.Shown.{shown_byte}
+use Rattle.smap_text.specs.Shown.{shown_byte}
 
 -- the letter of a byte's short escape in JSON, where it has one
 abbrev pub short_escape : ℕ → Option ℕ

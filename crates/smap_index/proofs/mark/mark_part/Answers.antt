@@ -9,7 +9,7 @@ use Rattle.smap_mappings.specs.State.{IsAfter, IsMappingAt}
 use Rattle.smap_mappings.specs.declared.cursor.Cursor.{Cursor}
 use Rattle.smap_index.specs.Parts.{placed_mapping, placed}
 use Rattle.smap_index.proofs.WholeTextLaws.{unmoved_in_range}
-use Rattle.smap_index.proofs.WalkLaws.{all_taken, all_placed, after_next, last_none, last_next, any_none, any_next, none_next, within_at}
+use Rattle.smap_index.proofs.WalkLaws.{all_taken, all_placed, after_next, last_none, last_next, any_none, any_next, none_next, in_range_at}
 use Rattle.smap_index.proofs.FitLaws.{fitting}
 use Rattle.smap_index.proofs.CountingLaws.{IsCounting, IsMarked, marked_none, counting_none, counting_next, number_there, marked_next}
 use Rattle.smap_index.proofs.PassedLaws.{all_decoded, counting_passed, last_passed, marked_passed, same_past}
@@ -45,7 +45,7 @@ walk_after-walk-requires-clause-unmoved c still =
     let packed = c.start-start.ensures.packed in
     let all = unmoved_in_range part most_indices most_indices (c.is_moving-moves.ensures (still))
     (c.accepted_texts_have_no_fault.ensures.within part.text most_indices most_indices packed.short packed.accepted) in
-    within_at part j c.in-Some.mapping c.in-Some.after (c.in-Some.ensures.some j c.loop-mapping.invariant.after) all
+    in_range_at part j c.in-Some.mapping all (c.in-Some.ensures.some j c.loop-mapping.invariant.after).mapping_is
 
 pub mark-requires-clause-in_range : goal.mark-requires-clause-in_range
 mark-requires-clause-in_range c none = (or_parts _ _ (sym c.walk_after-walk.ensures.past_limit ∙ none)).1

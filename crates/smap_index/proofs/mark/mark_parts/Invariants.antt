@@ -1,7 +1,7 @@
 use Rattle.std.proofs.Common.{◌≡◌, ◌+◌, true, None, take, drop}
 use Rattle.std.specs.List.{AllByRecursion, position_from}
 use Rattle.std.specs.Option.{option_or}
-use Rattle.smap_index.specs.Faults.{neighbours, is_overlapping, is_part_past_limit, overlap_fault, range_fault}
+use Rattle.smap_index.specs.Faults.{adjacent, is_overlapping, is_part_past_limit, overlap_fault, range_fault}
 use Rattle.smap_index.specs.Marks.{marks}
 use Rattle.smap_index.specs.Private.Walk.{IsTextInOrder}
 use Rattle.smap_index.proofs.PartLaws.{IsFilled}
@@ -11,7 +11,7 @@ use Rattle.smap_index.proofs.mark.mark_parts.Given as goal
 -- their checkpoints while there is none and there was room
 abbrev pub invariant-loop-i : goal.invariant-loop-i
 invariant-loop-i l = record {
-  overlap : overlap_fault l.parts ≡ position_from is_overlapping (l.i + 1) (neighbours (drop l.i l.parts));
+  overlap : overlap_fault l.parts ≡ position_from is_overlapping (l.i + 1) (adjacent (drop l.i l.parts));
   past_limit : option_or l.past_limit (position_from is_part_past_limit l.i (drop l.i l.parts)) ≡ range_fault l.parts;
   marked : l.past_limit ≡ None → l.has_room ≡ true → IsFilled l.parts (marks (take l.i l.parts) l.interval) l.fn.checkpoints l.checkpoints;
   ordered : AllByRecursion IsTextInOrder (take l.i l.parts);

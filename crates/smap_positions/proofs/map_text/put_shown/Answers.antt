@@ -1,5 +1,5 @@
 use Rattle.std.proofs.Common.{sym, ap, ◌∙◌, subst}
-use Rattle.smap_command.specs.Shown.{shown}
+use Rattle.smap_text.specs.Shown.{shown}
 use Rattle.std.proofs.lemmas.List.{take_all}
 use Rattle.std.proofs.Common.{flat_map}
 use Rattle.smap_positions.specs.Private.Escapes.{shown_piece}

@@ -1,16 +1,14 @@
-use Rattle.std.proofs.Common.{◌∙◌}
+use Rattle.std.proofs.Common.{sym, ap, ◌∙◌}
 use Rattle.smap_index.specs.Parts.{joined}
-use Rattle.smap_index.proofs.AnswerLaws.{first_on_line, first_on_another, none_at_or_after}
+use Rattle.smap_index.specs.Answer.{answer_of_last}
+use Rattle.smap_index.specs.Private.Search.{on_line, first_past}
+use Rattle.smap_index.proofs.AnswerLaws.{first_answers}
 use Rattle.smap_index.proofs.index.Index.look_up_from.Goals as goal
 
-pub returns-in-Some-clause-answer : goal.returns-in-Some-clause-answer
-returns-in-Some-clause-answer c = c.answer_of.ensures
-    ∙ first_on_line c.args.line c.args.column (joined c.args.self.now.parts) c.in-Some.ensures.ordered c.in-Some.mapping
-    c.in-Some.ensures.first c.if-mapping-line.true
-
-pub returns-in-Some-2-clause-answer : goal.returns-in-Some-2-clause-answer
-returns-in-Some-2-clause-answer c = first_on_another c.args.line c.args.column (joined c.args.self.now.parts) c.in-Some.ensures.ordered
-    c.in-Some.mapping c.in-Some.ensures.first c.if-mapping-line.false
-
-pub returns-in-None-clause-answer : goal.returns-in-None-clause-answer
-returns-in-None-clause-answer c = none_at_or_after c.args.line c.args.column (joined c.args.self.now.parts) c.in-None.ensures.ordered c.in-None.ensures.first
+pub returns-clause-answer : goal.returns-clause-answer
+returns-clause-answer c =
+    let line = c.args.line in
+    let list = joined c.args.self.now.parts in
+    c.answer_on.ensures
+    ∙ ap (λ o. answer_of_last (on_line line o)) (c.next_to.ensures.after ∙ ap (λ bound. first_past bound list) c.new-bound.ensures)
+    ∙ sym (first_answers line c.args.column list c.next_to.ensures.ordered)

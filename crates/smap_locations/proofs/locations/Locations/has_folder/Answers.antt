@@ -3,8 +3,8 @@ use Rattle.smap_locations.specs.Named.{path_under}
 use Rattle.smap_locations.proofs.PathLaws.{no_folder}
 use Rattle.smap_locations.proofs.locations.Locations.has_folder.Goals as goal
 
-pub returns-else-is_prefix : goal.returns-else-is_prefix
-returns-else-is_prefix c =
-    c.if-is_prefix.false
-    ∙ sym (ap is_some (no_folder c.self.inside.folders c.args.prefix.now c.self.invariant (sym c.is_prefix.ensures ∙ c.if-is_prefix.false)))
+pub returns-else-is_folder : goal.returns-else-is_folder
+returns-else-is_folder c =
+    c.if-is_folder.false
+    ∙ sym (ap is_some (no_folder c.self.inside.folders c.args.prefix.now c.self.invariant (sym c.is_folder.ensures ∙ c.if-is_folder.false)))
     ∙ ap (λ seen. is_some (path_under c.args.prefix.now seen.folders)) c.self.view_is

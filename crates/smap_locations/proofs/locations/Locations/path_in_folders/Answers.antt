@@ -5,7 +5,7 @@ use Rattle.smap_locations.specs.Named.{path_under}
 use Rattle.smap_locations.specs.Paths.{map_path}
 use Rattle.smap_locations.proofs.PathLaws.{folder_here, no_folder, none_here}
 use Rattle.smap_locations.proofs.locations.Locations.path_in_folders.Goals as goal
-use Rattle.smap_locations.proofs.locations.Locations.path_in_folders.Goals.{then-is_prefix+in_default, else-is_prefix}
+use Rattle.smap_locations.proofs.locations.Locations.path_in_folders.Goals.{then-is_folder+in_default, else-is_folder}
 
 pub returns-in-Some : goal.returns-in-Some
 returns-in-Some c =
@@ -36,9 +36,9 @@ loop-end-preserved c =
     ∙ ap (λ f. path_within f url (end - 1)) same in
     record {
       within = omega (arith, c.loop-end.invariant.within);
-      later = elim c.if-is_prefix.branch [
-        | then-is_prefix+in_default w ↦ on (sym w.path_under.ensures ∙ ap (option_map (λ path. string_bytes path.now)) w.in_default.is)
-        | else-is_prefix w ↦ on (no_folder folders c.split_at.result.0.now c.self.invariant (sym c.is_prefix.ensures ∙ w.if-is_prefix.false))
+      later = elim c.if-is_folder.branch [
+        | then-is_folder+in_default w ↦ on (sym w.path_under.ensures ∙ ap (option_map (λ path. string_bytes path.now)) w.in_default.is)
+        | else-is_folder w ↦ on (no_folder folders c.split_at.result.0.now c.self.invariant (sym c.is_folder.ensures ∙ w.if-is_folder.false))
       ];
     }
 

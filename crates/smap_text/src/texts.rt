@@ -1,6 +1,6 @@
 //! How a text that is not the program's own prints.
 ghost use Rattle.std.specs.Prelude.{◌≡◌, string_bytes, IfOk};
-ghost use Rattle.smap_command.specs.Shown.{shown, shown_byte};
+ghost use Rattle.smap_text.specs.Shown.{shown, shown_byte};
 
 use std::alloc::{AllocError, Global};
 
@@ -11,8 +11,15 @@ pub fn shown(alloc: Global, text: &str) -> Result<String, AllocError>
     text.chars().map(shown_char).collect(alloc)
 }
 
+/// A byte of such a text as it prints.
+pub fn shown_byte(byte: u8) -> u8
+    ensures { result ≡ shown_byte byte }
+{
+    if byte.is_ascii_control() { b'?' } else { byte }
+}
+
 // A character as it prints.
-fn shown_char(char: char) -> char
+pub fn shown_char(char: char) -> char
     ensures { result ≡ shown_byte char }
 {
     if char.is_ascii_control() { '?' } else { char }

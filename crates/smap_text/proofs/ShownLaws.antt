@@ -7,7 +7,7 @@ use Rattle.std.proofs.lemmas.Bool.{cond-false, cond_both, or_from, and_right, le
 use Rattle.std.proofs.lemmas.List.{map-append}
 use Rattle.std.proofs.lemmas.Str.{encode_ascii, encodes-chars}
 use lib.Utf8.{encode, encodes, next}
-use Rattle.smap_verdicts.specs.Shown.{shown_byte, shown}
+use Rattle.smap_text.specs.Shown.{shown_byte, shown}
 
 -- a byte of no ASCII character prints as it is
 above : (n : ℕ) → 128 ≤ n → shown_byte n ≡ n

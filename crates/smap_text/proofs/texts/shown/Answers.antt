@@ -1,9 +1,9 @@
 use Rattle.std.proofs.Common.{◌≡◌, map, IfOk, string_bytes, subst, encode_utf8_all, rules}
 use Rattle.std.specs.Str.{chars}
 use Rattle.std.proofs.lemmas.Str.{chars_from_encodes}
-use Rattle.smap_verdicts.specs.Shown.{shown_byte}
-use Rattle.smap_verdicts.proofs.ShownLaws.{shown_encodes}
-use Rattle.smap_verdicts.proofs.shown.shown.Goals as goal
+use Rattle.smap_text.specs.Shown.{shown_byte}
+use Rattle.smap_text.proofs.ShownLaws.{shown_encodes}
+use Rattle.smap_text.proofs.texts.shown.Goals as goal
 
 pub returns : goal.returns
 returns c =

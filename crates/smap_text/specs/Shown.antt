@@ -2,7 +2,7 @@
 use Rattle.std.specs.Prelude.{ℕ, if◌then◌else◌, List, map}
 use Rattle.std.specs.Char.{is_ascii_control}
 
--- a byte as it prints: an ASCII control character as `?`
+-- a byte as it prints, or a character: an ASCII control character as `?`
 abbrev pub shown_byte : ℕ → ℕ
 shown_byte byte = if is_ascii_control byte then 63 else byte
 

@@ -2,9 +2,9 @@ use Rattle.std.proofs.Common.{sym, ap, ◌∙◌, arith}
 use Rattle.std.specs.Prelude.{option_map}
 use Rattle.std.specs.Option.{option_or, option_copied}
 use Rattle.smap_index.specs.Checkpoint.{mapping_of}
-use Rattle.smap_index.proofs.IndexLaws.{interval_within, index_in_order, mappings_in_order, compared, part_within, state_between, state_on_line}
-use Rattle.smap_index.proofs.IndexLaws.{part_in_range, first_after, first_elsewhere, first_of_checkpoints}
-use Rattle.smap_index.proofs.index.Index.first_past.Goals as goal
+use Rattle.smap_index.proofs.IndexLaws.{interval_within, index_in_order, mappings_in_order, compared, part_within, state_between, state_on_line, part_in_range}
+use Rattle.smap_index.proofs.IndexLaws.{none_before, none_from, before_after, first_after, first_elsewhere, first_of_checkpoints}
+use Rattle.smap_index.proofs.index.Index.next_to.Goals as goal
 
 pub nearest_checkpoints-nearest-requires-clause-ordered : goal.nearest_checkpoints-nearest-requires-clause-ordered
 nearest_checkpoints-nearest-requires-clause-ordered c = index_in_order _ c.self.invariant
@@ -24,7 +24,7 @@ decode_after-decoded-requires-clause-state c =
 pub decode_after-decoded-requires-clause-on_line : goal.decode_after-decoded-requires-clause-on_line
 decode_after-decoded-requires-clause-on_line c =
     state_on_line _ c.self.invariant c.args.bound.now _ (ap option_copied (sym c.in-Some.is) ∙ c.nearest_checkpoints-nearest.ensures.last)
-    c.index-part.result.now c.index-part.ensures c.if-checkpoint-bound.true
+    c.index-part.result.now c.index-part.ensures _ c.on-end.ensures
 
 pub decode_after-decoded-requires-clause-in_range : goal.decode_after-decoded-requires-clause-in_range
 decode_after-decoded-requires-clause-in_range c =
@@ -46,21 +46,38 @@ returns-in-Some-2-clause-compared c = compared _ c.self.invariant _ c.self.view_
 pub returns-in-None-clause-compared : goal.returns-in-None-clause-compared
 returns-in-None-clause-compared c = compared _ c.self.invariant _ c.self.view_is _ _ c.nearest_checkpoints-nearest.ensures.few
 
-pub returns-in-Some-clause-first : goal.returns-in-Some-clause-first
-returns-in-Some-clause-first c =
+pub returns-in-Some-clause-before : goal.returns-in-Some-clause-before
+returns-in-Some-clause-before c =
+    before_after _ c.self.invariant c.args.bound.now _ (ap option_copied (sym c.in-Some.is) ∙ c.nearest_checkpoints-nearest.ensures.last)
+    c.index-part.result.now c.index-part.ensures _ c.self.view_is c.args.from c.if-checkpoint-from.true _ c.on-end.ensures
+    c.decode_after-decoded.result.last c.decode_after-decoded.ensures.last
+
+pub returns-in-Some-2-clause-before : goal.returns-in-Some-2-clause-before
+returns-in-Some-2-clause-before c =
+    none_from _ c.self.invariant c.args.bound.now _ (ap option_copied (sym c.in-Some.is) ∙ c.nearest_checkpoints-nearest.ensures.last)
+    _ c.self.view_is c.args.from c.if-checkpoint-from.false
+
+pub returns-in-None-clause-before : goal.returns-in-None-clause-before
+returns-in-None-clause-before c =
+    none_before _ c.self.invariant c.args.bound.now _ c.self.view_is c.args.from
+    (sym c.nearest_checkpoints-nearest.ensures.last ∙ ap option_copied c.in-None.is)
+
+pub returns-in-Some-clause-after : goal.returns-in-Some-clause-after
+returns-in-Some-clause-after c =
     c.or.ensures ∙ ap (option_or c.decode_after-decoded.result.next)
     (c.mapping_at-next.ensures ∙ ap (option_map mapping_of) c.nearest_checkpoints-nearest.ensures.next)
     ∙ first_after _ c.self.invariant c.args.bound.now _ (ap option_copied (sym c.in-Some.is) ∙ c.nearest_checkpoints-nearest.ensures.last)
-    c.index-part.result.now c.index-part.ensures _ c.self.view_is c.decode_after-decoded.result.next c.decode_after-decoded.ensures.next
+    c.index-part.result.now c.index-part.ensures _ c.self.view_is _ c.on-end.ensures c.decode_after-decoded.result.next
+    c.decode_after-decoded.ensures.next
 
-pub returns-in-Some-2-clause-first : goal.returns-in-Some-2-clause-first
-returns-in-Some-2-clause-first c =
+pub returns-in-Some-2-clause-after : goal.returns-in-Some-2-clause-after
+returns-in-Some-2-clause-after c =
     c.mapping_at-next.ensures ∙ ap (option_map mapping_of) c.nearest_checkpoints-nearest.ensures.next
     ∙ first_elsewhere _ c.self.invariant c.args.bound.now _
-    (ap option_copied (sym c.in-Some.is) ∙ c.nearest_checkpoints-nearest.ensures.last) _ c.self.view_is c.if-checkpoint-bound.false
+    (ap option_copied (sym c.in-Some.is) ∙ c.nearest_checkpoints-nearest.ensures.last) _ c.self.view_is (omega (arith, c.if-checkpoint-from.false, c.requires.from))
 
-pub returns-in-None-clause-first : goal.returns-in-None-clause-first
-returns-in-None-clause-first c =
+pub returns-in-None-clause-after : goal.returns-in-None-clause-after
+returns-in-None-clause-after c =
     c.mapping_at-next.ensures ∙ ap (option_map mapping_of) c.nearest_checkpoints-nearest.ensures.next
     ∙ first_of_checkpoints _ c.self.invariant c.args.bound.now _ c.self.view_is (sym c.nearest_checkpoints-nearest.ensures.last ∙ ap option_copied c.in-None.is)
 
