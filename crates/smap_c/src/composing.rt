@@ -10,7 +10,7 @@ use crate::handles::{BytesHandle, InnersHandle, MapHandle};
 use crate::inners::Inners;
 use crate::status::{DONE, NO_MEMORY, REFUSED};
 use crate::written::hand_out;
-use smap_compose::{ComposeRefusal, compose_all};
+use smap_compose::{ComposeRefusal, LeftOut, compose_all};
 use smap_record::MapFile;
 use std::alloc::Global;
 
@@ -156,14 +156,12 @@ fn all_composed_text(
         return Err(ComposeRefusal::SourceIndex);
     }
     let maps = inners.maps(alloc)?;
-    let mut composed = compose_all(alloc, outer, &maps)?;
-    if options.prune {
-        composed = composed.prune(alloc)?;
-    }
-    if options.no_content {
-        composed.leave_contents_out();
-    }
-    Ok(composed.write(alloc)?)
+    let left_out = LeftOut {
+        unused: options.prune,
+        contents: options.no_content,
+    };
+    let composed = compose_all(alloc, outer, &maps, left_out)?;
+    Ok(composed.write_owned(alloc)?)
 }
 
 /// Frees inner maps with their places, and leaves their handle empty.

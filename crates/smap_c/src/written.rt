@@ -63,7 +63,7 @@ pub extern "C" fn smap_compose(
     ensures status { (result ≡ 0) ⊎ (result ≡ 1) ⊎ (result ≡ 3) }
 {
     match compose(alloc, outer.lend(), source, inner.lend()) {
-        Ok(composed) => match composed.write(alloc) {
+        Ok(composed) => match composed.write_owned(alloc) {
             Ok(text) => hand_out(alloc, text, bytes),
             Err(_) => NO_MEMORY,
         },

@@ -1,9 +1,22 @@
--- What a call gives of a map that may be too long to write.
-use Rattle.std.proofs.Common.{◌≡◌, Bool, true, false, cond, Some, None, Result, Ok, Err, IfOk}
+-- What a call gives of a map that may be too long to write, and of what is left of it.
+use Rattle.std.proofs.Common.{◌≡◌, ℕ, Bool, true, false, cond, List, length, map, Some, None, Result, Ok, Err, IfOk, refl, sym, ap, subst, ◌∙◌}
+use Rattle.std.specs.Prelude.{Option, is_some}
+use Rattle.std.specs.List.{All}
+use Rattle.std.proofs.lemmas.List.{length-map, map-id}
 use Rattle.smap_mappings.specs.Encode.{is_text_too_long}
 use Rattle.smap_mappings.specs.Exact.{GivesOr}
+use Rattle.smap_mappings.specs.Within.{IsWithin}
+use Rattle.smap_mappings.specs.declared.mapping.Mapping.{Mapping}
+use Rattle.smap_index.specs.Answer.{answer_at_or_before}
 use Rattle.smap_record.specs.Refusals.{unless}
+use Rattle.smap_record.specs.Sources.{StatedSource}
 use Rattle.smap_compose.specs.Composition.{Composition, unless_too_long}
+use Rattle.smap_compose.specs.LeftOut.{content_where, contents_where, left_of, pruned_where}
+use Rattle.smap_compose.specs.Pruned.{AnswersAlike, named_answer, pruned}
+use Rattle.smap_compose.specs.Private.Listing.{lent_source, lent_text}
+use Rattle.smap_compose.specs.Private.Parts.{AreFit, parts_seen}
+use Rattle.smap_compose.specs.declared.left_out.LeftOut.{LeftOut}
+use Rattle.smap_compose.specs.declared.parts.Parts.{Parts}
 use Rattle.smap_compose.specs.declared.refusal.ComposeRefusal.{ComposeRefusal}
 use Rattle.smap_compose.specs.declared.refusal.ComposeRefusal.TheVariants.{Memory, TooLarge}
 
@@ -16,3 +29,71 @@ given_is_whole whole (Ok composed) gives = by (is_text_too_long whole.mappings) 
     by : (long : Bool) → unless (cond long (Some TooLarge) None) whole ≡ Ok composed → whole ≡ composed
     by true gives = absurd (cc)
     by false gives = cc
+
+pub same_compositions : {mappings mappings' : List Mapping} {sources sources' : List StatedSource} {names names' : List (List ℕ)} {file file' : Option (List ℕ)}
+    → mappings ≡ mappings' → sources ≡ sources' → names ≡ names' → file ≡ file'
+    → ◌≡◌ {A = Composition} (record { mappings = mappings; sources = sources; names = names; file = file })
+    (record { mappings = mappings'; sources = sources'; names = names'; file = file' })
+same_compositions mappings_are sources_are names_are file_is = rw (mappings_are, sources_are, names_are, file_is) refl
+
+-- ---- a map whose text is too long or not
+
+pub short_enough : (whole : Composition) → is_text_too_long whole.mappings ≡ false → unless_too_long whole ≡ Ok whole
+short_enough whole short = ap (λ long. unless (cond long (Some TooLarge) None) whole) short
+
+-- ---- what is left
+
+pub contents_are : (left_out : Bool) (whole : Composition)
+    → contents_where left_out whole ≡ record whole { sources = map (content_where left_out) whole.sources }
+contents_are true whole = refl
+contents_are false whole = ap (λ (sources : List StatedSource). record whole { sources = sources }) (sym (map-id whole.sources))
+
+pub same_mappings : (left_out : Bool) (whole : Composition) → (contents_where left_out whole).mappings ≡ whole.mappings
+same_mappings left_out whole = ap (λ (w : Composition). w.mappings) (contents_are left_out whole)
+
+pub made_where : (left_out : Bool) (whole : Composition) (sources : List StatedSource) (names : List (List ℕ)) (file : Option (List ℕ))
+    → is_text_too_long whole.mappings ≡ false → sources ≡ map (content_where left_out) whole.sources → names ≡ whole.names → file ≡ whole.file
+    → unless_too_long (contents_where left_out whole)
+    ≡ Ok (record { mappings = whole.mappings; sources = sources; names = names; file = file })
+made_where left_out whole sources names file short sources_are names_are file_is =
+    ap unless_too_long (contents_are left_out whole)
+    ∙ short_enough (record whole { sources = map (content_where left_out) whole.sources }) short
+    ∙ ap Ok (same_compositions refl (sym sources_are) (sym names_are) (sym file_is))
+
+pub given_where : (left_out : LeftOut) (whole left : Composition) → is_text_too_long whole.mappings ≡ false
+    → left ≡ pruned_where left_out.unused whole
+    → unless_too_long (contents_where left_out.contents left) ≡ left_of left_out (unless_too_long whole)
+given_where left_out whole left short is =
+    ap (λ (w : Composition). unless_too_long (contents_where left_out.contents w)) is ∙ sym (ap (left_of left_out) (short_enough whole short))
+
+-- ---- a length that is given
+
+pub some_short : (long : Bool) (bytes found : ℕ) → Some found ≡ cond long None (Some bytes) → long ≡ false
+some_short true bytes found is = absurd (cc)
+some_short false bytes found is = refl
+
+pub some_bytes : (long : Bool) (bytes found : ℕ) → Some found ≡ cond long None (Some bytes) → found ≡ bytes
+some_bytes true bytes found is = absurd (cc)
+some_bytes false bytes found is = cc
+
+no_such : false ≡ true → ⊥
+no_such same = cc
+
+pub given_short : (long : Bool) (bytes : ℕ) (given : Option ℕ) → given ≡ cond long None (Some bytes) → is_some given ≡ true → long ≡ false
+given_short true bytes given is some = absurd (no_such (sym (ap is_some is) ∙ some))
+given_short false bytes given is some = refl
+
+-- ---- what is left answers alike
+
+pub left_alike : (left_out : Bool) (whole left : Composition) → left ≡ pruned_where left_out whole → AnswersAlike whole (pruned whole)
+    → AnswersAlike whole left
+left_alike true whole left is alike line column =
+    ap (λ (w : Composition). named_answer w (answer_at_or_before w.mappings line column)) is ∙ alike line column
+left_alike false whole left is alike line column = ap (λ (w : Composition). named_answer w (answer_at_or_before w.mappings line column)) is
+
+pub parts_within : (parts : Parts) → AreFit parts
+    → All (IsWithin (length (parts_seen parts).sources) (length (parts_seen parts).names)) (parts_seen parts).mappings
+parts_within parts fit =
+    let P : ℕ → Type 0 = λ many. All (IsWithin many (length parts.listing.names.items)) parts.mappings.items in
+    let Q : ℕ → Type 0 = λ many. All (IsWithin (length (map lent_source parts.listing.sources.items)) many) parts.mappings.items in
+    subst Q (sym (length-map parts.listing.names.items lent_text)) (subst P (sym (length-map parts.listing.sources.items lent_source)) fit.within)

@@ -1,4 +1,3 @@
-pub mod ComposedLaws
 pub mod ListLaws
 pub mod ListedLaws
 pub mod FollowLaws

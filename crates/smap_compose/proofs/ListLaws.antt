@@ -1,13 +1,9 @@
--- A list that is copied to the end of another.
-use Rattle.std.proofs.Common.{◌≡◌, ℕ, ◌+◌, ◌<◌, ◌≤◌, suc, zero, List, [], ◌∷◌, ◌++◌, length, take, drop, get_or, map, set, Some, None, refl, sym, ap, ◌∙◌, arith}
+-- A list that is copied to the end of another, and one whose elements are given one after another.
+use Rattle.std.proofs.Common.{◌≡◌, ℕ, ◌+◌, ◌<◌, ◌≤◌, suc, zero, List, [], ◌∷◌, ◌++◌, length, take, drop, map, Some, None, refl, sym, ap, ◌∙◌, arith}
 use Rattle.std.specs.List.{slice_get}
-use Rattle.std.proofs.lemmas.List.{append_assoc, map-append}
-
-head : {X : Type 0} {x y : X} {xs ys : List X} → x ∷ xs ≡ y ∷ ys → x ≡ y
-head are = cc
-
-tail : {X : Type 0} {x y : X} {xs ys : List X} → x ∷ xs ≡ y ∷ ys → xs ≡ ys
-tail are = cc
+use Rattle.std.specs.Vec.Iter.{into_iter_items, into_iter_len}
+use Rattle.std.specs.declared.vec.IntoIter.{IntoIter}
+use Rattle.std.proofs.lemmas.List.{append_assoc, append-nil, map-append}
 
 -- there is an element at each place of a list
 pub none_past : {X : Type 0} (xs : List X) (i : ℕ) → slice_get xs i ≡ None → i < length xs → ⊥
@@ -34,23 +30,6 @@ mapped_next f before xs copied i x so_far there =
     ap (λ l. l ++ f x ∷ []) so_far ∙ append_assoc before (map f (take i xs)) (f x ∷ [])
     ∙ ap (λ l. before ++ l) (sym (map-append f (take i xs) (x ∷ [])) ∙ ap (map f) (sym (taken_next xs i x there)))
 
--- the element at the next place becomes as those before it
-pub set_next : {A B : Type 0} (f : A → B) (g : B → B) (xs before : List A) (i : ℕ) (d y : A) → i < length before
-    → map f xs ≡ map g (map f (take i before)) ++ map f (drop i before) → f y ≡ g (f (get_or xs i d))
-    → map f (set xs i y) ≡ map g (map f (take (i + 1) before)) ++ map f (drop (i + 1) before)
-set_next f g xs [] i d y inside are becomes = absurd (omega arith)
-set_next f g [] (b ∷ before) zero d y inside are becomes = absurd (cc)
-set_next f g [] (b ∷ before) (suc i) d y inside are becomes = absurd (cc)
-set_next f g (x ∷ xs) (b ∷ before) zero d y inside are becomes =
-    let here : f x ≡ f b = head are in
-    let rest : map f xs ≡ map f before = tail are in
-    ap (λ v. v ∷ map f xs) (becomes ∙ ap g here) ∙ ap (λ l. g (f b) ∷ l) rest
-set_next f g (x ∷ xs) (b ∷ before) (suc i) d y inside are becomes =
-    let one : suc i + 1 ≡ suc (i + 1) = omega arith in
-    ap (λ v. v ∷ map f (set xs i y)) (head are)
-    ∙ ap (λ l. g (f b) ∷ l) (set_next f g xs before i d y (omega arith) (tail are) becomes)
-    ∙ ap (λ n. map g (map f (take n (b ∷ before))) ++ map f (drop n (b ∷ before))) (sym one)
-
 -- from a place on
 pub from_place : {X : Type 0} (xs : List X) (i : ℕ) (x : X) → slice_get xs i ≡ Some x → drop i xs ≡ x ∷ drop (i + 1) xs
 from_place [] i x there = absurd (cc)
@@ -64,3 +43,19 @@ drop_past [] zero far = refl
 drop_past [] (suc i) far = refl
 drop_past (x ∷ xs) zero far = absurd (omega arith)
 drop_past (x ∷ xs) (suc i) far = drop_past xs i (omega arith)
+
+-- ---- a list that is given element by element
+
+no_length : {X : Type 0} (xs : List X) → length xs ≡ 0 → xs ≡ []
+no_length [] none = refl
+no_length (x ∷ xs) none = absurd (omega (arith, none))
+
+-- what was given so far and what is to come are the list, also after the next element
+pub walk_next : {X : Type 0} (before : List X) (x : X) (rest more all : List X) → rest ≡ x ∷ more → before ++ rest ≡ all
+    → (before ++ x ∷ []) ++ more ≡ all
+walk_next before x rest more all is are = append_assoc before (x ∷ []) more ∙ ap (λ rest. before ++ rest) (sym is) ∙ are
+
+-- at the end it is what was given
+pub walk_end : {X Z : Type 0} (before all : List X) (it : IntoIter X Z) → into_iter_len it ≡ 0 → before ++ into_iter_items it ≡ all → before ≡ all
+walk_end before all it len are =
+    sym (append-nil before) ∙ ap (λ rest. before ++ rest) (sym (no_length (into_iter_items it) (sym it.rest.ok.0 ∙ len))) ∙ are

@@ -1,6 +1,6 @@
 -- The parts of a map that are left are those of the pruned map.
-use Rattle.std.proofs.Common.{◌≡◌, ◌≤◌, ℕ, Bool, false, List, length, map, string_bytes, Option, Some, refl, sym, ap, subst, ◌∙◌, arith}
-use Rattle.std.specs.Prelude.{bytes_eq, option_map}
+use Rattle.std.proofs.Common.{◌≡◌, ◌≤◌, ℕ, Bool, false, List, length, map, Option, Some, refl, sym, ap, subst, ◌∙◌, arith}
+use Rattle.std.specs.Prelude.{bytes_eq, option_copied}
 use Rattle.std.specs.List.{All}
 use Rattle.std.proofs.lemmas.List.{length-map}
 use Rattle.std.proofs.lemmas.List.Elements.{All-weaker}
@@ -9,16 +9,17 @@ use Rattle.smap_mappings.specs.Range.{is_mapping_past_limit}
 use Rattle.smap_mappings.specs.Within.{IsWithin}
 use Rattle.smap_mappings.specs.declared.mapping.Mapping.{Mapping}
 use Rattle.smap_record.specs.Limits.{most_listed}
-use Rattle.smap_record.specs.Sources.{StatedSource, source_of}
+use Rattle.smap_record.specs.Sources.{StatedSource}
 use Rattle.smap_compose.specs.Composition.{Composition}
 use Rattle.smap_compose.specs.Pruned.{entries_left, is_name_used, is_same_source, is_source_used, names_left, pruned, pruned_origin, sources_left}
 use Rattle.smap_compose.specs.Private.Keys.{mapping_moved_to}
 use Rattle.smap_compose.specs.Private.Left.{AreLeft, those_marked}
-use Rattle.smap_compose.specs.Private.Listing.{listing_seen}
-use Rattle.smap_compose.specs.declared.composed.Listing.{Listing}
+use Rattle.smap_compose.specs.Private.Listing.{lent_source, lent_text, listing_seen}
+use Rattle.smap_compose.specs.declared.listing.Listing.{Listing}
 use Rattle.smap_compose.specs.declared.left.Places.{Places}
 use Rattle.smap_compose.proofs.FollowLaws.{alike_in_order}
 use Rattle.smap_compose.proofs.FoundLaws.{few_left}
+use Rattle.smap_compose.proofs.GivenLaws.{same_compositions}
 use Rattle.smap_compose.proofs.MovedLaws.{within_limit}
 use Rattle.smap_compose.proofs.PrunedLaws.{moved_are_pruned, pruned_within}
 use Rattle.smap_compose.proofs.SeenLaws.{marked_alike, marked_are_left}
@@ -40,12 +41,6 @@ kept_are_left seen same is_used entries kept places stays are kept_is =
     ap (map seen) kept_is ∙ marked_alike seen stays entries ∙ ap (λ marks. those_marked marks (map seen entries)) are.stays_are
     ∙ marked_are_left same is_used (map seen entries)
 
-same_compositions : {mappings mappings' : List Mapping} {sources sources' : List StatedSource} {names names' : List (List ℕ)} {file file' : Option (List ℕ)}
-    → mappings ≡ mappings' → sources ≡ sources' → names ≡ names' → file ≡ file'
-    → ◌≡◌ {A = Composition} (record { mappings = mappings; sources = sources; names = names; file = file })
-    (record { mappings = mappings'; sources = sources'; names = names'; file = file' })
-same_compositions mappings_are sources_are names_are file_is = rw (mappings_are, sources_are, names_are, file_is) refl
-
 -- these mappings and what they name are left of those
 pub record ArePartsLeft (mappings : List Mapping) (listing : Listing) (left : List Mapping) (others : Listing) : Type 0 where
   pub are_pruned : listing_seen left others ≡ pruned (listing_seen mappings listing)
@@ -63,18 +58,18 @@ moved_at mappings mappings' sources sources' names names' mappings_are sources_a
     ∙ ap (map (mapping_moved_to sources' names')) mappings_are
 
 module _ (mappings : List Mapping) (listing : Listing) (sources names : Places)
-    (sources_are : AreLeft is_same_source (is_source_used mappings) (map source_of listing.sources.items) sources.places.items sources.stays.items)
-    (names_are : AreLeft bytes_eq (is_name_used mappings) (map string_bytes listing.names.items) names.places.items names.stays.items)
+    (sources_are : AreLeft is_same_source (is_source_used mappings) (map lent_source listing.sources.items) sources.places.items sources.stays.items)
+    (names_are : AreLeft bytes_eq (is_name_used mappings) (map lent_text listing.names.items) names.places.items names.stays.items)
     (within : All (IsWithin (length listing.sources.items) (length listing.names.items)) mappings)
     (few_sources : length listing.sources.items ≤ most_listed) (few_names : length listing.names.items ≤ most_listed) where
   abbrev whole : Composition
   whole = listing_seen mappings listing
 
   many_sources : length whole.sources ≡ length listing.sources.items
-  many_sources = length-map listing.sources.items source_of
+  many_sources = length-map listing.sources.items lent_source
 
   many_names : length whole.names ≡ length listing.names.items
-  many_names = length-map listing.names.items string_bytes
+  many_names = length-map listing.names.items lent_text
 
   whole_within : All (IsWithin (length whole.sources) (length whole.names)) whole.mappings
   whole_within =
@@ -104,15 +99,15 @@ module _ (mappings : List Mapping) (listing : Listing) (sources names : Places)
     parts_are_pruned : listing_seen left others ≡ pruned whole
     parts_are_pruned =
         same_compositions (left_are ∙ moved_are)
-        (kept_are_left source_of is_same_source (is_source_used mappings) listing.sources.items others.sources.items _ _ sources_are sources_kept)
-        (kept_are_left string_bytes bytes_eq (is_name_used mappings) listing.names.items others.names.items _ _ names_are names_kept)
-        (ap (option_map string_bytes) same_file)
+        (kept_are_left lent_source is_same_source (is_source_used mappings) listing.sources.items others.sources.items _ _ sources_are sources_kept)
+        (kept_are_left lent_text bytes_eq (is_name_used mappings) listing.names.items others.names.items _ _ names_are names_kept)
+        (ap option_copied same_file)
 
     sources_counted : length others.sources.items ≡ length (sources_left whole)
-    sources_counted = sym (length-map others.sources.items source_of) ∙ ap (λ (w : Composition). length w.sources) parts_are_pruned
+    sources_counted = sym (length-map others.sources.items lent_source) ∙ ap (λ (w : Composition). length w.sources) parts_are_pruned
 
     names_counted : length others.names.items ≡ length (names_left whole)
-    names_counted = sym (length-map others.names.items string_bytes) ∙ ap (λ (w : Composition). length w.names) parts_are_pruned
+    names_counted = sym (length-map others.names.items lent_text) ∙ ap (λ (w : Composition). length w.names) parts_are_pruned
 
     parts_within : All (IsWithin (length others.sources.items) (length others.names.items)) left
     parts_within =

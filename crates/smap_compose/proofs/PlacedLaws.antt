@@ -1,10 +1,9 @@
 -- Inner maps that are placed one behind the other.
-use Rattle.std.proofs.Common.{◌≡◌, ℕ, zero, suc, subst, ◌+◌, ◌≤◌, ◌<◌, drop, get_or, replicate, List, [], ◌∷◌, ◌++◌, length, map, Option, Some, None, refl, sym, ap, ◌∙◌, arith, add-zero}
+use Rattle.std.proofs.Common.{◌≡◌, ℕ, zero, suc, ◌+◌, ◌<◌, drop, get_or, replicate, List, [], ◌∷◌, ◌++◌, length, map, Option, Some, None, refl, sym, ap, ◌∙◌, arith, add-zero}
 use Rattle.std.specs.Borrow.{Bor}
-use Rattle.std.specs.Prelude.{option_map, slice_get, IfSome}
-use Rattle.std.specs.List.{All, sum_by}
+use Rattle.std.specs.Prelude.{option_map}
+use Rattle.std.specs.List.{sum_by}
 use Rattle.std.proofs.lemmas.List.{map-append}
-use Rattle.std.proofs.lemmas.List.Elements.{All-weaker, All-head, All-tail}
 use Rattle.std.proofs.lemmas.List.Sums.{sum_by-cons}
 use Rattle.std.proofs.Math.Seq.{drop-cons}
 use Rattle.smap_record.specs.MapFile.{Map}
@@ -12,7 +11,7 @@ use Rattle.smap_compose.specs.Composition.{inner_lists}
 use Rattle.smap_compose.specs.Follow.{CountedMappings}
 use Rattle.smap_compose.specs.FollowAll.{Placed, inner_names, inner_sources, placed}
 use Rattle.smap_compose.specs.Inners.{stated_inners}
-use Rattle.smap_compose.specs.Private.Placed.{FitsIn, inner_list, placed_seen}
+use Rattle.smap_compose.specs.Private.Placed.{inner_list, placed_seen}
 use Rattle.smap_compose.specs.declared.placed.PlacedMap.{PlacedMap}
 
 -- ---- the inner maps as they are given
@@ -38,13 +37,6 @@ sources_from inners i inner inside is =
     ap (sum_by inner_sources) (lists_from inners i inner inside is)
     ∙ sum_by-cons inner_sources (inner_list inner) (inner_lists (stated_inners (drop (i + 1) inners)))
 
-pub names_from : (inners : List (Option (Bor Map))) (i : ℕ) (inner : Option (Bor Map)) → i < length inners → inner ≡ get_or inners i inner
-    → sum_by inner_names (inner_lists (stated_inners (drop i inners)))
-    ≡ inner_names (inner_list inner) + sum_by inner_names (inner_lists (stated_inners (drop (i + 1) inners)))
-names_from inners i inner inside is =
-    ap (sum_by inner_names) (lists_from inners i inner inside is)
-    ∙ sum_by-cons inner_names (inner_list inner) (inner_lists (stated_inners (drop (i + 1) inners)))
-
 -- ---- placing one, and then others
 
 pub placed_more : (sources names : ℕ) (inner : Option CountedMappings) (inners : List (Option CountedMappings))
@@ -64,22 +56,3 @@ one_listed before after k inner seen none are is =
     nones : (k : ℕ) → map (option_map placed_seen) (replicate k None) ≡ replicate k None
     nones zero = refl
     nones (suc k) = ap (λ l. None ∷ l) (nones k)
-
--- ---- within the counts
-
-pub fits_more : (sources names more_sources more_names : ℕ) → sources ≤ more_sources → names ≤ more_names
-    → (inners : List (Option PlacedMap)) → All (λ (inner : Option PlacedMap). IfSome inner (FitsIn sources names)) inners
-    → All (λ (inner : Option PlacedMap). IfSome inner (FitsIn more_sources more_names)) inners
-fits_more sources names more_sources more_names s n inners fit =
-    All-weaker (λ (inner : Option PlacedMap). IfSome inner (FitsIn sources names))
-    (λ (inner : Option PlacedMap). IfSome inner (FitsIn more_sources more_names)) one inners fit
-  where
-    one : (inner : Option PlacedMap) → IfSome inner (FitsIn sources names) → IfSome inner (FitsIn more_sources more_names)
-    one None fits = tt
-    one (Some inner) fits = record { sources_fit = omega (arith, fits.sources_fit); names_fit = omega (arith, fits.names_fit) }
-
--- what holds of all holds of the one at a place
-pub holds_at : {X : Type 0} (P : X → Type 0) (xs : List X) (i : ℕ) (x : X) → All P xs → slice_get xs i ≡ Some x → P x
-holds_at P [] i x all there = absurd (cc)
-holds_at P (y ∷ xs) zero x all there = let same : y ≡ x = cc in subst P same (All-head P y xs all)
-holds_at P (y ∷ xs) (suc i) x all there = holds_at P xs i x (All-tail P y xs all) there

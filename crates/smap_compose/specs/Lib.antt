@@ -4,6 +4,7 @@ pub mod InnerNames
 pub mod Inners
 pub mod Composition
 pub mod Pruned
+pub mod LeftOut
 pub mod Composed
 pub mod Codes
 pub mod Private

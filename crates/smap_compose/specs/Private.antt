@@ -1,6 +1,7 @@
 -- What contracts of private functions alone cite.
 pub mod Placed
 pub mod Listing
+pub mod Parts
 pub mod Left
 pub mod Used
 pub mod Keys

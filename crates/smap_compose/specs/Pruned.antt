@@ -1,12 +1,13 @@
 -- A map without what its mappings don't have (this project's own): the sources and names that no mapping has are left out,
 -- and so are, of those that are the same, all but the first that a mapping has. Each mapping keeps its place.
-use Rattle.std.specs.Prelude.{ℕ, ◌==◌, ◌&&◌, Bool, false, List, [], ◌∷◌, ◌++◌, Option, Some, None, filter, map, option_map, option_and_then, slice_get, unwrap_or, if◌then◌else◌}
+use Rattle.std.specs.Prelude.{◌≡◌, ℕ, ◌==◌, ◌&&◌, Bool, false, List, [], ◌∷◌, ◌++◌, Option, Some, None, filter, map, option_map, option_and_then, slice_get, unwrap_or, if◌then◌else◌}
 use Rattle.std.specs.List.{enumerate_from, list_any, position}
 use Rattle.std.specs.Option.{option_map_or, option_eq}
 use mathlib.Core.Bool.{beq}
 use Rattle.std.specs.Str.{bytes_eq}
 use Rattle.smap_mappings.specs.declared.mapping.Mapping.{Mapping}
 use Rattle.smap_mappings.specs.declared.mapping.Origin.{Origin}
+use Rattle.smap_index.specs.Answer.{answer_at_or_before}
 use Rattle.smap_index.specs.declared.answer.Answer.{Answer}
 use Rattle.smap_index.specs.declared.answer.Answer.TheVariants.{Nothing, Unmapped, Found}
 use Rattle.smap_record.specs.Sources.{StatedSource}
@@ -114,3 +115,9 @@ abbrev pub named_answer : Composition → Answer → Option (ℕ × Option Named
 named_answer whole Nothing = None
 named_answer whole (Unmapped column) = Some (column, None)
 named_answer whole (Found column origin) = Some (column, Some (named_origin whole origin))
+
+-- at each position this map says the same as the other
+abbrev pub AnswersAlike : (whole composed : Composition) → Type 0
+AnswersAlike whole composed =
+    (line column : ℕ) → named_answer composed (answer_at_or_before composed.mappings line column)
+    ≡ named_answer whole (answer_at_or_before whole.mappings line column)

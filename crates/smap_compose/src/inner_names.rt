@@ -19,12 +19,11 @@ pub fn name_from_outer(
         ≡ name_from_outer (option_map name_of (option_copied outer.entry)) (name_of name.now)) }
 {
     match (outer, name) {
-        (_, SourceName::Resolved(url)) => Ok(SourceName::Resolved(url.clone()?)),
         (Some(SourceName::Kept(file)), SourceName::Kept(text))
             if is_relative(text) && !has_scheme(file) => {
             Ok(SourceName::Kept(path_from(alloc, file, text)?))
         }
-        (_, SourceName::Kept(text)) => Ok(SourceName::Kept(text.clone()?)),
+        _ => name.copied(),
     }
 }
 

@@ -4,8 +4,8 @@
 //!
 //! ```text
 //! let composed = compose(alloc, &outer, 0, &inner)?;
-//! let text = composed.write(alloc)?;
-//! let all = compose_all(alloc, &outer, &[Some(&first), None, Some(&third)])?;
+//! let text = composed.write_owned(alloc)?;
+//! let all = compose_all(alloc, &outer, &[Some(&first), None, Some(&third)], LeftOut::NOTHING)?;
 //! ```
 #![tactic(auto)]
 
@@ -15,12 +15,16 @@ mod follow;
 mod inner_names;
 pub mod laws;
 mod left;
+mod left_out;
 mod listed;
+mod listing;
+mod parts;
 mod placed;
 mod pruned;
 mod refusal;
 mod used;
 
 pub use composed::Composed;
-pub use composing::{compose, compose_all};
+pub use composing::{compose, compose_all, compose_with};
+pub use left_out::LeftOut;
 pub use refusal::ComposeRefusal;

@@ -1,5 +1,5 @@
 //! The sources and names of several maps, one map after another.
-ghost use Rattle.std.specs.Prelude.{◌≡◌, ◌≤◌, ◌++◌, flat_map, length, map, option_copied, option_map, string_bytes, IfOk, OnOk};
+ghost use Rattle.std.specs.Prelude.{◌≡◌, ◌≤◌, ◌++◌, flat_map, length, map, option_copied, option_map, IfOk, OnOk};
 ghost use Rattle.smap_resolve.specs.SourceName.{name_of};
 ghost use Rattle.smap_record.specs.Limits.{most_listed};
 ghost use Rattle.smap_record.specs.Sources.{source_of};
@@ -7,20 +7,22 @@ ghost use Rattle.smap_compose.specs.Composition.{all_followed, names_together, n
 ghost use Rattle.smap_compose.specs.FollowAll.{inner_sources};
 ghost use Rattle.smap_compose.specs.InnerNames.{source_from};
 ghost use Rattle.smap_compose.specs.Inners.{stated_inners};
+ghost use Rattle.smap_compose.specs.Private.Listing.{lent_source, lent_text};
 ghost use Rattle.smap_compose.specs.Private.Placed.{inner_list};
 
 use crate::inner_names::name_from_outer;
+use crate::listing::LentSource;
 use smap_record::{MapFile, SourceEntry, SourceName};
 use std::alloc::{AllocError, Global};
 
 /// The sources of both maps, those of the outer one first. All keep their names.
-pub fn joined_sources(
+pub fn joined_sources<'a>(
     alloc: Global,
-    outer: &MapFile,
-    inner: &MapFile,
-) -> Result<Vec<SourceEntry>, AllocError>
+    outer: &'a MapFile,
+    inner: &'a MapFile,
+) -> Result<Vec<LentSource<'a>>, AllocError>
     requires few { sources_together outer.now.stated inner.now.stated ≤ most_listed }
-    ensures sources { IfOk result (λ sources. map source_of sources.items
+    ensures sources { IfOk result (λ sources. map lent_source sources.items
         ≡ outer.now.stated.sources ++ inner.now.stated.sources) }
     ensures counted { IfOk result (λ sources. length sources.items
         ≡ sources_together outer.now.stated inner.now.stated) }
@@ -32,32 +34,32 @@ pub fn joined_sources(
 }
 
 /// The names of both maps, those of the outer one first.
-pub fn joined_names(
+pub fn joined_names<'a>(
     alloc: Global,
-    outer: &MapFile,
-    inner: &MapFile,
-) -> Result<Vec<String>, AllocError>
+    outer: &'a MapFile,
+    inner: &'a MapFile,
+) -> Result<Vec<&'a str>, AllocError>
     requires few { names_together outer.now.stated inner.now.stated ≤ most_listed }
-    ensures names { IfOk result (λ names. map string_bytes names.items
+    ensures names { IfOk result (λ names. map lent_text names.items
         ≡ outer.now.stated.names ++ inner.now.stated.names) }
     ensures counted { IfOk result (λ names. length names.items
         ≡ names_together outer.now.stated inner.now.stated) }
 {
     let mut names = Vec::new(alloc);
-    add_names(alloc, outer, &mut names)?;
-    add_names(alloc, inner, &mut names)?;
+    add_names(outer, &mut names)?;
+    add_names(inner, &mut names)?;
     Ok(names)
 }
 
 /// The sources of all maps, those of the outer one first; those of an inner map by the name of the outer source.
-pub fn all_sources(
+pub fn all_sources<'a>(
     alloc: Global,
-    outer: &MapFile,
-    inners: &[Option<&MapFile>],
-) -> Result<Vec<SourceEntry>, AllocError>
+    outer: &'a MapFile,
+    inners: &[Option<&'a MapFile>],
+) -> Result<Vec<LentSource<'a>>, AllocError>
     requires inners { length inners.now ≤ length outer.now.stated.sources }
     requires few { (all_followed outer.now.stated (stated_inners inners.now)).sources ≤ most_listed }
-    ensures sources { IfOk result (λ sources. map source_of sources.items
+    ensures sources { IfOk result (λ sources. map lent_source sources.items
         ≡ outer.now.stated.sources ++ sources_within outer.now.stated.sources (stated_inners inners.now)) }
     ensures counted { IfOk result (λ sources. length sources.items
         ≡ (all_followed outer.now.stated (stated_inners inners.now)).sources) }
@@ -73,36 +75,36 @@ pub fn all_sources(
 }
 
 /// The names of all maps, those of the outer one first.
-pub fn all_names(
+pub fn all_names<'a>(
     alloc: Global,
-    outer: &MapFile,
-    inners: &[Option<&MapFile>],
-) -> Result<Vec<String>, AllocError>
+    outer: &'a MapFile,
+    inners: &[Option<&'a MapFile>],
+) -> Result<Vec<&'a str>, AllocError>
     requires few { (all_followed outer.now.stated (stated_inners inners.now)).names ≤ most_listed }
-    ensures names { IfOk result (λ names. map string_bytes names.items
+    ensures names { IfOk result (λ names. map lent_text names.items
         ≡ outer.now.stated.names ++ flat_map names_within (stated_inners inners.now)) }
     ensures counted { IfOk result (λ names. length names.items
         ≡ (all_followed outer.now.stated (stated_inners inners.now)).names) }
 {
     let mut names = Vec::new(alloc);
-    add_names(alloc, outer, &mut names)?;
+    add_names(outer, &mut names)?;
     for inner in inners {
         if let Some(inner) = inner {
-            add_names(alloc, inner, &mut names)?;
+            add_names(inner, &mut names)?;
         }
     }
     Ok(names)
 }
 
 // Adds the sources of the inner map of a source, where it has one.
-fn add_sources_below(
+fn add_sources_below<'a>(
     alloc: Global,
     source: &SourceEntry,
-    inner: Option<&MapFile>,
-    sources: &mut Vec<SourceEntry>,
+    inner: Option<&'a MapFile>,
+    sources: &mut Vec<LentSource<'a>>,
 ) -> Result<(), AllocError>
     requires { inner_sources (inner_list inner) ≤ most_listed }
-    ensures { OnOk result (map source_of sources.new.items ≡ map source_of sources.old.items
+    ensures { OnOk result (map lent_source sources.new.items ≡ map lent_source sources.old.items
         ++ sources_below (source_of source.now) (option_map (λ inner. inner.now.stated) inner.entry)) }
 {
     match inner {
@@ -112,65 +114,55 @@ fn add_sources_below(
 }
 
 // Adds the sources of a map to those before them, by the name of the outer source that it is a map of.
-fn add_sources(
+fn add_sources<'a>(
     alloc: Global,
     outer: Option<&SourceName>,
-    map_file: &MapFile,
-    sources: &mut Vec<SourceEntry>,
+    map_file: &'a MapFile,
+    sources: &mut Vec<LentSource<'a>>,
 ) -> Result<(), AllocError>
     requires { length map_file.now.stated.sources ≤ most_listed }
-    ensures { OnOk result (map source_of sources.new.items
-        ≡ map source_of sources.old.items
+    ensures { OnOk result (map lent_source sources.new.items
+        ≡ map lent_source sources.old.items
         ++ map (source_from (option_map name_of (option_copied outer.entry))) map_file.now.stated.sources) }
 {
     for i in 0..map_file.sources() as u32 {
         if let Some(source) = map_file.source(i) {
-            sources.push(copied_source(alloc, outer, source)?)?;
+            sources.push(lent_source(alloc, outer, source)?)?;
         }
     }
     Ok(())
 }
 
 // Adds the names of a map to those before them.
-fn add_names(alloc: Global, map_file: &MapFile, names: &mut Vec<String>) -> Result<(), AllocError>
+fn add_names<'a>(map_file: &'a MapFile, names: &mut Vec<&'a str>) -> Result<(), AllocError>
     requires { length map_file.now.stated.names ≤ most_listed }
-    ensures { OnOk result (map string_bytes names.new.items
-        ≡ map string_bytes names.old.items ++ map_file.now.stated.names) }
+    ensures { OnOk result (map lent_text names.new.items
+        ≡ map lent_text names.old.items ++ map_file.now.stated.names) }
 {
     for i in 0..map_file.names() as u32 {
         if let Some(name) = map_file.name(i) {
-            names.push(String::from_str(alloc, name)?)?;
+            names.push(name)?;
         }
     }
     Ok(())
 }
 
-// The source once more, with texts of its own, by the name of the outer source.
-fn copied_source(
+// The source by the name of the outer source, its content lent.
+fn lent_source<'a>(
     alloc: Global,
     outer: Option<&SourceName>,
-    source: &SourceEntry,
-) -> Result<SourceEntry, AllocError>
-    ensures { IfOk result (λ copy. source_of copy
+    source: &'a SourceEntry,
+) -> Result<LentSource<'a>, AllocError>
+    ensures { IfOk result (λ lent. lent_source lent
         ≡ source_from (option_map name_of (option_copied outer.entry)) (source_of source.now)) }
 {
     let name = match &source.name {
         Some(name) => Some(name_from_outer(alloc, outer, name)?),
         None => None,
     };
-    Ok(SourceEntry {
+    Ok(LentSource {
         name,
-        content: copied_text(&source.content)?,
+        content: source.content.as_deref(),
         ignored: source.ignored,
     })
-}
-
-fn copied_text(text: &Option<String>) -> Result<Option<String>, AllocError>
-    ensures { IfOk result (λ copy. option_map string_bytes copy
-        ≡ option_map string_bytes text.now) }
-{
-    match text {
-        Some(text) => Ok(Some(text.clone()?)),
-        None => Ok(None),
-    }
 }

@@ -1,80 +1,51 @@
-//! A composed map without what its mappings do not have.
-ghost use Rattle.std.specs.Prelude.{◌≡◌, ◌≤◌, ℕ, None, false, length, map, string_bytes, IfOk};
+//! What is left of a map without what its mappings do not have.
+ghost use Rattle.std.specs.Prelude.{◌≡◌, ◌≤◌, None, false, length, map, IfOk};
 ghost use Rattle.std.specs.List.{All};
 ghost use Rattle.std.specs.Str.{bytes_eq};
-ghost use Rattle.smap_index.specs.Answer.{answer_at_or_before};
-ghost use Rattle.smap_mappings.specs.Encode.{list_fault};
-ghost use Rattle.smap_mappings.specs.Exact.{GivesOr};
 ghost use Rattle.smap_mappings.specs.Range.{is_mapping_past_limit};
 ghost use Rattle.smap_mappings.specs.Within.{IsOriginWithin, IsWithin};
 ghost use Rattle.smap_mappings.specs.Writing.{IsLengthOf};
 ghost use Rattle.smap_record.specs.Limits.{most_listed};
-ghost use Rattle.smap_record.specs.Sources.{source_of};
-ghost use Rattle.smap_compose.specs.Composition.{unless_too_long};
-ghost use Rattle.smap_compose.specs.Pruned.{is_name_used, is_same_source, is_source_used, named_answer, named_source, pruned};
+ghost use Rattle.smap_compose.specs.LeftOut.{pruned_where};
+ghost use Rattle.smap_compose.specs.Pruned.{is_name_used, is_same_source, is_source_used, named_source, pruned};
 ghost use Rattle.smap_compose.specs.Private.Keys.{key_seen, mapping_moved_to, moved_to};
 ghost use Rattle.smap_compose.specs.Private.Left.{AreLeft, is_marked};
-ghost use Rattle.smap_compose.specs.Private.Listing.{listing_seen};
-ghost use Rattle.smap_compose.specs.declared.refusal.ComposeRefusal.TheVariants.{Memory};
+ghost use Rattle.smap_compose.specs.Private.Listing.{lent_source, lent_text};
+ghost use Rattle.smap_compose.specs.Private.Parts.{AreFit, parts_seen};
 
-use crate::composed::{Composed, Listing, composed_map};
-use crate::laws::pruned_maps_answer_alike;
 use crate::left::{Places, kept_entries, places_left};
-use crate::refusal::ComposeRefusal;
+use crate::listing::{LentSource, Listing};
+use crate::parts::Parts;
 use crate::used::used_entries;
 use smap_mappings::TextLength;
 use smap_mappings::laws::lists_in_order_have_no_fault;
-use smap_record::{Mapping, Origin, SourceEntry};
+use smap_record::{Mapping, Origin};
 use std::alloc::{AllocError, Global};
 
-impl Composed {
-    /// Leaves out the sources and names that no mapping has. Of sources that are the same in the text of their name, in
-    /// content and in mark, the first that a mapping has stands for all, and so it is with names. The others keep their
-    /// order. A look-up says the same as before, by the text of the source's name, its content, its mark and the name.
-    /// C2, `TooLarge`, may come, since an index may take more digits where others are smaller.
-    pub fn prune(self, alloc: Global) -> Result<Composed, ComposeRefusal>
-        ensures pruned { GivesOr Memory (λ composed. composed) result
-            (unless_too_long (pruned self)) }
-        ensures answers { IfOk result (λ composed. (line column : ℕ) →
-            named_answer composed (answer_at_or_before composed.mappings line column)
-            ≡ named_answer self (answer_at_or_before self.mappings line column)) }
-    {
-        let (mappings, listing) = self.into_parts();
-        let left = pruned_parts(alloc, mappings, listing)?;
-        pruned_maps_answer_alike();
-        let length = left.length;
-        composed_map(alloc, left.mappings, &length, left.listing)
+/// The parts, or what is left of them where what no mapping has is left out.
+pub fn left_parts(alloc: Global, whole: Parts<'_>, prune: bool) -> Result<Parts<'_>, AllocError>
+    requires { AreFit whole }
+    ensures left { IfOk result (λ left. parts_seen left ≡ pruned_where prune (parts_seen whole.entry)) }
+    ensures fit { IfOk result AreFit }
+{
+    if prune {
+        pruned_parts(alloc, whole)
+    } else {
+        Ok(whole)
     }
 }
 
-/// What is left of the mappings of a map and of what it lists, and the length of the mappings' canonical text.
-#[derive(Drop)]
-pub struct Pruned {
-    pub mappings: Vec<Mapping>,
-    pub length: TextLength,
-    pub listing: Listing,
-}
-
-/// What is left of these mappings and of what they name. Texts and contents are moved.
-pub fn pruned_parts(
-    alloc: Global,
-    mut mappings: Vec<Mapping>,
-    listing: Listing,
-) -> Result<Pruned, AllocError>
-    requires no_fault { list_fault mappings.items ≡ None }
-    requires within { All
-        (IsWithin (length listing.sources.items) (length listing.names.items)) mappings.items }
-    requires few_sources { length listing.sources.items ≤ most_listed }
-    requires few_names { length listing.names.items ≤ most_listed }
-    ensures pruned { IfOk result (λ left. listing_seen left.mappings.items left.listing
-        ≡ pruned (listing_seen mappings.items listing)) }
-    ensures length { IfOk result (λ left. IsLengthOf left.mappings.items left.length) }
-    ensures no_fault { IfOk result (λ left. list_fault left.mappings.items ≡ None) }
-    ensures within { IfOk result (λ left. All (IsWithin
-        (length left.listing.sources.items) (length left.listing.names.items)) left.mappings.items) }
-    ensures few_sources { IfOk result (λ left. length left.listing.sources.items ≤ most_listed) }
-    ensures few_names { IfOk result (λ left. length left.listing.names.items ≤ most_listed) }
+// What is left of the parts.
+fn pruned_parts(alloc: Global, whole: Parts<'_>) -> Result<Parts<'_>, AllocError>
+    requires { AreFit whole }
+    ensures pruned { IfOk result (λ left. parts_seen left ≡ pruned (parts_seen whole.entry)) }
+    ensures fit { IfOk result AreFit }
 {
+    let Parts {
+        mut mappings,
+        listing,
+        ..
+    } = whole;
     let Listing {
         sources,
         names,
@@ -88,7 +59,7 @@ pub fn pruned_parts(
         names: kept_entries(alloc, names, &left.names.stays)?,
         file,
     };
-    Ok(Pruned {
+    Ok(Parts {
         mappings,
         length,
         listing,
@@ -106,16 +77,16 @@ struct ListingLeft {
 fn listing_left(
     alloc: Global,
     mappings: &[Mapping],
-    sources: &[SourceEntry],
-    names: &[String],
+    sources: &[LentSource<'_>],
+    names: &[&str],
 ) -> Result<ListingLeft, AllocError>
     requires within { All (IsWithin (length sources.now) (length names.now)) mappings.now }
     requires few_sources { length sources.now ≤ most_listed }
     requires few_names { length names.now ≤ most_listed }
     ensures sources { IfOk result (λ left. AreLeft is_same_source (is_source_used mappings.now)
-        (map source_of sources.now) left.sources.places.items left.sources.stays.items) }
+        (map lent_source sources.now) left.sources.places.items left.sources.stays.items) }
     ensures names { IfOk result (λ left. AreLeft bytes_eq (is_name_used mappings.now)
-        (map string_bytes names.now) left.names.places.items left.names.stays.items) }
+        (map lent_text names.now) left.names.places.items left.names.stays.items) }
 {
     let used = used_entries(alloc, mappings, sources.len(), names.len())?;
     Ok(ListingLeft {
@@ -127,26 +98,26 @@ fn listing_left(
 // By what a source is compared: the text of its name, its content and its mark.
 type SourceKey<'a> = (Option<&'a str>, Option<&'a str>, bool);
 
-fn source_key(source: &SourceEntry) -> SourceKey<'_>
-    ensures { key_seen result ≡ named_source (source_of source.now) }
+fn source_key<'a>(source: &'a LentSource<'_>) -> SourceKey<'a>
+    ensures { key_seen result ≡ named_source (lent_source source.now) }
 {
     let text = match &source.name {
         Some(name) => Some(name.text()),
         None => None,
     };
-    let content = match &source.content {
-        Some(content) => Some(content.as_str()),
-        None => None,
-    };
-    (text, content, source.ignored)
+    (text, source.content, source.ignored)
 }
 
 // What becomes of each source, where these are used.
-fn sources_left(alloc: Global, sources: &[SourceEntry], used: &[bool]) -> Result<Places, AllocError>
+fn sources_left(
+    alloc: Global,
+    sources: &[LentSource<'_>],
+    used: &[bool],
+) -> Result<Places, AllocError>
     requires few { length sources.now ≤ most_listed }
     requires marked { length used.now ≡ length sources.now }
     ensures { IfOk result (λ left. AreLeft is_same_source (is_marked used.now)
-        (map source_of sources.now) left.places.items left.stays.items) }
+        (map lent_source sources.now) left.places.items left.stays.items) }
 {
     let mut keys = Vec::with_capacity(alloc, sources.len())?;
     for source in sources {
@@ -156,17 +127,13 @@ fn sources_left(alloc: Global, sources: &[SourceEntry], used: &[bool]) -> Result
 }
 
 // What becomes of each name, where these are used.
-fn names_left(alloc: Global, names: &[String], used: &[bool]) -> Result<Places, AllocError>
+fn names_left(alloc: Global, names: &[&str], used: &[bool]) -> Result<Places, AllocError>
     requires few { length names.now ≤ most_listed }
     requires marked { length used.now ≡ length names.now }
     ensures { IfOk result (λ left. AreLeft bytes_eq (is_marked used.now)
-        (map string_bytes names.now) left.places.items left.stays.items) }
+        (map lent_text names.now) left.places.items left.stays.items) }
 {
-    let mut keys = Vec::with_capacity(alloc, names.len())?;
-    for name in names {
-        keys.push(name.as_str())?;
-    }
-    places_left(alloc, &keys, used)
+    places_left(alloc, names, used)
 }
 
 // Gives each mapping the new places of its source and its name, and says how long the canonical text then is.

@@ -1,9 +1,7 @@
 -- What the words, the list and the sources of inner maps come to, one after another.
 use Rattle.std.proofs.Common.{◌≡◌, ℕ, zero, suc, ◌+◌, ◌<◌, ◌⊎◌, List, [], ◌∷◌, ◌++◌, add-one, arith, drop, drop-cons, get_or, length, refl, sym, ap, subst, ◌∙◌, inl, inr}
-use Rattle.std.specs.Option.{option_map_or}
 use Rattle.std.specs.Result.{is_err, is_ok}
-use Rattle.std.specs.Prelude.{Bool, ◌||◌, if◌then◌else◌, slice_get, true, false, Option, Some, Result, Ok, Err, option_map}
-use Rattle.std.specs.List.{list_any}
+use Rattle.std.specs.Prelude.{if◌then◌else◌, slice_get, false, Option, Some, Result, Ok, Err, option_map}
 use Rattle.std.proofs.lemmas.List.{map-append}
 use Rattle.smap_locations.specs.Named.{Named}
 use Rattle.smap_record.specs.MapFile.{Map}
@@ -11,7 +9,7 @@ use Rattle.smap_record.specs.Record.{MapRecord}
 use Rattle.smap_record.specs.Sources.{StatedSource}
 use Rattle.smap_locations.specs.ListLine.{line_entry}
 use Rattle.smap_compose_answers.specs.ComposeAll.{NamesEntry, NamesInners, NamesLines, NamesPair, NamesWords, ReadsInners, ReadsSource}
-use Rattle.smap_compose_answers.specs.ComposeAll.{ReportsInners, pair_of}
+use Rattle.smap_compose_answers.specs.ComposeAll.{GathersInners, ReportsInners, pair_of}
 use Rattle.smap_compose_answers.specs.Compose.{compose_refusal_result}
 use Rattle.smap_compose_answers.specs.Written.{report_or, written_of}
 use Rattle.smap_command.specs.declared.command.WriteOptions.{WriteOptions}
@@ -69,28 +67,6 @@ one_stated inners inner = map-append (option_map (λ (read : Map). read.stated))
 
 -- ---- places of lists
 
-any_or : (b c : Bool) → b ≡ true → (b || c) ≡ true
-any_or true c is = refl
-any_or false c is = cc
-
--- one at this place passes
-pub any_here : {X : Type 0} (p : X → Bool) (xs : List X) (i : ℕ) → option_map_or p (slice_get xs i) false ≡ true → list_any p (drop i xs) ≡ true
-any_here p [] i passes = cc
-any_here p (x ∷ xs) zero passes = any_or (p x) (list_any p xs) passes
-any_here p (x ∷ xs) (suc i) passes = any_here p xs i passes
-
-drop_none : {X : Type 0} (i : ℕ) → drop {A = X} i [] ≡ []
-drop_none zero = refl
-drop_none (suc i) = refl
-
--- or does not
-pub any_later : {X : Type 0} (p : X → Bool) (xs : List X) (i : ℕ) → option_map_or p (slice_get xs i) false ≡ false
-    → list_any p (drop (i + 1) xs) ≡ list_any p (drop i xs)
-any_later p [] i fails = ap (list_any p) (drop_none (i + 1) ∙ sym (drop_none i))
-any_later p (x ∷ xs) zero fails = ap (λ b. b || list_any p xs) (sym fails)
-any_later p (x ∷ xs) (suc i) fails =
-    let one : suc i + 1 ≡ suc (i + 1) = omega arith in ap (λ n. list_any p (drop n (x ∷ xs))) one ∙ any_later p xs i fails
-
 pub from_place : {X : Type 0} (xs : List X) (i : ℕ) (x : X) → slice_get xs i ≡ Some x → drop i xs ≡ x ∷ drop (i + 1) xs
 from_place [] i x there = absurd (cc)
 from_place (y ∷ xs) zero x there = let same : y ≡ x = cc in ap (λ y. y ∷ xs) same
@@ -108,21 +84,29 @@ on_done (Err error) made done failed works is = absurd (cc)
 
 -- ---- all of it
 
-module _ (Reads : MayRead) (options : WriteOptions) (words : List (List ℕ × List ℕ)) (list : Option (List ℕ)) (outer : MapRecord) (named : Named)
-    (names : NamesInners Reads outer.sources words list (Ok named)) (report : Report) where
+module _ (Reads : MayRead) (options : WriteOptions) (words : List (List ℕ × List ℕ)) (list : Option (List ℕ)) (outer : MapRecord)
+    (report : Report) where
   -- an inner map is refused
   pub inners_failed : (◌≡◌ {A = Result (List (Option MapRecord)) Report} (Err report) (Err out_of_memory))
-      ⊎ ReadsInners Reads named outer.sources [] (Err report) → OrMemory (ReportsInners Reads options words list outer) report
+      ⊎ GathersInners Reads outer.sources words list (Err report) → OrMemory (ReportsInners Reads options words list outer) report
   inners_failed (inl no_memory) = inl (same_reported no_memory)
     where
       same_reported : ◌≡◌ {A = Result (List (Option MapRecord)) Report} (Err report) (Err out_of_memory) → report ≡ out_of_memory
       same_reported is = cc
-  inners_failed (inr reads) = inr (Err report, (Ok named, names, reads), inr refl)
+  inners_failed (inr gathers) = inr (Err report, gathers, inr refl)
 
   -- or all are composed
   pub inners_composed : (inners : List (Option MapRecord))
-      → (◌≡◌ {A = Result (List (Option MapRecord)) Report} (Ok inners) (Err out_of_memory)) ⊎ ReadsInners Reads named outer.sources [] (Ok inners)
+      → (◌≡◌ {A = Result (List (Option MapRecord)) Report} (Ok inners) (Err out_of_memory)) ⊎ GathersInners Reads outer.sources words list (Ok inners)
       → OrMemory (λ reported. reported ≡ report_or compose_refusal_result (written_of options (all_composed outer inners))) report
       → OrMemory (ReportsInners Reads options words list outer) report
   inners_composed inners (inl no_memory) reported = cc
-  inners_composed inners (inr reads) reported = inr (Ok inners, (Ok named, names, reads), reported)
+  inners_composed inners (inr gathers) reported = inr (Ok inners, gathers, reported)
+
+-- what is read of the sources is gathered, where their names are known
+pub inners_gathered : (Reads : MayRead) (sources : List StatedSource) (words : List (List ℕ × List ℕ)) (list : Option (List ℕ)) (named : Named)
+    (result : Result (List (Option MapRecord)) Report) → NamesInners Reads sources words list (Ok named)
+    → (result ≡ Err out_of_memory) ⊎ ReadsInners Reads named sources [] result
+    → (result ≡ Err out_of_memory) ⊎ GathersInners Reads sources words list result
+inners_gathered Reads sources words list named result names (inl no_memory) = inl no_memory
+inners_gathered Reads sources words list named result names (inr reads) = inr (Ok named, names, reads)

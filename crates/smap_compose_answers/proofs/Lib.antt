@@ -1,2 +1,3 @@
 mod ComposeLaws
 mod InnersLaws
+mod NamesLaws

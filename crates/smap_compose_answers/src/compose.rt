@@ -3,13 +3,14 @@ ghost use Rattle.std.specs.Prelude.{◌≡◌, MatchResult, option_copied};
 ghost use Rattle.smap_compose_answers.specs.Compose.{ReportsComposed, compose_refusal_result, compose_result};
 ghost use Rattle.smap_replies.specs.Map.{IsResult};
 ghost use Rattle.smap_replies.specs.Outcome.{OrMemory, reply_report, report_of};
-ghost use Rattle.smap_compose_answers.specs.Written.{written_of};
+ghost use Rattle.smap_compose_answers.specs.Written.{left_out_of, written_of};
 ghost use Rattle.smap_compose.specs.Composition.{composed_of};
+ghost use Rattle.smap_compose.specs.LeftOut.{left_of};
 ghost use Rattle.smap_mappings.specs.Exact.{GivesOr};
 
-use crate::written::written;
+use crate::written::{left_out_of, written};
 use smap_command::{USUAL_INTERVAL, WriteOptions};
-use smap_compose::{ComposeRefusal, compose};
+use smap_compose::{ComposeRefusal, Composed, compose_with};
 use smap_record::{MapFile, Url};
 use smap_replies::{Failure, FileReader, Reply, file_bytes, map_of, refused_by};
 use std::alloc::Global;
@@ -45,35 +46,50 @@ pub fn answer_compose<F: FileReader>(
     let bytes = file_bytes(alloc, reader, 1, maps.inner)?;
     let outer_map = outer_map?;
     let inner_map = map_of(alloc, maps.inner, bytes, maps.base, USUAL_INTERVAL)?;
-    composed_two(alloc, &outer_map, maps.source, &inner_map, options)
+    composed_two(alloc, outer_map, maps.source, inner_map, options)
 }
 
 // The composed map, or why the maps are not composed.
 fn composed_two(
     alloc: Global,
-    outer: &MapFile,
+    outer: MapFile,
     source: u32,
-    inner: &MapFile,
+    inner: MapFile,
     options: WriteOptions,
 ) -> Result<Reply, Failure>
-    ensures { OrMemory (IsResult (compose_result options outer.now.stated source) inner.now.stated)
+    ensures { OrMemory (IsResult (compose_result options outer.stated source) inner.stated)
         (report_of result) }
 {
     reported(alloc, composed_line(alloc, outer, source, inner, options))
 }
 
-// The composed map as a line.
+// The composed map as a line. Both maps go before it is written.
 fn composed_line(
     alloc: Global,
-    outer: &MapFile,
+    outer: MapFile,
     source: u32,
-    inner: &MapFile,
+    inner: MapFile,
     options: WriteOptions,
 ) -> Result<Reply, ComposeRefusal>
     ensures { GivesOr ComposeRefusal.Memory reply_report result
-        (written_of options (composed_of outer.now.stated source inner.now.stated)) }
+        (written_of options (composed_of outer.stated source inner.stated)) }
 {
-    written(alloc, compose(alloc, outer, source, inner)?, options)
+    let composed = composed(alloc, outer, source, inner, options)?;
+    Ok(written(alloc, composed)?)
+}
+
+// The composed map, without what the options leave out.
+fn composed(
+    alloc: Global,
+    outer: MapFile,
+    source: u32,
+    inner: MapFile,
+    options: WriteOptions,
+) -> Result<Composed, ComposeRefusal>
+    ensures { GivesOr ComposeRefusal.Memory (λ composed. composed) result
+        (left_of (left_out_of options) (composed_of outer.stated source inner.stated)) }
+{
+    compose_with(alloc, &outer, source, &inner, left_out_of(options))
 }
 
 /// The composed map, or why maps are not composed.

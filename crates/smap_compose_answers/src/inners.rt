@@ -17,6 +17,7 @@ ghost use Rattle.smap_record.specs.Sources.{source_of};
 ghost use Rattle.smap_locations.specs.ListLine.{line_entry};
 
 use crate::lines;
+use crate::outer_map::OuterMap;
 use smap_codes::Code;
 use smap_command::USUAL_INTERVAL;
 use smap_locations::{ListFault, ListRefusal, NamedPaths, entry_of_line};
@@ -47,7 +48,7 @@ pub fn named_inners<F: FileReader>(
     words: &[(String, String)],
     list: Option<&str>,
 ) -> Result<NamedPaths, Failure>
-    requires counted { outer.now.count ≡ length outer.now.map.now.stated.sources }
+    requires { IsOuter outer.now }
     ensures { NamesInners (F.gives reader.now) outer.now.map.now.stated.sources
         (map argument_of words.now) (option_copied list.entry) (or_reported result) }
 {
@@ -58,20 +59,13 @@ pub fn named_inners<F: FileReader>(
     }
 }
 
-/// The outer map, and how many sources it has.
-#[derive(Clone, Copy)]
-pub struct OuterMap<'a> {
-    pub map: &'a MapFile,
-    pub count: u32,
-}
-
 // The paths that the words name.
 fn named_words(
     alloc: Global,
     outer: &OuterMap<'_>,
     words: &[(String, String)],
 ) -> Result<NamedPaths, Failure>
-    requires counted { outer.now.count ≡ length outer.now.map.now.stated.sources }
+    requires { IsOuter outer.now }
     ensures { NamesWords outer.now.map.now.stated.sources (map argument_of words.now) []
         (or_reported result) }
 {
@@ -90,7 +84,7 @@ fn with_word(
     name: &str,
     path: &str,
 ) -> Result<NamedPaths, Failure>
-    requires counted { outer.now.count ≡ length outer.now.map.now.stated.sources }
+    requires { IsOuter outer.now }
     ensures { NamesPair outer.now.map.now.stated.sources
         (misuse (argument_refused_line (argument_text name.now path.now) (text_of A2))) named
         name.now path.now (or_reported result) }
@@ -114,7 +108,7 @@ fn named_list<F: FileReader>(
     named: NamedPaths,
     list: &str,
 ) -> Result<NamedPaths, Failure>
-    requires counted { outer.now.count ≡ length outer.now.map.now.stated.sources }
+    requires { IsOuter outer.now }
     ensures { NamesList (F.gives reader.now) outer.now.map.now.stated.sources
         (Some list.now) named (or_reported result) }
 {
@@ -130,7 +124,7 @@ fn named_bytes(
     list: &str,
     bytes: &[u8],
 ) -> Result<NamedPaths, Failure>
-    requires counted { outer.now.count ≡ length outer.now.map.now.stated.sources }
+    requires { IsOuter outer.now }
     ensures { NamesBytes outer.now.map.now.stated.sources list.now bytes.now named
         (or_reported result) }
 {
@@ -146,7 +140,7 @@ fn named_lines(
     list: &str,
     text: &str,
 ) -> Result<NamedPaths, Failure>
-    requires counted { outer.now.count ≡ length outer.now.map.now.stated.sources }
+    requires { IsOuter outer.now }
     ensures { NamesLines outer.now.map.now.stated.sources list.now 1 (lines text.now) named
         (or_reported result) }
 {
@@ -168,7 +162,7 @@ fn with_line(
     number: u64,
     line: &str,
 ) -> Result<NamedPaths, Failure>
-    requires counted { outer.now.count ≡ length outer.now.map.now.stated.sources }
+    requires { IsOuter outer.now }
     ensures { NamesEntry outer.now.map.now.stated.sources list.now number
         (line_entry line.now) named (or_reported result) }
 {
@@ -203,14 +197,14 @@ fn with_pair(
     name: &str,
     path: &str,
 ) -> Result<NamedPaths, PairFault>
-    requires counted { outer.now.count ≡ length outer.now.map.now.stated.sources }
+    requires { IsOuter outer.now }
     ensures named { IfOk result (IsNamed outer.now.map.now.stated.sources named name.now path.now) }
     ensures unnamed { IfErr result (IsUnnamed outer.now.map.now.stated.sources named name.now) }
 {
     if named.path_under(name.as_bytes()).is_some() {
         return Err(PairFault::Twice);
     }
-    if !has_source_called(outer, name) {
+    if !outer.has_source_called(name) {
         return Err(PairFault::NoSource);
     }
     let (Ok(name), Ok(path)) = (String::from_str(alloc, name), String::from_str(alloc, path)) else {
@@ -223,39 +217,6 @@ fn with_pair(
     }
 }
 
-// Whether a source of the outer map has this name.
-fn has_source_called(outer: &OuterMap<'_>, name: &str) -> bool
-    requires counted { outer.now.count ≡ length outer.now.map.now.stated.sources }
-    ensures { result ≡ list_any (is_called name.now) outer.now.map.now.stated.sources }
-{
-    for i in 0..outer.count {
-        if is_source_called(outer.map, i, name) {
-            return true;
-        }
-    }
-    false
-}
-
-// Whether source `i` has this name.
-fn is_source_called(map: &MapFile, i: u32, name: &str) -> bool
-    ensures { result
-        ≡ option_map_or (is_called name.now) (slice_get map.now.stated.sources i) false }
-{
-    match map.source(i) {
-        Some(source) => is_called(source, name),
-        None => false,
-    }
-}
-
-fn is_called(source: &SourceEntry, name: &str) -> bool
-    ensures { result ≡ is_called name.now (source_of source.now) }
-{
-    match &source.name {
-        Some(own) => own.text() == name,
-        None => false,
-    }
-}
-
 /// The maps of the sources of the outer map, where they have one.
 pub fn read_inners<F: FileReader>(
     alloc: Global,
@@ -263,7 +224,7 @@ pub fn read_inners<F: FileReader>(
     outer: &OuterMap<'_>,
     named: &NamedPaths,
 ) -> Result<Vec<Option<MapFile>>, Failure>
-    requires counted { outer.now.count ≡ length outer.now.map.now.stated.sources }
+    requires { IsOuter outer.now }
     ensures reads { (inners_reported result ≡ Err out_of_memory)
         ⊎ ReadsInners (F.gives reader.now) named.now outer.now.map.now.stated.sources [] (inners_reported result) }
     ensures counted { IfOk result (λ inners. length inners.items

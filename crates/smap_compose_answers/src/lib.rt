@@ -11,6 +11,7 @@ mod compose;
 mod compose_all;
 mod inners;
 mod lines;
+mod outer_map;
 mod show;
 mod written;
 

@@ -3,15 +3,16 @@ ghost use Rattle.std.specs.Prelude.{[], option_copied};
 ghost use Rattle.smap_replies.specs.Map.{IsResult, ReportsMap};
 ghost use Rattle.smap_replies.specs.Outcome.{OrMemory, reply_report, report_of};
 ghost use Rattle.smap_compose_answers.specs.Show.{show_result, show_with_result};
-ghost use Rattle.smap_compose_answers.specs.Written.{written_of};
+ghost use Rattle.smap_compose_answers.specs.Written.{left_out_of, written_of};
 ghost use Rattle.smap_command.specs.Limits.{usual_interval};
 ghost use Rattle.smap_compose.specs.Composition.{all_composed};
+ghost use Rattle.smap_compose.specs.LeftOut.{left_of};
 ghost use Rattle.smap_mappings.specs.Exact.{GivesOr};
 
-use crate::written::{line_of, written};
+use crate::written::{left_out_of, line_of, written};
 use smap_codes::Code;
 use smap_command::{USUAL_INTERVAL, WriteOptions};
-use smap_compose::{ComposeRefusal, compose_all};
+use smap_compose::{ComposeRefusal, Composed, compose_all};
 use smap_record::{MapFile, Url, WriteRefusal};
 use smap_replies::{Failure, FileReader, MapReader, Reply, read_map, refused_by};
 use std::alloc::Global;
@@ -65,17 +66,29 @@ pub fn answer_show_with<F: FileReader>(
         interval: USUAL_INTERVAL,
     };
     let map = read_map(alloc, &maps, 0, path)?;
-    match left_of_map(alloc, &map, options) {
+    match line_left(alloc, map, options) {
         Ok(reply) => Ok(reply),
         Err(ComposeRefusal::TooLarge) => Err(refused_by(alloc, Code::O1)),
         Err(_) => Err(Failure::Memory),
     }
 }
 
-// What the options leave of a map, as a line.
-fn left_of_map(alloc: Global, map: &MapFile, options: WriteOptions) -> Result<Reply, ComposeRefusal>
+// What the options leave of a map, as a line. The map goes before it is written.
+fn line_left(alloc: Global, map: MapFile, options: WriteOptions) -> Result<Reply, ComposeRefusal>
     ensures { GivesOr ComposeRefusal.Memory reply_report result
-        (written_of options (all_composed map.now.stated [])) }
+        (written_of options (all_composed map.stated [])) }
 {
-    written(alloc, compose_all(alloc, map, &[])?, options)
+    let left = left_of_map(alloc, map, options)?;
+    Ok(written(alloc, left)?)
+}
+
+fn left_of_map(
+    alloc: Global,
+    map: MapFile,
+    options: WriteOptions,
+) -> Result<Composed, ComposeRefusal>
+    ensures { GivesOr ComposeRefusal.Memory (λ left. left) result
+        (left_of (left_out_of options) (all_composed map.stated [])) }
+{
+    compose_all(alloc, &map, &[], left_out_of(options))
 }

@@ -16,7 +16,7 @@ use crate::beginning::begins_as;
 use crate::build::build_facts;
 use crate::explanation::{BuildFacts, Explanation, Found, KeyFacts, NotJsonFacts, SegmentFacts};
 use crate::found::found_in;
-use crate::key_place::key_facts;
+use crate::key_facts::key_facts;
 use crate::sections::{listed, mappings_text, section_map};
 use crate::segment::segment_facts;
 use crate::stop::stop_of;

@@ -59,3 +59,12 @@ no_length (x ∷ xs) h = absurd (omega (arith, h))
 -- a walk of which no item is left has none to come
 pub none_left : {A Z : Type 0} (it : IntoIter A Z) → into_iter_len it ≡ 0 → into_iter_items it ≡ []
 none_left it len = no_length _ (sym it.rest.ok.0 ∙ len)
+
+-- what was given so far and what is to come are the list, also after the next item
+pub walk_next : {A : Type 0} (before : List A) (item : A) (rest more all : List A) → rest ≡ item ∷ more → before ++ rest ≡ all
+    → (before ++ item ∷ []) ++ more ≡ all
+walk_next before item rest more all is are = append_assoc before (item ∷ []) more ∙ ap (λ rest. before ++ rest) (sym is) ∙ are
+
+-- and at the end it is what was given
+pub walk_end : {A Z : Type 0} (before all : List A) (it : IntoIter A Z) → into_iter_len it ≡ 0 → before ++ into_iter_items it ≡ all → before ≡ all
+walk_end before all it len are = sym (append-nil before) ∙ ap (λ rest. before ++ rest) (sym (none_left it len)) ∙ are

@@ -1,9 +1,10 @@
-//! A source of a map.
-ghost use Rattle.std.specs.Prelude.{◌≡◌, option_and_then, option_map};
+//! A source of a map, and copies of what a map lists.
+ghost use Rattle.std.specs.Prelude.{◌≡◌, map, option_and_then, option_copied, option_map, string_bytes, IfOk};
 ghost use Rattle.smap_record.specs.Sources.{source_of};
 ghost use Rattle.smap_record.specs.Written.{is_ignored_where, text_of_source};
 
 use smap_resolve::SourceName;
+use std::alloc::{AllocError, Global};
 
 /// A source of a map (ECMA-426, Source map format).
 #[derive(Drop)]
@@ -31,5 +32,58 @@ pub fn is_ignored(source: Option<&SourceEntry>) -> bool
     match source {
         Some(entry) => entry.ignored,
         None => false,
+    }
+}
+
+/// The same sources, with texts of their own.
+pub fn copied_sources(
+    alloc: Global,
+    sources: &[SourceEntry],
+) -> Result<Vec<SourceEntry>, AllocError>
+    ensures { IfOk result (λ copies. map source_of copies.items ≡ map source_of sources.now) }
+{
+    let mut copies = Vec::with_capacity(alloc, sources.len())?;
+    for source in sources {
+        copies.push(copied_source(source)?)?;
+    }
+    Ok(copies)
+}
+
+fn copied_source(source: &SourceEntry) -> Result<SourceEntry, AllocError>
+    ensures { IfOk result (λ copy. source_of copy ≡ source_of source.now) }
+{
+    let name = match &source.name {
+        Some(name) => Some(name.copied()?),
+        None => None,
+    };
+    let content = match &source.content {
+        Some(content) => Some(content.clone()?),
+        None => None,
+    };
+    Ok(SourceEntry {
+        name,
+        content,
+        ignored: source.ignored,
+    })
+}
+
+/// The same names.
+pub fn copied_names(alloc: Global, names: &[String]) -> Result<Vec<String>, AllocError>
+    ensures { IfOk result (λ copies. map string_bytes copies.items ≡ map string_bytes names.now) }
+{
+    let mut copies = Vec::with_capacity(alloc, names.len())?;
+    for name in names {
+        copies.push(name.clone()?)?;
+    }
+    Ok(copies)
+}
+
+/// The same text, where there is one.
+pub fn copied_text(alloc: Global, text: Option<&str>) -> Result<Option<String>, AllocError>
+    ensures { IfOk result (λ copy. option_map string_bytes copy ≡ option_copied text.entry) }
+{
+    match text {
+        Some(text) => Ok(Some(String::from_str(alloc, text)?)),
+        None => Ok(None),
     }
 }

@@ -27,7 +27,7 @@ mod sources;
 mod write;
 mod written;
 
-pub use entry::{SourceEntry, is_ignored, source_name};
+pub use entry::{SourceEntry, copied_text, is_ignored, source_name};
 pub use file_text::{file_members, json_text, without_mark};
 pub use map_file::MapFile;
 pub use parts::file_parts;
@@ -36,7 +36,7 @@ pub use smap_index::{Answer, BuildRefusal, JoinedMappings, Neighbours};
 pub use smap_mappings::{Fault, FaultKind, Mapping, Meter, Origin};
 pub use smap_resolve::SourceName;
 pub use url::Url;
-pub use write::{WriteRefusal, write_record};
+pub use write::{WriteRefusal, write_owned, write_record};
 
 /// How many bytes a map file has at most, which is as many as a mappings text.
 pub const MOST_FILE_BYTES: usize = smap_mappings::MOST_BYTES;

@@ -25,7 +25,7 @@ use crate::joined::read_sections;
 use crate::outer::read_outer;
 use crate::refusal::MapRefusal;
 use crate::sources::sources;
-use crate::write::{WriteRefusal, write_owned};
+use crate::write::{WriteRefusal, write_copied};
 use serde_json::{Map, Value};
 use smap_index::{Answer, Index, JoinedMappings, Neighbours};
 use smap_mappings::{Mapping, Meter};
@@ -283,7 +283,7 @@ impl MapFile {
             self.now.stated.names self.now.stated.file) }
     {
         let mappings = self.index.encode_all(alloc)?;
-        let bytes = write_owned(alloc, &self.sources, &self.names, self.file(), mappings)?;
+        let bytes = write_copied(alloc, &self.sources, &self.names, self.file(), mappings)?;
         Ok(bytes)
     }
 }

@@ -1,5 +1,5 @@
 //! A written map (ECMA-426, Source map format).
-ghost use Rattle.std.specs.Prelude.{◌≡◌, ◌≤◌, length, map, option_copied, string_bytes, IfOk};
+ghost use Rattle.std.specs.Prelude.{◌≡◌, ◌≤◌, length, map, option_copied, option_map, string_bytes, IfOk};
 ghost use Rattle.smap_mappings.specs.Mappings.{mappings_of};
 ghost use Rattle.smap_record.specs.Limits.{most_file_bytes};
 ghost use Rattle.smap_record.specs.ReadBack.{IsRegularMap, ReadsBackAs};
@@ -9,7 +9,7 @@ ghost use Rattle.smap_record.specs.Written.{written};
 ghost use Rattle.smap_record.specs.declared.write.WriteRefusal.TheVariants.{Memory};
 ghost use Rattle.smap_record.specs.Codes.{write_code};
 
-use crate::entry::SourceEntry;
+use crate::entry::{SourceEntry, copied_names, copied_sources, copied_text};
 use crate::written::members;
 use serde_json::Value;
 use smap_codes::Code;
@@ -75,7 +75,7 @@ pub fn write_record(
         → ReadsBackAs bytes.items (mappings_of mappings.now)
         (map source_of sources.now) (map string_bytes names.now) (option_copied file.entry)) }
 {
-    write_owned(
+    write_copied(
         alloc,
         sources,
         names,
@@ -85,7 +85,7 @@ pub fn write_record(
 }
 
 /// The same of a mappings text that is moved into it.
-pub fn write_owned(
+pub fn write_copied(
     alloc: Global,
     sources: &[SourceEntry],
     names: &[String],
@@ -99,6 +99,28 @@ pub fn write_owned(
         → IsRegularMap (length sources.now) (length names.now) (string_bytes mappings)
         → ReadsBackAs bytes.items (mappings_of (string_bytes mappings))
         (map source_of sources.now) (map string_bytes names.now) (option_copied file.entry)) }
+{
+    let sources = copied_sources(alloc, sources)?;
+    let names = copied_names(alloc, names)?;
+    let file = copied_text(alloc, file)?;
+    write_owned(alloc, sources, names, file, mappings)
+}
+
+/// The same of sources, names, a generated file and a mappings text whose texts are all moved into it.
+pub fn write_owned(
+    alloc: Global,
+    sources: Vec<SourceEntry>,
+    names: Vec<String>,
+    file: Option<String>,
+    mappings: String,
+) -> Result<Vec<u8>, AllocError>
+    ensures text { IfOk result (λ bytes. bytes.items
+        ≡ written (map source_of sources.items) (map string_bytes names.items)
+        (option_map string_bytes file) (string_bytes mappings)) }
+    ensures reads_back { IfOk result (λ bytes. length bytes.items ≤ most_file_bytes
+        → IsRegularMap (length sources.items) (length names.items) (string_bytes mappings)
+        → ReadsBackAs bytes.items (mappings_of (string_bytes mappings))
+        (map source_of sources.items) (map string_bytes names.items) (option_map string_bytes file)) }
 {
     let members = members(alloc, sources, names, file, mappings)?;
     let text = Value::Object(members).to_string(alloc)?;

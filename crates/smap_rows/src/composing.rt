@@ -21,7 +21,7 @@ fn put_composed(
     composed: Result<Composed, ComposeRefusal>,
 ) -> Result<(), RowFault> {
     match composed {
-        Ok(composed) => answer.put(&composed.write(row.alloc())?),
+        Ok(composed) => answer.put(&composed.write_owned(row.alloc())?),
         Err(refusal) => answer.put_text(&format!(in row.alloc(); "{refusal:?}")?),
     }
 }
@@ -55,7 +55,12 @@ fn composed_map(
     let Ok(composed) = compose(row.alloc(), outer, source, inner) else {
         return Err(RowFault::Refused);
     };
-    match MapFile::read_owned(row.alloc(), composed.write(row.alloc())?, None, interval) {
+    match MapFile::read_owned(
+        row.alloc(),
+        composed.write_owned(row.alloc())?,
+        None,
+        interval,
+    ) {
         Ok(map) => Ok(map),
         Err(_) => Err(RowFault::Refused),
     }

@@ -156,10 +156,6 @@ starts_in_order (m ∷ mappings) order = (first m, order)
     first : (m : Mapping) → IsAtOrBefore (position_at 0 0) m
     first m = ⊎_elim (λ same. inr (same, omega arith)) (λ past. inl past) (zero_or m.line)
 
-pub rest_in_order : (m : Mapping) (xs : List Mapping) → IsInOrder (m ∷ xs) → IsInOrder xs
-rest_in_order m [] order = tt
-rest_in_order m (n ∷ xs) order = order.1
-
 pub rest_within : (sources names : ℕ) (m : Mapping) (xs : List Mapping) → All (IsWithin sources names) (m ∷ xs) → All (IsWithin sources names) xs
 rest_within sources names m xs all k d inside = all (suc k) d (omega arith)
 

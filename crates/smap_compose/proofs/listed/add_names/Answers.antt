@@ -1,8 +1,10 @@
-use Rattle.std.proofs.Common.{◌<◌, ◌++◌, ◌∷◌, [], length, map, string_bytes, sym, ap, ◌∙◌, arith, Vec, String, Global}
+use Rattle.std.specs.Borrow.{Bor}
+use Rattle.std.proofs.Common.{◌<◌, ◌∷◌, [], ℕ, List, length, map, sym, ap, ◌∙◌, arith, Vec, Global}
 use Rattle.std.proofs.lemmas.List.{map-append}
+use Rattle.smap_compose.specs.Private.Listing.{lent_text}
 use Rattle.smap_compose.proofs.ListLaws.{none_past, copied_next}
 use Rattle.smap_compose.proofs.listed.add_names.Goals as goal
-use Rattle.smap_compose.proofs.listed.add_names.Goals.{in-Some+in_ok-from_str+in_ok-push, in_default}
+use Rattle.smap_compose.proofs.listed.add_names.Goals.{in-Some+in_ok-push, in_default}
 
 pub loop-i-preserved : goal.loop-i-preserved
 loop-i-preserved c =
@@ -10,12 +12,11 @@ loop-i-preserved c =
     let so_far = c.loop-i.names.items in
     let inside : c.loop-i.i < length names = omega (arith, c.loop-i-test.true, c.names-i-end.ensures) in
     elim c.match-name.branch [
-      | in-Some+in_ok-from_str+in_ok-push w ↦
-          ap (λ (v : Vec (String Global) Global). map string_bytes v.items) w.names-is
-          ∙ ap (map string_bytes) w.in_ok-push.ensures.items
-          ∙ map-append string_bytes so_far (w.in_ok-from_str.field-0 ∷ [])
-          ∙ ap (λ name. map string_bytes so_far ++ name ∷ []) w.in_ok-from_str.ensures.ok
-          ∙ copied_next (map string_bytes c.args.names.now.items) names (map string_bytes so_far) c.loop-i.i w.in-Some.name.now
+      | in-Some+in_ok-push w ↦
+          ap (λ (v : Vec (Bor (List ℕ)) Global). map lent_text v.items) w.names-is
+          ∙ ap (map lent_text) w.in_ok-push.ensures.items
+          ∙ map-append lent_text so_far (w.in-Some.name ∷ [])
+          ∙ copied_next (map lent_text c.args.names.now.items) names (map lent_text so_far) c.loop-i.i w.in-Some.name.now
           c.loop-i.invariant (sym w.in-Some.ensures)
       | in_default w ↦ absurd (none_past names c.loop-i.i (sym w.in_default.ensures) inside)
     ]

@@ -1,7 +1,8 @@
-use Rattle.std.proofs.Common.{◌≡◌, ◌+◌, ◌++◌, [], length, map, flat_map, string_bytes, sym, ap, ◌∙◌}
+use Rattle.std.proofs.Common.{◌≡◌, ◌+◌, ◌++◌, [], length, map, flat_map, sym, ap, ◌∙◌}
 use Rattle.std.proofs.lemmas.List.{append-nil}
 use Rattle.smap_compose.specs.Composition.{names_within}
 use Rattle.smap_compose.specs.Inners.{stated_inners}
+use Rattle.smap_compose.specs.Private.Listing.{lent_text}
 use Rattle.smap_compose.proofs.ListLaws.{drop_past}
 use Rattle.smap_compose.proofs.ListedLaws.{entries_counted, names_counted}
 use Rattle.smap_compose.proofs.listed.all_names.Goals as goal
@@ -10,10 +11,10 @@ pub returns-clause-counted : goal.returns-clause-counted
 returns-clause-counted c =
     let outer = c.args.outer.now.stated.names in
     let inners = c.args.inners.now in
-    let made = map string_bytes c.loop-inner.names.items in
+    let made = map lent_text c.loop-inner.names.items in
     let are : made ≡ outer ++ flat_map names_within (stated_inners inners) =
     sym (append-nil made)
     ∙ ap (λ l. made ++ flat_map names_within (stated_inners l)) (sym (drop_past inners c.loop-inner.inner-index c.loop-inner-test.false))
     ∙ c.loop-inner.invariant.names in
-    entries_counted string_bytes c.loop-inner.names.items outer (flat_map names_within (stated_inners inners)) are
+    entries_counted lent_text c.loop-inner.names.items outer (flat_map names_within (stated_inners inners)) are
     ∙ ap (λ n. length outer + n) (names_counted (stated_inners inners))

@@ -1,4 +1,4 @@
-use Rattle.std.proofs.Common.{◌≡◌, ℕ, ◌++◌, List, false, length, map, take, drop, string_bytes, refl, sym, ap, subst, ◌∙◌}
+use Rattle.std.proofs.Common.{◌≡◌, ℕ, ◌++◌, List, false, length, map, take, drop, refl, sym, ap, subst, ◌∙◌}
 use Rattle.std.specs.Prelude.{bytes_eq}
 use Rattle.std.specs.List.{All}
 use Rattle.std.proofs.lemmas.List.{length-map}
@@ -7,29 +7,29 @@ use Rattle.smap_mappings.specs.Range.{is_mapping_past_limit}
 use Rattle.smap_mappings.specs.Within.{IsWithin}
 use Rattle.smap_mappings.specs.Writing.{IsLengthOf}
 use Rattle.smap_mappings.specs.declared.mapping.Mapping.{Mapping}
-use Rattle.smap_record.specs.Sources.{source_of}
 use Rattle.smap_compose.specs.Pruned.{is_name_used, is_same_source, is_source_used}
 use Rattle.smap_compose.specs.Private.Keys.{mapping_moved_to}
 use Rattle.smap_compose.specs.Private.Left.{AreLeft, those_marked}
-use Rattle.smap_compose.specs.declared.composed.Listing.{Listing}
+use Rattle.smap_compose.specs.declared.listing.Listing.{Listing}
 use Rattle.smap_compose.specs.declared.left.Places.{Places}
+use Rattle.smap_compose.specs.Private.Listing.{lent_source, lent_text}
 use Rattle.smap_compose.proofs.MovedLaws.{written_over}
 use Rattle.smap_compose.proofs.PartsLaws.{ArePartsLeft, left_at, moved_at, moved_in_range, parts_left}
 use Rattle.smap_compose.proofs.pruned.pruned_parts.Goals as goal
 
 pub move_origins-length-requires-clause-in_range : goal.move_origins-length-requires-clause-in_range
 move_origins-length-requires-clause-in_range c =
-    let list : List Mapping = c.args.mappings.items in
-    let listing : Listing = c.args.listing in
+    let list : List Mapping = c.args.whole.mappings.items in
+    let listing : Listing = c.args.whole.listing in
     let sources : Places = c.in_ok-left.left.sources in
     let names : Places = c.in_ok-left.left.names in
     let list_is : c.deref.result.now ≡ list = c.deref.ensures.value in
     let listed_sources : c.deref-2.result.now ≡ listing.sources.items = c.deref-2.ensures.value in
     let listed_names : c.deref-3.result.now ≡ listing.names.items = c.deref-3.ensures.value in
-    let sources_left : AreLeft is_same_source (is_source_used list) (map source_of listing.sources.items) sources.places.items sources.stays.items =
-    left_at (ap is_source_used list_is) (ap (map source_of) listed_sources) c.in_ok-left.ensures.sources in
-    let names_left : AreLeft bytes_eq (is_name_used list) (map string_bytes listing.names.items) names.places.items names.stays.items =
-    left_at (ap is_name_used list_is) (ap (map string_bytes) listed_names) c.in_ok-left.ensures.names in
+    let sources_left : AreLeft is_same_source (is_source_used list) (map lent_source listing.sources.items) sources.places.items sources.stays.items =
+    left_at (ap is_source_used list_is) (ap (map lent_source) listed_sources) c.in_ok-left.ensures.sources in
+    let names_left : AreLeft bytes_eq (is_name_used list) (map lent_text listing.names.items) names.places.items names.stays.items =
+    left_at (ap is_name_used list_is) (ap (map lent_text) listed_names) c.in_ok-left.ensures.names in
     let moved = moved_at c.deref_mut.result.now list c.deref-4.result.now sources.places.items c.deref-5.result.now names.places.items
     c.deref_mut.ensures.value c.deref-4.ensures.value c.deref-5.ensures.value in
     subst (All (λ (mapping : Mapping). is_mapping_past_limit mapping ≡ false)) (sym moved)
@@ -37,25 +37,25 @@ move_origins-length-requires-clause-in_range c =
 
 pub returns : goal.returns
 returns c =
-    let list : List Mapping = c.args.mappings.items in
-    let listing : Listing = c.args.listing in
+    let list : List Mapping = c.args.whole.mappings.items in
+    let listing : Listing = c.args.whole.listing in
     let sources : Places = c.in_ok-left.left.sources in
     let names : Places = c.in_ok-left.left.names in
     let list_is : c.deref.result.now ≡ list = c.deref.ensures.value in
     let listed_sources : c.deref-2.result.now ≡ listing.sources.items = c.deref-2.ensures.value in
     let listed_names : c.deref-3.result.now ≡ listing.names.items = c.deref-3.ensures.value in
-    let sources_left : AreLeft is_same_source (is_source_used list) (map source_of listing.sources.items) sources.places.items sources.stays.items =
-    left_at (ap is_source_used list_is) (ap (map source_of) listed_sources) c.in_ok-left.ensures.sources in
-    let names_left : AreLeft bytes_eq (is_name_used list) (map string_bytes listing.names.items) names.places.items names.stays.items =
-    left_at (ap is_name_used list_is) (ap (map string_bytes) listed_names) c.in_ok-left.ensures.names in
+    let sources_left : AreLeft is_same_source (is_source_used list) (map lent_source listing.sources.items) sources.places.items sources.stays.items =
+    left_at (ap is_source_used list_is) (ap (map lent_source) listed_sources) c.in_ok-left.ensures.sources in
+    let names_left : AreLeft bytes_eq (is_name_used list) (map lent_text listing.names.items) names.places.items names.stays.items =
+    left_at (ap is_name_used list_is) (ap (map lent_text) listed_names) c.in_ok-left.ensures.names in
     let written : List Mapping = c.move_origins-length.new.mappings in
     let moved_there : written ≡ map (mapping_moved_to c.deref-4.result.now c.deref-5.result.now) c.deref_mut.result.now = c.move_origins-length.ensures.list in
     let moved : written ≡ map (mapping_moved_to sources.places.items names.places.items) list =
     moved_there ∙ moved_at c.deref_mut.result.now list c.deref-4.result.now sources.places.items c.deref-5.result.now names.places.items
     c.deref_mut.ensures.value c.deref-4.ensures.value c.deref-5.ensures.value in
     let as_many : length written ≡ length list = ap length moved ∙ length-map list (mapping_moved_to sources.places.items names.places.items) in
-    let left : List Mapping = take c.args.mappings.len (written ++ drop (length written) list) in
-    let left_is : left ≡ written = written_over list written c.args.mappings.len as_many (ap length (sym list_is) ∙ c.deref.ensures.len) in
+    let left : List Mapping = take c.args.whole.mappings.len (written ++ drop (length written) list) in
+    let left_is : left ≡ written = written_over list written c.args.whole.mappings.len as_many (ap length (sym list_is) ∙ c.deref.ensures.len) in
     let others : Listing = record { sources = c.in_ok-kept_entries.field-0; names = c.in_ok-kept_entries-2.field-0; file = listing.file } in
     let source_marks : c.deref-6.result.now ≡ sources.stays.items = c.deref-6.ensures.value in
     let name_marks : c.deref-7.result.now ≡ names.stays.items = c.deref-7.ensures.value in
@@ -68,11 +68,13 @@ returns c =
     left others (left_is ∙ moved) sources_kept names_kept refl in
     record {
       pruned = parts.are_pruned;
-      length = subst (λ (mappings : List Mapping). IsLengthOf mappings c.move_origins-length.result) (sym left_is) c.move_origins-length.ensures.length;
-      no_fault =
-          c.lists_in_order_have_no_fault.ensures.within left (length others.sources.items) (length others.names.items)
-          (parts.order ((c.lists_in_order_have_no_fault.ensures.exact list).0 c.requires.no_fault).0) parts.within;
-      within = parts.within;
-      few_sources = parts.few_sources;
-      few_names = parts.few_names;
+      fit = record {
+        measured = subst (λ (mappings : List Mapping). IsLengthOf mappings c.move_origins-length.result) (sym left_is) c.move_origins-length.ensures.length;
+        no_fault =
+            c.lists_in_order_have_no_fault.ensures.within left (length others.sources.items) (length others.names.items)
+            (parts.order ((c.lists_in_order_have_no_fault.ensures.exact list).0 c.requires.no_fault).0) parts.within;
+        within = parts.within;
+        few_sources = parts.few_sources;
+        few_names = parts.few_names;
+      };
     }

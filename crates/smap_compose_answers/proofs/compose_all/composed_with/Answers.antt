@@ -7,12 +7,12 @@ use Rattle.smap_compose_answers.proofs.compose_all.composed_with.Goals as goal
 
 pub returns-in_err-inners : goal.returns-in_err-inners
 returns-in_err-inners g c =
-    let p = err_from_is_err_and c.from_residual-in_err-inners.result c.from_residual-in_err-inners.ensures.1 in
+    let p = err_from_is_err_and c.from_residual.result c.from_residual.ensures.1 in
     rw (p.1, p.2) (inners_failed (g.F.FileReader.gives c.args.reader.now) c.args.options (map argument_of c.args.maps.now.words.now)
-    (option_copied c.args.maps.now.list) c.args.outer.now.stated c.in_ok-named.named c.in_ok-named.ensures _ c.in_err-inners.ensures.reads)
+    (option_copied c.args.maps.now.list) c.args.outer.stated _ c.in_err-inners.ensures.gathered)
 
 pub returns : goal.returns
 returns g c =
     inners_composed (g.F.FileReader.gives c.args.reader.now) c.args.options (map argument_of c.args.maps.now.words.now)
-    (option_copied c.args.maps.now.list) c.args.outer.now.stated c.in_ok-named.named c.in_ok-named.ensures _ _ c.in_ok-inners.ensures.reads
-    (reported_or c.all_line.result _ _ c.reported.ensures (rw c.deref.ensures.value at c.all_line.ensures))
+    (option_copied c.args.maps.now.list) c.args.outer.stated _ _ c.in_ok-inners.ensures.gathered
+    (reported_or c.all_line.result _ _ c.reported.ensures c.all_line.ensures)

@@ -9,7 +9,7 @@ use Rattle.smap_record.proofs.write.write_record.Goals as goal
 pub returns-clause-reads_back : goal.returns-clause-reads_back
 returns-clause-reads_back c =
     subst
-    (λ text. IfOk c.write_owned.result (λ bytes. length bytes.items ≤ most_file_bytes
+    (λ text. IfOk c.write_copied.result (λ bytes. length bytes.items ≤ most_file_bytes
     → IsRegularMap (length c.args.sources.now) (length c.args.names.now) text
     → ReadsBackAs bytes.items (mappings_of text) (map source_of c.args.sources.now) (map string_bytes c.args.names.now) (option_copied c.args.file)))
-    c.in_ok-from_str.ensures.ok c.write_owned.ensures.reads_back
+    c.in_ok-from_str.ensures.ok c.write_copied.ensures.reads_back

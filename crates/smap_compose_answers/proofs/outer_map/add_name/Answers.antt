@@ -1,0 +1,10 @@
+use Rattle.smap_compose_answers.specs.Private.OuterMap.{is_among}
+use Rattle.smap_compose_answers.proofs.NamesLaws.{name_added, none_added}
+use Rattle.smap_compose_answers.proofs.outer_map.add_name.Goals as goal
+
+pub returns-in-None : goal.returns-in-None
+returns-in-None c = λ text. rw c.in-None.is (none_added (is_among c.args.names.now text))
+
+pub returns-in_ok-insert-in-Some : goal.returns-in_ok-insert-in-Some
+returns-in_ok-insert-in-Some c = λ text.
+    rw c.in-Some.is (name_added c.args.names.now c.insert.new.self c.in-Some.name c.in_ok-insert-in-Some.ensures.updates text)
