@@ -82,6 +82,9 @@ typedef struct smap_found {
 /* A mapping: where it stands in the generated file, and what it answers, as smap_found has it. */
 typedef struct smap_mapping { uint32_t line, column, kind, source, original_line, original_column, named, name; } smap_mapping;
 
+/* Why mappings have no text: 1 to 3, that of E1 to E3, and the number of the first mapping that is refused, 0 of E3. */
+typedef struct smap_encode_refusal { uint32_t number; uint64_t mapping; } smap_encode_refusal;
+
 typedef struct smap_position { uint32_t line, column; } smap_position;
 
 /* How much a map holds. `lines` are the generated lines that hold a mapping, each section's by themselves. */
@@ -141,6 +144,16 @@ uint32_t smap_look_up_many(smap_map *map, const smap_position *positions, size_t
  * read where they are lent. The bytes are freed by smap_bytes_free. */
 uint32_t smap_map_mappings(smap_map *map, smap_bytes *bytes);
 
+/* Hands out the text that a map has of these mappings, as its `mappings`. They have the fields of smap_map_mappings: an original
+ * where `kind` is 2, and it a name where `named` is not 0. Where it returns 1, `refusal` says why: one stands before the one in
+ * front of it, by line and then by column (1), has a number past 2,147,483,647 (2), or the text would have more than
+ * 67,108,864 bytes (3). The bytes are freed by smap_bytes_free. */
+uint32_t smap_encode(const smap_mapping *mappings, size_t count, smap_bytes *bytes, smap_encode_refusal *refusal);
+
+/* Lends what is said of this refusal of smap_encode, "E1 NotSorted", "E2 OutOfRange" or "E3 TooLong". Returns 1 for another
+ * number. */
+uint32_t smap_encode_refusal_text(uint32_t refusal, smap_text *text);
+
 /* Says how many bytes of the generated file each source makes: `places` numbers at `sources`, which is the map's number of
  * sources, and `unmapped`. Returns 1 where the text is not UTF-8 (`refusal` 1) or has more than 67,108,864 bytes (`refusal` 2). */
 uint32_t smap_bytes_by_source(smap_map *map, const uint8_t *generated, size_t length, uint64_t *sources, size_t places,
@@ -167,7 +180,8 @@ uint32_t smap_map_write(smap_map *map, smap_bytes *bytes);
  * large. The bytes are freed by smap_bytes_free. */
 uint32_t smap_compose(smap_map *outer, uint32_t source, smap_map *inner, smap_bytes *bytes, uint32_t *refusal);
 
-/* Makes a place for the map of each source of `outer`, all without a map. */
+/* Makes a place for the map of each source of `outer`, all without a map. Later calls with these places want the same map as
+ * `outer`. */
 uint32_t smap_inners_new(smap_map *outer, smap_inners *inners);
 
 /* Puts the map of source `source` into its place, which takes it over: its handle is empty then. Returns 1 where there is no
@@ -176,6 +190,18 @@ uint32_t smap_inners_put(smap_inners *inners, uint32_t source, smap_map *map);
 
 /* Takes the map of source `source` out of its place, into the empty handle `map`. Returns 1 where there is none. */
 uint32_t smap_inners_take(smap_inners *inners, uint32_t source, smap_map *map);
+
+/* Asks for the next map: `source` is the next source that has a name, of whose map there is none in its place, and to which no
+ * source of the same name leads. The map, if there is one, is put by smap_inners_put before the next call; no source is asked
+ * for twice. Where all were asked for, `outer` is composed with the maps in the places, which are freed: from then on what that
+ * came to stands for `outer`, and has a place for each of its sources. The new ones stand behind the others, and are asked for
+ * in turn. Where it returns 1, `refusal` is 0 where no map is wanted any more, and else as for smap_compose_all, 2 also where
+ * what the maps come to is too large to be read as a map; then the places stay as they were. */
+uint32_t smap_inners_next(smap_map *outer, smap_inners *inners, uint32_t *source, uint32_t *refusal);
+
+/* Lends the name of source `source` of those that have a place, until the next call with `outer` or `inners`. Returns 1 where
+ * there is none. */
+uint32_t smap_inners_name(smap_map *outer, smap_inners *inners, uint32_t source, smap_text *name);
 
 /* Composes a map with the maps of its sources, all at once, and writes the map that they come to: as smap_compose does with
  * one after another, from the least source on. Sources keep their names, save one: where a source of `outer` is called by no

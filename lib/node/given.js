@@ -2,7 +2,7 @@
 // Checks what was given: what no call of the library may get is refused here, and never read as something else.
 const { isUint8Array, isUint32Array, isAnyArrayBuffer, isSharedArrayBuffer } = require('util').types;
 const { parsed } = require('./json.js');
-const { encode } = require('./vlq.js');
+const { encoded, numbersOf } = require('./mappings.js');
 
 // The greatest number of 32 bits. No map has a line, a column or a source of this number or a greater one.
 const MOST = 4294967295;
@@ -76,19 +76,20 @@ function mapBytes(value) {
   if (typeof value !== 'object' || value === null || ArrayBuffer.isView(value) || isAnyArrayBuffer(value)) {
     throw new TypeError('a map must be a text, a Uint8Array or a parsed map');
   }
-  return Buffer.from(JSON.stringify(encoded(parsed(value))));
+  return Buffer.from(JSON.stringify(withText(parsed(value))));
 }
 
 const isObject = (value) => typeof value === 'object' && value !== null && !Array.isArray(value);
 
 // A parsed map, whose mappings are a text where they were decoded.
-function encoded(map) {
+function withText(map) {
   if (!isObject(map)) return map;
   if (Array.isArray(map.sections)) {
-    const section = (value) => (isObject(value) ? { ...value, map: encoded(value.map) } : value);
+    const section = (value) => (isObject(value) ? { ...value, map: withText(value.map) } : value);
     return { ...map, sections: map.sections.map(section) };
   }
-  return Array.isArray(map.mappings) ? { ...map, mappings: encode(map.mappings) } : map;
+  const { mappings } = map;
+  return Array.isArray(mappings) ? { ...map, mappings: encoded(numbersOf(mappings), mappings.length) } : map;
 }
 
 // The bytes of a text or of a Uint8Array.

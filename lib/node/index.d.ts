@@ -16,7 +16,7 @@ export const LEAST_UPPER_BOUND: -1;
  * the program's line and, of a map that is refused, the lines of the explanation. */
 export class Refused extends Error {
   /** Of a map that of M1 to M17, or 0 where the base is no URL and 18 where it is too long; of others that of C1, C2 and
-   * C4, A1 and A2, or X3, and of a generated file 1 where it is not UTF-8 and 2 where it is too large. */
+   * C4, A1 and A2, E1 and E3, or X3, and of a generated file 1 where it is not UTF-8 and 2 where it is too large. */
   number?: number;
   /** That of the fault of the mappings, F1 to F11, or 0. */
   fault?: number;
@@ -172,7 +172,7 @@ export interface ComposeAllOptions {
 }
 
 /** The inner maps stand under the names of the sources that they are of; in a pair the number of a source may stand for its
- * name, from 0. A TraceMap that is given stays open. */
+ * name, from 0. A TraceMap that is given is copied, and stays open. */
 export function composeAll(
   outer: TraceMap,
   inners?: Named<string | number>,

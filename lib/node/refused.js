@@ -19,6 +19,7 @@ const LONG_BASE = 18;
 const NO_SOURCE = 4;
 const TOO_MUCH = 3;
 const TOO_LONG = 1;
+const NOT_SORTED = 1;
 
 const shown = (url) =>
   url.length <= 200 ? JSON.stringify(url) : `${JSON.stringify(url.slice(0, 200))} and ${url.length - 200} characters more`;
@@ -74,10 +75,19 @@ function refusedText() {
   return new Refused(`refused: ${addon.rewriteRefusalText(TOO_MUCH)}`, [TOO_MUCH]);
 }
 
+// Why mappings of these numbers, eight each, have no text. Their lines do not fall: of one out of order that is its column.
+function refusedEncoding([number, mapping], numbers) {
+  const text = `refused: ${addon.encodeRefusalText(number) || number}`;
+  if (number !== NOT_SORTED) return new Refused(text, [number]);
+  const [[, limit], [line, column]] = [numbers.subarray(8 * (mapping - 1)), numbers.subarray(8 * mapping)];
+  return new Refused(`${text} ${mapping}`, [number, undefined, line], undefined, { value: column, limit, column });
+}
+
 module.exports = {
   BAD_BASE,
   Refused,
   refusedComposition,
+  refusedEncoding,
   refusedGenerated,
   refusedMap,
   refusedSource,

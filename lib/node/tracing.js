@@ -4,8 +4,7 @@ const addon = require('./addon.js');
 const given = require('./given.js');
 const { lines } = require('./json.js');
 const { TraceMap, json, once, open } = require('./map.js');
-const { NUMBERS, decoded, mappingAt } = require('./mappings.js');
-const { encode } = require('./vlq.js');
+const { NUMBERS, decoded, encoded, mappingAt } = require('./mappings.js');
 
 const GREATEST_LOWER_BOUND = 1;
 const LEAST_UPPER_BOUND = -1;
@@ -67,9 +66,9 @@ function decodedMappings(map) {
 
 // The mappings as a text: that of the map, where it has one.
 function encodedMappings(map) {
-  return once(map, 'encoded', () => {
+  return once(map, 'encoded', (handle) => {
     const { mappings, sections } = json(map);
-    return typeof mappings === 'string' && !sections ? mappings : encode(decodedMappings(map));
+    return typeof mappings === 'string' && !sections ? mappings : encoded(addon.mappings(handle), lines(json(map)));
   });
 }
 

@@ -9,6 +9,7 @@
  *   show MAP                       what `smap show` writes, without its LF
  *   compose OUTER SOURCE INNER     what `smap compose` writes, without its LF
  *   all OUTER LESS SOURCE INNER..  the map composed with all these inner ones, where LESS is prune, bare, both or none
+ *   chain FOLDER OUTER LESS        the map composed with those NAME.map of the folder; on standard error the names that are asked for
  *   rewrite URL MAP                the trace on standard input, rewritten
  *   load URL MAP                   the same, where the map is read once a frame names it
  *   anywhere URL MAP               the text on standard input, with its places rewritten
@@ -254,6 +255,37 @@ static void composed_with_all(int count, char **words) {
     smap_map_free(&outer);
 }
 
+/* Whether there is a map of this name in the folder, which is read then. */
+static bool found_in(const char *folder, smap_text name, smap_map *map) {
+    char path[4096];
+    snprintf(path, sizeof path, "%s/%.*s.map", folder, (int)name.length, (const char *)name.bytes);
+    FILE *file = fopen(path, "rb");
+    if (!file) return false;
+    fclose(file);
+    *map = opened(path);
+    return true;
+}
+
+static void composed_in_steps(const char *folder, const char *path, const char *less) {
+    smap_map outer = opened(path);
+    smap_inners inners = {0};
+    smap_bytes bytes = {0};
+    uint32_t source = 0, refusal = 0, asked = 0;
+    const smap_compose_options options = {.prune = !strcmp(less, "prune")};
+    if (smap_inners_new(&outer, &inners) != SMAP_DONE) fail("no places");
+    for (; smap_inners_next(&outer, &inners, &source, &refusal) == SMAP_DONE; asked++) {
+        smap_text name = SMAP_TEXT;
+        smap_map map = {0};
+        if (smap_inners_name(&outer, &inners, source, &name) != SMAP_DONE) fail("a source without a name is asked for");
+        fprintf(stderr, "%s%.*s", asked ? " " : "", (int)name.length, (const char *)name.bytes);
+        if (found_in(folder, name, &map) && smap_inners_put(&inners, source, &map) != SMAP_DONE) fail("no place");
+    }
+    if (refusal || smap_compose_all(&outer, &inners, &options, &bytes, &refusal) != SMAP_DONE) fail("not composed");
+    put_bytes(&bytes);
+    smap_inners_free(&inners);
+    smap_map_free(&outer);
+}
+
 static void add(smap_table *table, const char *url, const char *path) {
     smap_map map = {0};
     smap_refusal refusal = {0};
@@ -348,6 +380,28 @@ static void lends(uint32_t call(uint32_t, smap_text *), uint32_t number, const c
     if (call(number, &text) != SMAP_DONE || text.length != strlen(wanted) || memcmp(text.bytes, wanted, text.length)) fail(wanted);
 }
 
+/* The texts of mappings, and why they have none. */
+static void encodes(void) {
+    static const smap_mapping mappings[] = {
+        {0, 0, 2, 0, 0, 0, 1, 0}, {2, 5, 1, 9, 9, 9, 1, 9}, {2, 4, 1, 0, 0, 0, 0, 0}, {2147483648, 0, 1, 0, 0, 0, 0, 0}, {2147483647, 0, 1, 0, 0, 0, 0, 0},
+    };
+    static const struct { size_t from, count; const char *text; smap_encode_refusal refusal; } rows[] = {
+        {0, 0, "", {0}}, {0, 2, "AAAAA;;K", {0}}, {0, 3, NULL, {1, 2}}, {3, 1, NULL, {2, 0}}, {4, 1, NULL, {3, 0}},
+    };
+    for (size_t i = 0; i < sizeof rows / sizeof *rows; i++) {
+        smap_bytes bytes = {0};
+        smap_encode_refusal refusal = {0};
+        smap_text text = SMAP_TEXT;
+        uint32_t status = smap_encode(mappings + rows[i].from, rows[i].count, &bytes, &refusal);
+        if (refusal.number != rows[i].refusal.number || refusal.mapping != rows[i].refusal.mapping) fail("another refusal of mappings");
+        if (status != (rows[i].text ? SMAP_DONE : SMAP_REFUSED)) fail("mappings with another status");
+        if (!rows[i].text) continue;
+        smap_bytes_text(&bytes, &text);
+        if (text.length != strlen(rows[i].text) || memcmp(text.bytes, rows[i].text, text.length)) fail(rows[i].text);
+        smap_bytes_free(&bytes);
+    }
+}
+
 static void mistakes(const char *path) {
     smap_text none_reported = SMAP_TEXT;
     lends(smap_compose_refusal_text, 1, "C1 SourceIndex");
@@ -359,10 +413,14 @@ static void mistakes(const char *path) {
     lends(smap_generated_refusal_text, 2, "TooLarge");
     lends(smap_table_refusal_text, 1, "A1 BadUrl");
     lends(smap_table_refusal_text, 2, "A2 Twice");
+    lends(smap_encode_refusal_text, 1, "E1 NotSorted");
+    lends(smap_encode_refusal_text, 2, "E2 OutOfRange");
+    lends(smap_encode_refusal_text, 3, "E3 TooLong");
     if (smap_compose_refusal_text(3, &none_reported) != SMAP_REFUSED || smap_table_refusal_text(0, &none_reported) != SMAP_REFUSED ||
-        smap_generated_refusal_text(0, &none_reported) != SMAP_REFUSED || smap_rewrite_refusal_text(1, &none_reported) != SMAP_REFUSED ||
-        smap_write_refusal_text(2, &none_reported) != SMAP_REFUSED)
+        smap_encode_refusal_text(4, &none_reported) != SMAP_REFUSED || smap_generated_refusal_text(0, &none_reported) != SMAP_REFUSED ||
+        smap_rewrite_refusal_text(1, &none_reported) != SMAP_REFUSED || smap_write_refusal_text(2, &none_reported) != SMAP_REFUSED)
         fail("a text of no refusal");
+    encodes();
     smap_map map = {0};
     smap_refusal refusal = {0};
     if (read_file(path, "no URL", 64, &map, &refusal) != SMAP_REFUSED || refusal.number != 0) fail("a base");

@@ -85,7 +85,8 @@ static smap_refusal refusal;
 static smap_reason reason;
 static smap_trace_count count;
 static uint64_t by_source[8], unmapped;
-static uint32_t why;
+static smap_encode_refusal encode_refusal;
+static uint32_t why, next_source;
 
 static uint32_t read_map(smap_map *map, const struct text *file) {
     return smap_map_read(file->bytes, file->length, base, sizeof base - 1, 64, map, &refusal);
@@ -104,6 +105,10 @@ static uint32_t explain_call(void) {
 }
 static uint32_t write_call(void) { return smap_map_write(&outer, &bytes); }
 static uint32_t mappings_call(void) { return smap_map_mappings(&outer, &bytes); }
+static uint32_t encode_call(void) {
+    const smap_mapping mappings[] = {{0, 3, 1, 0, 0, 0, 0, 0}, {1, 0, 2, 1, 2, 3, 1, 4}};
+    return smap_encode(mappings, 2, &bytes, &encode_refusal);
+}
 static uint32_t bytes_call(void) {
     smap_count held = {0};
     smap_counts(&outer, &held);
@@ -112,6 +117,8 @@ static uint32_t bytes_call(void) {
 }
 static uint32_t compose_call(void) { return smap_compose(&outer, 0, &inner, &bytes, &why); }
 static uint32_t inners_call(void) { return smap_inners_new(&outer, &made_inners); }
+/* The outer map has one source, whose place has a map: this is composed, and its first source asked for. */
+static uint32_t next_call(void) { return smap_inners_next(&outer, &inners, &next_source, &why); }
 static uint32_t all_call(void) {
     const smap_compose_options options = {.prune = true, .no_content = true};
     return smap_compose_all(&outer, &inners, &options, &bytes, &why);
@@ -137,9 +144,11 @@ static const struct call {
     {"smap_refusal_explain", explain_call, SMAP_DONE, FILLS_BYTES},
     {"smap_map_write", write_call, SMAP_DONE, FILLS_BYTES},
     {"smap_map_mappings", mappings_call, SMAP_DONE, FILLS_BYTES},
+    {"smap_encode", encode_call, SMAP_DONE, FILLS_BYTES},
     {"smap_bytes_by_source", bytes_call, SMAP_DONE, FILLS_NONE},
     {"smap_compose", compose_call, SMAP_DONE, FILLS_BYTES},
     {"smap_inners_new", inners_call, SMAP_DONE, FILLS_INNERS},
+    {"smap_inners_next", next_call, SMAP_DONE, FILLS_NONE},
     {"smap_compose_all", all_call, SMAP_DONE, FILLS_BYTES},
     {"smap_table_new", new_call, SMAP_DONE, FILLS_TABLE},
     {"smap_table_add", add_call, SMAP_DONE, TAKES_MAP},
@@ -218,7 +227,8 @@ static bool made_without(const struct call *call, long number) {
     if (call->handle == TAKES_MAP && read_map(&made, &outer_file)) fail(call->name, "has no map");
     static struct text before, after;
     report_table(&table, &before);
-    why = 77;
+    why = next_source = 77;
+    encode_refusal = (smap_encode_refusal){77, 77};
     refusal = (smap_refusal){77, 77, 77, 77, 77, 77};
     reason = (smap_reason){77, 77, 77, 77, 77, 77, 77, 77};
     count = (smap_trace_count){77, 77, 77, 77};
@@ -233,9 +243,11 @@ static bool made_without(const struct call *call, long number) {
     if (status == SMAP_NO_MEMORY) {
         if (!was_refused) fail(call->name, "is out of memory where none was refused");
         if ((call->handle != TAKES_MAP && made.at) || made_table.at || made_inners.at || bytes.at) fail(call->name, "has filled a handle");
-        if (why != 77 || refusal.number != 77 || reason.value != 77 || reason.has_column != 77) fail(call->name, "reports a refusal");
+        if (why != 77 || refusal.number != 77 || encode_refusal.number != 77 || reason.value != 77 || reason.has_column != 77) fail(call->name, "reports a refusal");
         if (by_source[0] != 77 || unmapped != 77) fail(call->name, "counts bytes");
         if (!alike(&before, &after)) fail(call->name, "has changed the table");
+        if (next_source != 77) fail(call->name, "asks for a source");
+        if (call->make == next_call && (next_call() != SMAP_DONE || next_source != 1)) fail(call->name, "has changed the places");
     } else if (status != call->wanted) {
         fail(call->name, "has another status");
     } else {
@@ -251,6 +263,7 @@ static bool made_without(const struct call *call, long number) {
         for (int i = 0; i < 8 && by_source[i] != 77; i++) bytes_reported += by_source[i];
         if (call->make == bytes_call && bytes_reported != sizeof trace - 1) fail(call->name, "counts other bytes");
         if (call->make == twice_call && why != 2) fail(call->name, "has another refusal");
+        if (call->make == next_call && (why != 77 || next_source != 1)) fail(call->name, "asks for another source");
     }
     smap_map_free(&outer);
     smap_map_free(&inner);
@@ -275,6 +288,8 @@ static void free_calls(void) {
                         smap_source(&outer, 0, &source) | smap_name(&outer, 0, &text) | smap_bytes_text(&bytes, &text) |
                         smap_version(&text);
     uint32_t file = smap_file(&outer, &text);
+    uint32_t source_asked = 77;
+    statuses |= smap_inners_next(&outer, &inners, &source_asked, &why) | smap_inners_name(&outer, &inners, source_asked, &text);
     statuses |= smap_inners_put(&inners, 0, &inner) | smap_inners_take(&inners, 0, &inner) | smap_inners_put(&inners, 0, &inner);
     smap_inners_free(&inners);
     smap_map_free(&outer);

@@ -284,7 +284,9 @@ function decodedMaps() {
   const holes = [[[0, 0, 0, 0]]];
   holes[5] = [[0, 0, 1, 0]];
   for (const mappings of [...bad, [7], ['AAAA'], [null], holes, Array(2 ** 32 - 1)]) refuses('TypeError', () => new smap.TraceMap(given(mappings)), /^decoded `mappings` must be lines of segments/);
-  refuses('Refused', () => new smap.TraceMap(given([[[5], [3]]])), /F9 ColumnFalls/, { fault: 9 });
+  refuses('Refused', () => new smap.TraceMap(given([[], [[7], [5], [3]]])), 'refused: E1 NotSorted 1', { number: 1, line: 1, value: 5, limit: 7, column: 5 });
+  const index = { version: 3, sections: [{ offset: { line: 0, column: 0 }, map: given([[[5], [3]]]) }] };
+  refuses('Refused', () => new smap.TraceMap(index), 'refused: E1 NotSorted 1', { number: 1, line: 0, value: 3, limit: 5, column: 3 });
   refuses('Refused', () => new smap.TraceMap(given([[[0, 1, 0, 0]]])), /F10 SourceIndex/, { fault: 10 });
   refuses('Refused', () => new smap.TraceMap(JSON.stringify(given(lines))), /M13 Mappings/, { number: 13 });
   for (const sections of [[null], [7], [[]], [{}], [{ map: null }]]) refuses('Refused', () => new smap.TraceMap({ version: 3, sections }), /M[56] Section/);
@@ -431,12 +433,25 @@ function composingAll() {
   refuses('RangeError', () => smap.composeAll(map, {}, { load: (name) => { throw new RangeError(name); } }), 'x/a.js');
   refuses('TypeError', () => smap.composeAll(map, {}, { load: () => 7 }), /a map must be a text/);
   isOpen();
-  refuses('TypeError', () => addon.composeAll(map.handle, Uint32Array.of(0), [7], false, false), /no map/);
-  for (const bad of [7, undefined, {}, [], [second.handle, second.handle]]) {
-    refuses('TypeError', () => addon.composeAll(map.handle, Uint32Array.of(0), bad, false, false), /array of as many maps/);
+  // The places of inner maps, where one map more is taken over, and none twice.
+  const [places, taken] = [addon.newInners(map.handle), new smap.TraceMap(inner)];
+  for (const bad of [7, undefined, {}, map.handle]) {
+    refuses('TypeError', () => addon.putInner(bad, 0, second.handle), /no inner maps/);
+    refuses('TypeError', () => addon.nextInner(map.handle, bad), /no inner maps/);
+    refuses('TypeError', () => addon.composeAll(map.handle, bad, false, false), /no inner maps/);
   }
-  refuses('Error', () => addon.composeAll(map.handle, Uint32Array.of(0), [map.handle], false, false), 'the map is closed');
-  refuses('Error', () => addon.composeAll(map.handle, Uint32Array.of(0, 1), [second.handle, second.handle], false, false), 'the map is closed');
+  for (const bad of [7, undefined, {}, places]) {
+    refuses('TypeError', () => addon.putInner(places, 0, bad), /no map/);
+    refuses('TypeError', () => addon.newInners(bad), /no map/);
+  }
+  for (const bad of [-1, 0.5, 2 ** 32, '0']) refuses('TypeError', () => addon.putInner(places, bad, second.handle), /whole number of 32 bits/);
+  same([addon.putInner(places, 3, taken.handle), addon.putInner(places, 1, taken.handle)], [false, true]);
+  refuses('Error', () => addon.putInner(places, 2, taken.handle), 'the map is closed');
+  same([addon.putInner(places, 1, second.handle), addon.nextInner(map.handle, places), addon.nextInner(map.handle, places)], [false, 0, 2]);
+  same([addon.innerName(map.handle, places, 2), addon.innerName(map.handle, places, 3)], ['https://e.test/y/b.js', null]);
+  same([addon.nextInner(map.handle, places), addon.innerName(map.handle, places, 3), addon.nextInner(map.handle, places)], [3, 's.ts', null]);
+  addon.closeInners(places);
+  refuses('Error', () => addon.nextInner(map.handle, places), 'the inner maps are closed');
   isOpen();
   second.close();
   refuses('Error', () => smap.composeAll(map, [[0, second]]), 'the map is closed');

@@ -10,7 +10,7 @@ import tempfile
 from array import array
 from pathlib import Path
 
-from smap import Answer, Mapping, Refused, Rewriter, SourceMap, _smap, compose, compose_all
+from smap import Answer, Mapping, Refused, Rewriter, SourceMap, _smap, compose, compose_all, encode
 from smap._answers import Refusal
 from smap._reported import refused_map
 
@@ -238,6 +238,23 @@ def compositions(path):
             refuses(Refused, lambda: compose(source_map, 1, inner), "refused: C1 SourceIndex", number=1)
 
 
+def encoding():
+    mappings = [Mapping(0, 0, 0, 0, 0, None), Mapping(0, 10, 0, 1, 4, 0), Mapping(2, 5, None, None, None, None)]
+    same([encode(mappings), encode(iter(mappings[:1])), encode([])], ["AAAA,UACIA;;K", "AAAA", ""])
+    with SourceMap(SMALL) as source_map:
+        same(encode(source_map.mappings()), "AAAA,UACIA;;K")
+    refuses(Refused, lambda: encode(reversed(mappings)), "refused: E1 NotSorted 1", number=1)
+    for number in (2**31, FAR, 2**64):
+        refuses(Refused, lambda: encode([*mappings, Mapping(9, number, None, None, None, None)]), "refused: E2 OutOfRange 3", number=2)
+    refuses(Refused, lambda: encode([Mapping(2**31 - 1, 0, None, None, None, None)]), "refused: E3 TooLong", number=3)
+    refuses(ValueError, lambda: encode([Mapping(0, -1, None, None, None, None)]), "-1")
+    for number in (0.0, "0", True):
+        refuses(TypeError, lambda: encode([Mapping(0, number, None, None, None, None)]), "whole number")
+    for given in (7, [7]):
+        refuses(TypeError, lambda: encode(given))
+    refuses(ValueError, lambda: encode([(1, 2)]))
+
+
 def composing_all():
     # Its lines 0 and 1 come from two sources of one name, and line 2 from a third one.
     outer = b'{"version":3,"sources":["x/a.js","x/a.js","https://e.test/y/b.js"],"names":[],"mappings":"AAAA;ACAA;ACAA"}'
@@ -269,8 +286,20 @@ def composing_all():
         refuses(ValueError, lambda: compose_all(first, {"x/a.js": inner, 1: inner}), "source 1 has two maps")
         for source in (False, 0.0, None, b"x/a.js"):
             refuses(TypeError, lambda: compose_all(first, {source: inner}), "source", type(source).__name__)
-        for inners in ({Whole(0): second}, {False: second}, {0: 7}):
-            refuses(TypeError, lambda: _smap.compose_all(first, inners, False, False), "source")
+        # The places of inner maps, which take maps over.
+        places, taken = _smap.Inners(first), SourceMap(inner)
+        for given in (7, None, places):
+            refuses(TypeError, lambda: _smap.Inners(given), "Map")
+            refuses(TypeError, lambda: places.put(0, given), "Map")
+            refuses(TypeError, lambda: places.next(given), "Map")
+        for source in (False, 0.5, "0"):
+            refuses(TypeError, lambda: places.put(source, taken), "source")
+        same([places.put(source, taken) for source in (3, -1, FAR, 1)], [False, False, False, True])
+        refuses(ValueError, lambda: places.put(0, taken), "the map is closed")
+        same([places.put(1, second), places.next(first), places.next(first), places.name(first, 2)], [False, 0, 2, "https://e.test/y/b.js"])
+        same([places.name(first, 3), places.next(first), places.name(first, 3), places.next(first)], [None, 3, "s.ts", None])
+        places.close()
+        refuses(ValueError, lambda: places.next(first), "the inner maps are closed")
         same(sources(compose_all(first, {Whole(0): second})), all_of("s.ts"))
         for given in (7, None, []):
             refuses(TypeError, lambda: compose_all(first, {0: given}), "bytes, a str or a Path", type(given).__name__)
@@ -461,6 +490,7 @@ if __name__ == "__main__":
     bases()
     intervals()
     compositions(Path(sys.argv[1]))
+    encoding()
     composing_all()
     tables()
     loading()

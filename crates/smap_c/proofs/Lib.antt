@@ -3,5 +3,6 @@ pub mod FrameUrls
 pub mod Held
 pub mod Holders
 pub mod Refusals
+pub mod StepLaws
 pub mod Values
 pub mod Walks

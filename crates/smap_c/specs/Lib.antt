@@ -1,5 +1,6 @@
 pub mod Composing
 pub mod Counts
+pub mod Encoding
 pub mod Frames
 pub mod Inners
 pub mod Look
@@ -11,6 +12,7 @@ pub mod Read
 pub mod Reason
 pub mod Refusal
 pub mod Shares
+pub mod Steps
 pub mod Tables
 pub mod Report
 pub mod Texts

@@ -2,4 +2,5 @@
 pub mod Base
 pub mod FirstLine
 pub mod Lending
+pub mod Places
 pub mod Rewriting

@@ -1,15 +1,16 @@
 //! A map composed with the maps of several of its sources, all at once.
-ghost use Rattle.std.specs.Prelude.{◌≡◌, ◌≢◌, ◌<◌, ◌⊎◌, None, Some, Err, IfSome, IsErrAnd, IsOkAnd, IsSome, IsTrue, false, length, replicate, slice_set};
+ghost use Rattle.std.specs.Prelude.{◌≡◌, ◌≢◌, ◌<◌, ◌⊎◌, None, Some, Err, IfSome, IsErrAnd, IsOkAnd, IsSome, IsTrue, false, length, slice_set};
 ghost use Rattle.smap_mappings.specs.Exact.{GivesOr};
 ghost use Rattle.smap_compose.specs.declared.refusal.ComposeRefusal.TheVariants.{Memory, SourceIndex};
 ghost use Rattle.smap_c.specs.Composing.{all_composed_text};
-ghost use Rattle.smap_c.specs.Inners.{is_free, map_at, stated_maps};
+ghost use Rattle.smap_c.specs.Inners.{is_free, map_at, no_maps, stated_maps, whole_of};
+ghost use Rattle.smap_c.specs.Steps.{text_in};
 ghost use Rattle.smap_c.specs.Written.{compose_number};
 
 use crate::handles::{BytesHandle, InnersHandle, MapHandle};
 use crate::inners::Inners;
 use crate::status::{DONE, NO_MEMORY, REFUSED};
-use crate::written::hand_out;
+use crate::written::{hand_out, not_composed};
 use smap_compose::{ComposeRefusal, LeftOut, compose_all};
 use smap_record::MapFile;
 use std::alloc::Global;
@@ -33,12 +34,15 @@ pub extern "C" fn smap_inners_new(
 ) -> u32
     requires { IsSome outer.old.held }
     ensures made { IfSome outer.old.held (λ outside. result ≡ 0 →
-        inners.new.held ≡ Some (replicate (length outside.stated.sources) None)) }
+        inners.new.held ≡ Some (no_maps (length outside.stated.sources))) }
     ensures stays { (outer.new.held ≡ outer.old.held)
         × (result ≢ 0 → inners.new.held ≡ inners.old.held) }
     ensures status { (result ≡ 0) ⊎ (result ≡ 3) }
 {
-    let Ok(made) = Inners::new(alloc, outer.lend().sources()) else {
+    let Ok(sources) = u32::try_from(outer.lend().sources()) else {
+        return NO_MEMORY;
+    };
+    let Ok(made) = Inners::new(alloc, sources) else {
         return NO_MEMORY;
     };
     match InnersHandle::new(alloc, made) {
@@ -61,11 +65,11 @@ pub extern "C" fn smap_inners_put(
 ) -> u32
     requires inners { IsSome inners.old.held }
     requires map { IsSome map.old.held }
-    ensures put { IfSome inners.old.held (λ maps. result ≡ 0 →
-        inners.new.held ≡ Some (slice_set maps source map.old.held)) }
+    ensures put { IfSome inners.old.held (λ places. result ≡ 0 →
+        inners.new.held ≡ Some (record places { maps = slice_set places.maps source map.old.held })) }
     ensures taken { result ≡ 0 → map.new.held ≡ None }
-    ensures refused { IfSome inners.old.held (λ maps. result ≡ 1 → is_free maps source ≡ false) }
-    ensures sound { IfSome inners.old.held (λ maps. result ≡ 0 → IsTrue (is_free maps source)) }
+    ensures refused { IfSome inners.old.held (λ places. result ≡ 1 → is_free places.maps source ≡ false) }
+    ensures sound { IfSome inners.old.held (λ places. result ≡ 0 → IsTrue (is_free places.maps source)) }
     ensures stays { result ≢ 0 →
         (inners.new.held ≡ inners.old.held) × (map.new.held ≡ map.old.held) }
     ensures status { (result ≡ 0) ⊎ (result ≡ 1) }
@@ -86,10 +90,11 @@ pub extern "C" fn smap_inners_take(
     map: &mut MapHandle,
 ) -> u32
     requires { IsSome inners.old.held }
-    ensures taken { IfSome inners.old.held (λ maps. result ≡ 0 →
-        (map.new.held ≡ map_at maps source) × (inners.new.held ≡ Some (slice_set maps source None))) }
+    ensures taken { IfSome inners.old.held (λ places. result ≡ 0 →
+        (map.new.held ≡ map_at places.maps source)
+        × (inners.new.held ≡ Some (record places { maps = slice_set places.maps source None }))) }
     ensures held { result ≡ 0 → IsSome map.new.held }
-    ensures refused { IfSome inners.old.held (λ maps. result ≡ 1 → map_at maps source ≡ None) }
+    ensures refused { IfSome inners.old.held (λ places. result ≡ 1 → map_at places.maps source ≡ None) }
     ensures stays { result ≢ 0 →
         (inners.new.held ≡ inners.old.held) × (map.new.held ≡ map.old.held) }
     ensures status { (result ≡ 0) ⊎ (result ≡ 1) }
@@ -105,8 +110,8 @@ pub extern "C" fn smap_inners_take(
 }
 
 /// Composes a map with the maps of its sources, all at once, and writes the map that they come to, with less where the
-/// options say so. Where they are refused, `refusal` is 1 or 2: that of C1, where there are more places than the outer map
-/// has sources, or of C2. All maps stay.
+/// options say so. Once `smap_inners_next` composed it, what it came to stands in its stead. Where they are refused, `refusal`
+/// is 1 or 2: that of C1, where there are more places than sources, or of C2. All maps stay.
 #[unsafe(no_mangle)]
 pub extern "C" fn smap_compose_all(
     alloc: Global,
@@ -118,41 +123,37 @@ pub extern "C" fn smap_compose_all(
 ) -> u32
     requires outer { IsSome outer.old.held }
     requires inners { IsSome inners.old.held }
-    ensures text { IfSome outer.old.held (λ outside. IfSome inners.old.held (λ maps. result ≡ 0 →
-        IsOkAnd (all_composed_text outside.stated (stated_maps maps) options.now) (λ text. bytes.new.held ≡ Some text))) }
-    ensures refused { IfSome outer.old.held (λ outside. IfSome inners.old.held (λ maps. result ≡ 1 →
-        IsErrAnd (all_composed_text outside.stated (stated_maps maps) options.now)
-        (λ why. refusal.new ≡ compose_number why))) }
-    ensures counted { IfSome outer.old.held (λ outside. IfSome inners.old.held (λ maps.
-        length outside.stated.sources < length maps → result ≡ 1)) }
+    ensures text { IfSome outer.old.held (λ outside. IfSome inners.old.held (λ places. result ≡ 0 →
+        IsOkAnd (text_in outside places options.now) (λ text. bytes.new.held ≡ Some text))) }
+    ensures refused { IfSome outer.old.held (λ outside. IfSome inners.old.held (λ places. result ≡ 1 →
+        IsErrAnd (text_in outside places options.now) (λ why. refusal.new ≡ compose_number why))) }
+    ensures counted { IfSome outer.old.held (λ outside. IfSome inners.old.held (λ places.
+        length (whole_of outside places).stated.sources < length places.maps → result ≡ 1)) }
     ensures unreported { result ≢ 1 → refusal.new ≡ refusal.old }
     ensures stays { (outer.new.held ≡ outer.old.held) × (inners.new.held ≡ inners.old.held)
         × (result ≢ 0 → bytes.new.held ≡ bytes.old.held) }
     ensures status { (result ≡ 0) ⊎ (result ≡ 1) ⊎ (result ≡ 3) }
 {
-    match all_composed_text(alloc, outer.lend(), inners.lend(), options) {
+    let places = inners.lend();
+    match all_composed_text(alloc, places.whole_of(outer.lend()), places, options) {
         Ok(text) => hand_out(alloc, text, bytes),
-        Err(ComposeRefusal::Memory) => NO_MEMORY,
-        Err(why) => {
-            *refusal = why.code().number();
-            REFUSED
-        }
+        Err(why) => not_composed(why, refusal),
     }
 }
 
-// The text of the map that a map and the maps of its sources come to.
-fn all_composed_text(
+/// The text of the map that a map and the maps of its sources come to.
+pub(crate) fn all_composed_text(
     alloc: Global,
     outer: &MapFile,
     inners: &Inners,
     options: &ComposeOptions,
 ) -> Result<Vec<u8>, ComposeRefusal>
     ensures text { GivesOr Memory (λ text. text.items) result
-        (all_composed_text outer.now.stated (stated_maps inners.now) options.now) }
-    ensures counted { length outer.now.stated.sources < length inners.now →
+        (all_composed_text outer.now.stated (stated_maps inners.now.maps) options.now) }
+    ensures counted { length outer.now.stated.sources < length inners.now.maps →
         result ≡ Err SourceIndex }
 {
-    if inners.places() > outer.sources() {
+    if u64::from(inners.places()) > outer.sources() {
         return Err(ComposeRefusal::SourceIndex);
     }
     let maps = inners.maps(alloc)?;

@@ -7,6 +7,7 @@ ghost use Rattle.smap_record.specs.contracts.map_file.MapFile as map_file;
 ghost use Rattle.smap_trace.specs.contracts.table.Table as trace_table;
 ghost use Rattle.smap_c.specs.contracts.bytes.Bytes as handed;
 ghost use Rattle.smap_c.specs.contracts.inners.Inners as inner_maps;
+ghost use Rattle.smap_c.specs.Inners.{Places};
 ghost use Rattle.smap_c.specs.Owned.{owns_held};
 
 mod lending;
@@ -69,7 +70,7 @@ impl TableHandle {
 #[derive(Drop)]
 pub struct InnersHandle {
     at: *mut u8,
-    pub ghost held: { Option (List (Option Map)) } by { coded_option inner_maps.the_row.coded },
+    pub ghost held: { Option Places } by { coded_option inner_maps.the_row.coded },
 }
 
 impl Model for InnersHandle {

@@ -1,50 +1,75 @@
-//! The inner maps of a map.
+//! The inner maps of a map, and of what it is composed to with them.
 ghost use Rattle.std.specs.Prelude.{◌≡◌, None, Some, IfOk, IsSome, IsTrue, is_some, length, option_map, replicate, slice_set};
 ghost use Rattle.smap_compose.specs.Inners.{stated_inners};
-ghost use Rattle.smap_c.specs.Inners.{is_free, map_at, stated_maps};
+ghost use Rattle.smap_c.specs.Inners.{is_free, map_at, no_maps, stated_maps, whole_of};
 
 use smap_record::MapFile;
 use std::alloc::{AllocError, Global};
 use std::marker::Model;
 
-/// At place `s` the inner map of source `s`, where it has one.
+/// The maps of the sources of a map: of the outer one or, once that was composed, of what it came to.
 #[derive(Drop)]
 pub struct Inners {
-    maps: Vec<Option<Box<MapFile>>>,
+    /// What the outer map was composed to, if it was.
+    pub(crate) whole: Option<Box<MapFile>>,
+    /// By its source, the source whose map that one comes from, where it comes from one.
+    pub(crate) leads: Vec<Option<u32>>,
+    /// The sources before this one were asked for.
+    pub(crate) asked: u32,
+    /// At place `s` the map of source `s`, where it has one.
+    pub(crate) maps: Vec<Option<Box<MapFile>>>,
 }
 
 impl Model for Inners {
-    ghost use Rattle.std.specs.Prelude.{List, Option};
-    ghost use Rattle.smap_record.specs.MapFile.{Map};
-    ghost use Rattle.smap_c.specs.Inners.{maps_held};
+    ghost use Rattle.smap_c.specs.Inners.{Places};
+    ghost use Rattle.smap_c.specs.Private.Places.{AreFew, places_seen};
 
-    ghost Value = { List (Option Map) };
+    ghost Value = { Places };
 
-    ghost view = { λ inners. maps_held inners.maps.items };
+    ghost view = { places_seen };
+
+    ghost invariant = { AreFew };
 }
 
 impl Inners {
-    /// A place for each of so many sources, without a map.
-    pub(crate) fn new(alloc: Global, sources: u64) -> Result<Inners, AllocError>
-        ensures { IfOk result (λ inners. inners ≡ replicate sources None) }
+    /// A place for each of so many sources, without a map. None was asked for.
+    pub(crate) fn new(alloc: Global, sources: u32) -> Result<Inners, AllocError>
+        ensures { IfOk result (λ inners. inners ≡ no_maps sources) }
     {
         let mut maps = Vec::new(alloc);
+        let mut leads = Vec::new(alloc);
         for _ in 0..sources {
             maps.push(None)?;
+            leads.push(None)?;
         }
-        Ok(Inners { maps })
+        Ok(Inners {
+            whole: None,
+            leads,
+            asked: 0,
+            maps,
+        })
+    }
+
+    /// The map whose sources these are the places of.
+    pub(crate) fn whole_of<'a>(&'a self, outer: &'a MapFile) -> &'a MapFile
+        ensures { result.now ≡ whole_of outer.now self.now }
+    {
+        match &self.whole {
+            Some(whole) => &**whole,
+            None => outer,
+        }
     }
 
     /// For how many sources there is a place.
-    pub(crate) fn places(&self) -> u64
-        ensures { result ≡ length self.now }
+    pub(crate) fn places(&self) -> u32
+        ensures { result ≡ length self.now.maps }
     {
-        self.maps.len() as u64
+        self.maps.len() as u32
     }
 
     /// Whether this source has a place, and no map.
     pub(crate) fn is_free(&self, source: u32) -> bool
-        ensures { result ≡ is_free self.now source }
+        ensures { result ≡ is_free self.now.maps source }
     {
         match self.maps.get(source as usize) {
             Some(place) => place.is_none(),
@@ -54,15 +79,15 @@ impl Inners {
 
     /// Puts the map of this source in its place.
     pub(crate) fn put(&mut self, source: u32, map: Box<MapFile>)
-        requires { IsTrue (is_free self.old source) }
-        ensures { self.new ≡ slice_set self.old source (Some map.value) }
+        requires { IsTrue (is_free self.old.maps source) }
+        ensures { self.new ≡ record self.old { maps = slice_set self.old.maps source (Some map.value) } }
     {
         self.maps[source as usize] = Some(map);
     }
 
     /// Whether this source has a map.
     pub(crate) fn has_map(&self, source: u32) -> bool
-        ensures { result ≡ is_some (map_at self.now source) }
+        ensures { result ≡ is_some (map_at self.now.maps source) }
     {
         match self.maps.get(source as usize) {
             Some(place) => place.is_some(),
@@ -72,16 +97,16 @@ impl Inners {
 
     /// Takes the map of this source, which has one, out of its place.
     pub(crate) fn take(&mut self, source: u32) -> Option<Box<MapFile>>
-        requires { IsSome (map_at self.old source) }
-        ensures map { option_map (λ map. map.value) result ≡ map_at self.old source }
-        ensures left { self.new ≡ slice_set self.old source None }
+        requires { IsSome (map_at self.old.maps source) }
+        ensures map { option_map (λ map. map.value) result ≡ map_at self.old.maps source }
+        ensures left { self.new ≡ record self.old { maps = slice_set self.old.maps source None } }
     {
         self.maps[source as usize].take()
     }
 
     /// The maps, as they are composed.
     pub(crate) fn maps(&self, alloc: Global) -> Result<Vec<Option<&MapFile>>, AllocError>
-        ensures { IfOk result (λ maps. stated_inners maps.items ≡ stated_maps self.now) }
+        ensures { IfOk result (λ maps. stated_inners maps.items ≡ stated_maps self.now.maps) }
     {
         let mut maps = Vec::with_capacity(alloc, self.maps.len())?;
         for place in &self.maps {

@@ -1,6 +1,7 @@
-//! Source maps for C, and for what calls C: maps are read, looked up, written and composed, and stack traces rewritten, by
-//! the calls of smap_record, smap_compose, smap_trace and smap_places. Nothing is decided here. A map, a table of maps, the
-//! inner maps of a map and bytes that are handed out stand after handles, each a pointer that owns what it leads to.
+//! Source maps for C, and for what calls C: maps are read, explained where they are refused, looked up, counted, written and
+//! composed, mappings encoded, and stack traces rewritten, by the calls of the crates below. What is decided here is which map
+//! a composition in steps asks for next. A map, a table of maps, the inner maps of a map and bytes that are handed out stand
+//! behind handles, each a pointer that owns what it leads to.
 //!
 //! ```text
 //! if smap_map_read(alloc, bytes, base, 64, &mut map, &mut refusal) == 0 {
@@ -16,6 +17,7 @@
 mod bytes;
 mod composing;
 mod counts;
+mod encoding;
 mod frames;
 mod handles;
 mod inners;
@@ -29,6 +31,7 @@ mod refusal;
 mod report;
 mod shares;
 mod status;
+mod steps;
 mod tables;
 #[cfg(test)]
 mod tests;

@@ -2,6 +2,7 @@
 ghost use Rattle.std.specs.Prelude.{IfOk, IsSome};
 
 mod composing;
+mod encoding;
 mod explaining;
 mod mappings;
 mod shares;

@@ -5,11 +5,13 @@ ghost use Rattle.smap_mappings.specs.Limits.{most_text_bytes};
 ghost use Rattle.smap_index.specs.Parts.{joined};
 ghost use Rattle.smap_c.specs.Written.{compose_number, composed_text, map_text};
 ghost use Rattle.smap_compose.specs.Composition.{compose_refusal, count_refusal};
+ghost use Rattle.smap_compose.specs.declared.refusal.ComposeRefusal.TheVariants.{Memory};
 
 use crate::bytes::Bytes;
 use crate::handles::{BytesHandle, MapHandle};
 use crate::status::{DONE, NO_MEMORY, REFUSED};
 use crate::texts::Text;
+use smap_codes::Code;
 use smap_compose::{ComposeRefusal, compose};
 use smap_record::WriteRefusal;
 use std::alloc::Global;
@@ -67,12 +69,24 @@ pub extern "C" fn smap_compose(
             Ok(text) => hand_out(alloc, text, bytes),
             Err(_) => NO_MEMORY,
         },
-        Err(ComposeRefusal::Memory) => NO_MEMORY,
-        Err(why) => {
-            *refusal = why.code().number();
-            REFUSED
-        }
+        Err(why) => not_composed(why, refusal),
     }
+}
+
+/// The status of maps that are not composed, with the number of the refusal where they are refused.
+#[tactic(auto, unfolding(smap_codes::specs::Codes::called))]
+pub(crate) fn not_composed(why: ComposeRefusal, refusal: &mut u32) -> u32
+    ensures refused { result ≡ 1 → (why ≢ Memory) × (refusal.new ≡ compose_number why) }
+    ensures some { result ≡ 1 → refusal.new ≢ 0 }
+    ensures memory { result ≢ 1 → (why ≡ Memory) × (refusal.new ≡ refusal.old) }
+    ensures status { (result ≡ 1) ⊎ (result ≡ 3) }
+{
+    *refusal = match why {
+        ComposeRefusal::SourceIndex => Code::C1.number(),
+        ComposeRefusal::TooLarge => Code::C2.number(),
+        ComposeRefusal::Memory => return NO_MEMORY,
+    };
+    REFUSED
 }
 
 // Hands these bytes out.

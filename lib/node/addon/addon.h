@@ -36,8 +36,9 @@ napi_value null(napi_env env);
 /* Bytes that were handed out, as a Buffer. */
 napi_value buffer(napi_env env, smap_bytes *bytes);
 
-/* held.c: what the objects of the addon hold of the library, a map or a table each. V8 knows of the memory, which is not its
- * own. */
+/* held.c: what the objects of the addon hold of the library: a map, a table or inner maps each. V8 knows of the memory, which is
+ * not its own. */
+enum kind { MAP, TABLE, INNERS };
 struct held;
 
 /* The addon in one environment of node. The room is what one look-up is asked and answers, in a Uint32Array of ten: the line, the
@@ -54,16 +55,22 @@ struct held {
     struct held *before, *after;
     napi_ref itself; /* the object, as long as it was not collected */
     int64_t size;    /* the bytes that V8 knows of */
-    bool full, is_table;
-    smap_map map;
-    smap_table table;
+    bool full;
+    enum kind kind;
+    union { smap_map map; smap_table table; smap_inners inners; };
 };
 
 struct addon *addon_of(napi_env env);
 
-/* What an object holds that is an open map, or an open table. */
+/* What an object holds that is open and of this kind, or a map; or nothing, which is an error. */
+struct held *held_of(napi_env env, napi_value value, enum kind kind);
 struct held *map_of(napi_env env, napi_value value);
-struct held *table_of(napi_env env, napi_value value);
+
+/* Makes an object that holds what is full. */
+napi_value object_of(napi_env env, struct held *held);
+
+/* The map went over to what takes it. */
+void hand_over(napi_env env, struct held *map, struct held *taker);
 
 /* Puts what is full into the object, which owns it then. Where that fails it is freed. */
 bool hold(napi_env env, struct addon *addon, napi_value object, struct held *held, int64_t size);
@@ -83,16 +90,18 @@ void drop_addon(napi_env env, void *data, void *hint);
 
 /* What node calls. Each says beside its body what it is given and gives. */
 typedef napi_value call(napi_env env, napi_callback_info info);
-call close_map, close_table;
+call close_map, close_table, close_inners;
 /* look_up.c */
-call look_up, look_up_many, mappings, bytes_by_source;
+call look_up, look_up_many, bytes_by_source;
+/* mappings.c */
+call mappings, encode;
 /* map.c */
 call read_map, counts, source_name, source_content, is_ignored, name, file, write_map;
 /* refusals.c */
 call refusal_text, refusal_explain, compose_refusal_text, table_refusal_text, generated_refusal_text;
-call rewrite_refusal_text, write_refusal_text;
+call rewrite_refusal_text, write_refusal_text, encode_refusal_text;
 /* compose.c */
-call compose, compose_all;
+call compose, new_inners, put_inner, next_inner, inner_name, compose_all;
 /* table.c */
 call new_table, add, rewrite, next_frame_url;
 

@@ -2,6 +2,12 @@
 #include "addon.h"
 #include <stdlib.h>
 
+/* What a composition hands out: the text of the map, or the number of the refusal. */
+static napi_value text_or_number(napi_env env, uint32_t status, smap_bytes *bytes, uint32_t why) {
+    if (status == SMAP_DONE) return buffer(env, bytes);
+    return status == SMAP_REFUSED ? number(env, why) : refuse(env, "out of memory");
+}
+
 /* compose(outer, source, inner): the text of the map, or the number of the refusal. The maps are two. */
 napi_value compose(napi_env env, napi_callback_info info) {
     napi_value words[WORDS];
@@ -12,61 +18,76 @@ napi_value compose(napi_env env, napi_callback_info info) {
     if (outer == inner) return refuse_type(env, "one map twice");
     smap_bytes bytes = {0};
     uint32_t status = smap_compose(&outer->map, index, &inner->map, &bytes, &why);
-    if (status == SMAP_DONE) return buffer(env, &bytes);
-    return status == SMAP_REFUSED ? number(env, why) : refuse(env, "out of memory");
+    return text_or_number(env, status, &bytes, why);
 }
 
-/* The maps of an array of so many, all different and none of them this one. */
-static struct held **maps_of(napi_env env, napi_value array, size_t count, struct held *other) {
-    uint32_t length;
-    if (napi_get_array_length(env, array, &length) != napi_ok || length != count) {
-        refuse_type(env, "no array of as many maps");
-        return NULL;
+/* newInners(outer): a place for the map of each source of this map. */
+napi_value new_inners(napi_env env, napi_callback_info info) {
+    napi_value words[WORDS];
+    struct held *outer = words_of(env, info, 1, words) ? map_of(env, words[0]) : NULL;
+    if (!outer) return NULL;
+    struct held *held = calloc(1, sizeof *held);
+    if (!held || smap_inners_new(&outer->map, &held->inners) != SMAP_DONE) {
+        free(held);
+        return refuse(env, "out of memory");
     }
-    struct held **maps = calloc(count + 1, sizeof *maps);
-    if (!maps) {
-        refuse(env, "out of memory");
-        return NULL;
-    }
-    size_t taken = 0;
-    other->full = false; /* a map that is taken is no further one */
-    for (; taken < count; taken++) {
-        napi_value value;
-        if (napi_get_element(env, array, (uint32_t)taken, &value) != napi_ok || !(maps[taken] = map_of(env, value))) break;
-        maps[taken]->full = false;
-    }
-    other->full = true;
-    for (size_t i = 0; i < taken; i++) maps[i]->full = true;
-    if (taken == count) return maps;
-    free(maps);
-    return NULL;
+    held->kind = INNERS;
+    return object_of(env, held);
 }
 
-/* composeAll(outer, sources, maps, prune, noContent): the text of the map, or the number of the refusal. The sources are a
- * Uint32Array, of which each has the map at its place in the array of maps. The maps are all different. */
+/* putInner(inners, source, map): whether the map has the place of this source, and is closed then. */
+napi_value put_inner(napi_env env, napi_callback_info info) {
+    napi_value words[WORDS], is;
+    uint32_t source;
+    if (!words_of(env, info, 3, words)) return NULL;
+    struct held *inners = held_of(env, words[0], INNERS);
+    if (!inners || !number_of(env, words[1], &source)) return NULL;
+    struct held *map = map_of(env, words[2]);
+    if (!map) return NULL;
+    bool put = smap_inners_put(&inners->inners, source, &map->map) == SMAP_DONE;
+    if (put) hand_over(env, map, inners);
+    return napi_get_boolean(env, put, &is) == napi_ok ? is : NULL;
+}
+
+/* The outer map and the inner ones of a call's first two arguments. */
+static bool both_of(napi_env env, const napi_value *words, struct held **outer, struct held **inners) {
+    *outer = map_of(env, words[0]);
+    *inners = *outer ? held_of(env, words[1], INNERS) : NULL;
+    return *inners != NULL;
+}
+
+/* nextInner(outer, inners): the source of which a map is wanted next, or null; or the number of the refusal, below 0. */
+napi_value next_inner(napi_env env, napi_callback_info info) {
+    napi_value words[WORDS];
+    struct held *outer, *inners;
+    uint32_t source = 0, why = 0;
+    if (!words_of(env, info, 2, words) || !both_of(env, words, &outer, &inners)) return NULL;
+    uint32_t status = smap_inners_next(&outer->map, &inners->inners, &source, &why);
+    if (status == SMAP_DONE) return number(env, source);
+    if (status != SMAP_REFUSED) return refuse(env, "out of memory");
+    return why ? number(env, -(double)why) : null(env);
+}
+
+/* innerName(outer, inners, source): the name of this source, or null. */
+napi_value inner_name(napi_env env, napi_callback_info info) {
+    napi_value words[WORDS];
+    struct held *outer, *inners;
+    uint32_t source;
+    if (!words_of(env, info, 3, words) || !both_of(env, words, &outer, &inners) || !number_of(env, words[2], &source)) return NULL;
+    smap_text text = SMAP_TEXT;
+    return smap_inners_name(&outer->map, &inners->inners, source, &text) == SMAP_DONE ? string(env, text) : null(env);
+}
+
+/* composeAll(outer, inners, prune, noContent): the text of the map, or the number of the refusal. */
 napi_value compose_all(napi_env env, napi_callback_info info) {
     napi_value words[WORDS];
-    uint32_t *sources, why = 1;
-    size_t count, put = 0;
+    struct held *outer, *inners;
+    uint32_t why = 0;
     smap_compose_options options = {0};
-    if (!words_of(env, info, 5, words)) return NULL;
-    struct held *outer = map_of(env, words[0]);
-    if (!outer || !numbers_of(env, words[1], &sources, &count)) return NULL;
-    if (napi_get_value_bool(env, words[3], &options.prune) != napi_ok || napi_get_value_bool(env, words[4], &options.no_content) != napi_ok)
+    if (!words_of(env, info, 4, words) || !both_of(env, words, &outer, &inners)) return NULL;
+    if (napi_get_value_bool(env, words[2], &options.prune) != napi_ok || napi_get_value_bool(env, words[3], &options.no_content) != napi_ok)
         return refuse_type(env, "no boolean");
-    struct held **maps = maps_of(env, words[2], count, outer);
-    if (!maps) return NULL;
-    smap_inners inners = {0};
     smap_bytes bytes = {0};
-    uint32_t status = smap_inners_new(&outer->map, &inners);
-    if (status == SMAP_DONE) {
-        while (put < count && smap_inners_put(&inners, sources[put], &maps[put]->map) == SMAP_DONE) put++;
-        status = put < count ? SMAP_REFUSED : smap_compose_all(&outer->map, &inners, &options, &bytes, &why);
-        /* Each map goes back to its handle. */
-        while (put-- > 0) smap_inners_take(&inners, sources[put], &maps[put]->map);
-        smap_inners_free(&inners);
-    }
-    free(maps);
-    if (status == SMAP_DONE) return buffer(env, &bytes);
-    return status == SMAP_REFUSED ? number(env, why) : refuse(env, "out of memory");
+    uint32_t status = smap_compose_all(&outer->map, &inners->inners, &options, &bytes, &why);
+    return text_or_number(env, status, &bytes, why);
 }

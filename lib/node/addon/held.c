@@ -5,8 +5,12 @@
 /* So many bytes more than the fewest since the last sweep, and what was collected is freed before another map is read. */
 #define SWEEP (32 << 20)
 
-static const napi_type_tag map_tag = {0x8d3f0b6a91c24e55, 0xb1a7c05e2f6d4a01};
-static const napi_type_tag table_tag = {0x8d3f0b6a91c24e55, 0xb1a7c05e2f6d4a02};
+/* By what is held: the tag of an object, and what is said of one that has another, or holds nothing any more. */
+static const struct { napi_type_tag tag; const char *other, *closed; } kinds[] = {
+    [MAP] = {{0x8d3f0b6a91c24e55, 0xb1a7c05e2f6d4a01}, "no map", "the map is closed"},
+    [TABLE] = {{0x8d3f0b6a91c24e55, 0xb1a7c05e2f6d4a02}, "no table", "the table is closed"},
+    [INNERS] = {{0x8d3f0b6a91c24e55, 0xb1a7c05e2f6d4a03}, "no inner maps", "the inner maps are closed"},
+};
 
 void report_size(napi_env env, struct held *held, int64_t size) {
     int64_t all;
@@ -17,11 +21,12 @@ void report_size(napi_env env, struct held *held, int64_t size) {
     held->size = size;
 }
 
-/* Frees the map or the table, if there is one. */
+/* Frees what is held, if there is something. */
 static void let_go(napi_env env, struct held *held) {
     if (held->full) {
-        if (held->is_table) smap_table_free(&held->table);
-        else smap_map_free(&held->map);
+        if (held->kind == MAP) smap_map_free(&held->map);
+        else if (held->kind == TABLE) smap_table_free(&held->table);
+        else smap_inners_free(&held->inners);
     }
     held->full = false;
     report_size(env, held, 0);
@@ -40,7 +45,7 @@ void drop(napi_env env, void *data, void *hint) {
 
 bool hold(napi_env env, struct addon *addon, napi_value object, struct held *held, int64_t size) {
     held->full = true;
-    if (napi_type_tag_object(env, object, held->is_table ? &table_tag : &map_tag) != napi_ok ||
+    if (napi_type_tag_object(env, object, &kinds[held->kind].tag) != napi_ok ||
         napi_wrap(env, object, held, drop, NULL, &held->itself) != napi_ok) {
         held->itself = NULL;
         drop(env, held, NULL);
@@ -52,6 +57,18 @@ bool hold(napi_env env, struct addon *addon, napi_value object, struct held *hel
     addon->first = held;
     report_size(env, held, size);
     return true;
+}
+
+napi_value object_of(napi_env env, struct held *held) {
+    napi_value object;
+    napi_create_object(env, &object);
+    return hold(env, addon_of(env), object, held, 0) ? object : refuse(env, "out of memory");
+}
+
+void hand_over(napi_env env, struct held *map, struct held *taker) {
+    report_size(env, taker, taker->size + map->size);
+    report_size(env, map, 0);
+    map->full = false;
 }
 
 void sweep(napi_env env, struct addon *addon) {
@@ -75,29 +92,20 @@ void drop_addon(napi_env env, void *data, void *hint) {
     free(addon);
 }
 
-/* What an object with this tag holds, or nothing, and why that is an error. */
-static struct held *held_of(napi_env env, napi_value value, const napi_type_tag *tag, const char *other, const char *closed) {
+struct held *held_of(napi_env env, napi_value value, enum kind kind) {
     bool is = false;
     void *data = NULL;
-    if (napi_check_object_type_tag(env, value, tag, &is) != napi_ok || !is || napi_unwrap(env, value, &data) != napi_ok) {
-        refuse_type(env, other);
+    if (napi_check_object_type_tag(env, value, &kinds[kind].tag, &is) != napi_ok || !is || napi_unwrap(env, value, &data) != napi_ok) {
+        refuse_type(env, kinds[kind].other);
         return NULL;
     }
     struct held *held = data;
-    if (!held->full) {
-        refuse(env, closed);
-        return NULL;
-    }
-    return held;
+    if (held->full) return held;
+    refuse(env, kinds[kind].closed);
+    return NULL;
 }
 
-struct held *map_of(napi_env env, napi_value value) {
-    return held_of(env, value, &map_tag, "no map", "the map is closed");
-}
-
-struct held *table_of(napi_env env, napi_value value) {
-    return held_of(env, value, &table_tag, "no table", "the table is closed");
-}
+struct held *map_of(napi_env env, napi_value value) { return held_of(env, value, MAP); }
 
 struct addon *addon_of(napi_env env) {
     void *data = NULL;
@@ -105,17 +113,17 @@ struct addon *addon_of(napi_env env) {
     return data;
 }
 
-/* closeMap(map), closeTable(table): frees it now. */
-napi_value close_map(napi_env env, napi_callback_info info) {
+/* Frees what the first argument holds now. */
+static napi_value close_held(napi_env env, napi_callback_info info, enum kind kind) {
     napi_value words[WORDS];
-    struct held *held = words_of(env, info, 1, words) ? map_of(env, words[0]) : NULL;
+    struct held *held = words_of(env, info, 1, words) ? held_of(env, words[0], kind) : NULL;
     if (held) let_go(env, held);
     return NULL;
 }
 
-napi_value close_table(napi_env env, napi_callback_info info) {
-    napi_value words[WORDS];
-    struct held *held = words_of(env, info, 1, words) ? table_of(env, words[0]) : NULL;
-    if (held) let_go(env, held);
-    return NULL;
-}
+/* closeMap(map), closeTable(table), closeInners(inners) */
+napi_value close_map(napi_env env, napi_callback_info info) { return close_held(env, info, MAP); }
+
+napi_value close_table(napi_env env, napi_callback_info info) { return close_held(env, info, TABLE); }
+
+napi_value close_inners(napi_env env, napi_callback_info info) { return close_held(env, info, INNERS); }

@@ -1,4 +1,4 @@
-/* Look-ups in a map, singly and many at once, and what all of its mappings say. */
+/* Look-ups in a map, singly and many at once, and the bytes of a file by source. */
 #include "addon.h"
 #include <stdlib.h>
 #include <string.h>
@@ -40,24 +40,6 @@ napi_value look_up_many(napi_env env, napi_callback_info info) {
         for (size_t i = 0; i < count; i++) found[i].line += found[i].kind == 2;
     }
     return words[2];
-}
-
-/* mappings(map): those of the map as a Uint32Array, eight numbers each, as smap_mapping has them. */
-napi_value mappings(napi_env env, napi_callback_info info) {
-    napi_value words[WORDS], array = NULL, room;
-    void *place;
-    if (!words_of(env, info, 1, words)) return NULL;
-    struct held *held = map_of(env, words[0]);
-    if (!held) return NULL;
-    smap_bytes bytes = {0};
-    if (smap_map_mappings(&held->map, &bytes) != SMAP_DONE) return refuse(env, "out of memory");
-    smap_text text = SMAP_TEXT;
-    smap_bytes_text(&bytes, &text);
-    if (napi_create_arraybuffer(env, text.length, &place, &room) == napi_ok &&
-        napi_create_typedarray(env, napi_uint32_array, text.length / sizeof(uint32_t), room, 0, &array) == napi_ok)
-        memcpy(text.length ? place : nothing, text.bytes, text.length);
-    smap_bytes_free(&bytes);
-    return array ? array : refuse(env, "out of memory");
 }
 
 /* bytesBySource(map, generated, refusal): a Float64Array of the bytes of each source and, at its end, those that are

@@ -7,12 +7,15 @@
 NAPI_MODULE_INIT() {
     const struct { const char *name; napi_callback call; } calls[] = {
         {"read", read_map}, {"refusalText", refusal_text}, {"refusalExplain", refusal_explain}, {"closeMap", close_map},
-        {"closeTable", close_table}, {"lookUpMany", look_up_many}, {"mappings", mappings}, {"bytesBySource", bytes_by_source},
+        {"closeTable", close_table}, {"closeInners", close_inners}, {"lookUpMany", look_up_many}, {"mappings", mappings},
+        {"encode", encode}, {"bytesBySource", bytes_by_source},
         {"counts", counts}, {"sourceName", source_name}, {"sourceContent", source_content}, {"isIgnored", is_ignored},
-        {"name", name}, {"file", file}, {"write", write_map}, {"compose", compose}, {"composeAll", compose_all}, {"newTable", new_table},
+        {"name", name}, {"file", file}, {"write", write_map}, {"compose", compose}, {"newInners", new_inners},
+        {"putInner", put_inner}, {"nextInner", next_inner}, {"innerName", inner_name}, {"composeAll", compose_all}, {"newTable", new_table},
         {"add", add}, {"rewrite", rewrite}, {"nextFrameUrl", next_frame_url}, {"composeRefusalText", compose_refusal_text},
         {"tableRefusalText", table_refusal_text}, {"generatedRefusalText", generated_refusal_text},
         {"rewriteRefusalText", rewrite_refusal_text}, {"writeRefusalText", write_refusal_text},
+        {"encodeRefusalText", encode_refusal_text},
     };
     napi_value buffer, room;
     napi_ref kept;

@@ -54,7 +54,7 @@ static napi_value lent(napi_env env, napi_callback_info info, lend_text *lend) {
 }
 
 /* composeRefusalText(number), tableRefusalText(number), generatedRefusalText(number),
- * rewriteRefusalText(number), writeRefusalText(number) */
+ * rewriteRefusalText(number), writeRefusalText(number), encodeRefusalText(number) */
 napi_value compose_refusal_text(napi_env env, napi_callback_info info) {
     return lent(env, info, smap_compose_refusal_text);
 }
@@ -73,4 +73,8 @@ napi_value rewrite_refusal_text(napi_env env, napi_callback_info info) {
 
 napi_value write_refusal_text(napi_env env, napi_callback_info info) {
     return lent(env, info, smap_write_refusal_text);
+}
+
+napi_value encode_refusal_text(napi_env env, napi_callback_info info) {
+    return lent(env, info, smap_encode_refusal_text);
 }

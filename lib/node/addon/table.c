@@ -4,15 +4,13 @@
 
 napi_value new_table(napi_env env, napi_callback_info info) {
     (void)info;
-    napi_value object;
     struct held *held = calloc(1, sizeof *held);
     if (!held || smap_table_new(&held->table) != SMAP_DONE) {
         free(held);
         return refuse(env, "out of memory");
     }
-    held->is_table = true;
-    napi_create_object(env, &object);
-    return hold(env, addon_of(env), object, held, 0) ? object : refuse(env, "out of memory");
+    held->kind = TABLE;
+    return object_of(env, held);
 }
 
 /* add(table, url, map): nothing, and the map is closed then; or the number of the refusal. */
@@ -22,16 +20,19 @@ napi_value add(napi_env env, napi_callback_info info) {
     size_t length;
     uint32_t why = 0;
     if (!words_of(env, info, 3, words)) return NULL;
-    struct held *table = table_of(env, words[0]);
+    struct held *table = held_of(env, words[0], TABLE);
     if (!table || !bytes_of(env, words[1], &url, &length)) return NULL;
     struct held *held = map_of(env, words[2]);
     if (!held) return NULL;
     uint32_t status = smap_table_add(&table->table, url, length, &held->map, &why);
-    held->full = status == SMAP_REFUSED;
-    if (status == SMAP_DONE) report_size(env, table, table->size + held->size);
-    if (!held->full) report_size(env, held, 0);
-    if (status == SMAP_DONE) return NULL;
-    return status == SMAP_REFUSED ? number(env, why) : refuse(env, "out of memory");
+    if (status == SMAP_REFUSED) return number(env, why);
+    if (status == SMAP_DONE) {
+        hand_over(env, held, table);
+        return NULL;
+    }
+    held->full = false;
+    report_size(env, held, 0);
+    return refuse(env, "out of memory");
 }
 
 /* rewrite(table, text, anywhere, hideIgnored, numbers): the text, with its four counts in the numbers, or null where it is
@@ -42,7 +43,7 @@ napi_value rewrite(napi_env env, napi_callback_info info) {
     size_t length;
     bool anywhere, hide;
     if (!words_of(env, info, 5, words)) return NULL;
-    struct held *table = table_of(env, words[0]);
+    struct held *table = held_of(env, words[0], TABLE);
     if (!table || !bytes_of(env, words[1], &text, &length)) return NULL;
     if (napi_get_value_bool(env, words[2], &anywhere) != napi_ok || napi_get_value_bool(env, words[3], &hide) != napi_ok)
         return refuse_type(env, "no boolean");

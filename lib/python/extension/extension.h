@@ -15,8 +15,8 @@
 extern PyTypeObject *answer_class, *counts_class, *mapping_class, *reason_class, *refusal_class, *source_class;
 
 /* The types of the extension, and what they are made of. */
-extern PyTypeObject *map_type, *table_type, *mappings_type;
-extern PyType_Spec map_spec, table_spec, mappings_spec;
+extern PyTypeObject *map_type, *table_type, *inners_type, *mappings_type;
+extern PyType_Spec map_spec, table_spec, inners_spec, mappings_spec;
 
 /* given.c: what is given is checked, and what is handed back is made. */
 
@@ -47,13 +47,13 @@ PyObject *taken(smap_bytes *bytes);
 /* What a call gives that hands bytes out: the bytes, or the number of a refusal. */
 PyObject *taken_or_refused(uint32_t status, smap_bytes *bytes, uint32_t refusal);
 
-/* held.c: a map or a table, used by one call at a time. It is full where it is open. A call that lets other threads go on is at
+/* held.c: a map, a table or inner maps, used by one call at a time. It is full where it is open. A call that lets other threads go on is at
  * work with it while it is busy, and has its lock. A short call needs none, since it is alone until it returns. */
 struct held {
     PyObject_HEAD
     PyThread_type_lock lock;
     bool busy, full;
-    union { smap_map map; smap_table table; };
+    union { smap_map map; smap_table table; smap_inners inners; };
 };
 
 /* Waits until no call is at work with it. Returns false where a signal raised an error. */
@@ -75,9 +75,9 @@ void held_free(PyObject *self);
 
 /* The functions of the module, and a method of the map that mappings.c has. */
 PyObject *map_mappings(PyObject *self, PyObject *unused);
+PyObject *encode(PyObject *module, PyObject *data);
 PyObject *frame_urls(PyObject *module, PyObject *data);
 PyObject *compose(PyObject *module, PyObject *words);
-PyObject *compose_all(PyObject *module, PyObject *words);
 PyObject *refusal_of(const smap_refusal *refusal);
 PyObject *refusal_text(PyObject *module, PyObject *words);
 PyObject *explained(PyObject *module, PyObject *words);
@@ -86,5 +86,6 @@ PyObject *table_refusal_text(PyObject *module, PyObject *value);
 PyObject *generated_refusal_text(PyObject *module, PyObject *value);
 PyObject *rewrite_refusal_text(PyObject *module, PyObject *value);
 PyObject *write_refusal_text(PyObject *module, PyObject *value);
+PyObject *encode_refusal_text(PyObject *module, PyObject *value);
 
 #endif

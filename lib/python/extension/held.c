@@ -1,4 +1,4 @@
-/* A map or a table, used by one call at a time. */
+/* A map, a table or inner maps, used by one call at a time. */
 #include "extension.h"
 
 PyObject *held_new(PyTypeObject *type, PyObject *words, PyObject *named) {
@@ -40,8 +40,8 @@ bool ready(struct held *const *held, size_t count) {
         } else if (held[i]->full) {
             i++;
         } else {
-            bool is_table = PyObject_TypeCheck((PyObject *)held[i], table_type);
-            PyErr_SetString(PyExc_ValueError, is_table ? "the rewriter is closed" : "the map is closed");
+            bool is_map = PyObject_TypeCheck((PyObject *)held[i], map_type), is_table = PyObject_TypeCheck((PyObject *)held[i], table_type);
+            PyErr_SetString(PyExc_ValueError, is_map ? "the map is closed" : is_table ? "the rewriter is closed" : "the inner maps are closed");
             return false;
         }
     }

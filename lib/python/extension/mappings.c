@@ -1,5 +1,6 @@
-/* All mappings of a map. */
+/* All mappings of a map, and the text of mappings. */
 #include "extension.h"
+#include <stdlib.h>
 #include <string.h>
 
 /* The mappings of a map, one after another. They are a copy: the map may be closed meanwhile. */
@@ -87,3 +88,25 @@ static PyType_Slot mappings_slots[] = {
 };
 
 PyType_Spec mappings_spec = {"smap._smap.Mappings", sizeof(struct mappings), 0, Py_TPFLAGS_DEFAULT, mappings_slots};
+
+/* The text of mappings, whose numbers are given as smap_mapping has them; or the numbers of the refusal and of the mapping. */
+PyObject *encode(PyObject *module, PyObject *data) {
+    (void)module;
+    struct given given;
+    void *copy = NULL;
+    if (!bytes_of(data, &given)) return NULL;
+    if (!given.steady || (uintptr_t)given.bytes % sizeof(uint32_t)) {
+        copy = malloc(given.length + 1);
+        if (!copy) return PyErr_NoMemory();
+        given.bytes = memcpy(copy, given.bytes, given.length);
+    }
+    smap_bytes bytes = {0};
+    smap_encode_refusal refusal = {0};
+    PyThreadState *state = let_go(true);
+    uint32_t status =
+        smap_encode((const smap_mapping *)(const void *)given.bytes, given.length / sizeof(smap_mapping), &bytes, &refusal);
+    come_back(state);
+    free(copy);
+    if (status != SMAP_REFUSED) return taken_or_refused(status, &bytes, 0);
+    return Py_BuildValue("IK", (unsigned int)refusal.number, (unsigned long long)refusal.mapping);
+}

@@ -3,12 +3,12 @@
 #include <string.h>
 
 PyTypeObject *answer_class, *counts_class, *mapping_class, *reason_class, *refusal_class, *source_class;
-PyTypeObject *map_type, *table_type, *mappings_type;
+PyTypeObject *map_type, *table_type, *inners_type, *mappings_type;
 
 static PyMethodDef functions[] = {
     {"frame_urls", frame_urls, METH_O, NULL},
     {"compose", compose, METH_VARARGS, NULL},
-    {"compose_all", compose_all, METH_VARARGS, NULL},
+    {"encode", encode, METH_O, NULL},
     {"refusal_text", refusal_text, METH_VARARGS, NULL},
     {"explained", explained, METH_VARARGS, NULL},
     {"compose_refusal_text", compose_refusal_text, METH_O, NULL},
@@ -16,6 +16,7 @@ static PyMethodDef functions[] = {
     {"generated_refusal_text", generated_refusal_text, METH_O, NULL},
     {"rewrite_refusal_text", rewrite_refusal_text, METH_O, NULL},
     {"write_refusal_text", write_refusal_text, METH_O, NULL},
+    {"encode_refusal_text", encode_refusal_text, METH_O, NULL},
     {NULL, NULL, 0, NULL},
 };
 
@@ -30,7 +31,7 @@ static bool filled(PyObject *module) {
         {"Reason", &reason_class}, {"Refusal", &refusal_class}, {"Source", &source_class},
     };
     static const struct { PyType_Spec *spec; PyTypeObject **type; } types[] = {
-        {&map_spec, &map_type}, {&table_spec, &table_type}, {&mappings_spec, &mappings_type},
+        {&map_spec, &map_type}, {&table_spec, &table_type}, {&inners_spec, &inners_type}, {&mappings_spec, &mappings_type},
     };
     PyObject *answers = PyImport_ImportModule("smap._answers");
     for (size_t i = 0; answers && i < sizeof classes / sizeof *classes; i++) {

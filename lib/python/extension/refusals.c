@@ -90,3 +90,8 @@ PyObject *write_refusal_text(PyObject *module, PyObject *value) {
     (void)module;
     return lent(value, smap_write_refusal_text);
 }
+
+PyObject *encode_refusal_text(PyObject *module, PyObject *value) {
+    (void)module;
+    return lent(value, smap_encode_refusal_text);
+}

@@ -11,10 +11,10 @@ smap` prints its version and where it lies.
 
 from ._answers import Answer, Counts, Mapping, Source
 from ._composing import compose_all
-from ._maps import SourceMap, compose
+from ._maps import SourceMap, compose, encode
 from ._smap import version as __version__
 from ._reported import Refused
 from ._traces import Rewriter
 
 __all__ = ["Answer", "Counts", "Mapping", "Refused", "Rewriter", "Source", "SourceMap", "__version__", "compose",
-           "compose_all"]
+           "compose_all", "encode"]

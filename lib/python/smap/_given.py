@@ -3,7 +3,7 @@
 import operator
 import os
 import sys
-from typing import TYPE_CHECKING, Any, Optional, Tuple, Union
+from typing import TYPE_CHECKING, Any, List, Optional, Tuple, Union
 
 if TYPE_CHECKING:
     from array import array
@@ -35,6 +35,16 @@ def index(value: Any, what: str) -> int:
     """The number of a source. One that none can have is the greatest, which none has."""
     number = whole(value, what)
     return number if 0 <= number < MOST else MOST
+
+
+def mapping(value: Any) -> List[int]:
+    """The eight numbers of a mapping, as the library has them."""
+    line, column, source, original_line, original_column, name = value
+    given = [line, column, 1 if source is None else 2, source, original_line, original_column, int(name is not None), name]
+    numbers = [0 if number is None else whole(number, "a number of a mapping") for number in given]
+    if min(numbers) < 0:
+        raise ValueError(f"a number of a mapping is {min(numbers)}: they count from 0")
+    return [min(number, MOST) for number in numbers]
 
 
 def interval(value: Any) -> int:

@@ -3,11 +3,12 @@
 import os
 from array import array
 from pathlib import Path
-from typing import List, Optional, Tuple, Type, TypeVar, Union
+from typing import Iterable, List, Optional, Tuple, Type, TypeVar, Union
 
 from . import _given, _smap
-from ._answers import Source
-from ._reported import BAD_BASE, Refused, refused_base, refused_composition, refused_generated, refused_map, refused_writing
+from ._answers import Mapping, Source
+from ._reported import (BAD_BASE, Refused, refused_base, refused_composition, refused_encoding, refused_generated,
+                        refused_map, refused_writing)
 
 # Of the answers of a look-up among many: seven numbers of 32 bits each.
 _ANSWER_BYTES = 7 * 4
@@ -96,6 +97,18 @@ class SourceMap(_smap.Map):
         if text is None:
             raise refused_writing()
         return text
+
+
+def encode(mappings: Iterable[Mapping]) -> str:
+    """The text that a map has of these mappings, which come by line and then by column. Raises `Refused` where one stands
+    before the one in front of it, or has a number past 2,147,483,647, or the text would have more than 67,108,864 bytes."""
+    numbers = array("I")
+    for mapping in mappings:
+        numbers.extend(_given.mapping(mapping))
+    text = _smap.encode(memoryview(numbers))
+    if isinstance(text, tuple):
+        raise refused_encoding(*text)
+    return text.decode()
 
 
 def compose(outer: SourceMap, source: int, inner: SourceMap) -> bytes:

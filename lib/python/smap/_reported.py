@@ -12,7 +12,7 @@ class Refused(ValueError):
     refusal, and the lines after it, if there are any, are the `explanation`.
 
     `number` is the library's: for a map 1 to 17, that of M1 to M17, or 0 where the base is no URL and 18 where it is too
-    long; and 1, 2 or 4 for C1, C2 and C4, and 1 or 2 for A1 and A2. Where the refusal of a map has them, there are the
+    long; and 1, 2 or 4 for C1, C2 and C4, 1 to 3 for E1 to E3, and 1 or 2 for A1 and A2. Where the refusal of a map has them, there are the
     `section`, the `fault` of the mappings (1 to 11, that of F1 to F11) with its `line` and the `byte` where its segment
     begins, and `build` (1 to 5, that of B1 to B5). `url` is the base of the map, the URL under which a `Rewriter` was
     to have it, or the name of the source that it was to be of.
@@ -71,6 +71,12 @@ def refused_base(number: int, base: str, url: Optional[str] = None) -> Refused:
 def refused_composition(number: int) -> Refused:
     """Why two maps are not composed."""
     return Refused(f"refused: {_smap.compose_refusal_text(number) or number}", number)
+
+
+def refused_encoding(number: int, mapping: int) -> Refused:
+    """Why mappings have no text, the first of which that is refused has this number."""
+    text = f"refused: {_smap.encode_refusal_text(number) or number}"
+    return Refused(text if number == 3 else f"{text} {mapping}", number)
 
 
 def refused_source(name: str) -> Refused:

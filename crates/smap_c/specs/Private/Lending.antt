@@ -1,10 +1,11 @@
 -- A handle while it lends what it holds: it ends with the last value that stood there.
-use Rattle.std.specs.Prelude.{List, ℕ, Option, Some}
+use Rattle.std.specs.Prelude.{List, ℕ, Some}
 use Rattle.std.specs.Borrow.{Lends, MutBor, Fml}
 use Rattle.smap_record.specs.MapFile.{Map}
 use Rattle.smap_record.specs.Record.{MapRecord}
 use Rattle.smap_record.specs.contracts.map_file.MapFile as map_file
 use Rattle.smap_trace.specs.contracts.table.Table as trace_table
+use Rattle.smap_c.specs.Inners.{Places}
 use Rattle.smap_c.specs.contracts.bytes.Bytes as handed
 use Rattle.smap_c.specs.contracts.inners.Inners as inner_maps
 use Rattle.smap_c.specs.declared.handles.MapHandle.{MapHandle}
@@ -28,10 +29,10 @@ with_table handle held = record handle { held = Some held }
 abbrev pub LendsTable : MutBor TableHandle → MutBor (List (List ℕ × MapRecord)) → Fml
 LendsTable handle lent = Lends table_handle.the_row trace_table.the_row handle lent (with_table handle.now)
 
-abbrev pub with_inners : InnersHandle → List (Option Map) → InnersHandle
+abbrev pub with_inners : InnersHandle → Places → InnersHandle
 with_inners handle held = record handle { held = Some held }
 
-abbrev pub LendsInners : MutBor InnersHandle → MutBor (List (Option Map)) → Fml
+abbrev pub LendsInners : MutBor InnersHandle → MutBor Places → Fml
 LendsInners handle lent = Lends inners_handle.the_row inner_maps.the_row handle lent (with_inners handle.now)
 
 abbrev pub with_bytes : BytesHandle → List ℕ → BytesHandle

@@ -10,6 +10,7 @@ use crate::handles::{InnersHandle, MapHandle};
 use crate::inners::Inners;
 use crate::read::smap_map_free;
 use crate::status::{DONE, REFUSED};
+use crate::steps::{smap_inners_name, smap_inners_next};
 use crate::texts::Text;
 use crate::written::smap_bytes_text;
 use std::alloc::Global;
@@ -28,6 +29,12 @@ const ALL: &str =
 
 const LESS: &str =
     r#"{"file":"o.js","mappings":"AAAAA,CCEE","names":["f"],"sources":["a.js","src/c.ts"],"version":3}"#;
+
+// Its one mapping stands where INNER leads, and its source has the name of the one that leads there.
+const INNERMOST: &str = r#"{"version":3,"sources":["../out/b.js"],"mappings":";;EAAA"}"#;
+
+const CHAIN: &str =
+    r#"{"file":"o.js","mappings":"AAAAA,CGAA","names":["f"],"sources":["a.js","out/b.js","src/c.ts","out/b.js"],"sourcesContent":["x","y","z",null],"version":3}"#;
 
 // A handle of places that were freed.
 fn no_inners(alloc: Global) -> Result<InnersHandle, Fail> {
@@ -90,5 +97,41 @@ fn a_map_is_composed_with_all_maps_of_its_sources(rt: HostRuntime) -> Result<(),
     smap_map_free(alloc, &mut back);
     smap_inners_free(alloc, &mut inners);
     smap_map_free(alloc, &mut outer);
+    Ok(())
+}
+
+#[test]
+fn sources_are_asked_for_step_by_step(rt: HostRuntime) -> Result<(), Fail> {
+    let alloc = rt.alloc();
+    let mut outer = read_map(&rt, alloc, OUTER, "")?;
+    let mut inner = read_map(&rt, alloc, INNER, "")?;
+    let mut innermost = read_map(&rt, alloc, INNERMOST, "")?;
+    let mut inners = no_inners(alloc)?;
+    assert_eq!(&rt; smap_inners_new(alloc, &mut outer, &mut inners), DONE);
+    let (mut source, mut refusal) = (9, 9);
+    let status = smap_inners_next(alloc, &mut outer, &mut inners, &mut source, &mut refusal);
+    assert!(&rt; status == DONE && source == 0 && refusal == 9);
+    let status = smap_inners_next(alloc, &mut outer, &mut inners, &mut source, &mut refusal);
+    assert!(&rt; status == DONE && source == 1);
+    assert_eq!(&rt; smap_inners_put(alloc, &mut inners, 1, &mut inner), DONE);
+    let status = smap_inners_next(alloc, &mut outer, &mut inners, &mut source, &mut refusal);
+    assert!(&rt; status == DONE && source == 2 && refusal == 9);
+    assert_eq!(&rt;
+        smap_inners_put(alloc, &mut inners, 2, &mut innermost),
+        DONE
+    );
+    let status = smap_inners_next(alloc, &mut outer, &mut inners, &mut source, &mut refusal);
+    assert!(&rt; status == REFUSED && source == 2 && refusal == 0);
+    let all = ComposeOptions {
+        prune: false,
+        no_content: false,
+    };
+    compose_into(&rt, alloc, &mut outer, &mut inners, all, CHAIN)?;
+    let mut name = Text { text: b"" };
+    assert_eq!(&rt;
+        smap_inners_name(&mut outer, &mut inners, 3, &mut name),
+        DONE
+    );
+    assert_eq!(&rt; name.text, "out/b.js".as_bytes());
     Ok(())
 }
