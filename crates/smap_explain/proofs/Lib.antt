@@ -1,3 +1,6 @@
 pub mod BeginningLaws
+pub mod FaultLaws
 pub mod PositionLaws
+pub mod RuleLaws
 pub mod SectionLaws
+pub mod StopLaws

@@ -1,11 +1,12 @@
 -- Why the map file of these bytes is refused so: the facts that go with the refusal (ECMA-426, Source map format).
-use Rattle.std.specs.Prelude.{◌≡◌, ℕ, List, Option, None, Some, IfSome, codes, length, nat_le, ◌&&◌, if◌then◌else◌, option_and_then, option_map}
+use Rattle.std.specs.Prelude.{◌≡◌, ℕ, List, Option, None, Some, codes, length, nat_le, ◌&&◌, if◌then◌else◌, option_and_then, option_map}
 use Rattle.std.specs.Option.{MatchOption, option_map_or}
 use Rattle.std.specs.Result.{result_ok}
 use Rattle.serde_json.specs.Data.{Members}
 use Rattle.smap_index.specs.declared.refusal.BuildRefusal.{BuildRefusal}
 use Rattle.smap_mappings.specs.Faults.{first_faulty}
 use Rattle.smap_mappings.specs.Limits.{limit, most_text_bytes}
+use Rattle.smap_mappings.specs.declared.fault.Fault.{Fault}
 use Rattle.smap_record.specs.FileText.{value_of_file}
 use Rattle.smap_record.specs.Record.{members_in, parts_of}
 use Rattle.smap_record.specs.declared.refusal.MapRefusal.{MapRefusal}
@@ -16,7 +17,7 @@ use Rattle.smap_explain.specs.Found.{found, found_seen}
 use Rattle.smap_explain.specs.KeyFacts.{key_facts, key_seen}
 use Rattle.smap_explain.specs.Sections.{count_at, mappings_text, section_map}
 use Rattle.smap_explain.specs.Segment.{IsSegmentExplained}
-use Rattle.smap_explain.specs.Stop.{IsStopIn}
+use Rattle.smap_explain.specs.Stop.{IsStopReported}
 use Rattle.smap_explain.specs.declared.explanation.BuildFacts.{BuildFacts}
 use Rattle.smap_explain.specs.declared.explanation.Explanation.{Explanation}
 use Rattle.smap_explain.specs.declared.explanation.Explanation.TheVariants as kinds
@@ -84,12 +85,11 @@ build_explained facts = option_map_or kinds.Build facts kinds.Nothing
 
 -- ---- by the refusal
 
--- at which byte reading stopped is left open
 pub record IsNotJsonReported (bytes : List ℕ) (explanation : Explanation) : Type 0 where
   pub facts : NotJsonFacts
   pub reported : explanation ≡ kinds.NotJson facts
   pub begins : facts.begins_as ≡ begins_as bytes
-  pub stops : IfSome facts.stop (IsStopIn bytes)
+  pub stops : IsStopReported bytes facts.stop
 
 pub record IsNotObjectReported (bytes : List ℕ) (explanation : Explanation) : Type 0 where
   pub value : Found
@@ -125,3 +125,10 @@ IsExplained bytes (refusals.Text section fault) explanation = IsTextReported byt
 IsExplained bytes (refusals.Build refusal) explanation = explanation ≡ build_explained (build_facts_of bytes refusal)
 IsExplained bytes refusals.Url explanation = explanation ≡ kinds.Nothing
 IsExplained bytes refusals.Memory explanation = explanation ≡ kinds.Nothing
+
+-- the explanation is of a segment of this section that has this fault
+pub record ReportsFault (section : ℕ) (fault : Fault) (explanation : Explanation) : Type 0 where
+  pub facts : SegmentFacts
+  pub is_reported : explanation ≡ kinds.Segment facts
+  pub of_section : facts.section ≡ section
+  pub of_fault : facts.fault ≡ fault

@@ -10,16 +10,18 @@ ghost use Rattle.smap_explain.specs.Explain.{IsExplained, IsKeyReported, IsSegme
 ghost use Rattle.smap_explain.specs.Found.{found, found_seen};
 ghost use Rattle.smap_explain.specs.KeyFacts.{key_facts, key_seen};
 ghost use Rattle.smap_explain.specs.Private.Explain.{mappings_seen};
-ghost use Rattle.smap_explain.specs.Stop.{IsStopIn};
+ghost use Rattle.smap_explain.specs.Stop.{IsStopReported};
 
 use crate::beginning::begins_as;
 use crate::build::build_facts;
-use crate::explanation::{BuildFacts, Explanation, Found, KeyFacts, NotJsonFacts, SegmentFacts};
+use crate::explanation::{
+    BuildFacts, Explanation, Found, KeyFacts, NotJsonFacts, SegmentFacts, Stop,
+};
 use crate::found::found_in;
 use crate::key_facts::key_facts;
 use crate::sections::{listed, mappings_text, section_map};
 use crate::segment::segment_facts;
-use crate::stop::stop_of;
+use crate::stop::{stop_of, told_by};
 use serde_json::{Error, Map, Value};
 use smap_index::BuildRefusal;
 use smap_mappings::{LIMIT, MOST_BYTES};
@@ -57,16 +59,22 @@ pub fn explain(alloc: Global, bytes: &[u8], refusal: MapRefusal) -> Result<Expla
 // What a file that is no JSON text begins as, and where reading it stops.
 fn not_json_facts(alloc: Global, bytes: &[u8]) -> Result<NotJsonFacts, AllocError>
     ensures { IfOk result (λ facts. (facts.begins_as ≡ begins_as bytes.now)
-        × IfSome facts.stop (IsStopIn bytes.now)) }
+        × IsStopReported bytes.now facts.stop) }
 {
-    let stop = match file_value(alloc, bytes)? {
-        Ok(_) => None,
-        Err(error) => stop_of(alloc, bytes, &error)?,
-    };
     Ok(NotJsonFacts {
         begins_as: begins_as(bytes),
-        stop,
+        stop: stop_in(alloc, bytes)?,
     })
+}
+
+// Where reading the file stops, if it does.
+fn stop_in(alloc: Global, bytes: &[u8]) -> Result<Option<Stop>, AllocError>
+    ensures { IfOk result (IsStopReported bytes.now) }
+{
+    match file_value(alloc, bytes)? {
+        Ok(_) => Ok(None),
+        Err(error) => Ok(Some(stop_of(alloc, bytes, told_by(&error))?)),
+    }
 }
 
 // The JSON value of the file.

@@ -25,7 +25,7 @@ pub enum Explanation {
 #[derive(Drop)]
 pub struct NotJsonFacts {
     pub begins_as: Beginning,
-    /// Where reading stopped, where the JSON reader says that.
+    /// Where reading stopped; nothing of a file that can be read, which is not refused so.
     pub stop: Option<Stop>,
 }
 
@@ -60,9 +60,9 @@ pub struct Stop {
     pub column: u64,
     /// The byte of the file, from 0.
     pub byte: u64,
-    /// Whether a longer file that begins so could be read, as where this one was cut.
+    /// Whether the text ends too early, as one that was cut does, by the word of its reader.
     pub is_cut: bool,
-    /// The text about it: at most 20 bytes before it and at most 20 from it on.
+    /// The text about it: at most 20 bytes before it and at most 20 from it on, with U+FFFD for what is cut of a character.
     pub before: String,
     pub after: String,
 }

@@ -9,6 +9,7 @@ mod explanation;
 mod found;
 mod key_facts;
 mod key_place;
+pub mod laws;
 mod map_key_facts;
 mod rule;
 mod section_facts;
