@@ -1,79 +1,44 @@
 -- What a run of the program does to its streams, and the status with which it ends.
 use Rattle.std.specs.Prelude.{◌≡◌, ℕ, None, map, option_map, string_bytes}
 use Rattle.smap_command.specs.Limits.{usual_interval}
+use Rattle.smap_command.specs.Options.{is_json}
 pub use Rattle.smap_command.specs.Runnable.{IsRunnable}
-use Rattle.smap_check_answers.specs.Check.{ChecksAll, ChecksFile, form_of}
+use Rattle.smap_check_answers.specs.Check.{ChecksAll, form_of, paths_of}
+use Rattle.smap_check_answers.specs.Explain.{ReportsCode}
 use Rattle.smap_compose_answers.specs.Compose.{ReportsComposed}
 use Rattle.smap_compose_answers.specs.ComposeAll.{ReportsAllComposed}
-use Rattle.smap_check_answers.specs.Explain.{ReportsCode}
-use Rattle.smap_replies.specs.Files.{MayRead}
+use Rattle.smap_compose_answers.specs.Show.{shown_result}
 use Rattle.smap_map_answers.specs.Lookup.{lookup_print}
-use Rattle.smap_replies.specs.Map.{IsLine, IsResult, ReportsMap}
 use Rattle.smap_map_answers.specs.Mappings.{MappingsReports}
-use Rattle.smap_replies.specs.Outcome.{OrMemory, Report}
 use Rattle.smap_map_answers.specs.Positions.{PositionsReports}
-use Rattle.smap_text_answers.specs.RewriteFrom.{RewritesFrom}
 use Rattle.smap_map_answers.specs.Raw.{RawReports}
 use Rattle.smap_map_answers.specs.SourceList.{ReportsSources, content_result}
-use Rattle.smap_compose_answers.specs.Show.{show_result, show_with_result}
-use Rattle.smap_io.specs.Device.{SinkSeen}
-use Rattle.smap_replies.specs.Streams.{Streams, Ends, sinks_seen}
-use Rattle.smap_compose_answers.specs.Written.{all_written}
-use Rattle.smap_lines.specs.Editing.{DevicesSeen, devices_seen}
-use Rattle.smap_text_answers.specs.Trace.{IsTraceRewritten, RewriteReports}
 use Rattle.smap_replies.specs.Arguments.{argument_of}
+use Rattle.smap_replies.specs.Files.{MayRead}
+use Rattle.smap_replies.specs.Map.{IsLine, IsResult, ReportsMap}
+use Rattle.smap_replies.specs.Runs.{ReportsAside, ReportsUnread, RunsOne}
+use Rattle.smap_replies.specs.Streams.{Streams}
+use Rattle.smap_text_answers.specs.Rewrite.{RunsRewrite}
 use Rattle.smap_command.specs.declared.command.Command.{Command}
-use Rattle.smap_command.specs.declared.command.Command.TheVariants.{Raw, Check, CheckAll, Show, ShowWith, Lookup, Positions, Mappings, Sources, SourceContent}
-use Rattle.smap_command.specs.declared.command.Command.TheVariants.{Rewrite, RewriteFrom, Compose, ComposeWith, ComposeAll, Explain}
-use Rattle.smap_check_answers.specs.declared.check.Form.TheVariants.{Counts}
-
--- a command leaves standard input and output alone, and says this, or that memory ran out
-abbrev pub ReportsAside : (Report → Type 0) → (before after : DevicesSeen) → Report → Type 0
-ReportsAside IsReport before after report = (after ≡ before) × OrMemory IsReport report
-
--- a command leaves standard input alone, and does this with standard output
-abbrev pub ReportsUnread : ((before after : SinkSeen) → Report → Type 0) → (before after : DevicesSeen) → Report → Type 0
-ReportsUnread Reports before after report = (after.input ≡ before.input) × Reports before.output after.output report
-
--- a run says one thing, as this says with what it does to standard input and output before, and ends with this status
-pub record RunsOne (Reports : (before after : DevicesSeen) → Report → Type 0) (status : ℕ) (before after : Streams) : Type 0 where
-  pub report : Report
-  -- standard output before that is reported
-  pub written : SinkSeen
-  pub reports : Reports (devices_seen before.input before.sinks.output) (devices_seen after.input written) report
-  pub ends : Ends report status (sinks_seen written before.sinks.errors before.sinks.code) after.sinks
+use Rattle.smap_command.specs.declared.command.Command.TheVariants.{Raw, Check, Show, Lookup, Positions, Mappings, Sources, SourceContent, Rewrite}
+use Rattle.smap_command.specs.declared.command.Command.TheVariants.{Compose, ComposeAll, Explain}
 
 -- a run of a command over files of which reading gives this, and the status with which it ends
 abbrev pub Runs : MayRead → Command → (status : ℕ) → (before after : Streams) → Type 0
 Runs Reads (Raw line column interval) = RunsOne (RawReports line column)
-Runs Reads (Check path base interval explain) = RunsOne (ReportsAside (ChecksFile Reads base interval Counts explain 0 (string_bytes path)))
-Runs Reads (CheckAll paths base interval json explain) = λ status before after. (after.input ≡ before.input)
-    × ChecksAll Reads base interval (form_of json) explain 0 (map string_bytes paths.items) status before.sinks after.sinks
-Runs Reads (Show path base) = RunsOne (ReportsAside (ReportsMap Reads 0 (string_bytes path) base usual_interval (IsResult show_result)))
-Runs Reads (ShowWith path base options) =
-    RunsOne (ReportsAside (ReportsMap Reads 0 (string_bytes path) base usual_interval (IsResult (show_with_result options))))
-Runs Reads (Lookup path line column base interval after json explain) =
-    RunsOne (ReportsAside (ReportsMap Reads 0 (string_bytes path) base interval (IsLine (lookup_print after json explain line column))))
-Runs Reads (Positions path base interval after json) = RunsOne (PositionsReports Reads (string_bytes path) base interval after json)
-Runs Reads (Mappings path base line json) = RunsOne (ReportsUnread (MappingsReports Reads (string_bytes path) base usual_interval line json))
-Runs Reads (Sources path base generated by_bytes json) =
-    RunsOne (ReportsAside (ReportsMap Reads 0 (string_bytes path) base usual_interval (ReportsSources Reads by_bytes json (option_map string_bytes generated))))
+Runs Reads (Check path base interval options) = λ status before after. (after.input ≡ before.input)
+    × ChecksAll Reads base interval (form_of options) options.explain 0 (paths_of (string_bytes path) options) status before.sinks after.sinks
+Runs Reads (Show path base options) = RunsOne (ReportsAside (ReportsMap Reads 0 (string_bytes path) base usual_interval (IsResult (shown_result options))))
+Runs Reads (Lookup path line column base interval after options) =
+    RunsOne (ReportsAside (ReportsMap Reads 0 (string_bytes path) base interval (IsLine (lookup_print after options line column))))
+Runs Reads (Positions path base interval after form) = RunsOne (PositionsReports Reads (string_bytes path) base interval after (is_json form))
+Runs Reads (Mappings path base line form) =
+    RunsOne (ReportsUnread (MappingsReports Reads (string_bytes path) base usual_interval line (is_json form)))
+Runs Reads (Sources path base generated by_bytes form) =
+    RunsOne (ReportsAside (ReportsMap Reads 0 (string_bytes path) base usual_interval (ReportsSources Reads by_bytes (is_json form) (option_map string_bytes generated))))
 Runs Reads (SourceContent path source) = RunsOne (ReportsAside (ReportsMap Reads 0 (string_bytes path) None usual_interval (IsResult (content_result source))))
-Runs Reads (Rewrite maps base interval hide_ignored) =
-    RunsOne (RewriteReports Reads base interval (IsTraceRewritten hide_ignored) (map argument_of maps.items))
-Runs Reads (RewriteFrom maps list base interval hide_ignored anywhere cache_bytes limit_bytes summary) =
-    RewritesFrom Reads base interval (record {
-      arguments = map argument_of maps.items;
-      list = option_map string_bytes list;
-      hide_ignored = hide_ignored;
-      anywhere = anywhere;
-      cache_bytes = cache_bytes;
-      limit_bytes = limit_bytes;
-      summary = summary;
-    })
-Runs Reads (Compose outer source inner base) =
-    RunsOne (ReportsAside (ReportsComposed Reads all_written (string_bytes outer) source (string_bytes inner) base))
-Runs Reads (ComposeWith outer source inner base options) =
+Runs Reads (Rewrite maps base interval hide_ignored options) = RunsRewrite Reads base interval maps.items hide_ignored options
+Runs Reads (Compose outer source inner base options) =
     RunsOne (ReportsAside (ReportsComposed Reads options (string_bytes outer) source (string_bytes inner) base))
 Runs Reads (ComposeAll outer inners list base options) =
     RunsOne (ReportsAside (ReportsAllComposed Reads options (string_bytes outer) (map argument_of inners.items) (option_map string_bytes list) base))

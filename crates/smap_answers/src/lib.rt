@@ -2,9 +2,9 @@
 //! standard input, and the lines that say this.
 //!
 //! ```text
-//! let interval = USUAL_INTERVAL;
-//! let (base, after, json, explain) = (None, false, false, false);
-//! let command = Command::Lookup { path, line: 0, column: 5, base, interval, after, json, explain };
+//! let options = LookupOptions { form: Form::Text, explain: false };
+//! let (base, interval, after) = (None, USUAL_INTERVAL, false);
+//! let command = Command::Lookup { path, line: 0, column: 5, base, interval, after, options };
 //! let status = run_reading(rt.alloc(), &rt, &command, &mut input, &mut output, &mut errors, &mut first);
 //! ```
 #![tactic(auto)]
@@ -14,7 +14,8 @@ mod running;
 
 pub use running::{run, run_reading};
 pub use smap_command::{
-    Command, MOST_BYTES, USUAL_CACHE_BYTES, USUAL_INTERVAL, USUAL_LIMIT_BYTES, WriteOptions,
+    CheckOptions, Command, Form, FurtherOptions, LookupOptions, MOST_BYTES, USUAL_CACHE_BYTES,
+    USUAL_INTERVAL, USUAL_LIMIT_BYTES, WriteOptions,
 };
 pub use smap_replies::{
     Failure, FileReader, Loaded, Reply, UnreadCause, print_error, refusal_line, report,

@@ -5,21 +5,18 @@ ghost use Rattle.smap_answers.specs.Run.{Runs};
 ghost use Rattle.smap_command.specs.Runnable.{IsRunnable};
 ghost use Rattle.smap_replies.specs.Streams.{streams_seen};
 
-use smap_check_answers::{CheckOptions, Form, answer_check, answer_explain, check_all};
+use smap_check_answers::{answer_check, answer_explain};
 use smap_codes::Code;
-use smap_command::{Command, USUAL_INTERVAL};
-use smap_compose_answers::{
-    ALL_WRITTEN, AllMaps, TwoMaps, answer_compose, answer_compose_all, answer_show,
-    answer_show_with,
-};
+use smap_command::Command;
+use smap_compose_answers::{AllMaps, TwoMaps, answer_compose, answer_compose_all, answer_show};
 use smap_io::{ByteSink, ByteSource};
 use smap_map_answers::{
-    LookupOptions, SourceOptions, answer_content, answer_lookup, answer_mappings, answer_positions,
+    LookUp, SourceOptions, answer_content, answer_lookup, answer_mappings, answer_positions,
     answer_raw, answer_sources,
 };
 use smap_positions::AnswerOptions;
 use smap_replies::{FileReader, Loaded, LoadedFiles, MapReader, report};
-use smap_text_answers::{RewriteRequest, answer_rewrite, rewrite_from};
+use smap_text_answers::{TextRequest, answer_rewrite};
 use std::alloc::Global;
 
 /// Runs a command over files in memory, of which the caller gives one for each path of the command, in their order; one of
@@ -53,9 +50,9 @@ pub fn run<R: ByteSource, W: ByteSink, E: ByteSink>(
 }
 
 /// Runs a command over the files that it names, and gives the exit status. Of several files each is let go once its map
-/// is read; one that can't be read is reported before any refusal, and the first of them ends the run; but `CheckAll`
-/// reports each file by itself, and goes on to the next, up to a failure of standard output. The code of the first refusal
-/// that is reported on standard error is put into `first`, where that has none. The caller gives a command at whose
+/// is read; one that can't be read is reported before any refusal, and the first of them ends the run; but `Check` reports
+/// each file by itself, and goes on to the next, up to a failure of standard output. The code of the first refusal that is
+/// reported on standard error is put into `first`, where that has none. The caller gives a command at whose
 /// interval checkpoints may stand and whose numbers of bytes are in their ranges, and devices that have not failed.
 pub fn run_reading<F: FileReader, R: ByteSource, W: ByteSink, E: ByteSink>(
     alloc: Global,
@@ -74,185 +71,97 @@ pub fn run_reading<F: FileReader, R: ByteSource, W: ByteSink, E: ByteSink>(
         (streams_seen (R.seen input.old) (W.seen output.old) (E.seen errors.old) first.old)
         (streams_seen (R.seen input.new) (W.seen output.new) (E.seen errors.new) first.new) }
 {
+    let maps = MapReader {
+        files: reader,
+        base: command.base(),
+        interval: command.interval(),
+    };
     let outcome = match command {
         Command::Raw {
             line,
             column,
             interval,
         } => answer_raw(alloc, input, *line, *column, *interval),
-        Command::Check {
-            path,
-            base,
-            interval,
-            explain,
-        } => {
-            let maps = MapReader {
-                files: reader,
-                base: base.as_ref(),
-                interval: *interval,
-            };
-            answer_check(alloc, &maps, 0, path, Form::Counts, *explain)
+        Command::Check { path, options, .. } => {
+            return answer_check(alloc, &maps, path, options, output, errors, first);
         }
-        Command::CheckAll {
-            paths,
-            base,
-            interval,
-            json,
-            explain,
-        } => {
-            let maps = MapReader {
-                files: reader,
-                base: base.as_ref(),
-                interval: *interval,
-            };
-            let (json, explain) = (*json, *explain);
-            let options = CheckOptions { json, explain };
-            return check_all(alloc, &maps, paths, options, output, errors, first);
-        }
-        Command::Show { path, base } => answer_show(alloc, reader, path, base.as_ref()),
-        Command::ShowWith {
-            path,
-            base,
-            options,
-        } => answer_show_with(alloc, reader, path, base.as_ref(), *options),
+        Command::Show { path, options, .. } => answer_show(alloc, &maps, path, *options),
         Command::Lookup {
             path,
             line,
             column,
-            base,
-            interval,
             after,
-            json,
-            explain,
+            options,
+            ..
         } => {
-            let maps = MapReader {
-                files: reader,
-                base: base.as_ref(),
-                interval: *interval,
+            let asked = LookUp {
+                line: *line,
+                column: *column,
+                after: *after,
+                options: *options,
             };
-            let (after, json, explain) = (*after, *json, *explain);
-            let options = LookupOptions {
-                after,
-                json,
-                explain,
-            };
-            answer_lookup(alloc, &maps, path, *line, *column, options)
+            answer_lookup(alloc, &maps, path, asked)
         }
         Command::Positions {
             path,
-            base,
-            interval,
             after,
-            json,
+            form,
+            ..
         } => {
-            let maps = MapReader {
-                files: reader,
-                base: base.as_ref(),
-                interval: *interval,
+            let options = AnswerOptions {
+                after: *after,
+                json: form.is_json(),
             };
-            let (after, json) = (*after, *json);
-            let options = AnswerOptions { after, json };
             answer_positions(alloc, &maps, path, options, input, output)
         }
         Command::Mappings {
             path,
-            base,
             line,
-            json,
-        } => {
-            let maps = MapReader {
-                files: reader,
-                base: base.as_ref(),
-                interval: USUAL_INTERVAL,
-            };
-            answer_mappings(alloc, &maps, path, *line, *json, output)
-        }
+            form,
+            ..
+        } => answer_mappings(alloc, &maps, path, *line, form.is_json(), output),
         Command::Sources {
             path,
-            base,
             generated,
             by_bytes,
-            json,
+            form,
+            ..
         } => {
-            let maps = MapReader {
-                files: reader,
-                base: base.as_ref(),
-                interval: USUAL_INTERVAL,
+            let options = SourceOptions {
+                by_bytes: *by_bytes,
+                json: form.is_json(),
             };
-            let (by_bytes, json) = (*by_bytes, *json);
-            let options = SourceOptions { by_bytes, json };
             answer_sources(alloc, &maps, path, generated.as_deref(), options)
         }
-        Command::SourceContent { path, source } => answer_content(alloc, reader, path, *source),
+        Command::SourceContent { path, source } => answer_content(alloc, &maps, path, *source),
         Command::Rewrite {
             maps: arguments,
-            base,
-            interval,
             hide_ignored,
+            options,
+            ..
         } => {
-            let maps = MapReader {
-                files: reader,
-                base: base.as_ref(),
-                interval: *interval,
-            };
-            answer_rewrite(alloc, &maps, arguments, *hide_ignored, input, output)
-        }
-        Command::RewriteFrom {
-            maps: arguments,
-            list,
-            base,
-            interval,
-            hide_ignored,
-            anywhere,
-            cache_bytes,
-            limit_bytes,
-            summary,
-        } => {
-            let maps = MapReader {
-                files: reader,
-                base: base.as_ref(),
-                interval: *interval,
-            };
-            let request = RewriteRequest {
+            let request = TextRequest {
                 maps: &maps,
                 arguments,
-                list: list.as_deref(),
                 hide_ignored: *hide_ignored,
-                anywhere: *anywhere,
-                cache_bytes: *cache_bytes,
-                limit_bytes: *limit_bytes,
-                summary: *summary,
+                options,
             };
-            return rewrite_from(alloc, &request, input, output, errors, first);
+            return answer_rewrite(alloc, &request, input, output, errors, first);
         }
         Command::Compose {
             outer,
             source,
             inner,
             base,
-        } => {
-            let maps = TwoMaps {
-                outer,
-                source: *source,
-                inner,
-                base: base.as_ref(),
-            };
-            answer_compose(alloc, reader, &maps, ALL_WRITTEN)
-        }
-        Command::ComposeWith {
-            outer,
-            source,
-            inner,
-            base,
             options,
         } => {
-            let maps = TwoMaps {
+            let two = TwoMaps {
                 outer,
                 source: *source,
                 inner,
                 base: base.as_ref(),
             };
-            answer_compose(alloc, reader, &maps, *options)
+            answer_compose(alloc, reader, &two, *options)
         }
         Command::ComposeAll {
             outer,
@@ -261,13 +170,13 @@ pub fn run_reading<F: FileReader, R: ByteSource, W: ByteSink, E: ByteSink>(
             base,
             options,
         } => {
-            let maps = AllMaps {
+            let all = AllMaps {
                 outer,
                 words: inners,
                 list: list.as_deref(),
                 base: base.as_ref(),
             };
-            answer_compose_all(alloc, reader, &maps, *options)
+            answer_compose_all(alloc, reader, &all, *options)
         }
         Command::Explain { code } => answer_explain(alloc, code.as_deref()),
     };

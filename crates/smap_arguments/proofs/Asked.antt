@@ -24,7 +24,7 @@ use Rattle.clap.specs.declared.error.kind.ErrorKind.TheVariants.{DisplayHelp, Di
 use Rattle.smap_arguments.specs.CommandLine.{base_rule, bytes_number, bytes_rule, check, compose, content_rule, flag_rule, interval_number, interval_rule}
 use Rattle.smap_arguments.specs.CommandLine.{explain, list_rule, lookup, mappings, named, number, order_rule, pairs_rule, positions, raw, rewrite, show, smap, source_number, sources}
 use Rattle.smap_arguments.specs.declared.usage.Usage.{Usage}
-use Rattle.smap_arguments.specs.declared.usage.Usage.TheVariants.{Help, Mistake, Memory}
+use Rattle.smap_arguments.specs.declared.usage.Usage.TheVariants.{Help, Words, Memory}
 use Rattle.smap_arguments.specs.Arguments.{HasArguments, HasCommand, HasValue, HasValues}
 use Rattle.smap_arguments.specs.Refusals.{IsNamedRefusal, IsUsageOf, IsRefusalOf, SubcommandReports}
 use Rattle.smap_arguments.proofs.Rows.{AreReadRows, Keeps, first_none, flag_at, flag_default_keeps, flag_keeps, given_value, help_keeps}
@@ -385,7 +385,7 @@ failed_smap a arguments e usage is_smap fails is =
       ]
       | inr among ↦ (kind_of e, among, is)
     ]
-    refusal_of (Mistake text) kind is = elim kind [
+    refusal_of (Words text) kind is = elim kind [
       | inl memory ↦ absurd (is.1 memory)
       | inr among ↦ inl (kind_of e, among, is.0)
     ]
@@ -396,5 +396,5 @@ pub named_refused : (arguments : List Text) (usage : Usage) → fault_of smap ar
     → IsNamedRefusal (SubcommandReports (subcommand_of smap arguments)) usage
     → IsRefusalOf arguments usage
 named_refused arguments (Help text) none refused = absurd refused
-named_refused arguments (Mistake text) none refused = inr (none, refused)
+named_refused arguments (Words text) none refused = inr (none, refused)
 named_refused arguments Memory none refused = tt

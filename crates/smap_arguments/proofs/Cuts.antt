@@ -13,7 +13,7 @@ use Rattle.clap.specs.Words.{Row, Text, all_of}
 use Rattle.smap_arguments.specs.Arguments.{ArePairs, IsPair, has_equals_sign, words_of}
 use Rattle.smap_arguments.specs.Refusals.{IsNamedRefusal, ReportsNoPair, first_without}
 use Rattle.smap_arguments.specs.declared.usage.Usage.{Usage}
-use Rattle.smap_arguments.specs.declared.usage.Usage.TheVariants.{Help, Mistake, Memory}
+use Rattle.smap_arguments.specs.declared.usage.Usage.TheVariants.{Help, Words, Memory}
 
 -- ---- an argument
 
@@ -87,7 +87,7 @@ module _ {A : Type 0} where
       → i < length arguments → Zips (take i arguments) pairs → IsNamedRefusal (ReportsNoPair form ((get_or arguments i d).now ∷ [])) usage
       → IsNamedRefusal (ReportsNoPair form (map (λ argument. argument.now) arguments)) usage
   refused_at arguments pairs i d form (Help text) low zips refused = refused
-  refused_at arguments pairs i d form (Mistake text) low zips refused = (refused.0, first_at arguments pairs i d refused.0 low zips refused.1, refused.2)
+  refused_at arguments pairs i d form (Words text) low zips refused = (refused.0, first_at arguments pairs i d refused.0 low zips refused.1, refused.2)
   refused_at arguments pairs i d form Memory low zips refused = tt
 
 -- the words that the getter of all texts gives

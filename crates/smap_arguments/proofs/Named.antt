@@ -17,7 +17,7 @@ use Rattle.smap_arguments.specs.Arguments.{HasArguments, HasCommand, HasValue, H
 use Rattle.smap_arguments.specs.Refusals.{IsNamedRefusal}
 use Rattle.smap_arguments.specs.Refusals.{SubcommandReports, ReportsOfBase, ReportsRefusal}
 use Rattle.smap_arguments.specs.declared.usage.Usage.{Usage}
-use Rattle.smap_arguments.specs.declared.usage.Usage.TheVariants.{Help, Mistake, Memory}
+use Rattle.smap_arguments.specs.declared.usage.Usage.TheVariants.{Help, Words, Memory}
 
 -- ---- its name and its rows
 
@@ -60,12 +60,12 @@ module _ (subcommand : Option (Text × List Row)) (name : Text) (rows : List Row
 
   pub reports : (usage : Usage) → IsNamedRefusal (ReportsRefusal name rows) usage → IsNamedRefusal (SubcommandReports subcommand) usage
   reports (Help text) reported = reported
-  reports (Mistake text) reported = (name, rows, is, reported)
+  reports (Words text) reported = (name, rows, is, reported)
   reports Memory reported = tt
 
   pub reports_base : (usage : Usage) → IsNamedRefusal (ReportsOfBase rows) usage → IsNamedRefusal (SubcommandReports subcommand) usage
   reports_base (Help text) reported = reported
-  reports_base (Mistake text) reported = (name, rows, is, inl reported)
+  reports_base (Words text) reported = (name, rows, is, inl reported)
   reports_base Memory reported = tt
 
 -- ---- a name that is none of the others

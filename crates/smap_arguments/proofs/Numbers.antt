@@ -2,7 +2,7 @@
 use Rattle.std.proofs.Common.{◌≡◌, ◌∙◌, ◌≤◌, ◌<◌, ◌^◌, ◌+◌, ℕ, Option, Some, None, sym, subst, pos, codes, List, refl, leb, arith, true, false, ap, is_some}
 use Rattle.std.proofs.Common.{Result}
 use Rattle.std.specs.Option.{IsSome}
-use Rattle.std.specs.Prelude.{IfSome, option_map}
+use Rattle.std.specs.Prelude.{IfSome, option_map, unwrap_or}
 use Rattle.std.proofs.lemmas.Bool.{and_from, le-leb}
 use Rattle.std.specs.Str.Parse.{ExplainsUnsignedError, HasUnsignedDigitsIfOk, ParsesUnsigned, digits_value, without_leading_plus}
 use Rattle.std.specs.declared.num.ParseIntError.{ParseIntError}
@@ -109,6 +109,12 @@ bytes_read least found name result has none reads = go (one_of name (rows_of fou
 abbrev pub IsReadInterval : List Row → Option ℕ → Type 0
 IsReadInterval rows None = GivesInterval rows usual_interval
 IsReadInterval rows (Some n) = GivesInterval rows n × (is_interval n ≡ true)
+
+-- which makes the usual one of none
+pub usual_or : (rows : List Row) (result : Option ℕ) → IsReadInterval rows result
+    → GivesInterval rows (unwrap_or result usual_interval) × (is_interval (unwrap_or result usual_interval) ≡ true)
+usual_or rows None read = (read, refl)
+usual_or rows (Some n) read = read
 
 pub interval_read : (found : Found) (result : Option ℕ) → HasValueIfGiven interval_number (rows_of found) (codes "K")
     → (one_text found (codes "K") ≡ None → result ≡ None) → ((t : Text) → one_text found (codes "K") ≡ Some t → ReadsOne ReadsU32 t result)

@@ -1,4 +1,3 @@
 pub mod CommandLine
 pub mod Arguments
 pub mod Refusals
-pub mod Private

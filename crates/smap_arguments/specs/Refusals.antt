@@ -16,7 +16,7 @@ use Rattle.smap_arguments.specs.CommandLine.{smap}
 use Rattle.smap_arguments.specs.Arguments.{GivesBase, GivesFlag, GivesOrder, GivesPairs, GivesText, HasMaps, HasNoInners, has_equals_sign, has_inner}
 use Rattle.smap_arguments.specs.Arguments.{has_listing, words_of}
 use Rattle.smap_arguments.specs.declared.usage.Usage.{Usage}
-use Rattle.smap_arguments.specs.declared.usage.Usage.TheVariants.{Help, Mistake, Memory}
+use Rattle.smap_arguments.specs.declared.usage.Usage.TheVariants.{Help, Words, Memory}
 
 -- an error of this kind is a request for help or for the version
 abbrev pub IsRequest : ErrorKind → Type 0
@@ -25,7 +25,7 @@ IsRequest kind = (kind ≡ DisplayHelp) ⊎ (kind ≡ DisplayVersion)
 -- what an error of this kind comes to
 abbrev pub IsUsageOf : ErrorKind → Usage → Type 0
 IsUsageOf kind (Help text) = IsRequest kind
-IsUsageOf kind (Mistake text) = (¬ (IsRequest kind)) × (kind ≢ OutOfMemory)
+IsUsageOf kind (Words text) = (¬ (IsRequest kind)) × (kind ≢ OutOfMemory)
 IsUsageOf kind Memory = ⊤
 
 -- the base is no URL
@@ -164,7 +164,7 @@ ReportsRefusal name rows text = ReportsOfBase rows text
 -- where clap finds no fault, this alone may be reported, or memory ran out
 abbrev pub IsNamedRefusal : (Text → Type 0) → Usage → Type 0
 IsNamedRefusal Reports (Help text) = ⊥
-IsNamedRefusal Reports (Mistake text) = Reports (string_bytes text)
+IsNamedRefusal Reports (Words text) = Reports (string_bytes text)
 IsNamedRefusal Reports Memory = ⊤
 
 -- the same, of the subcommand that the arguments name
@@ -177,7 +177,7 @@ SubcommandReports subcommand text =
 -- or memory ran out
 abbrev pub IsRefusalOf : List Text → Usage → Type 0
 IsRefusalOf arguments (Help text) = (kind : ErrorKind) × IsAmong kind (fault_of smap arguments) × IsRequest kind
-IsRefusalOf arguments (Mistake text) =
+IsRefusalOf arguments (Words text) =
     ((kind : ErrorKind) × IsAmong kind (fault_of smap arguments) × (¬ (IsRequest kind)))
     ⊎ ((fault_of smap arguments ≡ []) × SubcommandReports (subcommand_of smap arguments) (string_bytes text))
 IsRefusalOf arguments Memory = ⊤

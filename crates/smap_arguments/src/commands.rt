@@ -1,22 +1,21 @@
 //! The command that the arguments ask for, read from what clap found in them.
 ghost use Rattle.std.specs.Prelude.{◌≡◌, IfErr, IfOk, codes, map};
 ghost use Rattle.clap.specs.Words.{found_of, rows_of, subcommand_rows_of};
-ghost use Rattle.smap_arguments.specs.CommandLine.{interval_number, named};
-ghost use Rattle.smap_arguments.specs.Arguments.{GivesBase, HasArguments, HasCommand, HasValue, HasValueIfGiven, IsInRange, NamedAsksFor};
+ghost use Rattle.smap_arguments.specs.CommandLine.{named};
+ghost use Rattle.smap_arguments.specs.Arguments.{GivesBase, HasArguments, HasCommand, IsInRange, NamedAsksFor};
 ghost use Rattle.smap_arguments.specs.Arguments.{SubcommandAsksFor, texts};
 ghost use Rattle.smap_arguments.specs.Refusals.{IsNamedRefusal, SubcommandReports, ReportsRefusal};
-ghost use Rattle.clap.specs.declared.builder.value_parser.ValueParser.TheVariants as parser;
 
 use crate::rewrite::rewrite_in;
 use crate::sources::sources_in;
 use crate::usage::Usage;
 use crate::values::{
-    after_in, base_in, flag_in, interval_in, json_in, position_number_if_given, position_number_in,
+    base_in, flag_in, form_in, interval_in, position_number_if_given, position_number_in,
     text_if_given, text_in, texts_in,
 };
-use crate::written::{compose_in, show_in};
+use crate::written::{compose_in, options_in};
 use clap::ArgMatches;
-use smap_command::Command;
+use smap_command::{CheckOptions, Command, LookupOptions};
 use std::alloc::{AllocError, Global};
 use url::Url;
 
@@ -54,27 +53,33 @@ fn named_command(
             column: position_number_in(matches, "COLUMN"),
             base,
             interval: interval_in(matches),
-            after: after_in(matches),
-            json: json_in(matches),
-            explain: flag_in(matches, "explain"),
+            after: flag_in(matches, "after"),
+            options: LookupOptions {
+                form: form_in(matches),
+                explain: flag_in(matches, "explain"),
+            },
         }),
         "positions" => Ok(Command::Positions {
             path: text_in(alloc, matches, "MAP")?,
             base,
             interval: interval_in(matches),
-            after: after_in(matches),
-            json: json_in(matches),
+            after: flag_in(matches, "after"),
+            form: form_in(matches),
         }),
         "mappings" => Ok(Command::Mappings {
             path: text_in(alloc, matches, "MAP")?,
             base,
             line: position_number_if_given(matches, "LINE"),
-            json: json_in(matches),
+            form: form_in(matches),
         }),
         "sources" => sources_in(alloc, matches, base),
         "rewrite" => rewrite_in(alloc, matches, base),
         "check" => Ok(check_in(alloc, matches, base)?),
-        "show" => Ok(show_in(alloc, matches, base)?),
+        "show" => Ok(Command::Show {
+            path: text_in(alloc, matches, "PATH")?,
+            base,
+            options: options_in(matches),
+        }),
         "compose" => compose_in(alloc, matches, base),
         "explain" => Ok(Command::Explain {
             code: text_if_given(alloc, matches, "CODE")?,
@@ -93,38 +98,29 @@ fn named_command(
     }
 }
 
-// What `check` is asked: to report on one map or, of several paths or with `--json`, each by a line of its own.
+// What `check` is asked.
 fn check_in(
     alloc: Global,
     matches: &ArgMatches<'_>,
     base: Option<Url>,
 ) -> Result<Command, AllocError>
-    requires paths { HasValue parser.String (rows_of (found_of matches.now)) (codes "PATH") }
-    requires interval { HasValueIfGiven interval_number (rows_of (found_of matches.now))
-        (codes "K") }
-    requires json { HasValueIfGiven parser.Bool (rows_of (found_of matches.now)) (codes "json") }
-    requires explain { HasValueIfGiven parser.Bool (rows_of (found_of matches.now))
-        (codes "explain") }
+    requires required { HasArguments (named (codes "check")) (rows_of (found_of matches.now)) }
     requires given { GivesBase (rows_of (found_of matches.now)) base }
     ensures asked { IfOk result (NamedAsksFor (codes "check") (rows_of (found_of matches.now))) }
     ensures in_range { IfOk result IsInRange }
 {
     let (interval, explain) = (interval_in(matches), flag_in(matches, "explain"));
-    match (texts_in(matches, "PATH"), json_in(matches)) {
-        ([path], false) => Ok(Command::Check {
-            path: String::from_str(alloc, path)?,
-            base,
-            interval,
+    let (first, others) = texts_in(matches, "PATH").split_first().unwrap();
+    Ok(Command::Check {
+        path: String::from_str(alloc, first)?,
+        base,
+        interval,
+        options: CheckOptions {
+            others: copied_texts(alloc, others)?,
+            form: form_in(matches),
             explain,
-        }),
-        (paths, json) => Ok(Command::CheckAll {
-            paths: copied_texts(alloc, paths)?,
-            base,
-            interval,
-            json,
-            explain,
-        }),
-    }
+        },
+    })
 }
 
 fn copied_texts(alloc: Global, given: &[&str]) -> Result<Vec<String>, AllocError>

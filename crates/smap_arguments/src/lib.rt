@@ -1,8 +1,8 @@
 //! The arguments of the command line, which clap reads, as the command that they ask for; or why they ask for none.
 //!
 //! ```text
-//! let arguments = vec![in alloc; "smap", "lookup", "app.js.map", "1", "6"]?;
-//! let command = parse(alloc, arguments)?; // Command::Lookup { path, line: 0, column: 5, .. }
+//! // The words are those of `smap lookup app.js.map 1 6`, as they come from the system.
+//! let command = parse(alloc, words)?; // Command::Lookup { path, line: 0, column: 5, .. }
 //! ```
 #![tactic(auto)]
 

@@ -54,6 +54,6 @@ fn pair_of(alloc: Global, form: &str, argument: &str) -> Result<(String, String)
             String::from_str(alloc, url)?,
             String::from_str(alloc, path)?,
         )),
-        None => Err(Usage::Mistake(no_pair_line(alloc, form, argument)?)),
+        None => Err(Usage::Words(no_pair_line(alloc, form, argument)?)),
     }
 }

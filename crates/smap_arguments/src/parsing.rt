@@ -36,7 +36,7 @@ fn usage_of(alloc: Global, error: &Error) -> Usage
             let is_request = kind == ErrorKind::DisplayHelp || kind == ErrorKind::DisplayVersion;
             match format!(in alloc; "{error}") {
                 Ok(text) if is_request => Usage::Help(text),
-                Ok(text) => Usage::Mistake(text),
+                Ok(text) => Usage::Words(text),
                 Err(_) => Usage::Memory,
             }
         }

@@ -8,7 +8,7 @@ ghost use Rattle.smap_arguments.specs.Refusals.{IsNamedRefusal, ReportsBadOrder,
 
 use crate::mistakes::{BAD_ORDER, CONTENT_WITH_MORE, SORT_ALONE};
 use crate::usage::Usage;
-use crate::values::{has_text_in, json_in, source_in, text_if_given, text_in};
+use crate::values::{flag_in, form_in, has_text_in, source_in, text_if_given, text_in};
 use clap::ArgMatches;
 use smap_command::Command;
 use std::alloc::Global;
@@ -34,14 +34,14 @@ pub fn sources_in(
     let generated = text_if_given(alloc, matches, "GENERATED")?;
     let by_bytes = order_in(alloc, matches)?;
     if by_bytes && generated.is_none() {
-        return Err(Usage::Mistake(String::from_str(alloc, SORT_ALONE)?));
+        return Err(Usage::Words(String::from_str(alloc, SORT_ALONE)?));
     }
     Ok(Command::Sources {
         path,
         base,
         generated,
         by_bytes,
-        json: json_in(matches),
+        form: form_in(matches),
     })
 }
 
@@ -60,8 +60,8 @@ fn content_in(
     ensures refused { IfErr result (IsNamedRefusal
         (ReportsContentWithMore (rows_of (found_of matches.now)))) }
 {
-    if json_in(matches) || has_listing(matches) {
-        return Err(Usage::Mistake(String::from_str(alloc, CONTENT_WITH_MORE)?));
+    if flag_in(matches, "json") || has_listing(matches) {
+        return Err(Usage::Words(String::from_str(alloc, CONTENT_WITH_MORE)?));
     }
     Ok(Command::SourceContent { path, source })
 }
@@ -82,6 +82,6 @@ fn order_in(alloc: Global, matches: &ArgMatches<'_>) -> Result<bool, Usage>
     match matches.get_str("BY") {
         None => Ok(false),
         Some("bytes") => Ok(true),
-        Some(_) => Err(Usage::Mistake(String::from_str(alloc, BAD_ORDER)?)),
+        Some(_) => Err(Usage::Words(String::from_str(alloc, BAD_ORDER)?)),
     }
 }

@@ -10,7 +10,7 @@ pub enum Usage {
     /// They ask for help or for the version: the text goes to standard output, with status 0.
     Help(String),
     /// They are no command: the text goes to standard error, with status 2.
-    Mistake(String),
+    Words(String),
     /// Memory ran out.
     Memory,
 }

@@ -1,7 +1,8 @@
 //! What clap found for the arguments.
-ghost use Rattle.std.specs.Prelude.{◌≡◌, ◌≤◌, ◌+◌, IfErr, IfOk, IfSome, codes, is_some, map, option_map, string_bytes, true};
+ghost use Rattle.std.specs.Prelude.{◌≡◌, ◌≤◌, ◌<◌, ◌+◌, IfErr, IfOk, IfSome, codes, is_some, length, map, option_map, string_bytes, true};
 ghost use Rattle.clap.specs.Words.{first_of, found_of, rows_of};
 ghost use Rattle.smap_command.specs.Limits.{is_interval, limit, most_bytes};
+ghost use Rattle.smap_command.specs.Options.{is_json};
 ghost use Rattle.smap_arguments.specs.CommandLine.{bytes_number, interval_number, number, source_number};
 ghost use Rattle.smap_arguments.specs.Arguments.{GivesBase, GivesFlag, GivesInterval, GivesNumber, GivesNumberIfGiven, GivesText};
 ghost use Rattle.smap_arguments.specs.Arguments.{GivesTextIfGiven, GivesTexts, HasValue};
@@ -12,7 +13,7 @@ ghost use Rattle.clap.specs.declared.builder.value_parser.ValueParser.TheVariant
 use crate::mistakes::{BAD_BASE, LONG_BASE};
 use crate::usage::Usage;
 use clap::ArgMatches;
-use smap_command::USUAL_INTERVAL;
+use smap_command::{Form, USUAL_INTERVAL};
 use std::alloc::{AllocError, Global};
 use url::{ParseError, Url};
 
@@ -26,8 +27,9 @@ pub fn text_in(alloc: Global, matches: &ArgMatches<'_>, name: &str) -> Result<St
 
 pub fn texts_in<'m, 'a>(matches: &'m ArgMatches<'a>, name: &str) -> &'m [&'a str]
     requires { HasValue parser.String (rows_of (found_of matches.now)) name.now }
-    ensures { GivesTexts (rows_of (found_of matches.now)) name.now
+    ensures given { GivesTexts (rows_of (found_of matches.now)) name.now
         (map (λ text. text.now) result.now) }
+    ensures some { 0 < length result.now }
 {
     matches.get_strs(name).unwrap()
 }
@@ -68,25 +70,14 @@ pub fn interval_in(matches: &ArgMatches<'_>) -> u32
     ensures given { GivesInterval (rows_of (found_of matches.now)) result }
     ensures in_range { is_interval result ≡ true }
 {
-    match matches.get_one::<u32>("K") {
-        Some(interval) => interval,
-        None => USUAL_INTERVAL,
-    }
+    matches.get_one::<u32>("K").unwrap_or(USUAL_INTERVAL)
 }
 
-/// Whether the flag is given that looks up in the other direction.
-pub fn after_in(matches: &ArgMatches<'_>) -> bool
-    requires { HasValueIfGiven parser.Bool (rows_of (found_of matches.now)) (codes "after") }
-    ensures { GivesFlag (rows_of (found_of matches.now)) (codes "after") result }
-{
-    flag_in(matches, "after")
-}
-
-pub fn json_in(matches: &ArgMatches<'_>) -> bool
+pub fn form_in(matches: &ArgMatches<'_>) -> Form
     requires { HasValueIfGiven parser.Bool (rows_of (found_of matches.now)) (codes "json") }
-    ensures { GivesFlag (rows_of (found_of matches.now)) (codes "json") result }
+    ensures { GivesFlag (rows_of (found_of matches.now)) (codes "json") (is_json result) }
 {
-    flag_in(matches, "json")
+    Form::of(flag_in(matches, "json"))
 }
 
 pub fn flag_in(matches: &ArgMatches<'_>, name: &str) -> bool
@@ -99,7 +90,8 @@ pub fn flag_in(matches: &ArgMatches<'_>, name: &str) -> bool
 /// None where `--base` is not given.
 pub fn base_in(alloc: Global, matches: &ArgMatches<'_>) -> Result<Option<Url>, Usage>
     ensures given { IfOk result (GivesBase (rows_of (found_of matches.now))) }
-    ensures refused { IfErr result (IsNamedRefusal (ReportsOfBase (rows_of (found_of matches.now)))) }
+    ensures refused { IfErr result (IsNamedRefusal
+        (ReportsOfBase (rows_of (found_of matches.now)))) }
 {
     let Some(text) = matches.get_str("URL") else {
         return Ok(None);
@@ -108,8 +100,8 @@ pub fn base_in(alloc: Global, matches: &ArgMatches<'_>) -> Result<Option<Url>, U
         Ok(url) => Ok(Some(url)),
         Err(error) => match error {
             ParseError::OutOfMemory => Err(Usage::Memory),
-            ParseError::Overflow => Err(Usage::Mistake(String::from_str(alloc, LONG_BASE)?)),
-            _ => Err(Usage::Mistake(String::from_str(alloc, BAD_BASE)?)),
+            ParseError::Overflow => Err(Usage::Words(String::from_str(alloc, LONG_BASE)?)),
+            _ => Err(Usage::Words(String::from_str(alloc, BAD_BASE)?)),
         },
     }
 }

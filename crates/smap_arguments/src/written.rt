@@ -1,4 +1,4 @@
-//! What `show` and `compose` are asked, which write a map.
+//! What `compose` is asked, and what is left out of a map that is written.
 ghost use Rattle.std.specs.Prelude.{◌≡◌, IfErr, IfOk, codes, string_bytes};
 ghost use Rattle.clap.specs.Words.{found_of, rows_of};
 ghost use Rattle.smap_arguments.specs.CommandLine.{named, source_number};
@@ -13,31 +13,8 @@ use crate::usage::Usage;
 use crate::values::{flag_in, has_text_in, source_in, text_if_given, text_in};
 use clap::ArgMatches;
 use smap_command::{Command, WriteOptions};
-use std::alloc::{AllocError, Global};
+use std::alloc::Global;
 use url::Url;
-
-/// What `show` is asked: the map as it is, or without what is left out.
-pub fn show_in(
-    alloc: Global,
-    matches: &ArgMatches<'_>,
-    base: Option<Url>,
-) -> Result<Command, AllocError>
-    requires required { HasArguments (named (codes "show")) (rows_of (found_of matches.now)) }
-    requires given { GivesBase (rows_of (found_of matches.now)) base }
-    ensures asked { IfOk result (NamedAsksFor (codes "show") (rows_of (found_of matches.now))) }
-    ensures in_range { IfOk result IsInRange }
-{
-    let path = text_in(alloc, matches, "PATH")?;
-    let options = options_in(matches);
-    if options.prune || options.no_content {
-        return Ok(Command::ShowWith {
-            path,
-            base,
-            options,
-        });
-    }
-    Ok(Command::Show { path, base })
-}
 
 /// What `compose` is asked: over one inner map, or over those of sources by their names.
 pub fn compose_in(
@@ -59,7 +36,7 @@ pub fn compose_in(
         return one_inner_in(alloc, matches, outer, base);
     }
     if has_inner(matches) {
-        return Err(Usage::Mistake(String::from_str(alloc, SOURCE_WITH_INNERS)?));
+        return Err(Usage::Words(String::from_str(alloc, SOURCE_WITH_INNERS)?));
     }
     Ok(Command::ComposeAll {
         outer,
@@ -88,26 +65,17 @@ fn one_inner_in(
         (ReportsNoInner (rows_of (found_of matches.now)))) }
 {
     let Some(source) = source_in(matches, "SOURCE") else {
-        return Err(Usage::Mistake(String::from_str(alloc, NO_SOURCE)?));
+        return Err(Usage::Words(String::from_str(alloc, NO_SOURCE)?));
     };
     let Some(inner) = text_if_given(alloc, matches, "INNER")? else {
-        return Err(Usage::Mistake(String::from_str(alloc, NO_INNER)?));
+        return Err(Usage::Words(String::from_str(alloc, NO_INNER)?));
     };
-    let options = options_in(matches);
-    if options.prune || options.no_content {
-        return Ok(Command::ComposeWith {
-            outer,
-            source,
-            inner,
-            base,
-            options,
-        });
-    }
     Ok(Command::Compose {
         outer,
         source,
         inner,
         base,
+        options: options_in(matches),
     })
 }
 
@@ -119,8 +87,8 @@ fn has_inner(matches: &ArgMatches<'_>) -> bool
     source_in(matches, "SOURCE").is_some() || has_text_in(matches, "INNER")
 }
 
-// What is left out of the map.
-fn options_in(matches: &ArgMatches<'_>) -> WriteOptions
+/// What is left out of the map.
+pub fn options_in(matches: &ArgMatches<'_>) -> WriteOptions
     requires prune { HasValueIfGiven parser.Bool (rows_of (found_of matches.now))
         (codes "prune") }
     requires no_content { HasValueIfGiven parser.Bool (rows_of (found_of matches.now))

@@ -33,21 +33,21 @@ wanted_nowhere outer places from many past = let none : many - from ≡ 0 = omeg
 
 module _ (whole : Map) (leads : List (Option ℕ)) (name : List ℕ) where
   -- it is the next of them, or one behind it
-  led_by_next : (left at from : ℕ) → 0 < left → slice_get leads at ≡ Some (Some from)
+  led_by_next : (left at from : ℕ) → 0 < left → Some from ≡ option_flatten (slice_get leads at)
       → is_led_by whole leads left at name
       ≡ (is_called name (name_of_source whole from) || is_led_by whole leads (left - 1) from name)
   led_by_next left at from some there =
       let more : left ≡ suc (left - 1) = omega arith in
       ap (λ most. is_led_by whole leads most at name) more
       ∙ ap (λ lead. option_map_or (λ f. is_called name (name_of_source whole f) || is_led_by whole leads (left - 1) f name)
-      (option_flatten lead) false) there
+      lead false) (sym there)
 
-  pub led_here : (left at from : ℕ) → 0 < left → slice_get leads at ≡ Some (Some from)
+  pub led_here : (left at from : ℕ) → 0 < left → Some from ≡ option_flatten (slice_get leads at)
       → is_called name (name_of_source whole from) ≡ true → is_led_by whole leads left at name ≡ true
   led_here left at from some there is =
       led_by_next left at from some there ∙ ap (λ b. b || is_led_by whole leads (left - 1) from name) is
 
-  pub led_behind : (left at from : ℕ) → 0 < left → slice_get leads at ≡ Some (Some from)
+  pub led_behind : (left at from : ℕ) → 0 < left → Some from ≡ option_flatten (slice_get leads at)
       → is_called name (name_of_source whole from) ≡ false
       → is_led_by whole leads left at name ≡ is_led_by whole leads (left - 1) from name
   led_behind left at from some there is =

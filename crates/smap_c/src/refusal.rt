@@ -1,5 +1,9 @@
 //! A refusal of a map as numbers.
-ghost use Rattle.std.specs.Prelude.{◌≡◌, ◌≢◌, Some};
+ghost use Rattle.std.specs.Prelude.{◌≡◌, ◌≢◌, ◌==◌, Some, find, option_copied};
+ghost use Rattle.smap_codes.specs.Codes.{number_of};
+ghost use Rattle.smap_mappings.specs.Codes.{kind_code};
+ghost use Rattle.smap_index.specs.Codes.{build_code};
+ghost use Rattle.smap_record.specs.Codes.{map_code};
 ghost use Rattle.smap_record.specs.declared.refusal.MapRefusal.TheVariants.{Build, Memory};
 ghost use Rattle.smap_index.specs.declared.refusal.BuildRefusal.TheVariants as builds;
 ghost use Rattle.smap_c.specs.Refusal.{build_in, build_section, kind_in, numbered};
@@ -130,9 +134,21 @@ fn refusal_with(number: u32, section: u64) -> Option<MapRefusal>
         MapRefusal::Mappings,
         MapRefusal::Url,
     ];
-    all.iter()
-        .find(|refusal| refusal.code().number() == number)
-        .copied()
+    refusal_among(&all, number).copied()
+}
+
+fn refusal_among<'a>(all: &'a [MapRefusal], number: u32) -> Option<&'a MapRefusal>
+    ensures { option_copied result
+        ≡ find (λ refusal. number_of (map_code refusal) == number) all.now }
+{
+    all.iter().find(|refusal| is_refusal(refusal, number))
+}
+
+// Whether the code of a refusal has this number.
+fn is_refusal(refusal: &MapRefusal, number: u32) -> bool
+    ensures { result ≡ (number_of (map_code refusal.now) == number) }
+{
+    refusal.code().number() == number
 }
 
 // The kind of fault that has this number.
@@ -152,9 +168,20 @@ fn kind_in(number: u32) -> Option<FaultKind>
         FaultKind::SourceIndex,
         FaultKind::NameIndex,
     ];
-    all.iter()
-        .find(|kind| kind.code().number() == number)
-        .copied()
+    kind_among(&all, number).copied()
+}
+
+fn kind_among<'a>(all: &'a [FaultKind], number: u32) -> Option<&'a FaultKind>
+    ensures { option_copied result ≡ find (λ kind. number_of (kind_code kind) == number) all.now }
+{
+    all.iter().find(|kind| is_kind(kind, number))
+}
+
+// Whether the code of a kind of fault has this number.
+fn is_kind(kind: &FaultKind, number: u32) -> bool
+    ensures { result ≡ (number_of (kind_code kind.now) == number) }
+{
+    kind.code().number() == number
 }
 
 // Why an index is not built, by its number and the section.
@@ -167,7 +194,19 @@ fn build_in(number: u32, section: u64) -> Option<BuildRefusal>
         BuildRefusal::SectionOverlap(section),
         BuildRefusal::PositionRange(section),
     ];
-    all.iter()
-        .find(|refusal| refusal.code().number() == number)
-        .copied()
+    build_among(&all, number).copied()
+}
+
+fn build_among<'a>(all: &'a [BuildRefusal], number: u32) -> Option<&'a BuildRefusal>
+    ensures { option_copied result
+        ≡ find (λ refusal. number_of (build_code refusal) == number) all.now }
+{
+    all.iter().find(|refusal| is_build(refusal, number))
+}
+
+// Whether the code of why an index is not built has this number.
+fn is_build(refusal: &BuildRefusal, number: u32) -> bool
+    ensures { result ≡ (number_of (build_code refusal.now) == number) }
+{
+    refusal.code().number() == number
 }

@@ -1,5 +1,5 @@
 //! Saying why something is refused.
-ghost use Rattle.std.specs.Prelude.{◌≡◌, ◌≢◌, ◌⊎◌, None, Some, IsSomeAnd, MatchOption, option_map};
+ghost use Rattle.std.specs.Prelude.{◌≡◌, ◌≢◌, ◌⊎◌, None, Some, IsSomeAnd, MatchOption, option_copied, option_map};
 ghost use Rattle.smap_verdicts.specs.Refusal.{refusal_text};
 ghost use Rattle.smap_c.specs.Refusal.{refusal_in};
 ghost use Rattle.smap_c.specs.Report.{compose_refusal_text, generated_refusal_text, rewrite_refusal_text};
@@ -105,7 +105,7 @@ fn text_among(all: &[Code], number: u32) -> Option<&'static str>
 
 // Lends a text, where there is one.
 fn lend(lent: Option<&'static str>, text: &mut Text<'_>) -> u32
-    ensures { MatchOption (option_map (λ text. text.now) lent)
+    ensures { MatchOption (option_copied lent.entry)
         ((result ≡ 1) × (text.new ≡ text.old))
         (λ reported. (result ≡ 0) × (text.new.text.now ≡ reported)) }
 {

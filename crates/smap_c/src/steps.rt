@@ -1,8 +1,9 @@
 //! A composition in steps: which source's map is wanted next, and what the maps that were put come to.
-ghost use Rattle.std.specs.Prelude.{◌≡◌, ◌≢◌, ◌<◌, ◌^◌, ◌⊎◌, ◌++◌, [], None, Some, IfErr, IfOk, IfSome, IsErr, IsSome, MatchOption, OnOk, is_some, true, length, option_map, replicate};
+ghost use Rattle.std.specs.Prelude.{◌≡◌, ◌≢◌, ◌<◌, ◌^◌, ◌⊎◌, ◌++◌, [], None, Some, IfErr, IfOk, IfSome, IsErr, IsSome, MatchOption, OnOk, is_some, true, length, option_map, replicate, slice_get};
 ghost use Rattle.smap_compose.specs.declared.refusal.ComposeRefusal.TheVariants.{Memory, TooLarge};
 ghost use Rattle.smap_record.specs.declared.refusal.MapRefusal.{MapRefusal};
 ghost use Rattle.std.specs.List.{list_any};
+ghost use Rattle.std.specs.Option.{option_flatten};
 ghost use Rattle.smap_c.specs.Inners.{maps_held, whole_of};
 ghost use Rattle.smap_c.specs.Read.{IsReadAs, IsRefusedAt};
 ghost use Rattle.smap_c.specs.Steps.{IsFollowed, IsNext, IsNotFollowed, IsStepRefused, after_asking, has_maps, is_turn_over};
@@ -192,16 +193,26 @@ fn is_led_by(whole: &MapFile, leads: &[Option<u32>], source: u32, name: &str) ->
     let mut at = source;
     let mut left = leads.len();
     while left > 0 {
-        let Some(Some(from)) = leads.get(at as usize) else {
+        let Some(from) = lead_of(leads, at) else {
             return false;
         };
-        if is_called(whole, *from, name) {
+        if is_called(whole, from, name) {
             return true;
         }
-        at = *from;
+        at = from;
         left -= 1;
     }
     false
+}
+
+// The source that leads to this one, if one does.
+fn lead_of(leads: &[Option<u32>], source: u32) -> Option<u32>
+    ensures { result ≡ option_flatten (slice_get leads.now source) }
+{
+    match leads.get(source as usize) {
+        Some(lead) => *lead,
+        None => None,
+    }
 }
 
 // Whether one of these places has a map.

@@ -4,6 +4,7 @@ ghost use Rattle.smap_c.specs.Tables.{IsAdded, IsFree, IsNotAdded};
 
 use crate::handles::{MapHandle, TableHandle};
 use crate::status::{DONE, NO_MEMORY, REFUSED};
+use smap_codes::Code;
 use smap_record::MapFile;
 use smap_trace::{Table, TableRefusal};
 use std::alloc::Global;
@@ -57,7 +58,20 @@ pub extern "C" fn smap_table_add(
     match table.lend().add(owned, file) {
         Ok(()) => DONE,
         Err((TableRefusal::Memory, _url, _file)) => NO_MEMORY,
-        Err((why, _url, file)) => give_back(alloc, file, map, why.code().number(), refusal),
+        Err((TableRefusal::BadUrl, _url, file)) => give_back(
+            alloc,
+            file,
+            map,
+            Code::A1.number(),
+            refusal,
+        ),
+        Err((TableRefusal::Twice, _url, file)) => give_back(
+            alloc,
+            file,
+            map,
+            Code::A2.number(),
+            refusal,
+        ),
     }
 }
 

@@ -11,6 +11,7 @@ use crate::bytes::Bytes;
 use crate::handles::{BytesHandle, MapHandle};
 use crate::status::{DONE, NO_MEMORY, REFUSED};
 use crate::texts::Text;
+use smap_codes::Code;
 use smap_compose::{ComposeRefusal, compose};
 use smap_record::WriteRefusal;
 use std::alloc::Global;
@@ -73,14 +74,16 @@ pub extern "C" fn smap_compose(
 }
 
 /// The status of maps that are not composed, with the number of the refusal where they are refused.
+#[tactic(auto, unfolding(smap_codes::specs::Codes::called))]
 pub(crate) fn not_composed(why: ComposeRefusal, refusal: &mut u32) -> u32
     ensures refused { result ≡ 1 → (why ≢ Memory) × (refusal.new ≡ compose_number why) }
+    ensures some { result ≡ 1 → refusal.new ≢ 0 }
     ensures memory { result ≢ 1 → (why ≡ Memory) × (refusal.new ≡ refusal.old) }
     ensures status { (result ≡ 1) ⊎ (result ≡ 3) }
 {
     *refusal = match why {
-        ComposeRefusal::SourceIndex => 1,
-        ComposeRefusal::TooLarge => 2,
+        ComposeRefusal::SourceIndex => Code::C1.number(),
+        ComposeRefusal::TooLarge => Code::C2.number(),
         ComposeRefusal::Memory => return NO_MEMORY,
     };
     REFUSED

@@ -1,5 +1,5 @@
 -- What `check` prints: of one file, or of each of several, in their order.
-use Rattle.std.specs.Prelude.{◌≡◌, ℕ, ◌⊎◌, ◌++◌, Bool, true, false, List, [], ◌∷◌, Option, Some, Ok, Err, codes, if◌then◌else◌, max, suc}
+use Rattle.std.specs.Prelude.{◌≡◌, ℕ, ◌⊎◌, ◌++◌, ◌==◌, Bool, true, false, List, [], ◌∷◌, Option, Some, Ok, Err, codes, if◌then◌else◌, length, map, max, string_bytes, suc}
 use Rattle.smap_explain.specs.Explain.{IsExplained}
 use Rattle.smap_explain.specs.declared.explanation.Explanation.{Explanation}
 use Rattle.smap_io.specs.declared.transfer.ReadFailure.TheVariants.{Device}
@@ -17,8 +17,10 @@ use Rattle.smap_replies.specs.Lines.{file_failed_line, map_refused_line}
 use Rattle.smap_replies.specs.Map.{IsLine, ReportsRead, refusal_result}
 use Rattle.smap_replies.specs.Outcome.{OrMemory, Report, failure, refusal, refused_answer}
 use Rattle.smap_replies.specs.Streams.{Ends, Sinks}
-use Rattle.smap_check_answers.specs.declared.check.Form.{Form}
-use Rattle.smap_check_answers.specs.declared.check.Form.TheVariants.{Counts, Named, Object}
+use Rattle.smap_check_answers.specs.declared.check.FileForm.{FileForm}
+use Rattle.smap_check_answers.specs.declared.check.FileForm.TheVariants.{Counts, Named, Object}
+use Rattle.smap_command.specs.Options.{is_json}
+use Rattle.smap_command.specs.declared.options.CheckOptions.{CheckOptions}
 use Rattle.smap_replies.specs.declared.files.UnreadCause.{UnreadCause}
 use Rattle.smap_replies.specs.declared.files.UnreadCause.TheVariants as causes
 use Rattle.url.specs.Parts.{Parts}
@@ -26,7 +28,7 @@ use Rattle.url.specs.Parts.{Parts}
 -- ---- a file
 
 -- the line for the map at a path that is accepted: how much it holds
-abbrev pub accepted_line : (path : List ℕ) → Form → MapCounts → List ℕ
+abbrev pub accepted_line : (path : List ℕ) → FileForm → MapCounts → List ℕ
 accepted_line path Counts counts = counts_line counts
 accepted_line path Named counts = map_counts_line path counts
 accepted_line path Object counts = json_line (counts_value path counts)
@@ -53,13 +55,13 @@ abbrev pub IsObjectReported : (bytes path : List ℕ) → MapRefusal → Report 
 IsObjectReported bytes path refused report = (line : List ℕ) × IsWhyObject bytes path refused line × (report ≡ refused_answer line)
 
 -- the map of these bytes at a path is refused: an answer in JSON, and else a line for standard error
-abbrev pub IsRefusedReported : (bytes path : List ℕ) → Form → (explain : Bool) → MapRefusal → Report → Type 0
+abbrev pub IsRefusedReported : (bytes path : List ℕ) → FileForm → (explain : Bool) → MapRefusal → Report → Type 0
 IsRefusedReported bytes path Object explain refused report = IsObjectReported bytes path refused report
 IsRefusedReported bytes path Counts explain refused report = IsLineReported bytes path explain refused report
 IsRefusedReported bytes path Named explain refused report = IsLineReported bytes path explain refused report
 
 -- the file of these bytes is reported, with checkpoints at the interval k
-abbrev pub ChecksBytes : Option Parts → (k : ℕ) → Form → (explain : Bool) → (path bytes : List ℕ) → Report → Type 0
+abbrev pub ChecksBytes : Option Parts → (k : ℕ) → FileForm → (explain : Bool) → (path bytes : List ℕ) → Report → Type 0
 ChecksBytes base k form explain path bytes =
     ReportsRead (IsRefusedReported bytes path form explain) (record_of bytes base k)
     (IsLine (λ stated. accepted_line path form (map_counts stated k)))
@@ -77,16 +79,20 @@ IsUnreadReported path false report = report ≡ failure (file_failed_line path)
 IsUnreadReported path true report = (cause : UnreadCause) × (report ≡ failure (file_failed_line path ++ cause_text cause))
 
 -- the file of a path is reported: it can't be read, or its bytes decide
-abbrev pub ChecksFile : MayRead → Option Parts → (k : ℕ) → Form → (explain : Bool) → (number : ℕ) (path : List ℕ) → Report → Type 0
+abbrev pub ChecksFile : MayRead → Option Parts → (k : ℕ) → FileForm → (explain : Bool) → (number : ℕ) (path : List ℕ) → Report → Type 0
 ChecksFile Reads base k form explain number path report =
     (Reads number path (Err Device) × IsUnreadReported path explain report)
     ⊎ ((bytes : List ℕ) × Reads number path (Ok bytes) × ChecksBytes base k form explain path bytes report)
 
 -- ---- several files
 
+-- their paths: of the first, and of the others
+unfoldable pub paths_of : (path : List ℕ) → CheckOptions → List (List ℕ)
+paths_of path options = path ∷ map string_bytes options.others.items
+
 -- how each of them is reported
-abbrev pub form_of : (json : Bool) → Form
-form_of json = if json then Object else Named
+abbrev pub form_of : CheckOptions → FileForm
+form_of options = if is_json options.form then Object else (if length options.others.items == 0 then Counts else Named)
 
 -- after a file whose report ended with a status: nothing more where standard output failed; else the other files, and the
 -- status is the greater of this one and theirs
@@ -96,7 +102,7 @@ ChecksOn first between rest status after =
     ⊎ ((between.output.failed ≡ false) × ((others : ℕ) × rest others after × (status ≡ max first others)))
 
 -- the files at these paths, of which the first has this number, one after another
-abbrev pub ChecksAll : MayRead → Option Parts → (k : ℕ) → Form → (explain : Bool) → (number : ℕ) (paths : List (List ℕ)) → (status : ℕ)
+abbrev pub ChecksAll : MayRead → Option Parts → (k : ℕ) → FileForm → (explain : Bool) → (number : ℕ) (paths : List (List ℕ)) → (status : ℕ)
     → (before after : Sinks) → Type 0
 ChecksAll Reads base k form explain number [] status before after = (status ≡ 0) × (after ≡ before)
 ChecksAll Reads base k form explain number (path ∷ paths) status before after =

@@ -1,6 +1,7 @@
 //! Checking map files: how much each holds.
 ghost use Rattle.std.specs.Prelude.{◌≡◌, ◌≢◌, ◌++◌, false, map, option_copied, string_bytes, IfOk};
-ghost use Rattle.smap_check_answers.specs.Check.{ChecksAll, ChecksBytes, ChecksFile, IsLineReported, IsObjectReported, IsRefusedReported, IsUnreadReported, IsWhyLine, IsWhyObject, accepted_line, cause_text, form_of};
+ghost use Rattle.smap_check_answers.specs.Check.{ChecksAll, ChecksBytes, ChecksFile, IsLineReported, IsObjectReported, IsRefusedReported, IsUnreadReported};
+ghost use Rattle.smap_check_answers.specs.Check.{IsWhyLine, IsWhyObject, accepted_line, cause_text, form_of, paths_of};
 ghost use Rattle.smap_replies.specs.Lines.{file_failed_line};
 ghost use Rattle.smap_replies.specs.Outcome.{OrMemory, failure_report, report_of};
 ghost use Rattle.smap_replies.specs.Streams.{sinks_seen};
@@ -8,6 +9,7 @@ ghost use Rattle.smap_record.specs.declared.refusal.MapRefusal.TheVariants.{Memo
 
 use crate::lines;
 use smap_codes::Code;
+use smap_command::CheckOptions;
 use smap_explain::explain;
 use smap_io::{ByteSink, ReadFailure};
 use smap_record::{MapFile, MapRefusal};
@@ -18,69 +20,78 @@ use smap_replies::{
 use smap_verdicts::{MapCounts, counts_json, explanation_text, map_counts, refusal_json};
 use std::alloc::{AllocError, Global};
 
-/// How a file is reported.
+// How a file is reported.
 #[derive(Clone, Copy)]
-pub enum Form {
-    /// By the counts of its map.
+enum FileForm {
+    // By the counts of its map.
     Counts,
-    /// By its path and these.
+    // By its path and these.
     Named,
-    /// By a JSON object, also where the map is refused.
+    // By a JSON object, also where the map is refused.
     Object,
 }
 
-/// How files are reported.
+// The same, and whether a refusal that is reported by a line is followed by why the map is refused.
 #[derive(Clone, Copy)]
-pub struct CheckOptions {
-    /// Whether each map is reported by a JSON object.
-    pub json: bool,
-    /// Whether a refusal that is reported by a line is followed by why the map is refused.
-    pub explain: bool,
-}
-
-/// What is said of the file of this number and path.
-pub fn answer_check<F: FileReader>(
-    alloc: Global,
-    maps: &MapReader<'_, F>,
-    number: usize,
-    path: &str,
-    form: Form,
+struct Reporting {
+    form: FileForm,
     explain: bool,
-) -> Result<Reply, Failure>
-    ensures { OrMemory (ChecksFile (F.gives maps.now.files.now) (option_copied maps.now.base)
-        maps.now.interval form explain number path.now) (report_of result) }
-{
-    match maps.files.read_file(alloc, number, path) {
-        Ok(bytes) => answer_bytes(alloc, maps, &bytes, path, form, explain),
-        Err(ReadFailure::Device) => Err(unread(alloc, maps.files, path, explain)),
-        Err(ReadFailure::Memory) => Err(Failure::Memory),
-    }
 }
 
-/// Checks the map files at these paths, one after another: each is read, reported and let go before the next is read,
-/// whether it is accepted or refused, can't be read, or memory runs out. A file is reported by one line; with `json` a
-/// map, accepted or refused, is reported by one JSON object. Gives the greatest status of all. Where standard output
-/// fails, nothing more is read. The code of the first refusal that is reported on standard error is put into `first`, where
-/// that has none. The caller gives a standard output that has not failed.
-pub fn check_all<F: FileReader, W: ByteSink, E: ByteSink>(
+/// Checks the map file at this path and then those at the other paths of the options, one after another: each is read,
+/// reported and let go before the next is read, whether it is accepted or refused, can't be read, or memory runs out. A file is
+/// reported by one line, with its path where there are others; as JSON a map, accepted or refused, is reported by one object.
+/// Gives the greatest status of all. Where standard output fails, nothing more is read. The caller gives a standard output
+/// that has not failed. The code of the first refusal that is reported on standard error is put into `first`, where that has
+/// none.
+#[tactic(auto, unfolding(crate::specs::Check::paths_of))]
+pub fn answer_check<F: FileReader, W: ByteSink, E: ByteSink>(
     alloc: Global,
     maps: &MapReader<'_, F>,
-    paths: &[String],
-    options: CheckOptions,
+    path: &str,
+    options: &CheckOptions,
     output: &mut W,
     errors: &mut E,
     first: &mut Option<Code>,
 ) -> u8
     requires output_works { (W.seen output.old).failed ≡ false }
     ensures { ChecksAll (F.gives maps.now.files.now) (option_copied maps.now.base) maps.now.interval
-        (form_of options.json) options.explain 0 (map string_bytes paths.now) result
+        (form_of options.now) options.now.explain 0 (paths_of path.now options.now) result
         (sinks_seen (W.seen output.old) (E.seen errors.old) first.old)
         (sinks_seen (W.seen output.new) (E.seen errors.new) first.new) }
 {
-    let form = form_of(options.json);
+    let how = Reporting {
+        form: form_of(options),
+        explain: options.explain,
+    };
+    let outcome = checked_file(alloc, maps, 0, path, how);
+    let status = report(&outcome, output, errors, first);
+    if output.failed() {
+        return status;
+    }
+    let others = check_others(alloc, maps, &options.others, how, output, errors, first);
+    status.max(others)
+}
+
+// Checks the other files, whose numbers begin with 1.
+fn check_others<F: FileReader, W: ByteSink, E: ByteSink>(
+    alloc: Global,
+    maps: &MapReader<'_, F>,
+    paths: &[String],
+    how: Reporting,
+    output: &mut W,
+    errors: &mut E,
+    first: &mut Option<Code>,
+) -> u8
+    requires output_works { (W.seen output.old).failed ≡ false }
+    ensures { ChecksAll (F.gives maps.now.files.now) (option_copied maps.now.base) maps.now.interval
+        how.form how.explain 1 (map string_bytes paths.now) result
+        (sinks_seen (W.seen output.old) (E.seen errors.old) first.old)
+        (sinks_seen (W.seen output.new) (E.seen errors.new) first.new) }
+{
     let mut status = DONE;
     for (number, path) in paths.iter().enumerate() {
-        let outcome = answer_check(alloc, maps, number, path, form, options.explain);
+        let outcome = checked_file(alloc, maps, number + 1, path, how);
         status = status.max(report(&outcome, output, errors, first));
         if output.failed() {
             break;
@@ -89,11 +100,35 @@ pub fn check_all<F: FileReader, W: ByteSink, E: ByteSink>(
     status
 }
 
-// How each of several files is reported.
-fn form_of(json: bool) -> Form
-    ensures { result ≡ form_of json }
+// How each of the files is reported.
+fn form_of(options: &CheckOptions) -> FileForm
+    ensures { result ≡ form_of options.now }
 {
-    if json { Form::Object } else { Form::Named }
+    if options.form.is_json() {
+        FileForm::Object
+    } else if options.others.is_empty() {
+        FileForm::Counts
+    } else {
+        FileForm::Named
+    }
+}
+
+// What is said of the file of this number and path.
+fn checked_file<F: FileReader>(
+    alloc: Global,
+    maps: &MapReader<'_, F>,
+    number: usize,
+    path: &str,
+    how: Reporting,
+) -> Result<Reply, Failure>
+    ensures { OrMemory (ChecksFile (F.gives maps.now.files.now) (option_copied maps.now.base)
+        maps.now.interval how.form how.explain number path.now) (report_of result) }
+{
+    match maps.files.read_file(alloc, number, path) {
+        Ok(bytes) => answer_bytes(alloc, maps, &bytes, path, how),
+        Err(ReadFailure::Device) => Err(unread(alloc, maps.files, path, how.explain)),
+        Err(ReadFailure::Memory) => Err(Failure::Memory),
+    }
 }
 
 // What is said of the file of these bytes at a path.
@@ -102,15 +137,14 @@ fn answer_bytes<F: FileReader>(
     maps: &MapReader<'_, F>,
     bytes: &[u8],
     path: &str,
-    form: Form,
-    explain: bool,
+    how: Reporting,
 ) -> Result<Reply, Failure>
-    ensures { OrMemory (ChecksBytes (option_copied maps.now.base) maps.now.interval form explain
-        path.now bytes.now) (report_of result) }
+    ensures { OrMemory (ChecksBytes (option_copied maps.now.base) maps.now.interval how.form
+        how.explain path.now bytes.now) (report_of result) }
 {
     match MapFile::read(alloc, bytes, maps.base, maps.interval) {
-        Ok(map) => Ok(Reply::Text(accepted_line(alloc, path, map_counts(&map), form)?)),
-        Err(refused) => refused_reply(alloc, path, bytes, refused, form, explain),
+        Ok(map) => Ok(Reply::Text(accepted_line(alloc, path, map_counts(&map), how.form)?)),
+        Err(refused) => refused_reply(alloc, path, bytes, refused, how),
     }
 }
 
@@ -119,14 +153,14 @@ fn accepted_line(
     alloc: Global,
     path: &str,
     counts: MapCounts,
-    form: Form,
+    form: FileForm,
 ) -> Result<String, AllocError>
     ensures { IfOk result (λ line. string_bytes line ≡ accepted_line path.now form counts) }
 {
     match form {
-        Form::Counts => lines::counts_line(alloc, counts),
-        Form::Named => lines::map_counts_line(alloc, path, counts),
-        Form::Object => lines::object_line(counts_json(alloc, path, counts)?),
+        FileForm::Counts => lines::counts_line(alloc, counts),
+        FileForm::Named => lines::map_counts_line(alloc, path, counts),
+        FileForm::Object => lines::object_line(counts_json(alloc, path, counts)?),
     }
 }
 
@@ -136,15 +170,17 @@ fn refused_reply(
     path: &str,
     bytes: &[u8],
     refused: MapRefusal,
-    form: Form,
-    explain: bool,
+    how: Reporting,
 ) -> Result<Reply, Failure>
     ensures { OrMemory (λ report. (refused ≢ Memory)
-        × IsRefusedReported bytes.now path.now form explain refused report) (report_of result) }
+        × IsRefusedReported bytes.now path.now how.form how.explain refused report)
+        (report_of result) }
 {
-    match form {
-        Form::Object => object_reply(alloc, path, bytes, refused),
-        Form::Counts | Form::Named => Err(line_failure(alloc, path, bytes, refused, explain)),
+    match how.form {
+        FileForm::Object => object_reply(alloc, path, bytes, refused),
+        FileForm::Counts | FileForm::Named => {
+            Err(line_failure(alloc, path, bytes, refused, how.explain))
+        }
     }
 }
 
@@ -204,7 +240,8 @@ fn why_line(
     bytes: &[u8],
     refused: MapRefusal,
 ) -> Result<String, AllocError>
-    ensures reported { IfOk result (λ line. IsWhyLine bytes.now path.now refused (string_bytes line)) }
+    ensures reported { IfOk result (λ line. IsWhyLine bytes.now path.now refused
+        (string_bytes line)) }
     ensures not_memory { IfOk result (λ _. refused ≢ Memory) }
 {
     let line = refusal_line(alloc, path, refused)?;

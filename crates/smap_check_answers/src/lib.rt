@@ -1,7 +1,8 @@
 //! Whether map files are accepted, and why not; and what a code means.
 //!
 //! ```text
-//! let outcome = answer_check(alloc, &maps, 0, "app.js.map", Form::Counts, true);
+//! let options = CheckOptions::new(alloc);
+//! let status = answer_check(alloc, &maps, "app.js.map", &options, &mut output, &mut errors);
 //! let outcome = answer_explain(alloc, Some("M14"));
 //! ```
 #![tactic(auto)]
@@ -10,5 +11,5 @@ mod check;
 mod explain;
 mod lines;
 
-pub use check::{CheckOptions, Form, answer_check, check_all};
+pub use check::answer_check;
 pub use explain::answer_explain;

@@ -12,7 +12,7 @@ pub fn outcome_of(usage: Usage) -> Result<Reply, Failure>
 {
     match usage {
         Usage::Help(text) => Ok(Reply::Text(text)),
-        Usage::Mistake(text) => Err(Failure::Misuse(text)),
+        Usage::Words(text) => Err(Failure::Misuse(text)),
         Usage::Memory => Err(Failure::Memory),
     }
 }

@@ -10,5 +10,5 @@ title_line code = text_of code ++ (10 ∷ [])
 
 -- all that is to be known of it, on four lines
 abbrev pub code_text : Row → List ℕ
-code_text row = title_line row.code ++ (codes "  means: " ++ (row.meaning.now ++ (10 ∷ (codes "  causes: " ++ (row.cause.now
-    ++ (10 ∷ (codes "  to do: " ++ (row.remedy.now ++ (10 ∷ [])))))))))
+code_text row = text_of row.code ++ (codes "\n  means: " ++ (row.meaning.now ++ (codes "\n  causes: " ++ (row.cause.now
+    ++ (codes "\n  to do: " ++ (row.remedy.now ++ (10 ∷ [])))))))

@@ -1,5 +1,5 @@
 //! The code that a word calls, and how all codes are called.
-ghost use Rattle.std.specs.Prelude.{◌≡◌, find, flat_map, string_bytes, IfOk};
+ghost use Rattle.std.specs.Prelude.{◌≡◌, find, flat_map, option_copied, string_bytes, IfOk};
 ghost use Rattle.smap_codes.specs.Codes.{all_codes, label_of, name_of};
 ghost use Rattle.smap_code_texts.specs.Texts.{title_line};
 ghost use Rattle.smap_code_texts.specs.Words.{called_among, code_called, same_letters};
@@ -19,29 +19,37 @@ fn called_among(word: &str, among: &[Code]) -> Option<Code>
     ensures { result ≡ called_among word.now among.now }
 {
     match labelled_among(word, among) {
-        Some(code) => Some(code),
-        None => named_among(word, among),
+        Some(code) => Some(*code),
+        None => named_among(word, among).copied(),
     }
 }
 
 // The first of these codes whose label this is.
-fn labelled_among(word: &str, among: &[Code]) -> Option<Code>
-    ensures { result ≡ find (λ code. same_letters word.now (label_of code)) among.now }
+fn labelled_among<'a>(word: &str, among: &'a [Code]) -> Option<&'a Code>
+    ensures { option_copied result ≡ find (λ code. same_letters word.now (label_of code)) among.now }
 {
-    among
-        .iter()
-        .find(|code| same_letters(word, code.label()))
-        .copied()
+    among.iter().find(|code| is_labelled(word, code))
 }
 
 // The first of these codes whose name this is.
-fn named_among(word: &str, among: &[Code]) -> Option<Code>
-    ensures { result ≡ find (λ code. same_letters word.now (name_of code)) among.now }
+fn named_among<'a>(word: &str, among: &'a [Code]) -> Option<&'a Code>
+    ensures { option_copied result ≡ find (λ code. same_letters word.now (name_of code)) among.now }
 {
-    among
-        .iter()
-        .find(|code| same_letters(word, code.name()))
-        .copied()
+    among.iter().find(|code| is_named(word, code))
+}
+
+// Whether this is the label of a code.
+fn is_labelled(word: &str, code: &Code) -> bool
+    ensures { result ≡ same_letters word.now (label_of code.now) }
+{
+    same_letters(word, code.label())
+}
+
+// Whether this is its name.
+fn is_named(word: &str, code: &Code) -> bool
+    ensures { result ≡ same_letters word.now (name_of code.now) }
+{
+    same_letters(word, code.name())
 }
 
 // Whether the words differ in the case of ASCII letters at most.

@@ -1,5 +1,5 @@
-pub mod Bytes
-pub mod Interval
 pub mod Limits
 pub mod Lines
+pub mod Options
+pub mod Reading
 pub mod Runnable

@@ -1,18 +1,14 @@
 //! What the program is asked to do.
+ghost use Rattle.std.specs.Prelude.{◌≡◌, option_copied};
+ghost use Rattle.smap_command.specs.Reading.{base_of, interval_of};
 
+use crate::limits::USUAL_INTERVAL;
+use crate::options::{CheckOptions, Form, FurtherOptions, LookupOptions, WriteOptions};
 use url::Url;
 
-/// What is left out of a map that is written.
-#[derive(Clone, Copy)]
-pub struct WriteOptions {
-    /// Whether sources and names that no mapping has are left out, and of equal ones all but the first that is used.
-    pub prune: bool,
-    /// Whether the contents of the sources are left out.
-    pub no_content: bool,
-}
-
-/// A command. Lines and columns count from 0 here, columns in UTF-16 code units. Where a command has an interval, the
-/// indices that it makes have a checkpoint at the segments of number 0, `interval`, 2 `interval` and so on of each line.
+/// A command. Lines and columns count from 0 here, columns in UTF-16 code units. Sources are resolved against the base. The
+/// indices that a command makes have a checkpoint at the segments of number 0, `interval`, 2 `interval` and so on of each
+/// line.
 #[derive(Drop)]
 pub enum Command {
     /// Looks up a generated line and column in the bare mappings text on standard input.
@@ -21,39 +17,21 @@ pub enum Command {
         column: u32,
         interval: u32,
     },
-    /// Checks the source map in the file at this path. Its sources are resolved against the base. With `explain` the
-    /// refusal is followed by why the map is refused.
+    /// Checks the source map in the file at this path, and those in the other files that the options name.
     Check {
         path: String,
         base: Option<Url>,
         interval: u32,
-        explain: bool,
+        options: CheckOptions,
     },
-    /// Checks the source maps in the files at these paths, one after another, each reported by itself, with its path: by
-    /// a line or, with `json`, by a JSON object. Their sources are resolved against the base. With `explain` each
-    /// refusal is followed by why the map is refused; an object says that always.
-    CheckAll {
-        paths: Vec<String>,
-        base: Option<Url>,
-        interval: u32,
-        json: bool,
-        explain: bool,
-    },
-    /// Writes the source map in the file at this path as one regular map. Its sources are resolved against the base.
+    /// Writes the source map in the file at this path as one regular map, without what the options leave out.
     Show {
-        path: String,
-        base: Option<Url>,
-    },
-    /// Writes the same map without what the options leave out.
-    ShowWith {
         path: String,
         base: Option<Url>,
         options: WriteOptions,
     },
     /// Looks up a generated line and column in the source map in the file at this path: the last mapping at the
-    /// position or before it answers or, with `after`, the first at it or after it. Its sources are resolved against
-    /// the base. With `json` the answer is a JSON object; else, with `explain`, it is followed by which mappings are nearest
-    /// to the position.
+    /// position or before it answers or, with `after`, the first at it or after it.
     Lookup {
         path: String,
         line: u32,
@@ -61,36 +39,33 @@ pub enum Command {
         base: Option<Url>,
         interval: u32,
         after: bool,
-        json: bool,
-        explain: bool,
+        options: LookupOptions,
     },
     /// Answers the positions on the lines of standard input from the source map in the file at this path, each by a line,
-    /// as a look-up does. With `json` each line is a JSON object.
+    /// as a look-up does.
     Positions {
         path: String,
         base: Option<Url>,
         interval: u32,
         after: bool,
-        json: bool,
+        form: Form,
     },
-    /// Prints the mappings of the source map in the file at this path, or those of this generated line, a line each. Its
-    /// sources are resolved against the base. With `json` each line is a JSON object.
+    /// Prints the mappings of the source map in the file at this path, or those of this generated line, a line each.
     Mappings {
         path: String,
         base: Option<Url>,
         line: Option<u32>,
-        json: bool,
+        form: Form,
     },
     /// Prints the sources of the source map in the file at this path, a line each, with how many segments each has.
     /// Where the path of its generated file is given, each is reported with how many of that file's bytes it makes; with
-    /// `by_bytes` those that make most come first. The sources are resolved against the base. With `json` each line is a
-    /// JSON object.
+    /// `by_bytes` those that make most come first.
     Sources {
         path: String,
         base: Option<Url>,
         generated: Option<String>,
         by_bytes: bool,
-        json: bool,
+        form: Form,
     },
     /// Writes the content of the source of this number, from 0, of the source map in the file at this path, and nothing
     /// else.
@@ -98,44 +73,21 @@ pub enum Command {
         path: String,
         source: u32,
     },
-    /// Rewrites the stack trace on standard input over maps: pairs of the URL that frames name and of the path of the
-    /// map's file. A map's sources are resolved against the base or, where there is none, against the map's URL, where
-    /// that is one. With `hide_ignored` the lines of frames from sources that a map says to pass over are dropped.
+    /// Rewrites the text on standard input over maps: pairs of the URL that it names and of the path of the map's file or,
+    /// where the path ends in `/`, of a prefix of URLs and of the path of the folder that their maps are in; and those that
+    /// the options name. A map's sources are resolved against the base or, where there is none, against the map's URL,
+    /// where that is one. With `hide_ignored` the lines of frames from sources that a map says to pass over are dropped.
+    /// Where there are files alone, and no options, their maps are read before the text.
     Rewrite {
         maps: Vec<(String, String)>,
         base: Option<Url>,
         interval: u32,
         hide_ignored: bool,
-    },
-    /// Rewrites the text on standard input over maps that may be read only when the text names them: pairs of the URL that
-    /// it names and of the path of the map's file or, where the path ends in `/`, of a prefix of URLs and of the path of
-    /// the folder that their maps are in; and the pairs on the lines of the file `list`, where there is one. A map's
-    /// sources are resolved as for `Rewrite`. With `hide_ignored` the lines of frames from sources that a map says to pass
-    /// over are dropped; with `anywhere`, which excludes that, places are rewritten wherever they stand in the text. With
-    /// `summary` counts are reported at the end.
-    RewriteFrom {
-        maps: Vec<(String, String)>,
-        list: Option<String>,
-        base: Option<Url>,
-        interval: u32,
-        hide_ignored: bool,
-        anywhere: bool,
-        /// How many bytes the files may have whose maps are kept for when the text names them again: 0 to `MOST_BYTES`.
-        cache_bytes: u64,
-        /// How many bytes of the text are taken: 1 to `MOST_BYTES`.
-        limit_bytes: u64,
-        summary: bool,
+        options: FurtherOptions,
     },
     /// Composes the source map in the file at the path `outer` with that of its source of this number, from 0, in the
-    /// file at the path `inner`. The sources of both are resolved against the base.
+    /// file at the path `inner`, and writes the result without what the options leave out.
     Compose {
-        outer: String,
-        source: u32,
-        inner: String,
-        base: Option<Url>,
-    },
-    /// Composes the same two maps, and writes the result without what the options leave out.
-    ComposeWith {
         outer: String,
         source: u32,
         inner: String,
@@ -144,8 +96,8 @@ pub enum Command {
     },
     /// Composes the source map in the file at the path `outer` with those of several of its sources at once: pairs of a
     /// source's name, as it is written, and of the path of that source's map; and the pairs on the lines of the file `list`,
-    /// where there is one. The sources of the outer map are resolved against the base. The result is written without what
-    /// the options leave out.
+    /// where there is one. The base is that of the outer map alone. The result is written without what the options leave
+    /// out.
     ComposeAll {
         outer: String,
         inners: Vec<(String, String)>,
@@ -158,4 +110,38 @@ pub enum Command {
     Explain {
         code: Option<String>,
     },
+}
+
+impl Command {
+    /// The URL against which sources are resolved, where the command has one.
+    pub fn base(&self) -> Option<&Url>
+        ensures { option_copied result ≡ base_of self.now }
+    {
+        match self {
+            Command::Raw { .. } | Command::SourceContent { .. } | Command::Explain { .. } => None,
+            Command::Check { base, .. }
+            | Command::Show { base, .. }
+            | Command::Lookup { base, .. }
+            | Command::Positions { base, .. }
+            | Command::Mappings { base, .. }
+            | Command::Sources { base, .. }
+            | Command::Rewrite { base, .. }
+            | Command::Compose { base, .. }
+            | Command::ComposeAll { base, .. } => base.as_ref(),
+        }
+    }
+
+    /// The interval of the checkpoints: the usual one where the command has none.
+    pub fn interval(&self) -> u32
+        ensures { result ≡ interval_of self.now }
+    {
+        match self {
+            Command::Raw { interval, .. }
+            | Command::Check { interval, .. }
+            | Command::Lookup { interval, .. }
+            | Command::Positions { interval, .. }
+            | Command::Rewrite { interval, .. } => *interval,
+            _ => USUAL_INTERVAL,
+        }
+    }
 }

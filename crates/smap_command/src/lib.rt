@@ -1,17 +1,20 @@
-//! What the program can be asked, as values: the commands, and the numbers that they may have. The arguments of the command
-//! line are read into these commands, and the answers are given for them, by crates that do not know each other.
+//! What the program can be asked, as values: the commands with their options, and the numbers that they may have. The arguments
+//! of the command line are read into these commands, and the answers are given for them, by crates that do not know each other.
 //!
 //! ```text
-//! let interval = USUAL_INTERVAL;
-//! let command = Command::Lookup { path, line: 0, column: 5, base: None, interval, after: false, json: false };
+//! let options = LookupOptions { form: Form::Text, explain: false };
+//! let (base, interval, after) = (None, USUAL_INTERVAL, false);
+//! let command = Command::Lookup { path, line: 0, column: 5, base, interval, after, options };
 //! ```
 #![tactic(auto)]
 
 mod command;
 mod limits;
+mod options;
 
-pub use command::{Command, WriteOptions};
+pub use command::Command;
 pub use limits::{
     LIMIT, MOST_BYTES, MOST_INTERVAL, USUAL_CACHE_BYTES, USUAL_INTERVAL, USUAL_LIMIT_BYTES,
 };
+pub use options::{CheckOptions, Form, FurtherOptions, LookupOptions, WriteOptions};
 pub use url::Url;

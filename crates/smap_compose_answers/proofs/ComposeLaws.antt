@@ -13,7 +13,7 @@ use Rattle.smap_replies.specs.Outcome.{OrMemory, Report, reply_report}
 use Rattle.smap_compose_answers.specs.Written.{report_or}
 use Rattle.smap_replies.specs.declared.outcome.Reply.{Reply}
 use Rattle.smap_command.specs.Limits.{usual_interval}
-use Rattle.smap_command.specs.declared.command.WriteOptions.{WriteOptions}
+use Rattle.smap_command.specs.declared.options.WriteOptions.{WriteOptions}
 use Rattle.url.specs.Parts.{Parts}
 
 refused_so : (refusal_of : MapRefusal → Report) (found : Result MapRecord MapRefusal) (Reports : MapRecord → Report → Type 0) (report : Report)

@@ -12,7 +12,7 @@ use Rattle.smap_compose_answers.specs.ComposeAll.{NamesEntry, NamesInners, Names
 use Rattle.smap_compose_answers.specs.ComposeAll.{GathersInners, ReportsInners, pair_of}
 use Rattle.smap_compose_answers.specs.Compose.{compose_refusal_result}
 use Rattle.smap_compose_answers.specs.Written.{report_or, written_of}
-use Rattle.smap_command.specs.declared.command.WriteOptions.{WriteOptions}
+use Rattle.smap_command.specs.declared.options.WriteOptions.{WriteOptions}
 use Rattle.smap_compose.specs.Composition.{all_composed}
 use Rattle.smap_replies.specs.Files.{MayRead}
 use Rattle.smap_codes.specs.Codes.{text_of}

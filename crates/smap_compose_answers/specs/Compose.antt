@@ -1,7 +1,7 @@
 -- What `compose` prints of two map files.
 use Rattle.std.specs.Prelude.{ℕ, List, Option}
 use Rattle.smap_record.specs.Record.{MapRecord, record_of}
-use Rattle.smap_command.specs.declared.command.WriteOptions.{WriteOptions}
+use Rattle.smap_command.specs.declared.options.WriteOptions.{WriteOptions}
 use Rattle.smap_compose.specs.Codes.{compose_code}
 use Rattle.smap_compose.specs.Composition.{composed_of}
 use Rattle.smap_compose.specs.declared.refusal.ComposeRefusal.{ComposeRefusal}

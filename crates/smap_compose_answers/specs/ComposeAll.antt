@@ -9,7 +9,7 @@ use Rattle.url.specs.Parts.{Parts}
 use Rattle.smap_codes.specs.Codes.{text_of}
 use Rattle.smap_codes.specs.declared.code.Code.TheVariants.{A2, C4}
 use Rattle.smap_command.specs.Limits.{usual_interval}
-use Rattle.smap_command.specs.declared.command.WriteOptions.{WriteOptions}
+use Rattle.smap_command.specs.declared.options.WriteOptions.{WriteOptions}
 use Rattle.smap_compose.specs.Composition.{all_composed}
 use Rattle.smap_locations.specs.Named.{IsWith, Named, path_under}
 use Rattle.smap_record.specs.Record.{MapRecord, record_of}

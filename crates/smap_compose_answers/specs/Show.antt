@@ -8,8 +8,9 @@ use Rattle.smap_record.specs.Written.{written}
 use Rattle.smap_command.specs.Lines.{line_from}
 use Rattle.smap_codes.specs.declared.code.Code.TheVariants.{O1}
 use Rattle.smap_replies.specs.Outcome.{Report, answer, out_of_memory, refused_by}
+use Rattle.smap_command.specs.Options.{leaves_out}
 use Rattle.smap_compose_answers.specs.Written.{written_result}
-use Rattle.smap_command.specs.declared.command.WriteOptions.{WriteOptions}
+use Rattle.smap_command.specs.declared.options.WriteOptions.{WriteOptions}
 use Rattle.smap_compose.specs.Composition.{all_composed}
 use Rattle.smap_compose.specs.declared.refusal.ComposeRefusal.{ComposeRefusal}
 use Rattle.smap_compose.specs.declared.refusal.ComposeRefusal.TheVariants.{SourceIndex, TooLarge, Memory}
@@ -35,3 +36,9 @@ show_refusal_result Memory = out_of_memory
 -- what a map states, composed with no inner map
 abbrev pub show_with_result : WriteOptions → MapRecord → Report
 show_with_result options stated = written_result show_refusal_result options (all_composed stated [])
+
+-- ---- by the options
+
+-- what is said of a map: it is written as it stands, where nothing is left out
+abbrev pub shown_result : WriteOptions → MapRecord → Report
+shown_result options stated = if leaves_out options then show_with_result options stated else show_result stated

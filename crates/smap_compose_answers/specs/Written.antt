@@ -1,6 +1,6 @@
 -- A composed map that is written, without what is left out of it.
-use Rattle.std.specs.Prelude.{false, List, ℕ, [], ◌∷◌, Result, Ok, Err}
-use Rattle.smap_command.specs.declared.command.WriteOptions.{WriteOptions}
+use Rattle.std.specs.Prelude.{List, ℕ, [], ◌∷◌, Result, Ok, Err}
+use Rattle.smap_command.specs.declared.options.WriteOptions.{WriteOptions}
 use Rattle.smap_compose.specs.Composition.{Composition}
 use Rattle.smap_compose.specs.LeftOut.{left_of}
 use Rattle.smap_compose.specs.declared.left_out.LeftOut.{LeftOut}
@@ -9,10 +9,6 @@ use Rattle.smap_mappings.specs.Canonical.{canonical_text}
 use Rattle.smap_record.specs.Written.{written}
 use Rattle.smap_command.specs.Lines.{line_from}
 use Rattle.smap_replies.specs.Outcome.{Report, answer}
-
--- nothing is left out
-abbrev pub all_written : WriteOptions
-all_written = record { prune = false; no_content = false }
 
 -- what these options leave out
 abbrev pub left_out_of : WriteOptions → LeftOut

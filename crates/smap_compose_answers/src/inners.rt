@@ -9,6 +9,7 @@ ghost use Rattle.smap_codes.specs.Codes.{text_of};
 ghost use Rattle.smap_codes.specs.declared.code.Code.TheVariants.{A2};
 ghost use Rattle.smap_replies.specs.Lines.{argument_refused_line};
 ghost use Rattle.smap_replies.specs.Outcome.{OrMemory, failure_report, misuse, out_of_memory, or_reported};
+ghost use Rattle.smap_compose_answers.specs.Private.OuterMap.{IsOuter};
 ghost use Rattle.smap_compose_answers.specs.Private.Inners.{IsNamed, IsUnnamed, inner_reported, inners_reported, map_reported, pair_seen};
 ghost use Rattle.smap_replies.specs.Lists.{list_refusal};
 ghost use Rattle.smap_replies.specs.Arguments.{argument_of, argument_text};

@@ -1,9 +1,10 @@
 //! The map that is written of a file, or of several that are composed.
 //!
 //! ```text
-//! let outcome = answer_show(alloc, &files, "app.js.map", None);
-//! let maps = TwoMaps { outer: "bundle.js.map", source: 0, inner: "app.js.map", base: None };
-//! let outcome = answer_compose(alloc, &files, &maps, ALL_WRITTEN);
+//! let options = WriteOptions { prune: true, no_content: false };
+//! let outcome = answer_show(alloc, &maps, "app.js.map", options);
+//! let two = TwoMaps { outer: "bundle.js.map", source: 0, inner: "app.js.map", base: None };
+//! let outcome = answer_compose(alloc, &files, &two, options);
 //! ```
 #![tactic(auto)]
 
@@ -17,5 +18,4 @@ mod written;
 
 pub use compose::{TwoMaps, answer_compose};
 pub use compose_all::{AllMaps, answer_compose_all};
-pub use show::{answer_show, answer_show_with};
-pub use written::ALL_WRITTEN;
+pub use show::answer_show;

@@ -2,38 +2,44 @@
 ghost use Rattle.std.specs.Prelude.{[], option_copied};
 ghost use Rattle.smap_replies.specs.Map.{IsResult, ReportsMap};
 ghost use Rattle.smap_replies.specs.Outcome.{OrMemory, reply_report, report_of};
-ghost use Rattle.smap_compose_answers.specs.Show.{show_result, show_with_result};
+ghost use Rattle.smap_compose_answers.specs.Show.{show_result, show_with_result, shown_result};
 ghost use Rattle.smap_compose_answers.specs.Written.{left_out_of, written_of};
-ghost use Rattle.smap_command.specs.Limits.{usual_interval};
 ghost use Rattle.smap_compose.specs.Composition.{all_composed};
 ghost use Rattle.smap_compose.specs.LeftOut.{left_of};
 ghost use Rattle.smap_mappings.specs.Exact.{GivesOr};
 
 use crate::written::{left_out_of, line_of, written};
 use smap_codes::Code;
-use smap_command::{USUAL_INTERVAL, WriteOptions};
+use smap_command::WriteOptions;
 use smap_compose::{ComposeRefusal, Composed, compose_all};
-use smap_record::{MapFile, Url, WriteRefusal};
+use smap_record::{MapFile, WriteRefusal};
 use smap_replies::{Failure, FileReader, MapReader, Reply, read_map, refused_by};
 use std::alloc::Global;
 
-/// Reads the map that the file at this path is, and writes what it states as one regular map.
+/// Reads the map that the file at this path is, and writes what it states as one regular map, without what the options leave
+/// out.
 pub fn answer_show<F: FileReader>(
     alloc: Global,
-    reader: &F,
+    maps: &MapReader<'_, F>,
     path: &str,
-    base: Option<&Url>,
+    options: WriteOptions,
 ) -> Result<Reply, Failure>
-    ensures { OrMemory (ReportsMap (F.gives reader.now) 0 path.now (option_copied base.entry)
-        usual_interval
-        (IsResult show_result)) (report_of result) }
+    ensures { OrMemory (ReportsMap (F.gives maps.now.files.now) 0 path.now
+        (option_copied maps.now.base) maps.now.interval
+        (IsResult (shown_result options))) (report_of result) }
 {
-    let maps = MapReader {
-        files: reader,
-        base,
-        interval: USUAL_INTERVAL,
-    };
-    written_map(alloc, &read_map(alloc, &maps, 0, path)?)
+    shown_map(alloc, read_map(alloc, maps, 0, path)?, options)
+}
+
+// The map as a line, or why it is not written.
+fn shown_map(alloc: Global, map: MapFile, options: WriteOptions) -> Result<Reply, Failure>
+    ensures { OrMemory (IsResult (shown_result options) map.stated) (report_of result) }
+{
+    if options.leaves_out() {
+        left_map(alloc, map, options)
+    } else {
+        written_map(alloc, &map)
+    }
 }
 
 // The written map as a line, or that its mappings text would be too long.
@@ -47,25 +53,10 @@ fn written_map(alloc: Global, map: &MapFile) -> Result<Reply, Failure>
     }
 }
 
-/// Reads the map that the file at this path is, and writes what it states as one regular map, without what the options leave
-/// out.
-pub fn answer_show_with<F: FileReader>(
-    alloc: Global,
-    reader: &F,
-    path: &str,
-    base: Option<&Url>,
-    options: WriteOptions,
-) -> Result<Reply, Failure>
-    ensures { OrMemory (ReportsMap (F.gives reader.now) 0 path.now (option_copied base.entry)
-        usual_interval
-        (IsResult (show_with_result options))) (report_of result) }
+// What the options leave of the map as a line, or why it is not written.
+fn left_map(alloc: Global, map: MapFile, options: WriteOptions) -> Result<Reply, Failure>
+    ensures { OrMemory (IsResult (show_with_result options) map.stated) (report_of result) }
 {
-    let maps = MapReader {
-        files: reader,
-        base,
-        interval: USUAL_INTERVAL,
-    };
-    let map = read_map(alloc, &maps, 0, path)?;
     match line_left(alloc, map, options) {
         Ok(reply) => Ok(reply),
         Err(ComposeRefusal::TooLarge) => Err(refused_by(alloc, Code::O1)),

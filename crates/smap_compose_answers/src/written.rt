@@ -8,12 +8,6 @@ use smap_compose::{Composed, LeftOut};
 use smap_replies::Reply;
 use std::alloc::{AllocError, Global};
 
-/// Nothing is left out.
-pub const ALL_WRITTEN: WriteOptions = WriteOptions {
-    prune: false,
-    no_content: false,
-};
-
 /// What these options leave out of a composed map.
 pub fn left_out_of(options: WriteOptions) -> LeftOut
     ensures { result ≡ left_out_of options }

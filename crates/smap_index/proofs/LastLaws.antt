@@ -1,5 +1,5 @@
 -- The last mapping at the front of a list and the first after it, one mapping of the list after another.
-use Rattle.std.proofs.Common.{◌≡◌, ℕ, ◌+◌, suc, zero, List, [], ◌∷◌, ◌++◌, length, take, drop, Option, Some, false, true, refl, ap, sym, ◌∙◌, arith}
+use Rattle.std.proofs.Common.{◌≡◌, ℕ, ◌+◌, suc, zero, List, [], ◌∷◌, ◌++◌, take, drop, Option, Some, false, true, refl, ap, sym, ◌∙◌, arith}
 use Rattle.std.proofs.Common.{one-add, ⊎_elim}
 use Rattle.std.specs.List.{slice_get, last_or}
 use Rattle.std.specs.Option.{option_or}

@@ -1,5 +1,7 @@
 -- What `lookup` prints: as text or as JSON.
 use Rattle.std.specs.Prelude.{ℕ, ◌++◌, Bool, false, true, List, if◌then◌else◌}
+use Rattle.smap_command.specs.Options.{is_json}
+use Rattle.smap_command.specs.declared.options.LookupOptions.{LookupOptions}
 use Rattle.smap_index.specs.Answer.{neighbours}
 use Rattle.smap_index.specs.Parts.{joined}
 use Rattle.smap_record.specs.Record.{MapRecord}
@@ -17,6 +19,6 @@ lookup_lines after false line column stated = lookup_text after line column stat
 lookup_lines after true line column stated = lookup_text after line column stated ++ about_text line column stated
 
 -- for a generated line and column, from 0: at the position or before it or, where that is asked, at it or after it
-abbrev pub lookup_print : (after json explain : Bool) (line column : ℕ) → MapRecord → List ℕ
-lookup_print after json explain line column stated =
-    if json then lookup_json after line column stated else lookup_lines after explain line column stated
+abbrev pub lookup_print : (after : Bool) → LookupOptions → (line column : ℕ) → MapRecord → List ℕ
+lookup_print after options line column stated =
+    if is_json options.form then lookup_json after line column stated else lookup_lines after options.explain line column stated

@@ -2,8 +2,9 @@
 //! text.
 //!
 //! ```text
-//! let options = LookupOptions { after: false, json: false, explain: false };
-//! let outcome = answer_lookup(alloc, &maps, "app.js.map", 0, 5, options);
+//! let options = LookupOptions { form: Form::Text, explain: false };
+//! let asked = LookUp { line: 0, column: 5, after: false, options };
+//! let outcome = answer_lookup(alloc, &maps, "app.js.map", asked);
 //! ```
 #![tactic(auto)]
 
@@ -14,7 +15,7 @@ mod positions;
 mod raw;
 mod source_list;
 
-pub use lookup::{LookupOptions, answer_lookup};
+pub use lookup::{LookUp, answer_lookup};
 pub use mappings::answer_mappings;
 pub use positions::answer_positions;
 pub use raw::answer_raw;

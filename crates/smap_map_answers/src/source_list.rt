@@ -3,11 +3,9 @@ ghost use Rattle.std.specs.Prelude.{◌≡◌, option_and_then, option_copied, o
 ghost use Rattle.smap_replies.specs.Map.{IsResult, ReportsMap};
 ghost use Rattle.smap_replies.specs.Outcome.{OrMemory, report_of};
 ghost use Rattle.smap_map_answers.specs.SourceList.{IsSourcesReported, ReportsGenerated, ReportsSources, content_result};
-ghost use Rattle.smap_command.specs.Limits.{usual_interval};
 
 use crate::lines;
 use smap_codes::Code;
-use smap_command::USUAL_INTERVAL;
 use smap_positions::sources_text;
 use smap_record::{MOST_FILE_BYTES, MapFile};
 use smap_replies::{Failure, FileReader, MapReader, Reply, file_bytes, read_map, refused_file};
@@ -96,19 +94,15 @@ fn reported_sources(
 /// Reads the map that the file at this path is, and prints the content of its source of this index, from 0.
 pub fn answer_content<F: FileReader>(
     alloc: Global,
-    reader: &F,
+    maps: &MapReader<'_, F>,
     path: &str,
     source: u32,
 ) -> Result<Reply, Failure>
-    ensures { OrMemory (ReportsMap (F.gives reader.now) 0 path.now None usual_interval
+    ensures { OrMemory (ReportsMap (F.gives maps.now.files.now) 0 path.now
+        (option_copied maps.now.base) maps.now.interval
         (IsResult (content_result source))) (report_of result) }
 {
-    let maps = MapReader {
-        files: reader,
-        base: None,
-        interval: USUAL_INTERVAL,
-    };
-    reported_content(alloc, &read_map(alloc, &maps, 0, path)?, source)
+    reported_content(alloc, &read_map(alloc, maps, 0, path)?, source)
 }
 
 // The content of a source, or that there is none.

@@ -76,7 +76,8 @@ impl PositionAnswerer<'_> {
         output: &mut LineOutput<'_, W>,
     ) -> Result<(), DeviceFault>
         ensures { IsPut W.seen output.old output.new
-            (position_line self.now.options.after self.now.options.json self.now.map.now.stated position) result }
+            (position_line self.now.options.after self.now.options.json self.now.map.now.stated
+            position) result }
     {
         let mut line = GatheredLine {
             output,
@@ -91,7 +92,8 @@ impl PositionAnswerer<'_> {
     // Puts the line for a position, and for what is none.
     fn put_line<O: Output>(&self, position: Option<PrintedPosition>, output: &mut O)
         ensures { O.Puts output.old output.new
-            (position_line self.now.options.after self.now.options.json self.now.map.now.stated position) }
+            (position_line self.now.options.after self.now.options.json self.now.map.now.stated
+            position) }
     {
         match position {
             Some(position) => self.put_answer(position, output),
@@ -102,7 +104,8 @@ impl PositionAnswerer<'_> {
     // Puts the line for what is no position.
     fn put_bad<O: Output>(&self, output: &mut O)
         ensures { O.Puts output.old output.new
-            (position_line self.now.options.after self.now.options.json self.now.map.now.stated None) }
+            (position_line self.now.options.after self.now.options.json self.now.map.now.stated
+            None) }
     {
         if self.options.json {
             put_bad_position(output)
@@ -114,7 +117,8 @@ impl PositionAnswerer<'_> {
     // Puts the line for a position.
     fn put_answer<O: Output>(&self, position: PrintedPosition, output: &mut O)
         ensures { O.Puts output.old output.new
-            (position_line self.now.options.after self.now.options.json self.now.map.now.stated (Some position)) }
+            (position_line self.now.options.after self.now.options.json self.now.map.now.stated
+            (Some position)) }
     {
         let line = position.line.saturating_sub(1);
         let column = position.column.saturating_sub(1);

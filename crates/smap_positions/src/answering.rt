@@ -43,7 +43,8 @@ pub fn answer_positions<R: ByteSource, W: ByteSink>(
     requires output_works { (W.seen output.old).failed ≡ false }
     ensures answers { IfOk result (λ summary. AnswersPositions
         (devices_seen (R.seen input.old) (W.seen output.old))
-        (devices_seen (R.seen input.new) (W.seen output.new)) map.now.stated options.after options.json summary) }
+        (devices_seen (R.seen input.new) (W.seen output.new))
+        map.now.stated options.after options.json summary) }
     ensures front { IfErr result (λ fault. EditsFront
         (answered_line map.now.stated options.after options.json) most_text_bytes
         (devices_seen (R.seen input.old) (W.seen output.old))

@@ -117,7 +117,8 @@ fn put_asked<W: ByteSink>(
     output: &mut LineOutput<'_, W>,
 ) -> Result<(), DeviceFault>
     ensures { IsPut W.seen output.old output.new
-        (if is_on_line line mapping.now then printed_mapping json map.now.stated mapping.now else [])
+        (if is_on_line line mapping.now
+        then printed_mapping json map.now.stated mapping.now else [])
         result }
 {
     if is_on_line(line, mapping) {

@@ -1,3 +1,4 @@
 mod ListLaws
 pub mod NextLaws
+pub mod RunLaws
 mod ShownLaws

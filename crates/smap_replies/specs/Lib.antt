@@ -5,4 +5,5 @@ pub mod Lines
 pub mod Lists
 pub mod Map
 pub mod Outcome
+pub mod Runs
 pub mod Streams

@@ -3,7 +3,10 @@ use crate::answer::Answer;
 use crate::fault::RowFault;
 use crate::row::Row;
 use smap_arguments::{Usage, parse};
-use smap_command::{Command, Url, WriteOptions};
+use smap_command::{
+    CheckOptions, Command, Form, FurtherOptions, USUAL_CACHE_BYTES, USUAL_LIMIT_BYTES, Url,
+    WriteOptions,
+};
 use std::alloc::{AllocError, Global};
 
 /// The words of a command line: the command that they give, or the help that they ask for.
@@ -14,7 +17,7 @@ pub fn answer(row: &Row<'_>, answer: &mut Answer) -> Result<(), RowFault> {
             answer.put_text("help")?;
             answer.put_text(&text)
         }
-        Err(Usage::Mistake(text)) => {
+        Err(Usage::Words(text)) => {
             answer.put_text("mistake")?;
             answer.put_text(&text)
         }
@@ -27,7 +30,7 @@ pub fn answer(row: &Row<'_>, answer: &mut Answer) -> Result<(), RowFault> {
 pub fn mistake(row: &Row<'_>, answer: &mut Answer) -> Result<(), RowFault> {
     let count = row.number(1)? as usize;
     match parse(row.alloc(), row.words(2)?) {
-        Err(Usage::Mistake(text)) => {
+        Err(Usage::Words(text)) => {
             for line in text.lines().take(count) {
                 answer.put_text(line)?;
             }
@@ -46,30 +49,7 @@ fn command_text(alloc: Global, command: &Command) -> Result<String, AllocError> 
             column,
             interval,
         } => format!(in alloc; "raw {line} {column} every {interval}"),
-        Command::Check {
-            path,
-            base,
-            interval,
-            explain,
-        } => {
-            let (base, explain) = (base_text(base), flag_text(*explain, " explained"));
-            format!(in alloc; "check {path}{base} every {interval}{explain}")
-        }
-        Command::CheckAll {
-            paths,
-            base,
-            interval,
-            json,
-            explain,
-        } => {
-            let (base, json) = (base_text(base), flag_text(*json, " in JSON"));
-            let explain = flag_text(*explain, " explained");
-            let mut text = format!(in alloc; "check all{base} every {interval}{json}{explain}")?;
-            for path in paths {
-                text.push_str(&format!(in alloc; " [{path}]")?)?;
-            }
-            Ok(text)
-        }
+        Command::Check { options, .. } => checking_text(alloc, command, options),
         Command::Explain { code } => {
             let code = code.as_deref().unwrap_or("all");
             format!(in alloc; "explain {code}")
@@ -81,14 +61,10 @@ fn command_text(alloc: Global, command: &Command) -> Result<String, AllocError> 
             base,
             interval,
             after,
-            json,
-            explain,
+            options,
         } => {
             let (base, after) = (base_text(base), flag_text(*after, " after"));
-            let (json, explain) = (
-                flag_text(*json, " in JSON"),
-                flag_text(*explain, " explained"),
-            );
+            let (json, explain) = (form_text(options.form), explain_text(options.explain));
             format!(in alloc;
                 "lookup {path} {line} {column}{base} every {interval}{after}{json}{explain}"
             )
@@ -98,17 +74,44 @@ fn command_text(alloc: Global, command: &Command) -> Result<String, AllocError> 
             base,
             interval,
             after,
-            json,
+            form,
         } => {
             let (base, after) = (base_text(base), flag_text(*after, " after"));
-            let json = flag_text(*json, " in JSON");
+            let json = form_text(*form);
             format!(in alloc; "positions {path}{base} every {interval}{after}{json}")
         }
         Command::Mappings { .. } | Command::Sources { .. } | Command::SourceContent { .. } =>
             listing_text(alloc, command),
-        Command::Rewrite { .. } | Command::RewriteFrom { .. } => rewriting_text(alloc, command),
+        Command::Rewrite { maps, options, .. } => rewriting_text(alloc, command, maps, options),
         _ => writing_text(alloc, command),
     }
+}
+
+// `check` of one file, reported as text, or of several.
+fn checking_text(
+    alloc: Global,
+    command: &Command,
+    options: &CheckOptions,
+) -> Result<String, AllocError> {
+    let Command::Check {
+        path,
+        base,
+        interval,
+        ..
+    } = command
+    else {
+        return String::from_str(alloc, "another command");
+    };
+    let (base, explain) = (base_text(base), explain_text(options.explain));
+    if options.others.is_empty() && !options.form.is_json() {
+        return format!(in alloc; "check {path}{base} every {interval}{explain}");
+    }
+    let json = form_text(options.form);
+    let mut text = format!(in alloc; "check all{base} every {interval}{json}{explain} [{path}]")?;
+    for other in &options.others {
+        text.push_str(&format!(in alloc; " [{other}]")?)?;
+    }
+    Ok(text)
 }
 
 fn listing_text(alloc: Global, command: &Command) -> Result<String, AllocError> {
@@ -117,18 +120,18 @@ fn listing_text(alloc: Global, command: &Command) -> Result<String, AllocError> 
             path,
             base,
             line: Some(line),
-            json,
+            form,
         } => {
-            let (base, json) = (base_text(base), flag_text(*json, " in JSON"));
+            let (base, json) = (base_text(base), form_text(*form));
             format!(in alloc; "mappings {path} {line}{base}{json}")
         }
         Command::Mappings {
             path,
             base,
             line: None,
-            json,
+            form,
         } => {
-            let (base, json) = (base_text(base), flag_text(*json, " in JSON"));
+            let (base, json) = (base_text(base), form_text(*form));
             format!(in alloc; "mappings {path}{base}{json}")
         }
         Command::Sources {
@@ -136,9 +139,9 @@ fn listing_text(alloc: Global, command: &Command) -> Result<String, AllocError> 
             base,
             generated,
             by_bytes,
-            json,
+            form,
         } => {
-            let (base, json) = (base_text(base), flag_text(*json, " in JSON"));
+            let (base, json) = (base_text(base), form_text(*form));
             let order = flag_text(*by_bytes, " by bytes");
             match generated {
                 Some(file) => format!(in alloc; "sources {path} of {file}{base}{order}{json}"),
@@ -150,75 +153,58 @@ fn listing_text(alloc: Global, command: &Command) -> Result<String, AllocError> 
     }
 }
 
-fn rewriting_text(alloc: Global, command: &Command) -> Result<String, AllocError> {
-    match command {
-        Command::Rewrite {
-            maps,
-            base,
-            interval,
-            hide_ignored,
-        } => {
-            let (base, hiding) = (base_text(base), flag_text(*hide_ignored, " hiding"));
-            let text = format!(in alloc; "rewrite{base} every {interval}{hiding}")?;
-            with_pairs(alloc, text, None, maps)
-        }
-        Command::RewriteFrom {
-            maps,
-            list,
-            base,
-            interval,
-            hide_ignored,
-            anywhere,
-            cache_bytes,
-            limit_bytes,
-            summary,
-        } => {
-            let (base, hiding) = (base_text(base), flag_text(*hide_ignored, " hiding"));
-            let (anywhere, summary) = (
-                flag_text(*anywhere, " anywhere"),
-                flag_text(*summary, " in sum"),
-            );
-            let text = format!(in alloc;
-                "from{base} every {interval} cache {cache_bytes} limit {limit_bytes}{hiding}{anywhere}{summary}"
-            )?;
-            with_pairs(alloc, text, list.as_deref(), maps)
-        }
-        _ => String::from_str(alloc, "another command"),
+// `rewrite` over files alone, or over what is read when the text names it.
+fn rewriting_text(
+    alloc: Global,
+    command: &Command,
+    maps: &[(String, String)],
+    options: &FurtherOptions,
+) -> Result<String, AllocError> {
+    let Command::Rewrite {
+        base,
+        interval,
+        hide_ignored,
+        ..
+    } = command
+    else {
+        return String::from_str(alloc, "another command");
+    };
+    let (base, hiding) = (base_text(base), flag_text(*hide_ignored, " hiding"));
+    if !options.are_given() && !maps.iter().any(|(_, path)| path.ends_with("/")) {
+        let text = format!(in alloc; "rewrite{base} every {interval}{hiding}")?;
+        return with_pairs(alloc, text, None, maps);
     }
+    let (anywhere, summary) = (
+        flag_text(options.anywhere, " anywhere"),
+        flag_text(options.summary, " in sum"),
+    );
+    let cache_bytes = options.cache_bytes.unwrap_or(USUAL_CACHE_BYTES);
+    let limit_bytes = options.limit_bytes.unwrap_or(USUAL_LIMIT_BYTES);
+    let text = format!(in alloc;
+        "from{base} every {interval} cache {cache_bytes} limit {limit_bytes}{hiding}{anywhere}{summary}"
+    )?;
+    with_pairs(alloc, text, options.list.as_deref(), maps)
 }
 
 fn writing_text(alloc: Global, command: &Command) -> Result<String, AllocError> {
     match command {
-        Command::Show { path, base } => {
-            let base = base_text(base);
-            format!(in alloc; "show {path}{base}")
-        }
-        Command::ShowWith {
+        Command::Show {
             path,
             base,
             options,
         } => {
-            let (base, options) = (base_text(base), options_text(*options));
-            format!(in alloc; "show {path}{base}{options}")
+            let (base, left) = (base_text(base), left_out_text(*options));
+            format!(in alloc; "show {path}{base}{left}")
         }
         Command::Compose {
             outer,
             source,
             inner,
             base,
-        } => {
-            let base = base_text(base);
-            format!(in alloc; "compose {outer} {source} {inner}{base}")
-        }
-        Command::ComposeWith {
-            outer,
-            source,
-            inner,
-            base,
             options,
         } => {
-            let (base, options) = (base_text(base), options_text(*options));
-            format!(in alloc; "compose {outer} {source} {inner}{base}{options}")
+            let (base, left) = (base_text(base), left_out_text(*options));
+            format!(in alloc; "compose {outer} {source} {inner}{base}{left}")
         }
         Command::ComposeAll {
             outer,
@@ -256,7 +242,24 @@ fn flag_text(is_given: bool, text: &'static str) -> &'static str {
     if is_given { text } else { "" }
 }
 
-// What is left out of a written map, where a command says so by options of its own.
+fn form_text(form: Form) -> &'static str {
+    flag_text(form.is_json(), " in JSON")
+}
+
+fn explain_text(is_given: bool) -> &'static str {
+    flag_text(is_given, " explained")
+}
+
+// What is left out of a written map, where something is.
+fn left_out_text(options: WriteOptions) -> &'static str {
+    if options.leaves_out() {
+        options_text(options)
+    } else {
+        ""
+    }
+}
+
+// What is left out of a written map.
 fn options_text(options: WriteOptions) -> &'static str {
     match (options.prune, options.no_content) {
         (false, false) => " whole",

@@ -7,7 +7,7 @@ use smap_arguments::Usage;
 pub fn outcome_of(usage: Usage) -> Result<Reply, Failure> {
     match usage {
         Usage::Help(text) => Ok(Reply::Text(text)),
-        Usage::Mistake(text) => Err(Failure::Misuse(text)),
+        Usage::Words(text) => Err(Failure::Misuse(text)),
         Usage::Memory => Err(Failure::Memory),
     }
 }

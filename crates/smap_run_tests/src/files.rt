@@ -1,7 +1,7 @@
 //! Files that are read: how many of their bytes, and why some can't be.
 use crate::runs::{HeldFiles, SOUND, left, run_over};
 use crate::same::assert_same;
-use smap_answers::{Command, FileReader};
+use smap_answers::{CheckOptions, Command, FileReader};
 use smap_io::ReadFailure;
 use std::alloc::{AllocError, Global};
 use std::test::Fail;
@@ -92,19 +92,19 @@ fn causes_are_reported_of_each_file(rt: HostRuntime) -> Result<(), Fail> {
     Ok(())
 }
 
-// No command line gives this command.
+// The command as a library makes it, by the options that nothing is asked with.
 #[test]
-fn of_no_file_nothing_is_reported(rt: HostRuntime) -> Result<(), Fail> {
-    let command = Command::CheckAll {
-        paths: Vec::new(rt.alloc()),
+fn of_one_file_the_counts_are_reported(rt: HostRuntime) -> Result<(), Fail> {
+    let command = Command::Check {
+        path: String::from_str(rt.alloc(), "a.map")?,
         base: None,
         interval: 64,
-        json: false,
-        explain: false,
+        options: CheckOptions::new(rt.alloc()),
     };
     let sound = [SOUND, SOUND, SOUND];
     let left = run_over(rt.alloc(), &HeldFiles(HELD), &command, b"", sound)?;
-    assert_same(&rt, "no file", &left, "0||");
+    let wanted = "0|ok sections 1 sources 1 names 0 segments 3 lines 2 checkpoints 2\n|";
+    assert_same(&rt, "one file", &left, wanted);
     Ok(())
 }
 

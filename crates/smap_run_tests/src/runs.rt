@@ -63,7 +63,7 @@ pub fn command_of(alloc: Global, words: &[&str]) -> Result<Command, String>
     match owned(alloc, words) {
         Ok(words) => match parse(alloc, words) {
             Ok(command) => Ok(command),
-            Err(Usage::Help(text) | Usage::Mistake(text)) => Err(text),
+            Err(Usage::Help(text) | Usage::Words(text)) => Err(text),
             Err(Usage::Memory) => Err(String::new(alloc)),
         },
         Err(_) => Err(String::new(alloc)),

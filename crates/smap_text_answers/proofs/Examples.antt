@@ -63,7 +63,7 @@ unfolding arguments none one is_bad_url
 a_folder_is_named = inr (one, record { folders = record { before = []; after = []; old_is = refl; new_is = refl }; files = refl }, refl)
 
 a_folder_is_named_twice : NamesFolders ((codes "app:///", codes "other/") ∷ []) one (Err (misuse (codes "usage: A2 Twice: app:///=other/\n")))
-unfolding one is_bad_url shown
+unfolding one is_bad_url shown called
 a_folder_is_named_twice = inr refl
 
 a_folder_is_not_read : (Reads : MayRead) → Gathers true Reads None 128 0 (Ok []) ((codes "app:///", codes "maps/") ∷ []) (Ok [])

@@ -1,3 +1,4 @@
+mod BytesLaws
 mod Examples
 mod SourcesLaws
 mod StoreLaws

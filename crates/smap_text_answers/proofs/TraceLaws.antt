@@ -3,10 +3,12 @@ use Rattle.std.proofs.Common.{◌≡◌, ℕ, ◌+◌, ◌⊎◌, List, ◌∷�
 use Rattle.std.specs.Prelude.{Bool, true, false, ◌&&◌, MatchBool, Option, Some, None, Result, Ok, Err, MatchOption}
 use Rattle.smap_locations.specs.ListLine.{is_folder}
 use Rattle.smap_record.specs.Record.{MapRecord, record_of}
+use Rattle.smap_record.specs.declared.refusal.MapRefusal.{MapRefusal}
 use Rattle.smap_trace.specs.Table.{url_refusal}
 use Rattle.smap_trace.specs.declared.refusal.TableRefusal.{TableRefusal}
 use Rattle.smap_trace.specs.declared.refusal.TableRefusal.TheVariants.{Memory}
 use Rattle.smap_replies.specs.Files.{IsUnread, MayRead}
+use Rattle.smap_replies.specs.Map.{Never, ReportsFound, refusal_result}
 use Rattle.smap_replies.specs.Outcome.{OrMemory, Report, out_of_memory}
 use Rattle.smap_text_answers.specs.Private.Gathering.{gathered}
 use Rattle.smap_text_answers.specs.Trace.{Gathers, Maps, Puts, PutsFound, PutsMap, PutsNext, url_refusal_result}
@@ -35,6 +37,20 @@ pub puts_read : (base : Option Parts) (k : ℕ) (maps : Maps) (url path bytes : 
 puts_read base k maps url path bytes stated result read (inl no_memory) = inl no_memory
 puts_read base k maps url path bytes stated result read (inr puts) =
     inr (subst (λ found. PutsFound maps url path found result) (sym read) (inr puts))
+
+found_refused : (maps : Maps) (url path : List ℕ) (found : Result MapRecord MapRefusal) (report : Report) (result : Result Maps Report)
+    → result ≡ Err report → ReportsFound (refusal_result path) found Never report → PutsFound maps url path found result
+found_refused maps url path (Err refused) report result given is = given ∙ ap Err is
+found_refused maps url path (Ok stated) report result given (inl is) = inl (given ∙ ap Err is)
+found_refused maps url path (Ok stated) report result given (inr never) = absurd never
+
+-- or none
+pub puts_unread : (base : Option Parts) (k : ℕ) (maps : Maps) (url path bytes : List ℕ) (report : Report) (result : Result Maps Report)
+    → result ≡ Err report → OrMemory (ReportsFound (refusal_result path) (record_of bytes (base_of base url) k) Never) report
+    → PutsMap base k maps url path bytes result
+puts_unread base k maps url path bytes report result given (inl no_memory) = inl (given ∙ ap Err no_memory)
+puts_unread base k maps url path bytes report result given (inr is) =
+    inr (found_refused maps url path (record_of bytes (base_of base url) k) report result given is)
 
 -- after the arguments before, none of which was refused
 pub puts_after : (base : Option Parts) (k : ℕ) (before : Result Maps Failure) (maps : Maps) (url path bytes : List ℕ)

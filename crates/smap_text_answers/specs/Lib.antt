@@ -1,5 +1,6 @@
 pub mod Lines
 pub mod Loader
+pub mod Rewrite
 pub mod RewriteFrom
 pub mod SameBytes
 pub mod Sources

@@ -2,16 +2,16 @@
 //! are read when the text names them.
 //!
 //! ```text
-//! let outcome = answer_rewrite(alloc, &maps, &arguments, hide_ignored, &mut input, &mut output);
-//! let status = rewrite_from(alloc, &request, &mut input, &mut output, &mut errors, &mut first);
+//! let request = TextRequest { maps: &maps, arguments: &arguments, hide_ignored, options: &FurtherOptions::NONE };
+//! let status = answer_rewrite(alloc, &request, &mut input, &mut output, &mut errors, &mut first);
 //! ```
 #![tactic(auto)]
 
+mod answering;
 mod lines;
 mod loader;
 mod rewriting;
 mod sources;
 mod trace;
 
-pub use rewriting::{RewriteRequest, rewrite_from};
-pub use trace::answer_rewrite;
+pub use answering::{TextRequest, answer_rewrite};

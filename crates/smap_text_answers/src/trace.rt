@@ -17,7 +17,7 @@ use std::alloc::Global;
 
 /// Reads the map of each argument, which is a URL and a path, from its file, and rewrites the trace on standard input over
 /// them, with the frames of ignored sources hidden or not. The caller gives devices that have not failed.
-pub fn answer_rewrite<F: FileReader, R: ByteSource, W: ByteSink>(
+pub fn rewrite_trace<F: FileReader, R: ByteSource, W: ByteSink>(
     alloc: Global,
     maps: &MapReader<'_, F>,
     arguments: &[(String, String)],

@@ -8,9 +8,9 @@ pub returns-then-is_none-clause-refused : goal.returns-then-is_none-clause-refus
 returns-then-is_none-clause-refused c =
     let maps = c.in_ok-maps.maps.items in
     let empty : length maps ≡ 0 = search rules in
-    let none : c.in_ok-further.further.list ≡ None = search rules in
+    let none : c.in_ok-options.options.list ≡ None = search rules in
     inr (inl (
       c.in_ok-from_str.ensures.ok,
       no_pairs _ maps c.in_ok-maps.ensures.given (nil_from_length maps empty),
-      c.in_ok-further.ensures.list ∙ ap (option_map string_bytes) none,
+      c.in_ok-options.ensures.given.0 ∙ ap (option_map string_bytes) none,
     ))

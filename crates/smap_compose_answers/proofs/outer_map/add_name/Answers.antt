@@ -5,6 +5,6 @@ use Rattle.smap_compose_answers.proofs.outer_map.add_name.Goals as goal
 pub returns-in-None : goal.returns-in-None
 returns-in-None c = λ text. rw c.in-None.is (none_added (is_among c.args.names.now text))
 
-pub returns-in_ok-insert : goal.returns-in_ok-insert
-returns-in_ok-insert c = λ text.
-    rw c.in-Some.is (name_added c.args.names.now c.insert.new.self c.in-Some.name c.in_ok-insert.ensures.updates text)
+pub returns-in_ok-insert-in-Some : goal.returns-in_ok-insert-in-Some
+returns-in_ok-insert-in-Some c = λ text.
+    rw c.in-Some.is (name_added c.args.names.now c.insert.new.self c.in-Some.name c.in_ok-insert-in-Some.ensures.updates text)

@@ -9,7 +9,7 @@ returns-in-Ok-clause-short c =
     let short : length c.args.bytes.now ≤ most_list_bytes = omega (arith, c.if-bytes-gt-MOST_LIST_BYTES.false) in
     a_text c.args.bytes.now short c.in-Ok.ensures.cases.1
 
-pub returns-clause-refused : goal.returns-clause-refused
-returns-clause-refused c =
+pub returns-in-Err-clause-refused : goal.returns-in-Err-clause-refused
+returns-in-Err-clause-refused c =
     let short : length c.args.bytes.now ≤ most_list_bytes = omega (arith, c.if-bytes-gt-MOST_LIST_BYTES.false) in
     for_code c.args.list.now c.args.bytes.now NotUtf8 _ (no_text c.args.bytes.now short c.in-Err.ensures.cases.0) c.refused_file-in-Err.ensures

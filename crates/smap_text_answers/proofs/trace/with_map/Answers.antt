@@ -1,5 +1,6 @@
 use Rattle.std.proofs.Common.{◌≡◌, refl, string_bytes}
-use Rattle.smap_text_answers.proofs.TraceLaws.{puts_after, puts_read, puts_refused}
+use Rattle.std.proofs.lemmas.Result.{err_from_is_err_and}
+use Rattle.smap_text_answers.proofs.TraceLaws.{puts_after, puts_read, puts_refused, puts_unread}
 use Rattle.smap_text_answers.proofs.trace.with_map.Goals as goal
 
 pub returns-in-Err : goal.returns-in-Err
@@ -8,3 +9,8 @@ returns-in-Err g c =
     let refused = rw url_is at c.in-Err.ensures.refused in
     puts_after _ _ _ _ _ _ _ _ c.in_ok-table.was
     (puts_read _ _ _ _ _ _ _ _ c.in_ok-map.ensures.read.0 (puts_refused _ _ _ _ _ _ _ _ refl refused c.refused_url.ensures))
+
+pub returns-in_err-map : goal.returns-in_err-map
+returns-in_err-map g c =
+    let p = err_from_is_err_and c.from_residual-in_err-map.result c.from_residual-in_err-map.ensures.1 in
+    rw (p.1, p.2) (puts_after _ _ _ _ _ _ _ _ c.in_ok-table.was (puts_unread _ _ _ _ _ _ _ _ refl c.in_err-map.ensures.refused))

@@ -1,10 +1,10 @@
 -- What a command comes to is reported.
 use Rattle.std.proofs.Common.{ℕ}
 use Rattle.smap_io.specs.Device.{SinkSeen}
-use Rattle.smap_replies.specs.Outcome.{Report}
-use Rattle.smap_answers.specs.Run.{RunsOne}
-use Rattle.smap_replies.specs.Streams.{Ends, Streams, sinks_seen}
 use Rattle.smap_lines.specs.Editing.{DevicesSeen, devices_seen}
+use Rattle.smap_replies.specs.Outcome.{Report}
+use Rattle.smap_replies.specs.Runs.{RunsOne}
+use Rattle.smap_replies.specs.Streams.{Ends, Streams, sinks_seen}
 
 pub runs_one : (Reports : (before after : DevicesSeen) → Report → Type 0) (status : ℕ) (before after : Streams) (report : Report) (written : SinkSeen)
     → Reports (devices_seen before.input before.sinks.output) (devices_seen after.input written) report

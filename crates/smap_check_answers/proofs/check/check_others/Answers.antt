@@ -1,10 +1,9 @@
-use Rattle.std.proofs.Common.{arith, sym, ◌∙◌, string_bytes}
+use Rattle.std.proofs.Common.{arith, sym, ◌∙◌, ◌+◌, string_bytes}
 use Rattle.std.specs.Prelude.{option_copied}
-use Rattle.smap_check_answers.specs.Check.{form_of}
 use Rattle.smap_replies.specs.Streams.{sinks_seen}
 use Rattle.smap_check_answers.proofs.CheckLaws.{all_reported, goes_on, stops}
 use Rattle.smap_replies.proofs.NextLaws.{next_of}
-use Rattle.smap_check_answers.proofs.check.check_all.Goals as goal
+use Rattle.smap_check_answers.proofs.check.check_others.Goals as goal
 
 pub loop-number-preserved : goal.loop-number-preserved
 loop-number-preserved g c =
@@ -16,16 +15,16 @@ loop-number-preserved g c =
     let between = sinks_seen (g.W.ByteSink.seen c.report.new.output) (g.E.ByteSink.seen c.report.new.errors) c.report.new.first in
     rw c.max-status.ensures (
       works,
-      goes_on (g.F.FileReader.gives c.args.maps.now.files.now) (option_copied c.args.maps.now.base) c.args.maps.now.interval (form_of c.args.options.json) c.args.options.explain _ _ _ _
-          c.loop-number.number c.loop-number.status c.report.result before now between _ is c.loop-number.invariant.1
-          (rw (c.deref.ensures, c.form_of-form.ensures) at c.answer_check-outcome.ensures) c.report.ensures works,
+      goes_on (g.F.FileReader.gives c.args.maps.now.files.now) (option_copied c.args.maps.now.base) c.args.maps.now.interval c.args.how.form c.args.how.explain _ _ _ _
+          (c.loop-number.number + 1) c.loop-number.status c.report.result before now between _ is c.loop-number.invariant.1
+          (rw c.deref.ensures at c.checked_file-outcome.ensures) c.report.ensures works,
     )
 
 pub returns-after-loop-number : goal.returns-after-loop-number
 returns-after-loop-number g c =
     let before = sinks_seen (g.W.ByteSink.seen c.args.output.now) (g.E.ByteSink.seen c.args.errors.now) c.args.first.now in
     let now = sinks_seen (g.W.ByteSink.seen c.loop-number.output) (g.E.ByteSink.seen c.loop-number.errors) c.loop-number.first in
-    all_reported (g.F.FileReader.gives c.args.maps.now.files.now) (option_copied c.args.maps.now.base) c.args.maps.now.interval (form_of c.args.options.json) c.args.options.explain
+    all_reported (g.F.FileReader.gives c.args.maps.now.files.now) (option_copied c.args.maps.now.base) c.args.maps.now.interval c.args.how.form c.args.how.explain
     c.args.paths.now c.loop-number.number c.loop-number.status before now (omega (arith, c.loop-number-test.false)) c.loop-number.invariant.1
 
 pub returns-then-failed : goal.returns-then-failed
@@ -37,5 +36,5 @@ returns-then-failed g c =
     let now = sinks_seen (g.W.ByteSink.seen c.loop-number.output) (g.E.ByteSink.seen c.loop-number.errors) c.loop-number.first in
     let between = sinks_seen (g.W.ByteSink.seen c.report.new.output) (g.E.ByteSink.seen c.report.new.errors) c.report.new.first in
     rw c.max-status.ensures (stops (g.F.FileReader.gives c.args.maps.now.files.now) (option_copied c.args.maps.now.base) c.args.maps.now.interval
-    (form_of c.args.options.json) c.args.options.explain _ _ _ _ c.loop-number.number c.loop-number.status c.report.result before now between _ is
-    c.loop-number.invariant.1 (rw (c.deref.ensures, c.form_of-form.ensures) at c.answer_check-outcome.ensures) c.report.ensures failed)
+    c.args.how.form c.args.how.explain _ _ _ _ (c.loop-number.number + 1) c.loop-number.status c.report.result before now between _ is
+    c.loop-number.invariant.1 (rw c.deref.ensures at c.checked_file-outcome.ensures) c.report.ensures failed)

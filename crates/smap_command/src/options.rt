@@ -1,0 +1,121 @@
+//! What may be asked of a command beside what it is about. Nothing of it is asked for by default.
+ghost use Rattle.std.specs.Prelude.{◌≡◌, [], false};
+ghost use Rattle.smap_command.specs.Options.{are_further, is_json, leaves_out};
+ghost use Rattle.smap_command.specs.declared.options.Form.TheVariants.{Text};
+
+use std::alloc::Global;
+
+/// How an answer is printed.
+#[derive(Clone, Copy)]
+pub enum Form {
+    /// As text, which is the default.
+    Text,
+    /// As a JSON object, on one line.
+    Json,
+}
+
+impl Form {
+    /// JSON where that is asked for.
+    pub fn of(json: bool) -> Form
+        ensures { is_json result ≡ json }
+    {
+        if json { Form::Json } else { Form::Text }
+    }
+
+    pub fn is_json(self) -> bool
+        ensures { result ≡ is_json self }
+    {
+        matches!(self, Form::Json)
+    }
+}
+
+/// How source maps are checked, beside the first.
+#[derive(Drop)]
+pub struct CheckOptions {
+    /// The paths of other files whose maps are checked after the first, one after another. Where there are any, each map is
+    /// reported with its path.
+    pub others: Vec<String>,
+    /// How each map is reported; as JSON always with its path, and with why it is refused.
+    pub form: Form,
+    /// Whether a refusal is followed by why the map is refused.
+    pub explain: bool,
+}
+
+impl CheckOptions {
+    /// One map, reported as text.
+    pub fn new(alloc: Global) -> CheckOptions
+        ensures alone { result.others.items ≡ [] }
+        ensures as_text { result.form ≡ Text }
+        ensures unexplained { result.explain ≡ false }
+    {
+        CheckOptions {
+            others: Vec::new(alloc),
+            form: Form::Text,
+            explain: false,
+        }
+    }
+}
+
+/// How a look-up is reported.
+#[derive(Clone, Copy)]
+pub struct LookupOptions {
+    pub form: Form,
+    /// Whether an answer as text is followed by which mappings are nearest to the position.
+    pub explain: bool,
+}
+
+/// What is left out of a map that is written.
+#[derive(Clone, Copy)]
+pub struct WriteOptions {
+    /// Whether sources and names that no mapping has are left out, and of equal ones all but the first that is used.
+    pub prune: bool,
+    /// Whether the contents of the sources are left out.
+    pub no_content: bool,
+}
+
+impl WriteOptions {
+    /// Whether something is left out.
+    pub fn leaves_out(self) -> bool
+        ensures { result ≡ leaves_out self }
+    {
+        self.prune || self.no_content
+    }
+}
+
+/// How a text is rewritten over maps that are read only when it names them.
+#[derive(Drop)]
+pub struct FurtherOptions {
+    /// The path of a file with more pairs, on a line each.
+    pub list: Option<String>,
+    /// Whether places are rewritten wherever they stand in the text, which excludes that lines are dropped.
+    pub anywhere: bool,
+    /// How many bytes the files may have whose maps are kept for when the text names them again: 0 to `MOST_BYTES`, and
+    /// `USUAL_CACHE_BYTES` where nothing else is asked for.
+    pub cache_bytes: Option<u64>,
+    /// How many bytes of the text are taken: 1 to `MOST_BYTES`, and `USUAL_LIMIT_BYTES` where nothing else is asked for.
+    pub limit_bytes: Option<u64>,
+    /// Whether counts are reported at the end.
+    pub summary: bool,
+}
+
+impl FurtherOptions {
+    /// None of them.
+    pub const NONE: FurtherOptions = FurtherOptions {
+        list: None,
+        anywhere: false,
+        cache_bytes: None,
+        limit_bytes: None,
+        summary: false,
+    };
+
+    /// Whether one of them is asked for.
+    pub fn are_given(&self) -> bool
+        ensures { result ≡ are_further self.now }
+    {
+        self.list.is_some()
+            || self.anywhere
+            || self.cache_bytes.is_some()
+            || self.limit_bytes.is_some()
+            || self.summary
+    }
+}

@@ -1,0 +1,43 @@
+-- What `rewrite` does: over files alone, whose maps are read first, or over what it reads when the text names it.
+use Rattle.std.specs.Prelude.{◌||◌, ℕ, Bool, List, MatchBool, Option, String, map, option_map, string_bytes, unwrap_or}
+use Rattle.std.specs.List.{list_any}
+use Rattle.smap_command.specs.Limits.{usual_cache_bytes, usual_limit_bytes}
+use Rattle.smap_command.specs.Options.{are_further}
+use Rattle.smap_command.specs.declared.options.FurtherOptions.{FurtherOptions}
+use Rattle.smap_locations.specs.ListLine.{is_folder}
+use Rattle.smap_replies.specs.Arguments.{argument_of}
+use Rattle.smap_replies.specs.Files.{MayRead}
+use Rattle.smap_replies.specs.Runs.{RunsOne}
+use Rattle.smap_replies.specs.Streams.{Streams}
+use Rattle.smap_text_answers.specs.RewriteFrom.{RequestSeen, RewritesFrom}
+use Rattle.smap_text_answers.specs.Trace.{IsTraceRewritten, RewriteReports}
+use Rattle.url.specs.Parts.{Parts}
+
+module _ {A : Type 0} (maps : List (String A × String A)) where
+  -- one of the pairs is of a prefix and a folder
+  abbrev pub has_folder : Bool
+  has_folder = list_any (λ pair. is_folder (string_bytes pair.1)) maps
+
+  -- a folder is given, or an option
+  abbrev pub asks_for_more : FurtherOptions → Bool
+  asks_for_more options = are_further options || has_folder
+
+  -- what is asked then, with the usual numbers where none are given
+  abbrev pub request_of : (hide : Bool) → FurtherOptions → RequestSeen
+  request_of hide options = record {
+    arguments = map argument_of maps;
+    list = option_map string_bytes options.list;
+    hide_ignored = hide;
+    anywhere = options.anywhere;
+    cache_bytes = unwrap_or options.cache_bytes usual_cache_bytes;
+    limit_bytes = unwrap_or options.limit_bytes usual_limit_bytes;
+    summary = options.summary;
+  }
+
+-- what `rewrite` does to the streams, and the status with which it ends
+abbrev pub RunsRewrite : {A : Type 0} → MayRead → Option Parts → (k : ℕ) → List (String A × String A) → (hide : Bool) → FurtherOptions
+    → (status : ℕ) → (before after : Streams) → Type 0
+RunsRewrite Reads base k maps hide options status before after =
+    MatchBool (asks_for_more maps options)
+    (RewritesFrom Reads base k (request_of maps hide options) status before after)
+    (RunsOne (RewriteReports Reads base k (IsTraceRewritten hide) (map argument_of maps)) status before after)
