@@ -116,9 +116,11 @@ fn neighbours_of_a_position_are_reported(rt: HostRuntime) -> Result<(), Fail> {
     let about = map.neighbours(0, 4, &mut meter);
     assert!(&rt; about.before.ok_or("none before")?.column == 0);
     assert!(&rt; about.after.ok_or("none after")?.column == 5);
+    let mut meter = Meter::new(rt.alloc());
     let about = map.neighbours(1, 0, &mut meter);
     assert!(&rt; about.before.ok_or("none before")?.column == 5);
     assert!(&rt; about.after.ok_or("none after")?.line == 2);
+    let mut meter = Meter::new(rt.alloc());
     let about = map.neighbours(2, 2, &mut meter);
     assert!(&rt; about.before.ok_or("none before")?.line == 2 && about.after.is_none());
     Ok(())
