@@ -501,6 +501,8 @@ int main(int count, char **words) {
         composed(words[2], words[3], words[4]);
     } else if (!strcmp(command, "all")) {
         composed_with_all(count - 2, words + 2);
+    } else if (!strcmp(command, "chain") && count > 4) {
+        composed_in_steps(words[2], words[3], words[4]);
     } else if (!strcmp(command, "rewrite") || !strcmp(command, "load") || !strcmp(command, "anywhere")) {
         rewritten(command, words[2], words[3]);
     } else if (!strcmp(command, "again")) {

@@ -117,7 +117,7 @@ static uint32_t bytes_call(void) {
 }
 static uint32_t compose_call(void) { return smap_compose(&outer, 0, &inner, &bytes, &why); }
 static uint32_t inners_call(void) { return smap_inners_new(&outer, &made_inners); }
-/* The outer map has one source, whose place has a map: this is composed, and its first source asked for. */
+/* The places of all sources have maps: these are composed, and the first source behind them is asked for. */
 static uint32_t next_call(void) { return smap_inners_next(&outer, &inners, &next_source, &why); }
 static uint32_t all_call(void) {
     const smap_compose_options options = {.prune = true, .no_content = true};
@@ -220,6 +220,10 @@ static bool made_without(const struct call *call, long number) {
     if (rewrites && (read_map(&mapped, &outer_file) || smap_table_add(&table, url, sizeof url - 1, &mapped, &why)))
         fail(call->name, "has no map");
     if (smap_inners_new(&outer, &inners) || read_map(&mapped, &inner_file) || smap_inners_put(&inners, 0, &mapped)) fail(call->name, "has no inner maps");
+    smap_count held = {0};
+    if (smap_counts(&outer, &held)) fail(call->name, "has no counts");
+    for (uint32_t i = 1; call->make == next_call && i < held.sources; i++)
+        if (read_map(&mapped, &inner_file) || smap_inners_put(&inners, i, &mapped)) fail(call->name, "has no further maps");
     made = (smap_map){0};
     made_table = (smap_table){0};
     made_inners = (smap_inners){0};
@@ -247,7 +251,7 @@ static bool made_without(const struct call *call, long number) {
         if (by_source[0] != 77 || unmapped != 77) fail(call->name, "counts bytes");
         if (!alike(&before, &after)) fail(call->name, "has changed the table");
         if (next_source != 77) fail(call->name, "asks for a source");
-        if (call->make == next_call && (next_call() != SMAP_DONE || next_source != 1)) fail(call->name, "has changed the places");
+        if (call->make == next_call && (next_call() != SMAP_DONE || next_source != held.sources)) fail(call->name, "has changed the places");
     } else if (status != call->wanted) {
         fail(call->name, "has another status");
     } else {
@@ -263,7 +267,7 @@ static bool made_without(const struct call *call, long number) {
         for (int i = 0; i < 8 && by_source[i] != 77; i++) bytes_reported += by_source[i];
         if (call->make == bytes_call && bytes_reported != sizeof trace - 1) fail(call->name, "counts other bytes");
         if (call->make == twice_call && why != 2) fail(call->name, "has another refusal");
-        if (call->make == next_call && (why != 77 || next_source != 1)) fail(call->name, "asks for another source");
+        if (call->make == next_call && (why != 77 || next_source != held.sources)) fail(call->name, "asks for another source");
     }
     smap_map_free(&outer);
     smap_map_free(&inner);

@@ -435,14 +435,16 @@ function composingAll() {
   isOpen();
   // The places of inner maps, where one map more is taken over, and none twice.
   const [places, taken] = [addon.newInners(map.handle), new smap.TraceMap(inner)];
+  // What is no object is refused by node itself.
+  const other = (bad, words) => (bad === undefined ? /undefined/ : words);
   for (const bad of [7, undefined, {}, map.handle]) {
-    refuses('TypeError', () => addon.putInner(bad, 0, second.handle), /no inner maps/);
-    refuses('TypeError', () => addon.nextInner(map.handle, bad), /no inner maps/);
-    refuses('TypeError', () => addon.composeAll(map.handle, bad, false, false), /no inner maps/);
+    refuses('TypeError', () => addon.putInner(bad, 0, second.handle), other(bad, /no inner maps/));
+    refuses('TypeError', () => addon.nextInner(map.handle, bad), other(bad, /no inner maps/));
+    refuses('TypeError', () => addon.composeAll(map.handle, bad, false, false), other(bad, /no inner maps/));
   }
   for (const bad of [7, undefined, {}, places]) {
-    refuses('TypeError', () => addon.putInner(places, 0, bad), /no map/);
-    refuses('TypeError', () => addon.newInners(bad), /no map/);
+    refuses('TypeError', () => addon.putInner(places, 0, bad), other(bad, /no map/));
+    refuses('TypeError', () => addon.newInners(bad), other(bad, /no map/));
   }
   for (const bad of [-1, 0.5, 2 ** 32, '0']) refuses('TypeError', () => addon.putInner(places, bad, second.handle), /whole number of 32 bits/);
   same([addon.putInner(places, 3, taken.handle), addon.putInner(places, 1, taken.handle)], [false, true]);
