@@ -44,47 +44,72 @@ pub fn mistake(row: &Row<'_>, answer: &mut Answer) -> Result<(), RowFault> {
 // Lines and columns count from 0.
 fn command_text(alloc: Global, command: &Command) -> Result<String, AllocError> {
     match command {
-        Command::Raw {
-            line,
-            column,
-            interval,
-        } => format!(in alloc; "raw {line} {column} every {interval}"),
+        Command::Raw { .. } => raw_text(alloc, command),
         Command::Check { options, .. } => checking_text(alloc, command, options),
         Command::Explain { code } => {
             let code = code.as_deref().unwrap_or("all");
             format!(in alloc; "explain {code}")
         }
-        Command::Lookup {
-            path,
-            line,
-            column,
-            base,
-            interval,
-            after,
-            options,
-        } => {
-            let (base, after) = (base_text(base), flag_text(*after, " after"));
-            let (json, explain) = (form_text(options.form), explain_text(options.explain));
-            format!(in alloc;
-                "lookup {path} {line} {column}{base} every {interval}{after}{json}{explain}"
-            )
-        }
-        Command::Positions {
-            path,
-            base,
-            interval,
-            after,
-            form,
-        } => {
-            let (base, after) = (base_text(base), flag_text(*after, " after"));
-            let json = form_text(*form);
-            format!(in alloc; "positions {path}{base} every {interval}{after}{json}")
-        }
+        Command::Lookup { .. } => lookup_text(alloc, command),
+        Command::Positions { .. } => positions_text(alloc, command),
         Command::Mappings { .. } | Command::Sources { .. } | Command::SourceContent { .. } =>
             listing_text(alloc, command),
         Command::Rewrite { maps, options, .. } => rewriting_text(alloc, command, maps, options),
         _ => writing_text(alloc, command),
     }
+}
+
+fn raw_text(alloc: Global, command: &Command) -> Result<String, AllocError> {
+    let Command::Raw {
+        line,
+        column,
+        interval,
+    } = command
+    else {
+        return String::from_str(alloc, "another command");
+    };
+    format!(in alloc; "raw {line} {column} every {interval}")
+}
+
+fn lookup_text(alloc: Global, command: &Command) -> Result<String, AllocError> {
+    let Command::Lookup {
+        path,
+        line,
+        column,
+        base,
+        interval,
+        after,
+        options,
+    } = command
+    else {
+        return String::from_str(alloc, "another command");
+    };
+    let mut text = format!(in alloc; "lookup {path} {line} {column}")?;
+    text.push_str(base_text(base))?;
+    text.push_str(&format!(in alloc; " every {interval}")?)?;
+    text.push_str(flag_text(*after, " after"))?;
+    text.push_str(form_text(options.form))?;
+    text.push_str(explain_text(options.explain))?;
+    Ok(text)
+}
+
+fn positions_text(alloc: Global, command: &Command) -> Result<String, AllocError> {
+    let Command::Positions {
+        path,
+        base,
+        interval,
+        after,
+        form,
+    } = command
+    else {
+        return String::from_str(alloc, "another command");
+    };
+    let mut text = format!(in alloc; "positions {path}")?;
+    text.push_str(base_text(base))?;
+    text.push_str(&format!(in alloc; " every {interval}")?)?;
+    text.push_str(flag_text(*after, " after"))?;
+    text.push_str(form_text(*form))?;
+    Ok(text)
 }
 
 // `check` of one file, reported as text, or of several.
