@@ -81,13 +81,13 @@ tops_of() {
     esac
 }
 
-# sources_of program, sources_of packages: the files that it is made of, in the order of their names. Proofs, tests, pages and
-# examples change no byte of it.
+# sources_of program, sources_of packages: the files that it is made of, in the order of their names. Proofs, tests, pages,
+# examples and the crate for Rust change no byte of it.
 sources_of() {
     if [ "$1" = packages ]; then others='completions install lib pack page smap-page'; else others=''; fi
     # shellcheck disable=SC2046,SC2086
     (cd -- "$root" && find $(crates_of $(tops_of "$1") | sed 's|.*|crates/&/src|') $others -type f \
-        ! -name '*.node' ! -name '*.so' ! -name '*.pyc' | LC_ALL=C sort)
+        ! -name '*.node' ! -name '*.so' ! -name '*.pyc' ! -path 'lib/rust/*' | LC_ALL=C sort)
 }
 
 # The sum of these sources: one sha256 over the names and the bytes of the files, and over the lines of crates.txt.

@@ -1,0 +1,71 @@
+//! The calls of libsmap, made safe: nothing outside this module is unsafe.
+//!
+//! What the library wants of its callers holds for each call here:
+//! - A handle is full until it is freed or a call takes it over, and then its value is gone.
+//! - One call at a time uses a handle: no value here is `Sync`, and the library calls nobody back.
+//! - No pointer is null, and those of a call that lead to anything lead to different places.
+//! - What is lent is copied before the next call with its handle.
+
+mod bytes;
+mod inners;
+mod map;
+mod table;
+mod texts;
+
+pub(crate) use bytes::Bytes;
+pub(crate) use inners::Inners;
+pub(crate) use map::{Map, Source, USUAL_INTERVAL};
+pub(crate) use table::{frame_urls, Table};
+pub(crate) use texts::{
+    compose_refusal_text, generated_refusal_text, reason, refusal_text, rewrite_refusal_text,
+    table_refusal_text, version, write_refusal_text,
+};
+
+use crate::error::{Error, Refused};
+use crate::sys;
+use std::slice;
+
+/// The numbers of C1 and C2.
+const NO_SOURCE: u32 = 1;
+const TOO_LARGE: u32 = 2;
+
+/// Where a pointer to no bytes leads.
+static NOTHING: u8 = 0;
+
+fn no_text() -> sys::smap_text {
+    sys::smap_text {
+        bytes: &NOTHING,
+        length: 0,
+    }
+}
+
+/// The bytes of a text.
+///
+/// # Safety
+///
+/// The text was lent, and stays as long as what is given.
+unsafe fn lent<'a>(text: &sys::smap_text) -> &'a [u8] {
+    match text.length {
+        // Then the pointer may be any.
+        0 => &[],
+        length => slice::from_raw_parts(text.bytes, length),
+    }
+}
+
+/// A copy of a text.
+///
+/// # Safety
+///
+/// The text was lent, and there was no call since with the handle that lent it.
+unsafe fn copied(text: &sys::smap_text) -> String {
+    String::from_utf8_lossy(lent(text)).into_owned()
+}
+
+/// What a status says. Where it is that of a refusal, the call says why.
+fn done(status: u32, why: impl FnOnce() -> Refused) -> Result<(), Error> {
+    match status {
+        sys::SMAP_DONE => Ok(()),
+        sys::SMAP_REFUSED => Err(Error::Refused(why())),
+        _ => Err(Error::OutOfMemory),
+    }
+}

@@ -1,0 +1,190 @@
+//! Maps.
+
+use super::{copied, done, no_text, Bytes, NOTHING, NO_SOURCE, TOO_LARGE};
+use crate::error::{Error, Refused};
+use crate::sys;
+use std::cell::{Cell, UnsafeCell};
+use std::mem::ManuallyDrop;
+use std::ptr;
+
+/// How many segments usually stand between the checkpoints of an index.
+pub(crate) const USUAL_INTERVAL: u32 = 64;
+
+const NO_URL: sys::smap_refusal = sys::smap_refusal {
+    number: sys::SMAP_BASE_NO_URL,
+    fault: 0,
+    line: 0,
+    build: 0,
+    section: 0,
+    byte: 0,
+};
+
+/// A map that was read.
+pub(crate) struct Map {
+    handle: UnsafeCell<sys::smap_map>,
+}
+
+// Any thread may use a handle, as long as one does at a time: a `Map` is not `Sync`.
+unsafe impl Send for Map {}
+
+/// A source of a map.
+pub(crate) struct Source {
+    pub name: Option<String>,
+    pub is_ignored: bool,
+}
+
+impl Map {
+    pub(crate) fn read(bytes: &[u8], base: Option<&str>, interval: u32) -> Result<Map, Error> {
+        let (base_bytes, base_length) = match base {
+            // To the library that would be none.
+            Some("") => return Err(Error::Refused(Refused::map(NO_URL, base))),
+            Some(base) => (base.as_ptr(), base.len()),
+            None => (&NOTHING as *const u8, 0),
+        };
+        let mut handle = sys::smap_map {
+            at: ptr::null_mut(),
+        };
+        let mut refusal = sys::smap_refusal::default();
+        let status = unsafe {
+            let (bytes, length) = (bytes.as_ptr(), bytes.len());
+            let (map, why) = (&mut handle, &mut refusal);
+            sys::smap_map_read(bytes, length, base_bytes, base_length, interval, map, why)
+        };
+        done(status, || Refused::map(refusal, base))?;
+        Ok(Map::full(handle))
+    }
+
+    pub(super) fn full(handle: sys::smap_map) -> Map {
+        Map {
+            handle: UnsafeCell::new(handle),
+        }
+    }
+
+    pub(super) fn handle(&self) -> *mut sys::smap_map {
+        self.handle.get()
+    }
+
+    /// The handle for a call that takes it over.
+    pub(super) fn into_handle(self) -> sys::smap_map {
+        let map = ManuallyDrop::new(self);
+        // The value is gone, so this is the only one that has the handle.
+        unsafe { ptr::read(map.handle.get()) }
+    }
+
+    pub(crate) fn look_up(&self, line: u32, column: u32) -> sys::smap_found {
+        let mut found = sys::smap_found::default();
+        unsafe { sys::smap_look_up(self.handle(), line, column, &mut found) };
+        found
+    }
+
+    pub(crate) fn look_up_from(&self, line: u32, column: u32) -> sys::smap_found {
+        let mut found = sys::smap_found::default();
+        unsafe { sys::smap_look_up_from(self.handle(), line, column, &mut found) };
+        found
+    }
+
+    pub(crate) fn counts(&self) -> sys::smap_count {
+        let mut counts = sys::smap_count::default();
+        unsafe { sys::smap_counts(self.handle(), &mut counts) };
+        counts
+    }
+
+    pub(crate) fn source(&self, index: u32) -> Option<Source> {
+        let source = self.lent_source(index)?;
+        Some(Source {
+            name: (source.named != 0).then(|| unsafe { copied(&source.name) }),
+            is_ignored: source.ignored != 0,
+        })
+    }
+
+    pub(crate) fn content(&self, index: u32) -> Option<String> {
+        let source = self.lent_source(index)?;
+        (source.held != 0).then(|| unsafe { copied(&source.content) })
+    }
+
+    /// A source, whose texts stay until the next call.
+    fn lent_source(&self, index: u32) -> Option<sys::smap_source_text> {
+        let mut source = sys::smap_source_text {
+            name: no_text(),
+            content: no_text(),
+            named: 0,
+            held: 0,
+            ignored: 0,
+        };
+        let status = unsafe { sys::smap_source(self.handle(), index, &mut source) };
+        (status == sys::SMAP_DONE).then_some(source)
+    }
+
+    pub(crate) fn name(&self, index: u32) -> Option<String> {
+        let mut text = no_text();
+        unsafe {
+            let status = sys::smap_name(self.handle(), index, &mut text);
+            (status == sys::SMAP_DONE).then(|| copied(&text))
+        }
+    }
+
+    pub(crate) fn file(&self) -> Option<String> {
+        let mut text = no_text();
+        unsafe {
+            let status = sys::smap_file(self.handle(), &mut text);
+            (status == sys::SMAP_DONE).then(|| copied(&text))
+        }
+    }
+
+    /// All mappings, each as the bytes of a `smap_mapping`.
+    pub(crate) fn mappings(&self) -> Result<Bytes, Error> {
+        let call = |bytes| unsafe { sys::smap_map_mappings(self.handle(), bytes) };
+        Bytes::of(call, Refused::nothing)
+    }
+
+    pub(crate) fn written(&self) -> Result<Bytes, Error> {
+        let call = |bytes| unsafe { sys::smap_map_write(self.handle(), bytes) };
+        Bytes::of(call, Refused::writing)
+    }
+
+    /// How many bytes of the generated file each source makes, and how many none does.
+    pub(crate) fn bytes_by_source(&self, generated: &[u8]) -> Result<(Vec<u64>, u64), Error> {
+        let mut sources = vec![0; self.counts().sources as usize];
+        let (mut unmapped, mut refusal) = (0, 0);
+        let status = unsafe {
+            let (bytes, length) = (generated.as_ptr(), generated.len());
+            let (numbers, places) = (sources.as_mut_ptr(), sources.len());
+            let (rest, why) = (&mut unmapped, &mut refusal);
+            sys::smap_bytes_by_source(self.handle(), bytes, length, numbers, places, rest, why)
+        };
+        done(status, || Refused::generated(refusal))?;
+        Ok((sources, unmapped))
+    }
+
+    /// What this map and that of one of its sources come to.
+    pub(crate) fn composed(&self, source: u32, inner: &Map) -> Result<Bytes, Error> {
+        if ptr::eq(self, inner) {
+            return self.composed(source, &self.copied(source)?);
+        }
+        let (outer, inner, refusal) = (self.handle(), inner.handle(), Cell::new(0));
+        let call =
+            |bytes| unsafe { sys::smap_compose(outer, source, inner, bytes, refusal.as_ptr()) };
+        Bytes::of(call, || Refused::composition(refusal.get()))
+    }
+
+    /// A copy of this map, for composing it with itself: no call takes one handle twice. Where it
+    /// is too large to be written, so is what it would come to, which has the same generated
+    /// positions.
+    fn copied(&self, source: u32) -> Result<Map, Error> {
+        match self.written() {
+            Ok(text) => Map::read(&text, None, USUAL_INTERVAL),
+            Err(Error::Refused(_)) => {
+                let is_there = u64::from(source) < self.counts().sources;
+                let number = if is_there { TOO_LARGE } else { NO_SOURCE };
+                Err(Error::Refused(Refused::composition(number)))
+            }
+            Err(error) => Err(error),
+        }
+    }
+}
+
+impl Drop for Map {
+    fn drop(&mut self) {
+        unsafe { sys::smap_map_free(self.handle.get_mut()) }
+    }
+}

@@ -1,0 +1,85 @@
+//! Tables of maps, and what they make of texts.
+
+use super::{done, Bytes, Map};
+use crate::error::{Error, Refused};
+use crate::sys;
+use std::ptr;
+
+/// Maps, each under a URL.
+pub(crate) struct Table {
+    handle: sys::smap_table,
+}
+
+// Any thread may use the handle, as long as one does at a time: all calls want the table for
+// themselves.
+unsafe impl Send for Table {}
+
+impl Table {
+    pub(crate) fn new() -> Result<Table, Error> {
+        let mut handle = sys::smap_table {
+            at: ptr::null_mut(),
+        };
+        let status = unsafe { sys::smap_table_new(&mut handle) };
+        done(status, || Refused::table(0))?;
+        Ok(Table { handle })
+    }
+
+    pub(crate) fn add(&mut self, url: &str, map: Map) -> Result<(), Error> {
+        let (mut map, mut refusal) = (map.into_handle(), 0);
+        let status = unsafe {
+            let (table, url, length) = (&mut self.handle, url.as_ptr(), url.len());
+            sys::smap_table_add(table, url, length, &mut map, &mut refusal)
+        };
+        if status == sys::SMAP_REFUSED {
+            // The map stays in its handle, and after no other status.
+            drop(Map::full(map));
+        }
+        done(status, || Refused::table(refusal))
+    }
+
+    pub(crate) fn rewritten(
+        &mut self,
+        trace: &[u8],
+        hide_ignored: bool,
+    ) -> Result<(Bytes, sys::smap_trace_count), Error> {
+        let (table, bytes, length) = (&mut self.handle, trace.as_ptr(), trace.len());
+        let mut counts = sys::smap_trace_count::default();
+        let call = |text| unsafe {
+            sys::smap_rewrite(table, bytes, length, hide_ignored, text, &mut counts)
+        };
+        let text = Bytes::of(call, Refused::text)?;
+        Ok((text, counts))
+    }
+
+    pub(crate) fn rewritten_anywhere(
+        &mut self,
+        text: &[u8],
+    ) -> Result<(Bytes, sys::smap_trace_count), Error> {
+        let (table, bytes, length) = (&mut self.handle, text.as_ptr(), text.len());
+        let mut counts = sys::smap_trace_count::default();
+        let call =
+            |text| unsafe { sys::smap_rewrite_anywhere(table, bytes, length, text, &mut counts) };
+        let text = Bytes::of(call, Refused::text)?;
+        Ok((text, counts))
+    }
+}
+
+impl Drop for Table {
+    fn drop(&mut self) {
+        unsafe { sys::smap_table_free(&mut self.handle) }
+    }
+}
+
+/// The URL of each frame of a trace, in turn.
+pub(crate) fn frame_urls(trace: &[u8]) -> impl Iterator<Item = &[u8]> {
+    let mut found = sys::smap_frame_url::default();
+    std::iter::from_fn(move || {
+        let from = found.next;
+        let status =
+            unsafe { sys::smap_next_frame_url(trace.as_ptr(), trace.len(), from, &mut found) };
+        if status != sys::SMAP_DONE {
+            return None;
+        }
+        trace.get(found.start..found.start + found.length)
+    })
+}

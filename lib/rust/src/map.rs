@@ -1,0 +1,278 @@
+//! Maps that are read, looked up and written.
+
+use crate::error::Error;
+use crate::library;
+use crate::reading::ReadOptions;
+use crate::token::{Mappings, Token};
+use std::fmt;
+
+/// A source map that was read, a regular one or an index map.
+///
+/// A thread that has one may hand it to another. For several that look up at once, give each its
+/// own, or put it into a `Mutex`:
+///
+/// ```compile_fail
+/// fn shared<T: Sync>() {}
+/// shared::<smap::SourceMap>();
+/// ```
+///
+/// The texts of names are copied when the map is read, the contents of sources when they are asked
+/// for.
+///
+/// ```
+/// use smap::SourceMap;
+///
+/// let map = SourceMap::from_slice(
+///     br#"{"version":3,"sources":["a.ts"],"names":["f"],"mappings":"AAAA,IAECA"}"#,
+/// )?;
+/// let token = map.lookup(0, 7).unwrap();
+/// assert_eq!((token.get_source(), token.get_src_line(), token.get_src_col()), (Some("a.ts"), Some(2), Some(1)));
+/// assert_eq!(token.get_name(), Some("f"));
+/// # Ok::<(), smap::Error>(())
+/// ```
+pub struct SourceMap {
+    map: library::Map,
+    file: Option<String>,
+    sources: Vec<library::Source>,
+    names: Vec<String>,
+}
+
+impl SourceMap {
+    /// Reads the bytes of a map file, which has no URL. Its sources are named as it names them.
+    ///
+    /// ```
+    /// let map = smap::SourceMap::from_slice(br#"{"version":3,"sources":["a.ts"],"mappings":""}"#)?;
+    /// assert_eq!(map.get_source(0), Some("a.ts"));
+    /// # Ok::<(), smap::Error>(())
+    /// ```
+    pub fn from_slice(map: &[u8]) -> Result<SourceMap, Error> {
+        ReadOptions::new().read(map)
+    }
+
+    /// The original of a generated position, where lines and columns count from 0, columns in
+    /// UTF-16 code units: that of the last mapping on the line at the column or before it.
+    ///
+    /// ```
+    /// # let map = smap::SourceMap::from_slice(br#"{"version":3,"sources":["a.ts"],"mappings":"EAAA,IAEC"}"#)?;
+    /// assert_eq!(map.lookup(0, 5).unwrap().get_dst_col(), 2);
+    /// assert!(map.lookup(0, 1).is_none());
+    /// assert!(map.lookup(1, 0).is_none());
+    /// # Ok::<(), smap::Error>(())
+    /// ```
+    pub fn lookup(&self, line: u32, column: u32) -> Option<Token<'_>> {
+        Token::found(self, line, &self.map.look_up(line, column))
+    }
+
+    /// The same in the other direction: the first mapping on the line at the column or after it
+    /// answers.
+    ///
+    /// ```
+    /// # let map = smap::SourceMap::from_slice(br#"{"version":3,"sources":["a.ts"],"mappings":"EAAA,IAEC"}"#)?;
+    /// assert_eq!(map.lookup_after(0, 3).unwrap().get_dst_col(), 6);
+    /// assert!(map.lookup_after(0, 7).is_none());
+    /// # Ok::<(), smap::Error>(())
+    /// ```
+    pub fn lookup_after(&self, line: u32, column: u32) -> Option<Token<'_>> {
+        Token::found(self, line, &self.map.look_up_from(line, column))
+    }
+
+    /// All mappings in their order. The iterator holds 32 bytes of memory for each.
+    ///
+    /// ```
+    /// # let map = smap::SourceMap::from_slice(br#"{"version":3,"sources":["a.ts"],"mappings":"EAAA,IAEC;A"}"#)?;
+    /// let places: Vec<_> = map.mappings()?.map(|token| (token.get_dst_line(), token.get_dst_col())).collect();
+    /// assert_eq!(places, [(0, 2), (0, 6), (1, 0)]);
+    /// # Ok::<(), smap::Error>(())
+    /// ```
+    pub fn mappings(&self) -> Result<Mappings<'_>, Error> {
+        Ok(Mappings::new(self, self.map.mappings()?))
+    }
+
+    /// How many mappings the map has.
+    ///
+    /// ```
+    /// # let map = smap::SourceMap::from_slice(br#"{"version":3,"sources":["a.ts"],"mappings":"EAAA,IAEC"}"#)?;
+    /// assert_eq!(map.get_token_count(), 2);
+    /// # Ok::<(), smap::Error>(())
+    /// ```
+    pub fn get_token_count(&self) -> u32 {
+        // A file has fewer bytes than this type has numbers.
+        self.map.counts().segments as u32
+    }
+
+    /// The names of all sources in their order. One has none where the map has null in its place.
+    ///
+    /// ```
+    /// # let map = smap::SourceMap::from_slice(br#"{"version":3,"sources":["a.ts",null],"mappings":""}"#)?;
+    /// assert_eq!(map.sources().collect::<Vec<_>>(), [Some("a.ts"), None]);
+    /// # Ok::<(), smap::Error>(())
+    /// ```
+    pub fn sources(&self) -> impl ExactSizeIterator<Item = Option<&str>> + '_ {
+        self.sources.iter().map(|source| source.name.as_deref())
+    }
+
+    /// The name of a source, from 0, where there is one that has one.
+    ///
+    /// ```
+    /// # let map = smap::SourceMap::from_slice(br#"{"version":3,"sources":["a.ts",null],"mappings":""}"#)?;
+    /// assert_eq!((map.get_source(0), map.get_source(1), map.get_source(2)), (Some("a.ts"), None, None));
+    /// # Ok::<(), smap::Error>(())
+    /// ```
+    pub fn get_source(&self, index: u32) -> Option<&str> {
+        self.sources.get(index as usize)?.name.as_deref()
+    }
+
+    /// A copy of the content of a source, from 0, where the map holds it.
+    ///
+    /// ```
+    /// # let map = smap::SourceMap::from_slice(
+    /// #     br#"{"version":3,"sources":["a.ts"],"sourcesContent":["f()"],"mappings":""}"#,
+    /// # )?;
+    /// assert_eq!(map.get_source_contents(0).as_deref(), Some("f()"));
+    /// # Ok::<(), smap::Error>(())
+    /// ```
+    pub fn get_source_contents(&self, index: u32) -> Option<String> {
+        self.map.content(index)
+    }
+
+    /// The sources over which a debugger should pass, from 0, each once.
+    ///
+    /// ```
+    /// # let map = smap::SourceMap::from_slice(
+    /// #     br#"{"version":3,"sources":["a.ts","b.ts"],"ignoreList":[1],"mappings":""}"#,
+    /// # )?;
+    /// assert_eq!(map.ignore_list().collect::<Vec<_>>(), [1]);
+    /// # Ok::<(), smap::Error>(())
+    /// ```
+    pub fn ignore_list(&self) -> impl Iterator<Item = u32> + '_ {
+        let sources = self.sources.iter().zip(0..);
+        sources
+            .filter(|(source, _)| source.is_ignored)
+            .map(|(_, index)| index)
+    }
+
+    /// All names in their order.
+    ///
+    /// ```
+    /// # let map = smap::SourceMap::from_slice(br#"{"version":3,"sources":[],"names":["f","g"],"mappings":""}"#)?;
+    /// assert_eq!(map.names().collect::<Vec<_>>(), ["f", "g"]);
+    /// # Ok::<(), smap::Error>(())
+    /// ```
+    pub fn names(&self) -> impl ExactSizeIterator<Item = &str> + '_ {
+        self.names.iter().map(String::as_str)
+    }
+
+    /// A name, from 0.
+    ///
+    /// ```
+    /// # let map = smap::SourceMap::from_slice(br#"{"version":3,"sources":[],"names":["f","g"],"mappings":""}"#)?;
+    /// assert_eq!((map.get_name(1), map.get_name(2)), (Some("g"), None));
+    /// # Ok::<(), smap::Error>(())
+    /// ```
+    pub fn get_name(&self, index: u32) -> Option<&str> {
+        self.names.get(index as usize).map(String::as_str)
+    }
+
+    /// The name of the generated file, where the map has one.
+    ///
+    /// ```
+    /// # let map = smap::SourceMap::from_slice(br#"{"version":3,"file":"a.js","sources":[],"mappings":""}"#)?;
+    /// assert_eq!(map.get_file(), Some("a.js"));
+    /// # Ok::<(), smap::Error>(())
+    /// ```
+    pub fn get_file(&self) -> Option<&str> {
+        self.file.as_deref()
+    }
+
+    /// The text of one regular map that states the same.
+    ///
+    /// ```
+    /// # let map = smap::SourceMap::from_slice(br#"{"version":3,"sources":["a.ts"],"mappings":"AAAA,,C"}"#)?;
+    /// assert_eq!(map.to_vec()?, br#"{"mappings":"AAAA,C","names":[],"sources":["a.ts"],"version":3}"#);
+    /// # Ok::<(), smap::Error>(())
+    /// ```
+    pub fn to_vec(&self) -> Result<Vec<u8>, Error> {
+        Ok(self.map.written()?.to_vec())
+    }
+
+    /// The text of the map that this one comes to with the map of one of its sources, from 0.
+    ///
+    /// ```
+    /// use smap::SourceMap;
+    ///
+    /// let outer = SourceMap::from_slice(br#"{"version":3,"sources":["a.js"],"mappings":"AAAA"}"#)?;
+    /// let inner = SourceMap::from_slice(br#"{"version":3,"sources":["a.ts"],"mappings":"AAEE"}"#)?;
+    /// let composed = SourceMap::from_slice(&outer.compose(0, &inner)?)?;
+    /// assert_eq!(composed.lookup(0, 0).unwrap().get_src_line(), Some(2));
+    /// # Ok::<(), smap::Error>(())
+    /// ```
+    pub fn compose(&self, source: u32, inner: &SourceMap) -> Result<Vec<u8>, Error> {
+        Ok(self.map.composed(source, &inner.map)?.to_vec())
+    }
+
+    /// How many bytes of the generated file each source makes.
+    ///
+    /// ```
+    /// # let map = smap::SourceMap::from_slice(br#"{"version":3,"sources":["a.ts"],"mappings":"EAAA"}"#)?;
+    /// let bytes = map.bytes_by_source("//f()")?;
+    /// assert_eq!((bytes.sources, bytes.unmapped), (vec![3], 2));
+    /// # Ok::<(), smap::Error>(())
+    /// ```
+    pub fn bytes_by_source(&self, generated: impl AsRef<[u8]>) -> Result<BytesBySource, Error> {
+        let (sources, unmapped) = self.map.bytes_by_source(generated.as_ref())?;
+        Ok(BytesBySource { sources, unmapped })
+    }
+
+    pub(crate) fn of(map: library::Map) -> SourceMap {
+        let mut sources = Vec::new();
+        while let Some(source) = map.source(sources.len() as u32) {
+            sources.push(source);
+        }
+        let mut names = Vec::new();
+        while let Some(name) = map.name(names.len() as u32) {
+            names.push(name);
+        }
+        SourceMap {
+            file: map.file(),
+            map,
+            sources,
+            names,
+        }
+    }
+
+    pub(crate) fn library_map(&self) -> &library::Map {
+        &self.map
+    }
+
+    pub(crate) fn into_library_map(self) -> library::Map {
+        self.map
+    }
+}
+
+impl fmt::Debug for SourceMap {
+    fn fmt(&self, to: &mut fmt::Formatter<'_>) -> fmt::Result {
+        to.debug_struct("SourceMap")
+            .field("file", &self.file)
+            .field("sources", &self.sources.len())
+            .field("names", &self.names.len())
+            .field("mappings", &self.get_token_count())
+            .finish()
+    }
+}
+
+/// How many bytes of a generated file come from where.
+///
+/// ```
+/// # let map = smap::SourceMap::from_slice(br#"{"version":3,"sources":["a.ts"],"mappings":"EAAA"}"#)?;
+/// let bytes = map.bytes_by_source("//f()")?;
+/// assert_eq!(bytes.sources.iter().sum::<u64>() + bytes.unmapped, 5);
+/// # Ok::<(), smap::Error>(())
+/// ```
+#[derive(Clone, Debug, PartialEq, Eq)]
+#[non_exhaustive]
+pub struct BytesBySource {
+    /// From each source, in their order.
+    pub sources: Vec<u64>,
+    /// From none.
+    pub unmapped: u64,
+}

@@ -1,0 +1,79 @@
+//! How maps are read.
+
+use crate::error::Error;
+use crate::library;
+use crate::map::SourceMap;
+
+/// How a map is read.
+///
+/// ```
+/// use smap::ReadOptions;
+///
+/// let options = ReadOptions::new().with_base("https://example.test/js/app.js");
+/// let map = options.read(br#"{"version":3,"sources":["../src/a.ts"],"mappings":""}"#)?;
+/// assert_eq!(map.get_source(0), Some("https://example.test/src/a.ts"));
+/// # Ok::<(), smap::Error>(())
+/// ```
+#[derive(Clone, Debug)]
+pub struct ReadOptions {
+    base: Option<String>,
+    interval: u32,
+}
+
+impl ReadOptions {
+    /// A map without a URL, with a checkpoint at every 64th segment of a line.
+    ///
+    /// ```
+    /// let map = smap::ReadOptions::new().read(br#"{"version":3,"sources":[],"mappings":""}"#)?;
+    /// # Ok::<(), smap::Error>(())
+    /// ```
+    pub fn new() -> ReadOptions {
+        ReadOptions {
+            base: None,
+            interval: library::USUAL_INTERVAL,
+        }
+    }
+
+    /// The URL at which the map stands. Its sources are resolved against it. What is no URL is
+    /// refused when the map is read.
+    ///
+    /// ```
+    /// let refused = smap::ReadOptions::new().with_base("/srv/app.js").read(b"{}").unwrap_err();
+    /// assert_eq!(refused.to_string(), "/srv/app.js: the base is no URL");
+    /// ```
+    pub fn with_base(mut self, url: impl Into<String>) -> ReadOptions {
+        self.base = Some(url.into());
+        self
+    }
+
+    /// At which segments of a line the index has a checkpoint: each 1st to 4096th. Fewer take less
+    /// memory, and a look-up longer.
+    ///
+    /// ```
+    /// let options = smap::ReadOptions::new().with_interval(0);
+    /// let refused = options.read(br#"{"version":3,"sources":[],"mappings":""}"#).unwrap_err();
+    /// assert_eq!(refused.to_string(), "M15 Build B1 Interval");
+    /// ```
+    pub fn with_interval(mut self, segments: u32) -> ReadOptions {
+        self.interval = segments;
+        self
+    }
+
+    /// Reads the bytes of a map file.
+    ///
+    /// ```
+    /// let map = smap::ReadOptions::new().read(br#"{"version":3,"sources":["a.ts"],"mappings":""}"#)?;
+    /// assert_eq!(map.sources().len(), 1);
+    /// # Ok::<(), smap::Error>(())
+    /// ```
+    pub fn read(&self, map: &[u8]) -> Result<SourceMap, Error> {
+        let map = library::Map::read(map, self.base.as_deref(), self.interval)?;
+        Ok(SourceMap::of(map))
+    }
+}
+
+impl Default for ReadOptions {
+    fn default() -> ReadOptions {
+        ReadOptions::new()
+    }
+}

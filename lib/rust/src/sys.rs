@@ -1,0 +1,268 @@
+//! What `smap.h` declares, in its order. The test beside this compares both.
+#![allow(non_camel_case_types, dead_code)]
+
+use std::os::raw::c_void;
+
+pub const SMAP_DONE: u32 = 0;
+pub const SMAP_REFUSED: u32 = 1;
+pub const SMAP_NO_MEMORY: u32 = 3;
+
+pub const SMAP_BASE_NO_URL: u32 = 0;
+pub const SMAP_BASE_TOO_LONG: u32 = 18;
+
+#[repr(C)]
+pub struct smap_map {
+    pub at: *mut c_void,
+}
+
+#[repr(C)]
+pub struct smap_table {
+    pub at: *mut c_void,
+}
+
+#[repr(C)]
+pub struct smap_inners {
+    pub at: *mut c_void,
+}
+
+#[repr(C)]
+pub struct smap_bytes {
+    pub at: *mut c_void,
+}
+
+#[repr(C)]
+pub struct smap_text {
+    pub bytes: *const u8,
+    pub length: usize,
+}
+
+#[repr(C)]
+#[derive(Clone, Copy, Debug, Default)]
+pub struct smap_refusal {
+    pub number: u32,
+    pub fault: u32,
+    pub line: u32,
+    pub build: u32,
+    pub section: u64,
+    pub byte: u64,
+}
+
+#[repr(C)]
+#[derive(Default)]
+pub struct smap_reason {
+    pub value: i64,
+    pub least: i64,
+    pub most: i64,
+    pub generated_column: u64,
+    pub has_value: u32,
+    pub has_least: u32,
+    pub has_most: u32,
+    pub has_column: u32,
+}
+
+#[repr(C)]
+#[derive(Default)]
+pub struct smap_found {
+    pub kind: u32,
+    pub generated_column: u32,
+    pub source: u32,
+    pub line: u32,
+    pub column: u32,
+    pub named: u32,
+    pub name: u32,
+}
+
+#[repr(C)]
+pub struct smap_mapping {
+    pub line: u32,
+    pub column: u32,
+    pub kind: u32,
+    pub source: u32,
+    pub original_line: u32,
+    pub original_column: u32,
+    pub named: u32,
+    pub name: u32,
+}
+
+#[repr(C)]
+pub struct smap_encode_refusal {
+    pub number: u32,
+    pub mapping: u64,
+}
+
+#[repr(C)]
+pub struct smap_position {
+    pub line: u32,
+    pub column: u32,
+}
+
+#[repr(C)]
+#[derive(Default)]
+pub struct smap_count {
+    pub sections: u64,
+    pub sources: u64,
+    pub names: u64,
+    pub segments: u64,
+    pub lines: u64,
+    pub checkpoints: u64,
+}
+
+#[repr(C)]
+pub struct smap_source_text {
+    pub name: smap_text,
+    pub content: smap_text,
+    pub named: u32,
+    pub held: u32,
+    pub ignored: u32,
+}
+
+#[repr(C)]
+pub struct smap_compose_options {
+    pub prune: bool,
+    pub no_content: bool,
+}
+
+#[repr(C)]
+#[derive(Default)]
+pub struct smap_trace_count {
+    pub lines: u64,
+    pub frames: u64,
+    pub mapped: u64,
+    pub hidden: u64,
+}
+
+#[repr(C)]
+#[derive(Default)]
+pub struct smap_frame_url {
+    pub start: usize,
+    pub length: usize,
+    pub next: usize,
+}
+
+extern "C" {
+    pub fn smap_map_read(
+        bytes: *const u8,
+        length: usize,
+        base: *const u8,
+        base_length: usize,
+        interval: u32,
+        map: *mut smap_map,
+        refusal: *mut smap_refusal,
+    ) -> u32;
+    pub fn smap_map_free(map: *mut smap_map);
+    pub fn smap_refusal_text(refusal: *const smap_refusal, bytes: *mut smap_bytes) -> u32;
+    pub fn smap_refusal_explain(
+        bytes: *const u8,
+        length: usize,
+        refusal: *const smap_refusal,
+        reason: *mut smap_reason,
+        text: *mut smap_bytes,
+    ) -> u32;
+    pub fn smap_look_up(map: *mut smap_map, line: u32, column: u32, found: *mut smap_found) -> u32;
+    pub fn smap_look_up_from(
+        map: *mut smap_map,
+        line: u32,
+        column: u32,
+        found: *mut smap_found,
+    ) -> u32;
+    pub fn smap_look_up_many(
+        map: *mut smap_map,
+        positions: *const smap_position,
+        count: usize,
+        found: *mut smap_found,
+        places: usize,
+    ) -> u32;
+    pub fn smap_map_mappings(map: *mut smap_map, bytes: *mut smap_bytes) -> u32;
+    pub fn smap_encode(
+        mappings: *const smap_mapping,
+        count: usize,
+        bytes: *mut smap_bytes,
+        refusal: *mut smap_encode_refusal,
+    ) -> u32;
+    pub fn smap_encode_refusal_text(refusal: u32, text: *mut smap_text) -> u32;
+    pub fn smap_bytes_by_source(
+        map: *mut smap_map,
+        generated: *const u8,
+        length: usize,
+        sources: *mut u64,
+        places: usize,
+        unmapped: *mut u64,
+        refusal: *mut u32,
+    ) -> u32;
+    pub fn smap_generated_refusal_text(refusal: u32, text: *mut smap_text) -> u32;
+    pub fn smap_counts(map: *mut smap_map, counts: *mut smap_count) -> u32;
+    pub fn smap_source(map: *mut smap_map, index: u32, source: *mut smap_source_text) -> u32;
+    pub fn smap_name(map: *mut smap_map, index: u32, name: *mut smap_text) -> u32;
+    pub fn smap_file(map: *mut smap_map, file: *mut smap_text) -> u32;
+    pub fn smap_map_write(map: *mut smap_map, bytes: *mut smap_bytes) -> u32;
+    pub fn smap_compose(
+        outer: *mut smap_map,
+        source: u32,
+        inner: *mut smap_map,
+        bytes: *mut smap_bytes,
+        refusal: *mut u32,
+    ) -> u32;
+    pub fn smap_inners_new(outer: *mut smap_map, inners: *mut smap_inners) -> u32;
+    pub fn smap_inners_put(inners: *mut smap_inners, source: u32, map: *mut smap_map) -> u32;
+    pub fn smap_inners_take(inners: *mut smap_inners, source: u32, map: *mut smap_map) -> u32;
+    pub fn smap_inners_next(
+        outer: *mut smap_map,
+        inners: *mut smap_inners,
+        source: *mut u32,
+        refusal: *mut u32,
+    ) -> u32;
+    pub fn smap_inners_name(
+        outer: *mut smap_map,
+        inners: *mut smap_inners,
+        source: u32,
+        name: *mut smap_text,
+    ) -> u32;
+    pub fn smap_compose_all(
+        outer: *mut smap_map,
+        inners: *mut smap_inners,
+        options: *const smap_compose_options,
+        bytes: *mut smap_bytes,
+        refusal: *mut u32,
+    ) -> u32;
+    pub fn smap_inners_free(inners: *mut smap_inners);
+    pub fn smap_compose_refusal_text(refusal: u32, text: *mut smap_text) -> u32;
+    pub fn smap_write_refusal_text(refusal: u32, text: *mut smap_text) -> u32;
+    pub fn smap_bytes_text(bytes: *mut smap_bytes, text: *mut smap_text) -> u32;
+    pub fn smap_bytes_free(bytes: *mut smap_bytes);
+    pub fn smap_version(version: *mut smap_text) -> u32;
+    pub fn smap_table_new(table: *mut smap_table) -> u32;
+    pub fn smap_table_add(
+        table: *mut smap_table,
+        url: *const u8,
+        url_length: usize,
+        map: *mut smap_map,
+        refusal: *mut u32,
+    ) -> u32;
+    pub fn smap_table_refusal_text(refusal: u32, text: *mut smap_text) -> u32;
+    pub fn smap_table_free(table: *mut smap_table);
+    pub fn smap_rewrite(
+        table: *mut smap_table,
+        trace: *const u8,
+        length: usize,
+        hide_ignored: bool,
+        bytes: *mut smap_bytes,
+        counts: *mut smap_trace_count,
+    ) -> u32;
+    pub fn smap_rewrite_anywhere(
+        table: *mut smap_table,
+        text: *const u8,
+        length: usize,
+        bytes: *mut smap_bytes,
+        counts: *mut smap_trace_count,
+    ) -> u32;
+    pub fn smap_rewrite_refusal_text(refusal: u32, text: *mut smap_text) -> u32;
+    pub fn smap_next_frame_url(
+        trace: *const u8,
+        length: usize,
+        from: usize,
+        found: *mut smap_frame_url,
+    ) -> u32;
+}
+
+#[cfg(test)]
+mod tests;

@@ -1,0 +1,249 @@
+//! Tables of maps, and the traces that are rewritten over them.
+
+use crate::compose::standing_at;
+use crate::error::Error;
+use crate::library;
+use crate::map::SourceMap;
+use crate::rewriting::{Rewriting, What};
+use crate::sys;
+use std::collections::HashSet;
+use std::fmt;
+use std::io::{self, Read, Write};
+
+/// Maps, each under the URL that the frames of a trace name.
+///
+/// ```
+/// use smap::{SourceMap, Table};
+///
+/// let map = SourceMap::from_slice(br#"{"version":3,"sources":["a.ts"],"mappings":"AAEA"}"#)?;
+/// let mut table = Table::new()?;
+/// table.insert("https://ex.test/a.js", map)?;
+/// let mut rewritten = Vec::new();
+/// let counts = table.rewrite("Error\n    at f (https://ex.test/a.js:1:7)\n".as_bytes(), &mut rewritten)?;
+/// assert_eq!(rewritten, b"Error\n    at f (a.ts:3:1)\n");
+/// assert_eq!((counts.lines, counts.frames, counts.mapped), (2, 1, 1));
+/// # Ok::<(), smap::Error>(())
+/// ```
+pub struct Table {
+    table: library::Table,
+    load: Option<Loader>,
+    /// The URLs of frames that have a map or were asked for.
+    known: HashSet<Vec<u8>>,
+}
+
+type Loader = Box<dyn FnMut(&str) -> Result<Option<library::Map>, Error> + Send>;
+
+impl Table {
+    /// A table without maps.
+    ///
+    /// ```
+    /// let mut table = smap::Table::new()?;
+    /// # Ok::<(), smap::Error>(())
+    /// ```
+    pub fn new() -> Result<Table, Error> {
+        Ok(Table {
+            table: library::Table::new()?,
+            load: None,
+            known: HashSet::new(),
+        })
+    }
+
+    /// A table that asks for the map of each URL that it has none of, once, when a frame first
+    /// names it. `load` gives the bytes of the map file, or `None` where there is none. The map
+    /// stands at the URL where that is one. Where it is refused or `load` fails, so does the
+    /// rewriting, and the URL is asked for again.
+    ///
+    /// ```
+    /// use smap::Table;
+    /// use std::{fs, io};
+    ///
+    /// let mut table = Table::with_loader(|url| match url.strip_prefix("https://example.test/") {
+    ///     Some(path) => fs::read(format!("../../examples/{}.map", path)).map(Some),
+    ///     None => Ok(None),
+    /// })?;
+    /// let trace = "at Object.total (https://example.test/receipt.min.js:2:4472)";
+    /// let mut rewritten = Vec::new();
+    /// table.rewrite(trace.as_bytes(), &mut rewritten)?;
+    /// assert_eq!(rewritten, b"at Object.total (https://example.test/src/receipt.ts:11:47)");
+    /// # Ok::<(), smap::Error>(())
+    /// ```
+    pub fn with_loader<L, B>(mut load: L) -> Result<Table, Error>
+    where
+        L: FnMut(&str) -> io::Result<Option<B>> + Send + 'static,
+        B: AsRef<[u8]>,
+    {
+        let load = move |url: &str| match load(url)? {
+            Some(bytes) => standing_at(url, bytes.as_ref()).map(Some),
+            None => Ok(None),
+        };
+        Ok(Table {
+            load: Some(Box::new(load)),
+            ..Table::new()?
+        })
+    }
+
+    /// Puts a map under a URL. One that no frame can name is refused, and one that has a map.
+    ///
+    /// ```
+    /// # use smap::{SourceMap, Table};
+    /// # let map = SourceMap::from_slice(br#"{"version":3,"sources":["a.ts"],"mappings":"AAEA"}"#)?;
+    /// let mut table = Table::new()?;
+    /// assert_eq!(table.insert("", map).unwrap_err().to_string(), "A1 BadUrl");
+    /// # Ok::<(), smap::Error>(())
+    /// ```
+    pub fn insert(&mut self, url: impl AsRef<str>, map: SourceMap) -> Result<(), Error> {
+        let url = url.as_ref();
+        self.table.add(url, map.into_library_map())?;
+        self.known.insert(url.as_bytes().to_vec());
+        Ok(())
+    }
+
+    /// Rewrites a trace: each frame whose URL is in the table and whose place has an original gets
+    /// it in its stead, and every other byte stays. Each line is written when it ends, and the
+    /// writer flushed before the next is awaited. At most a line is held back, and of one that
+    /// is too long for a frame nothing.
+    ///
+    /// ```
+    /// # use smap::{SourceMap, Table};
+    /// # let map = SourceMap::from_slice(br#"{"version":3,"sources":["a.ts"],"mappings":"AAEA"}"#)?;
+    /// # let mut table = Table::new()?;
+    /// # table.insert("a.js", map)?;
+    /// let mut rewritten = Vec::new();
+    /// table.rewrite("f@a.js:1:7\n".as_bytes(), &mut rewritten)?;
+    /// assert_eq!(rewritten, b"f@a.ts:3:1\n");
+    /// # Ok::<(), smap::Error>(())
+    /// ```
+    pub fn rewrite<R: Read, W: Write>(
+        &mut self,
+        reader: R,
+        writer: W,
+    ) -> Result<TraceCounts, Error> {
+        Rewriting::new(self, What::Frames, writer).run(reader)
+    }
+
+    /// The same, and lines of frames from sources that the map ignores are left out.
+    ///
+    /// ```
+    /// # use smap::{SourceMap, Table};
+    /// # let map = SourceMap::from_slice(br#"{"version":3,"sources":["a.ts"],"ignoreList":[0],"mappings":"AAEA"}"#)?;
+    /// # let mut table = Table::new()?;
+    /// # table.insert("a.js", map)?;
+    /// let mut rewritten = Vec::new();
+    /// let counts = table.rewrite_visible("f@a.js:1:7\nend\n".as_bytes(), &mut rewritten)?;
+    /// assert_eq!((&rewritten[..], counts.hidden), (&b"end\n"[..], 1));
+    /// # Ok::<(), smap::Error>(())
+    /// ```
+    pub fn rewrite_visible<R: Read, W: Write>(
+        &mut self,
+        reader: R,
+        writer: W,
+    ) -> Result<TraceCounts, Error> {
+        Rewriting::new(self, What::VisibleFrames, writer).run(reader)
+    }
+
+    /// Rewrites each place URL:line:column, wherever it stands in a line. A loader is asked for the
+    /// URLs of frames alone. A line of more than 1,073,741,824 bytes is refused.
+    ///
+    /// ```
+    /// # use smap::{SourceMap, Table};
+    /// # let map = SourceMap::from_slice(br#"{"version":3,"sources":["a.ts"],"mappings":"AAEA"}"#)?;
+    /// # let mut table = Table::new()?;
+    /// # table.insert("a.js", map)?;
+    /// let mut rewritten = Vec::new();
+    /// table.rewrite_anywhere("12:00 {\"at\":\"a.js:1:7\"}\n".as_bytes(), &mut rewritten)?;
+    /// assert_eq!(rewritten, b"12:00 {\"at\":\"a.ts:3:1\"}\n");
+    /// # Ok::<(), smap::Error>(())
+    /// ```
+    pub fn rewrite_anywhere<R: Read, W: Write>(
+        &mut self,
+        reader: R,
+        writer: W,
+    ) -> Result<TraceCounts, Error> {
+        Rewriting::new(self, What::Places, writer).run(reader)
+    }
+}
+
+impl Table {
+    /// What a text comes to, whose lines are whole, with the maps of all its frames.
+    pub(crate) fn rewritten(
+        &mut self,
+        text: &[u8],
+        what: What,
+    ) -> Result<(library::Bytes, TraceCounts), Error> {
+        self.ask(text)?;
+        let (text, counts) = match what {
+            What::Frames => self.table.rewritten(text, false),
+            What::VisibleFrames => self.table.rewritten(text, true),
+            What::Places => self.table.rewritten_anywhere(text),
+        }?;
+        Ok((text, TraceCounts::of(&counts)))
+    }
+
+    /// Asks for the maps of frames whose URLs are new. A URL that is not UTF-8, or that no table
+    /// takes, has none.
+    fn ask(&mut self, trace: &[u8]) -> Result<(), Error> {
+        let load = match &mut self.load {
+            Some(load) => load,
+            None => return Ok(()),
+        };
+        for bytes in library::frame_urls(trace) {
+            if self.known.contains(bytes) {
+                continue;
+            }
+            if let Ok(url) = std::str::from_utf8(bytes) {
+                match load(url)?.map(|map| self.table.add(url, map)) {
+                    None | Some(Ok(())) | Some(Err(Error::Refused(_))) => (),
+                    Some(Err(error)) => return Err(error),
+                }
+            }
+            self.known.insert(bytes.to_vec());
+        }
+        Ok(())
+    }
+}
+
+impl fmt::Debug for Table {
+    fn fmt(&self, to: &mut fmt::Formatter<'_>) -> fmt::Result {
+        to.debug_struct("Table")
+            .field("urls", &self.known.len())
+            .finish()
+    }
+}
+
+/// What a trace had.
+///
+/// ```
+/// let counts = smap::Table::new()?.rewrite("Error\n    at f (a.js:1:7)\n".as_bytes(), std::io::sink())?;
+/// assert_eq!((counts.lines, counts.frames, counts.mapped, counts.hidden), (2, 1, 0, 0));
+/// # Ok::<(), smap::Error>(())
+/// ```
+#[derive(Clone, Copy, Debug, Default, PartialEq, Eq)]
+#[non_exhaustive]
+pub struct TraceCounts {
+    /// Its lines.
+    pub lines: u64,
+    /// Lines that are frames, or places anywhere.
+    pub frames: u64,
+    /// Of these the ones that were replaced.
+    pub mapped: u64,
+    /// Of these the ones that were left out.
+    pub hidden: u64,
+}
+
+impl TraceCounts {
+    fn of(counts: &sys::smap_trace_count) -> TraceCounts {
+        TraceCounts {
+            lines: counts.lines,
+            frames: counts.frames,
+            mapped: counts.mapped,
+            hidden: counts.hidden,
+        }
+    }
+
+    pub(crate) fn add(&mut self, more: &TraceCounts) {
+        self.lines += more.lines;
+        self.frames += more.frames;
+        self.mapped += more.mapped;
+        self.hidden += more.hidden;
+    }
+}

@@ -1,0 +1,216 @@
+//! Mappings, and what they lead to.
+
+use crate::library::Bytes;
+use crate::map::SourceMap;
+use crate::sys;
+use std::fmt;
+use std::iter::FusedIterator;
+
+/// The kind of an answer that leads to an original, and of none.
+const MAPPED: u32 = 2;
+const NONE: u32 = 0;
+
+/// A mapping: a generated position, and the original one where it has one. All lines, columns and
+/// indices count from 0, columns in UTF-16 code units.
+///
+/// ```
+/// # let map = smap::SourceMap::from_slice(br#"{"version":3,"sources":["a.ts"],"names":["f"],"mappings":"C,EAECA"}"#)?;
+/// let token = map.lookup(0, 3).unwrap();
+/// assert_eq!((token.get_dst_line(), token.get_dst_col()), (0, 3));
+/// assert_eq!((token.get_src_line(), token.get_src_col()), (Some(2), Some(1)));
+///
+/// let unmapped = map.lookup(0, 1).unwrap();
+/// assert_eq!((unmapped.get_source(), unmapped.get_src_line()), (None, None));
+/// # Ok::<(), smap::Error>(())
+/// ```
+#[derive(Clone, Copy)]
+pub struct Token<'a> {
+    map: &'a SourceMap,
+    line: u32,
+    column: u32,
+    original: Option<Original>,
+}
+
+#[derive(Clone, Copy)]
+struct Original {
+    source: u32,
+    line: u32,
+    column: u32,
+    name: Option<u32>,
+}
+
+impl<'a> Token<'a> {
+    /// What a look-up on this line answers.
+    pub(crate) fn found(
+        map: &'a SourceMap,
+        line: u32,
+        found: &sys::smap_found,
+    ) -> Option<Token<'a>> {
+        (found.kind != NONE).then(|| Token {
+            map,
+            line,
+            column: found.generated_column,
+            original: (found.kind == MAPPED).then(|| Original {
+                source: found.source,
+                line: found.line,
+                column: found.column,
+                name: (found.named != 0).then_some(found.name),
+            }),
+        })
+    }
+
+    /// The generated line.
+    ///
+    /// ```
+    /// # let map = smap::SourceMap::from_slice(br#"{"version":3,"sources":["a.ts"],"names":["f"],"mappings":";EAECA"}"#)?;
+    /// assert_eq!(map.lookup(1, 3).unwrap().get_dst_line(), 1);
+    /// # Ok::<(), smap::Error>(())
+    /// ```
+    pub fn get_dst_line(&self) -> u32 {
+        self.line
+    }
+
+    /// The generated column.
+    ///
+    /// ```
+    /// # let map = smap::SourceMap::from_slice(br#"{"version":3,"sources":["a.ts"],"names":["f"],"mappings":";EAECA"}"#)?;
+    /// assert_eq!(map.lookup(1, 3).unwrap().get_dst_col(), 2);
+    /// # Ok::<(), smap::Error>(())
+    /// ```
+    pub fn get_dst_col(&self) -> u32 {
+        self.column
+    }
+
+    /// The number of the source.
+    ///
+    /// ```
+    /// # let map = smap::SourceMap::from_slice(br#"{"version":3,"sources":["a.ts"],"names":["f"],"mappings":";EAECA"}"#)?;
+    /// assert_eq!(map.lookup(1, 3).unwrap().get_src_id(), Some(0));
+    /// # Ok::<(), smap::Error>(())
+    /// ```
+    pub fn get_src_id(&self) -> Option<u32> {
+        self.original.map(|original| original.source)
+    }
+
+    /// The name of the source, where it has one.
+    ///
+    /// ```
+    /// # let map = smap::SourceMap::from_slice(br#"{"version":3,"sources":["a.ts"],"names":["f"],"mappings":";EAECA"}"#)?;
+    /// assert_eq!(map.lookup(1, 3).unwrap().get_source(), Some("a.ts"));
+    /// # Ok::<(), smap::Error>(())
+    /// ```
+    pub fn get_source(&self) -> Option<&'a str> {
+        self.map.get_source(self.get_src_id()?)
+    }
+
+    /// The original line.
+    ///
+    /// ```
+    /// # let map = smap::SourceMap::from_slice(br#"{"version":3,"sources":["a.ts"],"names":["f"],"mappings":";EAECA"}"#)?;
+    /// assert_eq!(map.lookup(1, 3).unwrap().get_src_line(), Some(2));
+    /// # Ok::<(), smap::Error>(())
+    /// ```
+    pub fn get_src_line(&self) -> Option<u32> {
+        self.original.map(|original| original.line)
+    }
+
+    /// The original column.
+    ///
+    /// ```
+    /// # let map = smap::SourceMap::from_slice(br#"{"version":3,"sources":["a.ts"],"names":["f"],"mappings":";EAECA"}"#)?;
+    /// assert_eq!(map.lookup(1, 3).unwrap().get_src_col(), Some(1));
+    /// # Ok::<(), smap::Error>(())
+    /// ```
+    pub fn get_src_col(&self) -> Option<u32> {
+        self.original.map(|original| original.column)
+    }
+
+    /// The number of the name.
+    ///
+    /// ```
+    /// # let map = smap::SourceMap::from_slice(br#"{"version":3,"sources":["a.ts"],"names":["f"],"mappings":";EAECA"}"#)?;
+    /// assert_eq!(map.lookup(1, 3).unwrap().get_name_id(), Some(0));
+    /// # Ok::<(), smap::Error>(())
+    /// ```
+    pub fn get_name_id(&self) -> Option<u32> {
+        self.original?.name
+    }
+
+    /// The name that stands at the original position, where the map says it.
+    ///
+    /// ```
+    /// # let map = smap::SourceMap::from_slice(br#"{"version":3,"sources":["a.ts"],"names":["f"],"mappings":";EAECA"}"#)?;
+    /// assert_eq!(map.lookup(1, 3).unwrap().get_name(), Some("f"));
+    /// # Ok::<(), smap::Error>(())
+    /// ```
+    pub fn get_name(&self) -> Option<&'a str> {
+        self.map.get_name(self.get_name_id()?)
+    }
+}
+
+impl fmt::Debug for Token<'_> {
+    fn fmt(&self, to: &mut fmt::Formatter<'_>) -> fmt::Result {
+        write!(to, "Token {}:{}", self.line, self.column)?;
+        if let Some(Original { line, column, .. }) = self.original {
+            write!(to, " from {:?}:{}:{}", self.get_source(), line, column)?;
+        }
+        self.get_name()
+            .map_or(Ok(()), |name| write!(to, " name {:?}", name))
+    }
+}
+
+/// The mappings of a map, which [`SourceMap::mappings`] gives.
+///
+/// ```
+/// # let map = smap::SourceMap::from_slice(br#"{"version":3,"sources":["a.ts"],"mappings":"C,EAEC"}"#)?;
+/// let mut mappings = map.mappings()?;
+/// assert_eq!(mappings.len(), 2);
+/// assert_eq!(mappings.next().unwrap().get_src_id(), None);
+/// assert_eq!(mappings.next().unwrap().get_src_id(), Some(0));
+/// # Ok::<(), smap::Error>(())
+/// ```
+pub struct Mappings<'a> {
+    map: &'a SourceMap,
+    bytes: Bytes,
+    at: usize,
+}
+
+impl<'a> Mappings<'a> {
+    pub(crate) fn new(map: &'a SourceMap, bytes: Bytes) -> Mappings<'a> {
+        Mappings { map, bytes, at: 0 }
+    }
+}
+
+impl<'a> Iterator for Mappings<'a> {
+    type Item = Token<'a>;
+
+    fn next(&mut self) -> Option<Token<'a>> {
+        let mapping = self.bytes.as_mappings().get(self.at)?;
+        self.at += 1;
+        let found = sys::smap_found {
+            kind: mapping.kind,
+            generated_column: mapping.column,
+            source: mapping.source,
+            line: mapping.original_line,
+            column: mapping.original_column,
+            named: mapping.named,
+            name: mapping.name,
+        };
+        Token::found(self.map, mapping.line, &found)
+    }
+
+    fn size_hint(&self) -> (usize, Option<usize>) {
+        let left = self.bytes.as_mappings().len() - self.at;
+        (left, Some(left))
+    }
+}
+
+impl ExactSizeIterator for Mappings<'_> {}
+
+impl FusedIterator for Mappings<'_> {}
+
+impl fmt::Debug for Mappings<'_> {
+    fn fmt(&self, to: &mut fmt::Formatter<'_>) -> fmt::Result {
+        write!(to, "Mappings, of which {} are left", self.len())
+    }
+}

@@ -1,0 +1,270 @@
+//! Maps: what is read, looked up, written, composed and counted. What is expected was worked out by
+//! hand.
+use smap::{ComposeOptions, Error, ReadOptions, Refused, SourceMap};
+use std::cell::RefCell;
+use std::collections::HashMap;
+use std::io;
+
+fn read(map: &str) -> SourceMap {
+    SourceMap::from_slice(map.as_bytes()).expect("a map")
+}
+
+fn refused(map: &[u8]) -> Refused {
+    match SourceMap::from_slice(map) {
+        Err(Error::Refused(refused)) => refused,
+        other => panic!("not refused: {:?}", other),
+    }
+}
+
+/// Its source, line and column, or none.
+type Original<'a> = Option<(&'a str, u32, u32)>;
+
+fn original(map: &SourceMap, line: u32, column: u32) -> Original<'_> {
+    let token = map.lookup(line, column)?;
+    Some((
+        token.get_source()?,
+        token.get_src_line()?,
+        token.get_src_col()?,
+    ))
+}
+
+const TWO_LINES: &str = r#"{"version":3,"file":"o.js","sources":["a.ts","b.ts"],"names":["f","g"],
+    "sourcesContent":["\u00e4",null],"ignoreList":[1],"mappings":"AAAA,CAACA;ACCA,C,EAAAC"}"#;
+
+#[test]
+fn look_ups_answer_on_their_line_alone() {
+    let map = read(TWO_LINES);
+    assert_eq!(original(&map, 0, 0), Some(("a.ts", 0, 0)));
+    assert_eq!(original(&map, 0, u32::MAX), Some(("a.ts", 0, 1)));
+    assert_eq!(original(&map, 1, 0), Some(("b.ts", 1, 1)));
+    assert_eq!(original(&map, 1, 2), None);
+    assert_eq!(map.lookup(1, 2).map(|token| token.get_dst_col()), Some(1));
+    assert!(map.lookup(2, 0).is_none());
+    assert!(map.lookup(u32::MAX, u32::MAX).is_none());
+    let after = map.lookup_after(1, 2).expect("a mapping behind");
+    assert_eq!(
+        (after.get_dst_line(), after.get_dst_col(), after.get_name()),
+        (1, 3, Some("g"))
+    );
+    assert!(map.lookup_after(1, 4).is_none());
+}
+
+#[test]
+fn mappings_and_texts_come_in_their_order() {
+    let map = read(TWO_LINES);
+    let all: Vec<_> = map.mappings().expect("mappings").collect();
+    let columns: Vec<_> = all
+        .iter()
+        .map(|token| (token.get_dst_line(), token.get_dst_col()))
+        .collect();
+    assert_eq!(columns, [(0, 0), (0, 1), (1, 0), (1, 1), (1, 3)]);
+    let names: Vec<_> = all.iter().map(|token| token.get_name_id()).collect();
+    assert_eq!(names, [None, Some(0), None, None, Some(1)]);
+    assert_eq!(map.get_token_count(), 5);
+    assert_eq!(map.mappings().expect("mappings").len(), 5);
+    assert_eq!(map.names().collect::<Vec<_>>(), ["f", "g"]);
+    assert_eq!(map.get_file(), Some("o.js"));
+    assert_eq!(map.ignore_list().collect::<Vec<_>>(), [1]);
+    assert_eq!(map.get_source_contents(0).as_deref(), Some("\u{e4}"));
+    assert_eq!(
+        (map.get_source_contents(1), map.get_source_contents(2)),
+        (None, None)
+    );
+    assert_eq!(
+        (map.get_source(u32::MAX), map.get_name(u32::MAX)),
+        (None, None)
+    );
+}
+
+#[test]
+fn an_empty_map_has_nothing() {
+    let map = read(r#"{"version":3,"sources":[],"mappings":""}"#);
+    assert_eq!(map.mappings().expect("mappings").count(), 0);
+    assert_eq!(
+        (map.sources().len(), map.names().len(), map.get_file()),
+        (0, 0, None)
+    );
+    let bytes = map.bytes_by_source("").expect("bytes");
+    assert_eq!((bytes.sources, bytes.unmapped), (vec![], 0));
+}
+
+#[test]
+fn a_base_resolves_sources_or_is_refused() {
+    let map = br#"{"version":3,"sources":["../a.ts"],"mappings":""}"#;
+    let placed = ReadOptions::new()
+        .with_base("https://ex.test/js/o.js")
+        .read(map)
+        .expect("a map");
+    assert_eq!(placed.get_source(0), Some("https://ex.test/a.ts"));
+    for base in ["", "/srv/o.js"] {
+        let error = ReadOptions::new()
+            .with_base(base)
+            .read(map)
+            .expect_err("no URL");
+        assert_eq!(error.to_string(), format!("{}: the base is no URL", base));
+        assert_eq!(error.code(), None);
+    }
+}
+
+#[test]
+fn a_refusal_has_its_code_and_its_place() {
+    let map = br#"{"version":3,"sources":["a"],"mappings":";;AAAA,C,!"}"#;
+    let why = refused(map);
+    assert_eq!(why.to_string(), "M14 Text 0 F1 BadDigit line 3 byte 9");
+    let code = why.code().expect("a code");
+    assert_eq!((code.letter, code.number, code.name), ('M', 14, "Text"));
+    assert_eq!(
+        why.cause()
+            .map(|cause| (cause.letter, cause.number, cause.name)),
+        Some(('F', 1, "BadDigit"))
+    );
+    assert_eq!(
+        (why.section(), why.line(), why.byte()),
+        (Some(0), Some(2), Some(9))
+    );
+    let reason = why.explain(map).expect("memory").expect("a reason");
+    assert!(
+        reason.text.starts_with("  segment \"!\" at line 3"),
+        "{}",
+        reason.text
+    );
+
+    let why = refused(b"");
+    assert_eq!(
+        (
+            why.to_string().as_str(),
+            why.cause(),
+            why.section(),
+            why.line()
+        ),
+        ("M2 NotJson", None, None, None)
+    );
+    assert_eq!(refused(b"[]").code().map(|code| code.number), Some(3));
+}
+
+#[test]
+fn a_refusal_is_explained_beside_any_bytes() {
+    let why = refused(br#"{"version":3,"sources":["a"],"mappings":"AAAAAAAA"}"#);
+    for bytes in [&b""[..], b"{}", b"\xff", TWO_LINES.as_bytes()] {
+        let reason = why.explain(bytes).expect("memory").expect("a reason");
+        assert_eq!(
+            (reason.value, reason.column, reason.text.as_str()),
+            (None, None, "")
+        );
+    }
+}
+
+#[test]
+fn a_map_is_composed_with_another_and_with_itself() {
+    let map = read(r#"{"version":3,"sources":["a.js"],"mappings":"AAAA,CACC"}"#);
+    let itself = SourceMap::from_slice(&map.compose(0, &map).expect("a map")).expect("a map");
+    assert_eq!(original(&itself, 0, 0), Some(("a.js", 0, 0)));
+    assert_eq!(original(&itself, 0, 1), None);
+    for (outer, inner) in [(&map, &map), (&map, &read(TWO_LINES))] {
+        let error = outer.compose(1, inner).expect_err("no such source");
+        assert_eq!(error.to_string(), "C1 SourceIndex");
+    }
+    let written = SourceMap::from_slice(&map.to_vec().expect("a text")).expect("a map");
+    assert_eq!(original(&written, 0, 1), Some(("a.js", 1, 1)));
+}
+
+fn map_to(source: &str) -> String {
+    format!(
+        r#"{{"version":3,"sources":["{}"],"mappings":"AAAA"}}"#,
+        source
+    )
+}
+
+#[test]
+fn a_loader_is_asked_once_for_each_name() {
+    let outer =
+        read(r#"{"version":3,"sources":["a.js","b.js","a.js",null],"mappings":"AAAA,CCAA,CCAA"}"#);
+    // The map of a.js leads to b.js, whose map leads to a.js again, which is not followed.
+    let maps = HashMap::from([("a.js", map_to("b.js")), ("b.js", map_to("a.js"))]);
+    let asked = RefCell::new(Vec::new());
+    let load = |name: &str| {
+        asked.borrow_mut().push(name.to_string());
+        Ok(maps.get(name))
+    };
+    let options = ComposeOptions {
+        prune: true,
+        ..ComposeOptions::default()
+    };
+    let whole = read(
+        std::str::from_utf8(&outer.compose_all(options, load).expect("a map")).expect("UTF-8"),
+    );
+    assert_eq!(*asked.borrow(), ["a.js", "b.js"]);
+    let sources: Vec<_> = (0..3).map(|column| original(&whole, 0, column)).collect();
+    assert_eq!(
+        sources,
+        [
+            Some(("a.js", 0, 0)),
+            Some(("b.js", 0, 0)),
+            Some(("a.js", 0, 0))
+        ]
+    );
+    assert_eq!(
+        original(&outer, 0, 1),
+        Some(("b.js", 0, 0)),
+        "the outer map stays"
+    );
+}
+
+#[test]
+fn what_a_loader_says_ends_the_composition() {
+    let outer = read(&map_to("https://ex.test/js/a.js"));
+    let options = ComposeOptions::default();
+    let error = outer
+        .compose_all(options, |_| Ok(Some("no JSON")))
+        .expect_err("no map");
+    assert_eq!(error.to_string(), "https://ex.test/js/a.js: M2 NotJson");
+    assert_eq!(error.code().map(|code| code.number), Some(2));
+    let failed = |_: &str| -> io::Result<Option<Vec<u8>>> {
+        Err(io::Error::new(io::ErrorKind::Other, "gone"))
+    };
+    assert!(matches!(
+        outer.compose_all(options, failed),
+        Err(Error::Io(_))
+    ));
+    // A map stands at the name of its source, where that is a URL.
+    let whole = outer.compose_all(options, |name| {
+        Ok((name.ends_with(".js")).then(|| map_to("../a.ts")))
+    });
+    let whole = SourceMap::from_slice(&whole.expect("a map")).expect("a map");
+    assert_eq!(original(&whole, 0, 0), Some(("https://ex.test/a.ts", 0, 0)));
+}
+
+#[test]
+fn the_bytes_of_a_generated_file_are_those_of_its_sources() {
+    // The third line begins with a character of two units, within which a mapping stands, and the
+    // last mapping stands past the end of its line.
+    let map = read(r#"{"version":3,"sources":["a","b","c"],"mappings":"AAAA,GCAA,E;;CAAA;mGDAA"}"#);
+    let bytes = map
+        .bytes_by_source("abc\u{e4}efg\nxyz\n\u{1f600}z\nq")
+        .expect("bytes");
+    assert_eq!((bytes.sources, bytes.unmapped), (vec![3, 4, 0], 13));
+    let error = map.bytes_by_source(b"\xff").expect_err("no UTF-8");
+    assert_eq!(
+        (error.to_string().as_str(), error.code()),
+        ("NotUtf8", None)
+    );
+}
+
+#[test]
+fn threads_hand_maps_to_one_another() {
+    let map = read(TWO_LINES);
+    let there = std::thread::spawn(move || {
+        let mappings = map.mappings().expect("mappings");
+        assert_eq!(mappings.len(), 5);
+        drop(mappings);
+        map
+    });
+    let map = there.join().expect("a thread");
+    assert_eq!(original(&map, 0, 0), Some(("a.ts", 0, 0)));
+    fn is_send<T: Send>() {}
+    is_send::<SourceMap>();
+    is_send::<smap::Table>();
+    is_send::<Error>();
+    fn is_sync<T: Sync>() {}
+    is_sync::<Error>();
+}

@@ -1,0 +1,257 @@
+//! Traces and logs, rewritten as they are read. What is expected was worked out by hand.
+use smap::{Error, SourceMap, Table, TraceCounts};
+use std::cell::Cell;
+use std::io::{self, ErrorKind, Read, Write};
+use std::sync::{Arc, Mutex};
+
+const MAP: &str =
+    r#"{"version":3,"sources":["a.ts","lib.ts"],"ignoreList":[1],"mappings":"AAEA;ACFA"}"#;
+const LONG: usize = 65_536;
+
+fn table() -> Table {
+    let mut table = Table::new().expect("a table");
+    let map = SourceMap::from_slice(MAP.as_bytes()).expect("a map");
+    table.insert("a.js", map).expect("a place");
+    table
+}
+
+fn counts(lines: u64, frames: u64, mapped: u64, hidden: u64) -> (u64, u64, u64, u64) {
+    (lines, frames, mapped, hidden)
+}
+
+fn numbers(counts: TraceCounts) -> (u64, u64, u64, u64) {
+    (counts.lines, counts.frames, counts.mapped, counts.hidden)
+}
+
+/// Gives a text in pieces of at most so many bytes, each behind an interruption.
+struct Pieces<'a> {
+    rest: &'a [u8],
+    most: usize,
+    is_interrupted: bool,
+}
+
+impl Read for Pieces<'_> {
+    fn read(&mut self, to: &mut [u8]) -> io::Result<usize> {
+        self.is_interrupted = !self.is_interrupted;
+        if self.is_interrupted {
+            return Err(ErrorKind::Interrupted.into());
+        }
+        let count = self.most.min(self.rest.len()).min(to.len());
+        let (piece, rest) = self.rest.split_at(count);
+        to[..count].copy_from_slice(piece);
+        self.rest = rest;
+        Ok(count)
+    }
+}
+
+fn in_pieces(text: &str, most: usize) -> Pieces<'_> {
+    Pieces {
+        rest: text.as_bytes(),
+        most,
+        is_interrupted: false,
+    }
+}
+
+#[test]
+fn pieces_of_any_size_come_to_the_same() {
+    let long = "x".repeat(LONG + 1);
+    let frame = format!("{} at f (a.js:1:2)", " ".repeat(LONG - 16));
+    assert_eq!(frame.len(), LONG);
+    let trace = format!(
+        "Error\n  at f (a.js:1:2)\n{}\ng@a.js:2:1\r\n{}\n {}\n  at a.js:3:1\n{0}",
+        long, frame, frame
+    );
+    let made = format!(
+        "Error\n  at f (a.ts:3:1)\n{}\ng@lib.ts:1:1\r\n{}\n {}\n  at a.js:3:1\n{0}",
+        long,
+        frame.replace("a.js:1:2", "a.ts:3:1"),
+        frame,
+    );
+    let visible = made.replace("g@lib.ts:1:1\r\n", "");
+    for most in [1, 7, 4096, LONG, usize::MAX] {
+        let mut to = Vec::new();
+        let counted = table()
+            .rewrite(in_pieces(&trace, most), &mut to)
+            .expect("a trace");
+        assert!(to == made.as_bytes(), "pieces of {} bytes", most);
+        assert_eq!(numbers(counted), counts(8, 4, 3, 0));
+        let mut to = Vec::new();
+        let counted = table()
+            .rewrite_visible(in_pieces(&trace, most), &mut to)
+            .expect("a trace");
+        assert!(to == visible.as_bytes(), "pieces of {} bytes", most);
+        assert_eq!(numbers(counted), counts(8, 4, 2, 1));
+    }
+}
+
+#[test]
+fn places_are_rewritten_in_lines_of_any_length() {
+    let long = "x ".repeat(LONG);
+    let text = format!("{}a.js:1:1 a.js:2:9\n\"a.js:3:1\"", long);
+    for most in [4096, usize::MAX] {
+        let mut to = Vec::new();
+        let counted = table()
+            .rewrite_anywhere(in_pieces(&text, most), &mut to)
+            .expect("a text");
+        assert!(
+            to == format!("{}a.ts:3:1 lib.ts:1:1\n\"a.js:3:1\"", long).as_bytes(),
+            "pieces of {} bytes",
+            most
+        );
+        assert_eq!(numbers(counted), counts(2, 3, 2, 0));
+    }
+}
+
+#[test]
+fn nothing_comes_of_nothing() {
+    let mut to = Vec::new();
+    let counted = table().rewrite(&b""[..], &mut to).expect("a trace");
+    assert_eq!((to.len(), numbers(counted)), (0, counts(0, 0, 0, 0)));
+}
+
+/// What was written and flushed.
+#[derive(Clone, Default)]
+struct Shown(Arc<Mutex<(Vec<u8>, Vec<u8>)>>);
+
+impl Write for Shown {
+    fn write(&mut self, bytes: &[u8]) -> io::Result<usize> {
+        self.0.lock().expect("a lock").0.extend(bytes);
+        Ok(bytes.len())
+    }
+
+    fn flush(&mut self) -> io::Result<()> {
+        let mut both = self.0.lock().expect("a lock");
+        both.1 = both.0.clone();
+        Ok(())
+    }
+}
+
+/// Gives lines, and checks before each that the one before it was flushed.
+struct Live {
+    shown: Shown,
+    lines: Vec<(&'static str, &'static str)>,
+    before: String,
+}
+
+impl Read for Live {
+    fn read(&mut self, to: &mut [u8]) -> io::Result<usize> {
+        assert_eq!(
+            self.shown.0.lock().expect("a lock").1,
+            self.before.as_bytes()
+        );
+        if self.lines.is_empty() {
+            return Ok(0);
+        }
+        let (line, made) = self.lines.remove(0);
+        self.before += made;
+        to[..line.len()].copy_from_slice(line.as_bytes());
+        Ok(line.len())
+    }
+}
+
+#[test]
+fn each_line_is_written_before_the_next_is_awaited() {
+    let shown = Shown::default();
+    let live = Live {
+        shown: shown.clone(),
+        lines: vec![
+            ("f@a.js:1:1\n", "f@a.ts:3:1\n"),
+            ("end\nf@a", "end\n"),
+            (".js:1:1\n", "f@a.ts:3:1\n"),
+        ],
+        before: String::new(),
+    };
+    table().rewrite(live, shown).expect("a trace");
+}
+
+#[test]
+fn readers_and_writers_that_fail_end_it() {
+    struct Failing;
+    impl Read for Failing {
+        fn read(&mut self, _: &mut [u8]) -> io::Result<usize> {
+            Err(ErrorKind::BrokenPipe.into())
+        }
+    }
+    impl Write for Failing {
+        fn write(&mut self, _: &[u8]) -> io::Result<usize> {
+            Err(ErrorKind::WriteZero.into())
+        }
+        fn flush(&mut self) -> io::Result<()> {
+            Ok(())
+        }
+    }
+    let kind = |result| match result {
+        Err(Error::Io(error)) => error.kind(),
+        other => panic!("{:?}", other),
+    };
+    assert_eq!(
+        kind(table().rewrite(Failing, Vec::new())),
+        ErrorKind::BrokenPipe
+    );
+    assert_eq!(
+        kind(table().rewrite(&b"x\n"[..], Failing)),
+        ErrorKind::WriteZero
+    );
+}
+
+#[test]
+fn a_table_takes_a_url_once() {
+    let mut table = table();
+    for (url, why) in [
+        ("a.js", "A2 Twice"),
+        ("", "A1 BadUrl"),
+        ("a\nb", "A1 BadUrl"),
+    ] {
+        let map = SourceMap::from_slice(MAP.as_bytes()).expect("a map");
+        assert_eq!(table.insert(url, map).expect_err(url).to_string(), why);
+    }
+}
+
+#[test]
+fn a_loader_is_asked_when_a_frame_names_the_url() {
+    let asked = Arc::new(Mutex::new(Vec::new()));
+    let seen = asked.clone();
+    let mut table = Table::with_loader(move |url| {
+        seen.lock().expect("a lock").push(url.to_string());
+        Ok(url.ends_with("a.js").then_some(MAP))
+    })
+    .expect("a table");
+    let mut to = Vec::new();
+    let trace = b"f@https://ex.test/a.js:1:1\nf@b.js:1:1\nf@\xff:1:1\nat a.js:1:1\nf@https://ex.test/a.js:1:1\n";
+    for _ in 0..2 {
+        to.clear();
+        table.rewrite(&trace[..], &mut to).expect("a trace");
+    }
+    let made = b"f@https://ex.test/a.ts:3:1\nf@b.js:1:1\nf@\xff:1:1\nat a.ts:3:1\nf@https://ex.test/a.ts:3:1\n";
+    assert_eq!(to, made);
+    assert_eq!(
+        *asked.lock().expect("a lock"),
+        ["https://ex.test/a.js", "b.js", "a.js"]
+    );
+}
+
+#[test]
+fn a_loader_that_fails_is_asked_again() {
+    let times = Cell::new(0);
+    let mut table = Table::with_loader(move |_| {
+        times.set(times.get() + 1);
+        match times.get() {
+            1 => Err(ErrorKind::NotFound.into()),
+            2 => Ok(Some("no JSON")),
+            _ => Ok(Some(MAP)),
+        }
+    })
+    .expect("a table");
+    let mut to = Vec::new();
+    assert!(matches!(
+        table.rewrite(&b"f@a.js:1:1"[..], &mut to),
+        Err(Error::Io(_))
+    ));
+    let error = table
+        .rewrite(&b"f@a.js:1:1"[..], &mut to)
+        .expect_err("a refusal");
+    assert_eq!(error.to_string(), "a.js: M2 NotJson");
+    assert!(to.is_empty());
+    table.rewrite(&b"f@a.js:1:1"[..], &mut to).expect("a trace");
+    assert_eq!(to, b"f@a.ts:3:1");
+}
