@@ -30,7 +30,16 @@ same() {
     fi
 }
 
-# sample_in LANGUAGE [PAGE]: all samples of a page in c, python or js, joined; of docs/LIBRARY.md if none is given. They print
+# worked_rows KIND: the rows of `lookup`, or of `lookup --after`, among those that the gate compares: LINE COLUMN, from 0, in the
+# file `places`, and what is printed first in `wanted`.
+worked_rows() {
+    paste "$root/crates/smap_rows/stdin" "$root/crates/smap_rows/stdout" | sed -n "/^# $1 in a real map, /,/^# /p" |
+        sed -n 's/^run\t.* example\.map \([0-9]*\) \([0-9]*\)\t\t0\t\(.*\)/\1 \2 \3/p' | sed 's/\\n.*//' >"$folder/rows"
+    awk '{ print $1 - 1, $2 - 1 }' "$folder/rows" >"$folder/places"
+    sed 's/^[0-9]* [0-9]* //' "$folder/rows" >"$folder/wanted"
+}
+
+# sample_in LANGUAGE [PAGE]: all samples of a page in c, python, js or rs, joined; of docs/LIBRARY.md if none is given. They print
 # `reported_by_samples`.
 sample_in() {
     awk -v fence="\`\`\`$1" '$0 == "```" { inside = 0 } inside { print } $0 == fence { inside = 1 }' "$root/${2:-docs/LIBRARY.md}"

@@ -3,8 +3,8 @@
 
 A sample is an indented line `$ COMMAND` with what it prints below it, on both streams, as indented; a command goes on below a
 line that ends in a backslash, `|` or `&&`. One shell runs all samples of a page. `./smap` is taken for `smap`. A block behind a line
-`<!-- not run: REASON -->` is not run. A fenced block in C, Python or JavaScript is left to tests/try-pages, and one in another
-language needs such a line. The status is 1 where a sample printed something else.
+`<!-- not run: REASON -->` is not run. A fenced block in C, Python or JavaScript is left to tests/try-pages, one in Rust to
+tests/try-rust, and one in another language needs such a line. The status is 1 where a sample printed something else.
 """
 
 from __future__ import annotations
@@ -36,7 +36,7 @@ def samples(page: str) -> list[Sample]:
         begin = re.match(r"( {4,})\$ (.*)", line)
         fence = re.match(r"```(\w+)", line)
         i += 1
-        if fence and fence[1] not in ("c", "python", "js"):
+        if fence and fence[1] not in ("c", "python", "js", "rs"):
             found.append(Sample(f"a block in {fence[1]}", "a reason why it is not run", reason))
         if not begin:
             mark = MARK.fullmatch(line.strip())

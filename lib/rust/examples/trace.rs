@@ -24,20 +24,15 @@ fn main() -> Result<(), Box<dyn Error>> {
 fn look_up(path: &str, line: u32, column: u32) -> Result<(), Box<dyn Error>> {
     let map = SourceMap::from_slice(&fs::read(path)?)?;
     let token = map.lookup(line.wrapping_sub(1), column.wrapping_sub(1));
-    let original = token.and_then(|token| {
-        let place = (
-            token.get_source()?,
-            token.get_src_line()?,
-            token.get_src_col()?,
-        );
-        Some((place, token.get_name()))
-    });
-    match original {
-        Some(((source, line, column), None)) => println!("{}:{}:{}", source, line + 1, column + 1),
-        Some(((source, line, column), Some(name))) => {
-            println!("{}:{}:{} name {}", source, line + 1, column + 1, name)
+    let original = token.and_then(|token| Some((token.get_source()?, token.get_src()?)));
+    match (original, token.and_then(|token| token.get_name())) {
+        (None, _) => println!("none"),
+        (Some((source, (line, column))), None) => {
+            println!("{}:{}:{}", source, line + 1, column + 1)
         }
-        None => println!("none"),
+        (Some((source, (line, column))), Some(name)) => {
+            println!("{}:{}:{} {}", source, line + 1, column + 1, name)
+        }
     }
     Ok(())
 }

@@ -26,7 +26,7 @@ use std::fmt;
 ///     br#"{"version":3,"sources":["a.ts"],"names":["f"],"mappings":"AAAA,IAECA"}"#,
 /// )?;
 /// let token = map.lookup(0, 7).unwrap();
-/// assert_eq!((token.get_source(), token.get_src_line(), token.get_src_col()), (Some("a.ts"), Some(2), Some(1)));
+/// assert_eq!((token.get_source(), token.get_src()), (Some("a.ts"), Some((2, 1))));
 /// assert_eq!(token.get_name(), Some("f"));
 /// # Ok::<(), smap::Error>(())
 /// ```
@@ -80,7 +80,7 @@ impl SourceMap {
     ///
     /// ```
     /// # let map = smap::SourceMap::from_slice(br#"{"version":3,"sources":["a.ts"],"mappings":"EAAA,IAEC;A"}"#)?;
-    /// let places: Vec<_> = map.mappings()?.map(|token| (token.get_dst_line(), token.get_dst_col())).collect();
+    /// let places: Vec<_> = map.mappings()?.map(|token| token.get_dst()).collect();
     /// assert_eq!(places, [(0, 2), (0, 6), (1, 0)]);
     /// # Ok::<(), smap::Error>(())
     /// ```

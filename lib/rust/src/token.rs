@@ -16,11 +16,10 @@ const NONE: u32 = 0;
 /// ```
 /// # let map = smap::SourceMap::from_slice(br#"{"version":3,"sources":["a.ts"],"names":["f"],"mappings":"C,EAECA"}"#)?;
 /// let token = map.lookup(0, 3).unwrap();
-/// assert_eq!((token.get_dst_line(), token.get_dst_col()), (0, 3));
-/// assert_eq!((token.get_src_line(), token.get_src_col()), (Some(2), Some(1)));
+/// assert_eq!((token.get_dst(), token.get_source(), token.get_src()), ((0, 3), Some("a.ts"), Some((2, 1))));
 ///
 /// let unmapped = map.lookup(0, 1).unwrap();
-/// assert_eq!((unmapped.get_source(), unmapped.get_src_line()), (None, None));
+/// assert_eq!((unmapped.get_dst(), unmapped.get_source(), unmapped.get_src()), ((0, 1), None, None));
 /// # Ok::<(), smap::Error>(())
 /// ```
 #[derive(Clone, Copy)]
@@ -81,6 +80,17 @@ impl<'a> Token<'a> {
         self.column
     }
 
+    /// The generated line and column.
+    ///
+    /// ```
+    /// # let map = smap::SourceMap::from_slice(br#"{"version":3,"sources":["a.ts"],"names":["f"],"mappings":";EAECA"}"#)?;
+    /// assert_eq!(map.lookup(1, 3).unwrap().get_dst(), (1, 2));
+    /// # Ok::<(), smap::Error>(())
+    /// ```
+    pub fn get_dst(&self) -> (u32, u32) {
+        (self.line, self.column)
+    }
+
     /// The number of the source.
     ///
     /// ```
@@ -123,6 +133,18 @@ impl<'a> Token<'a> {
     /// ```
     pub fn get_src_col(&self) -> Option<u32> {
         self.original.map(|original| original.column)
+    }
+
+    /// The original line and column.
+    ///
+    /// ```
+    /// # let map = smap::SourceMap::from_slice(br#"{"version":3,"sources":["a.ts"],"names":["f"],"mappings":";EAECA"}"#)?;
+    /// assert_eq!(map.lookup(1, 3).unwrap().get_src(), Some((2, 1)));
+    /// # Ok::<(), smap::Error>(())
+    /// ```
+    pub fn get_src(&self) -> Option<(u32, u32)> {
+        self.original
+            .map(|original| (original.line, original.column))
     }
 
     /// The number of the name.

@@ -21,11 +21,8 @@ type Original<'a> = Option<(&'a str, u32, u32)>;
 
 fn original(map: &SourceMap, line: u32, column: u32) -> Original<'_> {
     let token = map.lookup(line, column)?;
-    Some((
-        token.get_source()?,
-        token.get_src_line()?,
-        token.get_src_col()?,
-    ))
+    let (line, column) = token.get_src()?;
+    Some((token.get_source()?, line, column))
 }
 
 const TWO_LINES: &str = r#"{"version":3,"file":"o.js","sources":["a.ts","b.ts"],"names":["f","g"],
@@ -53,10 +50,7 @@ fn look_ups_answer_on_their_line_alone() {
 fn mappings_and_texts_come_in_their_order() {
     let map = read(TWO_LINES);
     let all: Vec<_> = map.mappings().expect("mappings").collect();
-    let columns: Vec<_> = all
-        .iter()
-        .map(|token| (token.get_dst_line(), token.get_dst_col()))
-        .collect();
+    let columns: Vec<_> = all.iter().map(|token| token.get_dst()).collect();
     assert_eq!(columns, [(0, 0), (0, 1), (1, 0), (1, 1), (1, 3)]);
     let names: Vec<_> = all.iter().map(|token| token.get_name_id()).collect();
     assert_eq!(names, [None, Some(0), None, None, Some(1)]);

@@ -18,7 +18,7 @@ impl<'a> Inners<'a> {
             at: ptr::null_mut(),
         };
         let status = unsafe { sys::smap_inners_new(outer.handle(), &mut handle) };
-        done(status, || Refused::composition(NO_SOURCE))?;
+        done(status, Refused::nothing)?;
         Ok(Inners { outer, handle })
     }
 

@@ -159,7 +159,7 @@ impl Map {
     /// What this map and that of one of its sources come to.
     pub(crate) fn composed(&self, source: u32, inner: &Map) -> Result<Bytes, Error> {
         if ptr::eq(self, inner) {
-            return self.composed(source, &self.copied(source)?);
+            return self.composed(source, &self.read_again(source)?);
         }
         let (outer, inner, refusal) = (self.handle(), inner.handle(), Cell::new(0));
         let call =
@@ -170,7 +170,7 @@ impl Map {
     /// A copy of this map, for composing it with itself: no call takes one handle twice. Where it
     /// is too large to be written, so is what it would come to, which has the same generated
     /// positions.
-    fn copied(&self, source: u32) -> Result<Map, Error> {
+    fn read_again(&self, source: u32) -> Result<Map, Error> {
         match self.written() {
             Ok(text) => Map::read(&text, None, USUAL_INTERVAL),
             Err(Error::Refused(_)) => {

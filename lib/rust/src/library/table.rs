@@ -20,7 +20,7 @@ impl Table {
             at: ptr::null_mut(),
         };
         let status = unsafe { sys::smap_table_new(&mut handle) };
-        done(status, || Refused::table(0))?;
+        done(status, Refused::nothing)?;
         Ok(Table { handle })
     }
 
