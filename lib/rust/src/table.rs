@@ -29,7 +29,11 @@ pub struct Table {
     load: Option<Loader>,
     /// The URLs of frames that have a map or were asked for.
     known: HashSet<Vec<u8>>,
+    refusals: Vec<(String, Error)>,
 }
+
+/// So many refusals of a loader's maps are kept.
+const MOST_REFUSALS: usize = 100;
 
 type Loader = Box<dyn FnMut(&str) -> Result<Option<library::Map>, Error> + Send>;
 
@@ -45,13 +49,14 @@ impl Table {
             table: library::Table::new()?,
             load: None,
             known: HashSet::new(),
+            refusals: Vec::new(),
         })
     }
 
     /// A table that asks for the map of each URL that it has none of, once, when a frame first
     /// names it. `load` gives the bytes of the map file, or `None` where there is none. The map
-    /// stands at the URL where that is one. Where it is refused or `load` fails, so does the
-    /// rewriting, and the URL is asked for again.
+    /// stands at the URL where that is one. Where it is refused or `load` fails, the frames stay,
+    /// the rewriting goes on, and [`refusals`](Table::refusals) has why.
     ///
     /// ```
     /// use smap::Table;
@@ -96,6 +101,24 @@ impl Table {
         self.table.add(url, map.into_library_map())?;
         self.known.insert(url.as_bytes().to_vec());
         Ok(())
+    }
+
+    /// The URLs whose maps the loader could not give, or whose maps were refused, and why: the first
+    /// 100 of them.
+    ///
+    /// ```
+    /// use smap::Table;
+    ///
+    /// let mut table = Table::with_loader(|_| Ok(Some("{}")))?;
+    /// let mut rewritten = Vec::new();
+    /// table.rewrite("at a.js:1:1\n".as_bytes(), &mut rewritten)?;
+    /// assert_eq!(rewritten, b"at a.js:1:1\n");
+    /// let (url, why) = &table.refusals()[0];
+    /// assert_eq!((url.as_str(), why.to_string()), ("a.js", "a.js: M4 Version".to_string()));
+    /// # Ok::<(), smap::Error>(())
+    /// ```
+    pub fn refusals(&self) -> &[(String, Error)] {
+        &self.refusals
     }
 
     /// Rewrites a trace: each frame whose URL is in the table and whose place has an original gets
@@ -191,9 +214,17 @@ impl Table {
                 continue;
             }
             if let Ok(url) = std::str::from_utf8(bytes) {
-                match load(url)?.map(|map| self.table.add(url, map)) {
-                    None | Some(Ok(())) | Some(Err(Error::Refused(_))) => (),
-                    Some(Err(error)) => return Err(error),
+                match load(url) {
+                    Ok(None) => (),
+                    Ok(Some(map)) => match self.table.add(url, map) {
+                        Ok(()) | Err(Error::Refused(_)) => (),
+                        Err(error) => return Err(error),
+                    },
+                    Err(error) => {
+                        if self.refusals.len() < MOST_REFUSALS {
+                            self.refusals.push((url.to_string(), error));
+                        }
+                    }
                 }
             }
             self.known.insert(bytes.to_vec());

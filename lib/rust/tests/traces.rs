@@ -231,27 +231,32 @@ fn a_loader_is_asked_when_a_frame_names_the_url() {
 }
 
 #[test]
-fn a_loader_that_fails_is_asked_again() {
+fn a_loader_that_fails_is_told_and_the_rest_goes_on() {
     let times = Cell::new(0);
-    let mut table = Table::with_loader(move |_| {
+    let mut table = Table::with_loader(move |url| {
         times.set(times.get() + 1);
-        match times.get() {
-            1 => Err(ErrorKind::NotFound.into()),
-            2 => Ok(Some("no JSON")),
+        assert!(times.get() <= 3, "asked again for {}", url);
+        match url {
+            "gone.js" => Err(ErrorKind::NotFound.into()),
+            "bad.js" => Ok(Some("no JSON")),
             _ => Ok(Some(MAP)),
         }
     })
     .expect("a table");
     let mut to = Vec::new();
-    assert!(matches!(
-        table.rewrite(&b"f@a.js:1:1"[..], &mut to),
-        Err(Error::Io(_))
-    ));
-    let error = table
-        .rewrite(&b"f@a.js:1:1"[..], &mut to)
-        .expect_err("a refusal");
-    assert_eq!(error.to_string(), "a.js: M2 NotJson");
-    assert!(to.is_empty());
-    table.rewrite(&b"f@a.js:1:1"[..], &mut to).expect("a trace");
-    assert_eq!(to, b"f@a.ts:3:1");
+    let trace = b"f@gone.js:1:1\nf@bad.js:1:1\nf@a.js:1:1\nf@bad.js:1:1\n";
+    let counts = table.rewrite(&trace[..], &mut to).expect("a trace");
+    assert_eq!(
+        to,
+        b"f@gone.js:1:1\nf@bad.js:1:1\nf@a.ts:3:1\nf@bad.js:1:1\n"
+    );
+    assert_eq!((counts.frames, counts.mapped), (4, 1));
+    let told: Vec<&str> = table
+        .refusals()
+        .iter()
+        .map(|(url, _)| url.as_str())
+        .collect();
+    assert_eq!(told, ["gone.js", "bad.js"]);
+    assert!(matches!(table.refusals()[0].1, Error::Io(_)));
+    assert_eq!(table.refusals()[1].1.to_string(), "bad.js: M2 NotJson");
 }
