@@ -42,7 +42,11 @@ typedef struct smap_bytes { void *at; } smap_bytes;
 
 /* A text that is lent. It stays until the next call with the handle that lent it. */
 typedef struct smap_text { const uint8_t *bytes; size_t length; } smap_text;
+#ifdef __cplusplus
+#define SMAP_TEXT { reinterpret_cast<const uint8_t *>(""), 0 }
+#else
 #define SMAP_TEXT { (const uint8_t *)"", 0 }
+#endif
 
 /* Why a map is not read: the number of the refusal, M1 to M17, or one of those of the base. The others are 0 where the
  * refusal has no such part. */
