@@ -4,6 +4,7 @@
 //   mappings MAP               each mapping as the program prints it
 //   unclosed MAP COUNT         the peak of memory, in KiB, where the map is read so often and never closed
 //   closed MAP COUNT           the peak of memory, in KiB, while the map is read so often and never closed, after it was open so often
+//   freed MAP COUNT            by how much memory grew, in KiB, after the map was read so often, and all were closed but one between them
 //   unlike MAP OTHER CODE      how many mappings the first map has in the code, and how many of them the other answers otherwise
 const fs = require('node:fs');
 const smap = require('smap');
@@ -72,6 +73,14 @@ function closed(path, count) {
     most = Math.max(most, process.memoryUsage().rss);
   }
   console.log(Math.round(most / 1024));
+}
+
+function freed(path, count) {
+  const data = fs.readFileSync(path);
+  const before = process.memoryUsage().rss;
+  const maps = Array.from({ length: Number(count) }, () => new smap.TraceMap(data));
+  maps.filter((_, i) => i !== Number(count) / 2).forEach((map) => map.close());
+  console.log(Math.round((process.memoryUsage().rss - before) / 1024));
 }
 
 // Each mapping as the program prints it.
@@ -156,5 +165,6 @@ const commands = {
   again,
   unclosed,
   closed,
+  freed,
 };
 commands[process.argv[2]](...process.argv.slice(3));

@@ -2,6 +2,7 @@
 
     chain FOLDER OUTER LESS    the map composed with those NAME.map of the folder, by a loader; on standard error what that is asked
     mappings MAP               what `smap mappings` prints
+    freed MAP COUNT            by how much memory grew, in KiB, after the map was read so often, and all were closed but one between them
 """
 
 import re
@@ -145,6 +146,17 @@ def again(path, count):
         print((resident() - before) // 1024)
 
 
+def freed(path, count):
+    data = Path(path).read_bytes()
+    before = resident()
+    maps = [SourceMap(data) for _ in range(int(count))]
+    # One that stays open lies between those that are closed.
+    for i, source_map in enumerate(maps):
+        if i != int(count) // 2:
+            source_map.close()
+    print((resident() - before) // 1024)
+
+
 def resident():
     with open("/proc/self/statm") as statm:
         return int(statm.read().split()[1]) * 4096
@@ -152,5 +164,6 @@ def resident():
 
 if __name__ == "__main__":
     commands = {"look": look, "from": from_, "many": many, "refuse": refuse, "why": why, "counts": counts, "show": show,
-                "compose": composed, "all": composed_with_all, "chain": chain, "mappings": mappings, "rewrite": rewrite, "load": load, "anywhere": anywhere, "again": again}
+                "compose": composed, "all": composed_with_all, "chain": chain, "mappings": mappings, "rewrite": rewrite, "load": load, "anywhere": anywhere, "again": again,
+                "freed": freed}
     commands[sys.argv[1]](*sys.argv[2:])

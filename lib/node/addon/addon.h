@@ -48,6 +48,7 @@ struct addon {
     uint32_t *room;
     struct held *first;
     int64_t reported, swept; /* the bytes that V8 knows of, and the fewest since the last sweep */
+    int64_t freed;           /* the bytes that glibc may keep */
 };
 
 struct held {

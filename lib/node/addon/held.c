@@ -1,6 +1,12 @@
 /* What the objects of the addon hold of the library. */
 #include "addon.h"
 #include <stdlib.h>
+#ifdef __GLIBC__
+#include <malloc.h>
+#endif
+
+/* glibc keeps what is freed between what is not. After so many bytes it gives back the pages of it. */
+#define TRIM (32 << 20)
 
 /* So many bytes more than the fewest since the last sweep, and what was collected is freed before another map is read. */
 #define SWEEP (32 << 20)
@@ -21,12 +27,23 @@ void report_size(napi_env env, struct held *held, int64_t size) {
     held->size = size;
 }
 
+/* So many bytes were freed. */
+static void give_back(struct addon *addon, int64_t size) {
+#ifdef __GLIBC__
+    if (addon && (addon->freed += size) >= TRIM) {
+        malloc_trim(0);
+        addon->freed = 0;
+    }
+#endif
+}
+
 /* Frees what is held, if there is something. */
 static void let_go(napi_env env, struct held *held) {
     if (held->full) {
         if (held->kind == MAP) smap_map_free(&held->map);
         else if (held->kind == TABLE) smap_table_free(&held->table);
         else smap_inners_free(&held->inners);
+        give_back(held->addon, held->size);
     }
     held->full = false;
     report_size(env, held, 0);

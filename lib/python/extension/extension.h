@@ -53,6 +53,7 @@ struct held {
     PyObject_HEAD
     PyThread_type_lock lock;
     bool busy, full;
+    size_t size; /* about how many bytes it has */
     union { smap_map map; smap_table table; smap_inners inners; };
 };
 
@@ -69,6 +70,12 @@ void end(struct held *held);
 /* Lets other threads go on, if what is read is steady, until `come_back` with what this gives. */
 PyThreadState *let_go(bool steady);
 void come_back(PyThreadState *state);
+
+/* What was held is freed, and the process need not keep its memory. */
+void give_back(struct held *held);
+
+/* The map went over to what takes it. */
+void hand_over(struct held *map, struct held *taker);
 
 PyObject *held_new(PyTypeObject *type, PyObject *words, PyObject *named);
 void held_free(PyObject *self);

@@ -14,7 +14,10 @@ static PyObject *inners_new(PyTypeObject *type, PyObject *words, PyObject *named
 
 static void inners_free(PyObject *self) {
     struct held *held = (struct held *)self;
-    if (held->full) smap_inners_free(&held->inners);
+    if (held->full) {
+        smap_inners_free(&held->inners);
+        give_back(held);
+    }
     held_free(self);
 }
 
@@ -29,6 +32,7 @@ static PyObject *inners_close(PyObject *self, PyObject *unused) {
     smap_inners_free(&held->inners);
     come_back(state);
     end(held);
+    give_back(held);
     return none();
 }
 
@@ -41,7 +45,7 @@ static PyObject *inners_put(PyObject *self, PyObject *words) {
     map = (struct held *)value;
     if (!ready((struct held *[]){inners, map}, 2)) return NULL;
     bool put = smap_inners_put(&inners->inners, index, &map->map) == SMAP_DONE;
-    if (put) map->full = false;
+    if (put) hand_over(map, inners);
     return PyBool_FromLong(put);
 }
 

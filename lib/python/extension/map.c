@@ -5,7 +5,10 @@
 
 static void map_free(PyObject *self) {
     struct held *held = (struct held *)self;
-    if (held->full) smap_map_free(&held->map);
+    if (held->full) {
+        smap_map_free(&held->map);
+        give_back(held);
+    }
     held_free(self);
 }
 
@@ -20,6 +23,7 @@ static PyObject *map_close(PyObject *self, PyObject *unused) {
     smap_map_free(&held->map);
     come_back(state);
     end(held);
+    give_back(held);
     return none();
 }
 
@@ -37,6 +41,7 @@ static PyObject *map_read(PyObject *self, PyObject *words) {
     uint32_t status = smap_map_read(given.bytes, given.length, base.bytes, base.length, interval, &held->map, &refusal);
     come_back(state);
     held->full = status == SMAP_DONE;
+    held->size = given.length;
     end(held);
     if (status == SMAP_REFUSED) return refusal_of(&refusal);
     return status == SMAP_DONE ? none() : PyErr_NoMemory();

@@ -12,7 +12,10 @@ static PyObject *table_new(PyTypeObject *type, PyObject *words, PyObject *named)
 
 static void table_free(PyObject *self) {
     struct held *held = (struct held *)self;
-    if (held->full) smap_table_free(&held->table);
+    if (held->full) {
+        smap_table_free(&held->table);
+        give_back(held);
+    }
     held_free(self);
 }
 
@@ -27,6 +30,7 @@ static PyObject *table_close(PyObject *self, PyObject *unused) {
     smap_table_free(&held->table);
     come_back(state);
     end(held);
+    give_back(held);
     return none();
 }
 
@@ -40,6 +44,7 @@ static PyObject *table_put(PyObject *self, PyObject *words) {
     if (!ready((struct held *[]){table, map}, 2)) return NULL;
     uint32_t refusal = 0;
     uint32_t status = smap_table_add(&table->table, url.bytes, url.length, &map->map, &refusal);
+    if (status == SMAP_DONE) hand_over(map, table);
     map->full = status == SMAP_REFUSED;
     if (status == SMAP_REFUSED) return PyLong_FromUnsignedLong(refusal);
     return status == SMAP_DONE ? none() : PyErr_NoMemory();
