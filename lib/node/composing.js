@@ -37,7 +37,7 @@ function composedWithItself(map, source) {
 // sources. A TraceMap is copied, and stays open.
 function composeAll(outer, inners = {}, options = undefined) {
   const { load, prune = false, noContent = false } = given.options(options, 'load', 'prune', 'noContent');
-  const [handle, loader] = [open(outer), given.loader(load)];
+  const [handle, loader] = [open(outer), given.callable(load, 'load')];
   const [isPruned, isBare] = [given.boolean(prune, 'prune'), given.boolean(noContent, 'noContent')];
   const names = namesOf(handle);
   const placed = byNumber(names, inners);

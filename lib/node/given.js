@@ -69,32 +69,36 @@ function utf8(value, what) {
   return made;
 }
 
+// These bytes as a Buffer, which are not copied.
+const asBuffer = (bytes) => (Buffer.isBuffer(bytes) ? bytes : Buffer.from(bytes.buffer, bytes.byteOffset, bytes.length));
+
 // The bytes of a map: those given, those of its text, or those of a parsed map as JSON.
 function mapBytes(value) {
-  if (isUint8Array(value)) return steady(value);
+  if (isUint8Array(value)) return asBuffer(steady(value));
   if (typeof value === 'string') return utf8(value, 'a map');
   if (typeof value !== 'object' || value === null || ArrayBuffer.isView(value) || isAnyArrayBuffer(value)) {
     throw new TypeError('a map must be a text, a Uint8Array or a parsed map');
   }
+  if (typeof value.then === 'function') throw new TypeError('a map must be a text, a Uint8Array or a parsed map, and not a promise of one');
   return Buffer.from(JSON.stringify(withText(parsed(value))));
 }
 
 const isObject = (value) => typeof value === 'object' && value !== null && !Array.isArray(value);
 
-// A parsed map, whose mappings are a text where they were decoded.
+// A parsed map, whose mappings are a text where they were decoded. Such a map need not say its version.
 function withText(map) {
   if (!isObject(map)) return map;
   if (Array.isArray(map.sections)) {
     const section = (value) => (isObject(value) ? { ...value, map: withText(value.map) } : value);
     return { ...map, sections: map.sections.map(section) };
   }
-  const { mappings } = map;
-  return Array.isArray(mappings) ? { ...map, mappings: encoded(numbersOf(mappings), mappings.length) } : map;
+  const { version = 3, mappings } = map;
+  return Array.isArray(mappings) ? { ...map, version, mappings: encoded(numbersOf(mappings), mappings.length) } : map;
 }
 
 // The bytes of a text or of a Uint8Array.
 function bytes(value, what) {
-  return isUint8Array(value) ? steady(value) : Buffer.from(text(value, what, ' or a Uint8Array'));
+  return isUint8Array(value) ? asBuffer(steady(value)) : Buffer.from(text(value, what, ' or a Uint8Array'));
 }
 
 function text(value, what, more = '') {
@@ -115,9 +119,9 @@ function boolean(value, what) {
   return value;
 }
 
-// What gives the map of a URL, if there is such a function.
-function loader(value) {
-  if (value !== undefined && typeof value !== 'function') throw new TypeError(`\`load\` must be a function, and not ${kind(value)}`);
+// What is to be called, if there is such a function.
+function callable(value, what) {
+  if (value !== undefined && typeof value !== 'function') throw new TypeError(`\`${what}\` must be a function, and not ${kind(value)}`);
   return value;
 }
 
@@ -130,4 +134,4 @@ function options(value, ...known) {
   return value;
 }
 
-module.exports = { boolean, bytes, column, interval, line, lineFromZero, loader, mapBytes, mapUrl, options, positions, source, steady, text, utf8 };
+module.exports = { boolean, bytes, callable, column, interval, line, lineFromZero, mapBytes, mapUrl, options, positions, source, steady, text, utf8 };

@@ -71,12 +71,12 @@ export type EachMapping = {
 export type SourceMapSegment = [number] | [number, number, number, number] | [number, number, number, number, number];
 
 interface SourceMapMembers {
-  file?: string | null;
+  file?: string | null | undefined;
   names: string[];
-  sourceRoot?: string;
+  sourceRoot?: string | undefined;
   sources: (string | null)[];
-  sourcesContent?: (string | null)[];
-  ignoreList?: number[];
+  sourcesContent?: (string | null)[] | undefined;
+  ignoreList?: number[] | undefined;
   version: 3;
 }
 
@@ -97,19 +97,20 @@ export interface BytesBySource {
 /** A source map that was read. A TraceMap that is given is itself. */
 export class TraceMap implements SourceMapMembers {
   /** `mapUrl` is the URL or path at which the map stands; a checkpoint is made at every `interval`-th segment of a line. The
-   * mappings of an object may be decoded. What is given is kept for the members that are as it has them, so it is not to be changed. */
+   * mappings of an object may be decoded, and then it may leave its version out. What is given is not kept. */
   constructor(map: string | Uint8Array | object, mapUrl?: string | URL | null, interval?: number);
   readonly counts: Counts;
-  readonly version: 3;
-  readonly file: string | undefined;
-  readonly names: string[];
+  /** From here to `resolvedSources` what is assigned takes a member's place; no answer changes. */
+  version: 3;
+  file: string | null | undefined;
+  names: string[];
   /** These four are as the map has them; an index map has the names of its sources and no root. */
-  readonly sources: (string | null)[];
-  readonly sourceRoot: string | undefined;
-  readonly sourcesContent: (string | null)[] | undefined;
-  readonly ignoreList: number[] | undefined;
+  sources: (string | null)[];
+  sourceRoot: string | undefined;
+  sourcesContent: (string | null)[] | undefined;
+  ignoreList: number[] | undefined;
   /** The names of the sources. */
-  readonly resolvedSources: (string | null)[];
+  resolvedSources: (string | null)[];
   readonly sourceEntries: SourceEntry[];
   /** Each mapping in its order. */
   mappings(): IterableIterator<EachMapping>;
@@ -117,6 +118,8 @@ export class TraceMap implements SourceMapMembers {
   bytesBySource(generated: string | Uint8Array): BytesBySource;
   /** The text of one regular map that states the same. */
   write(): Buffer;
+  /** What `encodedMap` gives. */
+  toJSON(): EncodedSourceMap;
   close(): void;
   [Symbol.dispose](): void;
 }
@@ -126,6 +129,7 @@ export const AnyMap: {
   (map: string | Uint8Array | object, mapUrl?: string | URL | null): TraceMap;
   new (map: string | Uint8Array | object, mapUrl?: string | URL | null): TraceMap;
 };
+export const FlattenMap: typeof AnyMap;
 export function presortedDecodedMap(map: object, mapUrl?: string | URL | null): TraceMap;
 
 export interface Needle {
@@ -152,6 +156,9 @@ export function encodedMap(map: TraceMap): EncodedSourceMap;
  * original, 2 with one), the generated column, the source, the line from 1, the column, 1 where there is a name, and the name.
  * What there is not is 0. */
 export function lookUpMany(map: TraceMap, positions: Uint32Array): Uint32Array;
+/** The name and the content of the source of this number, from 0: a RangeError where there is none. */
+export function sourceName(map: TraceMap, index: number): string | null;
+export function sourceContent(map: TraceMap, index: number): string | null;
 export function sourceContentFor(map: TraceMap, source: string): string | null;
 export function isIgnored(map: TraceMap, source: string): boolean;
 export function compose(outer: TraceMap, source: number, inner: TraceMap): Buffer;
@@ -196,13 +203,25 @@ export interface PlaceCounts {
 
 export type TraceCounts = FrameCounts | PlaceCounts;
 
+/** A map that was not read: the URL that `load` was asked for, and what it threw or why its map is refused. */
+export interface Refusal {
+  url: string;
+  error: unknown;
+}
+
+export interface TableOptions {
+  /** Gives the map of a URL or path that has none here, without query and fragment. It is asked once for each, when a frame or a
+   * place first names it. */
+  load?: (url: string) => Given | null | undefined;
+  /** Is told of each map that is not read for an error. */
+  refused?: (url: string, error: unknown) => void;
+}
+
 /** The maps of a trace, each under the URL that frames name. A TraceMap that is given is closed. */
 export class Table {
-  /** `load` gives the map of a URL that has none here. It is asked once for each, when a frame first names it. */
-  constructor(
-    maps: Named<string>,
-    options?: { load?: (url: string) => Given | null | undefined },
-  );
+  constructor(maps: Named<string>, options?: TableOptions);
+  /** What was told to no one: the first 100. */
+  readonly refusals: Refusal[];
   /** Those of the last text that `rewrite` rewrote over this table. */
   readonly counts: TraceCounts | null;
   close(): void;
@@ -217,9 +236,12 @@ export interface RewriteOptions {
 
 export function rewrite(table: Table, trace: string | Uint8Array, options?: RewriteOptions): Buffer;
 
-/** Rewrites what is written to it, line by line. At most an unfinished line is held back. The table stays open. */
+/** Rewrites what is written to it, line by line. At most an unfinished line is held back. The table stays open. A map that is not
+ * read for an error is an event `refused`, or where none listens told as the table tells it. */
 export class RewriteStream extends Transform {
   constructor(table: Table, options?: RewriteOptions);
+  on(event: 'refused', listener: (url: string, error: unknown) => void): this;
+  on(event: string | symbol, listener: (...args: any[]) => void): this;
   /** Those of all that was rewritten so far. */
   readonly counts: TraceCounts;
 }

@@ -8,6 +8,7 @@ const { RewriteStream } = require('./stream.js');
 const { Table, rewrite } = require('./table.js');
 const {
   AnyMap,
+  FlattenMap,
   GREATEST_LOWER_BOUND,
   LEAST_UPPER_BOUND,
   decodedMap,
@@ -19,13 +20,16 @@ const {
   lookUpMany,
   originalPositionFor,
   presortedDecodedMap,
+  sourceContent,
   sourceContentFor,
+  sourceName,
   traceSegment,
 } = require('./tracing.js');
 
 // Each name stands here by itself, for `import { .. } from 'smap'`: node finds no others.
 module.exports = {
   AnyMap,
+  FlattenMap,
   GREATEST_LOWER_BOUND,
   LEAST_UPPER_BOUND,
   Refused,
@@ -44,6 +48,8 @@ module.exports = {
   originalPositionFor,
   presortedDecodedMap,
   rewrite,
+  sourceContent,
   sourceContentFor,
+  sourceName,
   traceSegment,
 };

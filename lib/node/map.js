@@ -1,9 +1,11 @@
 'use strict';
 // A source map that was read.
+const { inspect } = require('util');
 const addon = require('./addon.js');
 const given = require('./given.js');
-const { isThere, parsed, parts } = require('./json.js');
-const { each } = require('./mappings.js');
+const { parsed, parts } = require('./json.js');
+const { NUMBERS, each, encoded } = require('./mappings.js');
+const { outlineOf } = require('./outline.js');
 const { besideMap, isPath } = require('./paths.js');
 const { BAD_BASE, Refused, refusedGenerated, refusedMap, refusedWriting } = require('./refused.js');
 
@@ -62,86 +64,125 @@ function namesOf(handle) {
 
 function open(map) {
   if (!(map instanceof TraceMap)) throw new TypeError('a TraceMap is wanted');
-  if (!map.handle) throw new Error('the map is closed');
-  return map.handle;
+  const { handle } = map.inner;
+  if (!handle) throw new Error('the map is closed');
+  return handle;
 }
 
 // What a map has by this key, which is made once, of its handle.
 function once(map, key, make) {
   const handle = open(map);
-  if (!map.made.has(key)) map.made.set(key, make(handle));
-  return map.made.get(key);
+  const { made } = map.inner;
+  if (!made.has(key)) made.set(key, make(handle));
+  return made.get(key);
 }
 
-// The JSON of a map. What was given is not kept beside it.
-function json(map) {
-  return once(map, 'json', () => {
-    const object = parsed(map.given);
-    map.given = undefined;
-    return object;
+// How many generated lines a map of these mappings has.
+function linesOf(map, numbers) {
+  const { least, behind } = map.inner.outline;
+  return Math.max(numbers.length ? numbers[numbers.length - NUMBERS] + 1 : 0, least) + behind;
+}
+
+// The mappings as a text.
+function encodedMappings(map) {
+  return once(map, 'encoded', (handle) => {
+    const numbers = addon.mappings(handle);
+    return encoded(numbers, linesOf(map, numbers));
   });
 }
 
-// What a map has of the JSON of a regular map, or of an index map instead.
-function member(map, key, ofIndex) {
-  return once(map, key, (handle) => (isThere(json(map).sections) ? ofIndex(handle) : json(map)[key]));
+// The map as an object, with these mappings.
+function withMappings(map, mappings) {
+  const { version, file, names, sourceRoot, sources, sourcesContent, ignoreList } = map;
+  return { version, file, names, sourceRoot, sources, sourcesContent, mappings, ignoreList };
+}
+
+const numbersTo = (count) => Array.from({ length: count }, (_, index) => index);
+
+// What the JSON of a regular map has by this key.
+function json(map, key) {
+  return once(map, key, () => map.inner.outline[key] && JSON.parse(map.inner.outline[key]));
+}
+
+// The contents of the sources, which are kept no longer than they are in use.
+function contentsOf(map) {
+  const handle = open(map);
+  const { made, outline: { isIndex, contents } } = map.inner;
+  if (!isIndex && contents === undefined) return undefined;
+  const kept = made.get('contents') && made.get('contents').deref();
+  if (kept) return kept;
+  const { sources } = map.counts;
+  const contentAt = (index) => (index < sources ? addon.sourceContent(handle, index) : null);
+  const list = numbersTo(isIndex ? sources : contents).map(contentAt);
+  made.set('contents', new WeakRef(list));
+  return list;
 }
 
 // The numbers of the sources that are marked as ignored.
-function ignored(handle) {
-  return [...Array(addon.counts(handle).sources).keys()].filter((index) => addon.isIgnored(handle, index));
+const ignored = (handle) => numbersTo(addon.counts(handle).sources).filter((index) => addon.isIgnored(handle, index));
+
+// What trace-mapping has as a map's own members. An index map has no sources of its own, and has their names. What is
+// assigned to one takes its place.
+const members = {
+  version: (map) => open(map) && 3,
+  file: (map) => {
+    const file = addon.file(open(map));
+    return file === null ? undefined : file;
+  },
+  names: (map) => once(map, 'names', () => numbersTo(map.counts.names).map((index) => map.nameAt(index))),
+  sourceRoot: (map) => json(map, 'sourceRoot'),
+  sources: (map) => (open(map) && map.inner.outline.isIndex ? map.resolvedSources : json(map, 'sources')),
+  sourcesContent: contentsOf,
+  ignoreList: (map) => (open(map) && map.inner.outline.isIndex ? once(map, 'ignored', ignored) : json(map, 'ignoreList')),
+  resolvedSources: (map) =>
+    once(map, 'resolvedSources', () => numbersTo(map.counts.sources).map((index) => map.sourceAt(index))),
+};
+const own = {};
+for (const [key, make] of Object.entries(members)) {
+  own[key] = {
+    configurable: true,
+    enumerable: true,
+    get() {
+      return make(this);
+    },
+    set(value) {
+      Object.defineProperty(this, key, { value, writable: true });
+    },
+  };
 }
 
 // Leaves a map closed, whose handle is freed or is no more its own.
 function empty(map) {
-  map.handle = map.given = undefined;
-  map.made.clear();
+  map.inner.handle = undefined;
+  map.inner.made.clear();
 }
 
-// A source map that was read: of a text, a Uint8Array or a parsed map, which stands at the URL or path `mapUrl`, if there is one.
-// It is freed by `close`, or when nothing names it any more. A TraceMap is itself.
+// A source map that was read: of a text, a Uint8Array or a parsed map, which stands at the URL or path `mapUrl`, if there is
+// one. What is given is not kept. It is freed by `close`, or when nothing names it any more. A TraceMap is itself.
 class TraceMap {
+  #inner;
+
   constructor(map, mapUrl, interval = 64) {
     if (map instanceof TraceMap) {
       open(map);
       return map;
     }
-    this.given = given.steady(map);
-    this.handle = readAt(given.mapBytes(this.given), given.mapUrl(mapUrl), given.interval(interval));
-    this.made = new Map();
-    this.sourceTexts = [];
-    this.nameTexts = [];
+    const bytes = given.mapBytes(map);
+    const handle = readAt(bytes, given.mapUrl(mapUrl), given.interval(interval));
+    const outline = outlineOf(bytes);
+    // The text of no lines is that of one line without segments.
+    if (Array.isArray(map.mappings) && map.mappings.length === 0) outline.least = 0;
+    this.#inner = { handle, outline, made: new Map(), sourceTexts: [], nameTexts: [] };
+    Object.defineProperties(this, own);
+  }
+
+  // What the calls of this library alone use.
+  get inner() {
+    return this.#inner;
   }
 
   get counts() {
     return addon.counts(open(this));
-  }
-
-  get version() {
-    return open(this) && 3;
-  }
-
-  get file() {
-    const file = addon.file(open(this));
-    return file === null ? undefined : file;
-  }
-
-  // The sources as the map has them. An index map has none of its own, and has their names.
-  get sources() {
-    return member(this, 'sources', () => this.resolvedSources);
-  }
-
-  get sourceRoot() {
-    return member(this, 'sourceRoot', () => undefined);
-  }
-
-  get sourcesContent() {
-    return member(this, 'sourcesContent', () => this.sourceEntries.map(({ content }) => content));
-  }
-
-  get ignoreList() {
-    const list = member(this, 'ignoreList', ignored);
-    return list || member(this, 'x_google_ignoreList', () => undefined) || undefined;
   }
 
   // All sources, each {name, content, ignored}.
@@ -154,23 +195,16 @@ class TraceMap {
     }));
   }
 
-  // The names of the sources: texts, or null.
-  get resolvedSources() {
-    return once(this, 'resolvedSources', () => Array.from({ length: this.counts.sources }, (_, index) => this.sourceAt(index)));
-  }
-
   sourceAt(index) {
-    if (this.sourceTexts[index] === undefined) this.sourceTexts[index] = addon.sourceName(open(this), index);
-    return this.sourceTexts[index];
-  }
-
-  get names() {
-    return once(this, 'names', () => Array.from({ length: this.counts.names }, (_, index) => this.nameAt(index)));
+    const { sourceTexts } = this.#inner;
+    if (sourceTexts[index] === undefined) sourceTexts[index] = addon.sourceName(open(this), index);
+    return sourceTexts[index];
   }
 
   nameAt(index) {
-    if (this.nameTexts[index] === undefined) this.nameTexts[index] = addon.name(open(this), index);
-    return this.nameTexts[index];
+    const { nameTexts } = this.#inner;
+    if (nameTexts[index] === undefined) nameTexts[index] = addon.name(open(this), index);
+    return nameTexts[index];
   }
 
   // Each mapping, as eachMapping has it.
@@ -194,14 +228,24 @@ class TraceMap {
     return text;
   }
 
+  // The map as an object, of which JSON is made.
+  toJSON() {
+    return withMappings(this, encodedMappings(this));
+  }
+
   close() {
-    if (this.handle) addon.closeMap(this.handle);
+    if (this.#inner.handle) addon.closeMap(this.#inner.handle);
     empty(this);
   }
 
   [DISPOSE]() {
     this.close();
   }
+
+  [inspect.custom](depth, options) {
+    if (!this.#inner.handle) return 'TraceMap (closed)';
+    return depth < 0 ? '[TraceMap]' : `TraceMap ${inspect({ ...this }, { ...options, depth })}`;
+  }
 }
 
-module.exports = { DISPOSE, TraceMap, empty, json, namesOf, once, open, read, standingAt };
+module.exports = { DISPOSE, TraceMap, empty, encodedMappings, linesOf, namesOf, once, open, read, standingAt, withMappings };

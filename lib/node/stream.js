@@ -13,7 +13,8 @@ const MOST_TEXT = 1073741824;
 
 // Rewrites what is written to it as `rewrite` does the whole, in parts that end where a line does. At most an unfinished line is
 // held back, and of one that can be no frame nothing. What is passed on or held back is copied, as its writer may use its place
-// again. `counts` are those of all that was written. The table stays the caller's.
+// again. `counts` are those of all that was written. The table stays the caller's. A map that is not read for an error is an
+// event `refused` with the URL and the error, or else told as the table tells it.
 class RewriteStream extends Transform {
   #table;
   #how;
@@ -69,10 +70,15 @@ class RewriteStream extends Transform {
   #put(pieces) {
     [this.#pieces, this.#length] = [[], 0];
     if (pieces.length === 0) return;
-    const numbers = new Float64Array(4);
-    const text = rewritten(this.#table, pieces.length === 1 ? pieces[0] : Buffer.concat(pieces), this.#how, numbers);
+    const bytes = pieces.length === 1 ? pieces[0] : Buffer.concat(pieces);
+    const { text, numbers } = rewritten(this.#table, bytes, this.#how, (url, error) => this.#tell(url, error));
     numbers.forEach((number, i) => (this.#numbers[i] += number));
     this.push(text);
+  }
+
+  // Tells those who listen of a map that is not read, or else the table.
+  #tell(url, error) {
+    if (!this.emit('refused', url, error)) this.#table.tell(url, error);
   }
 
   // Holds a piece of the unfinished line back.

@@ -2,28 +2,50 @@
 // Stack traces and other texts, rewritten over a table of maps.
 const addon = require('./addon.js');
 const given = require('./given.js');
+const { ask, cutAndRewritten } = require('./loading.js');
 const { DISPOSE, TraceMap, empty, open: openMap, standingAt } = require('./map.js');
-const { refusedText, refusedUrl } = require('./refused.js');
+const { refusedUrl } = require('./refused.js');
+
+// So many of the maps that were refused are remembered.
+const MOST_REFUSALS = 100;
 
 // Maps, each under the URL that frames name: an object or pairs of a URL and a map's text, Uint8Array or TraceMap. A
-// TraceMap that is given is closed: the table has it then. `load` is asked for the map of each URL that is not among them,
-// once, when a frame first names it, and gives null or undefined where there is none. It is freed as a TraceMap is.
+// TraceMap that is given is closed: the table has it then. `load` is asked for the map of each URL or path that is not among
+// them, without query and fragment, once, when a frame or a place first names it, and gives null or undefined where there is
+// none. What it throws, and why its map is refused, is told to `refused`, or else kept in `refusals`, of which there are 100
+// at most; the frames stay. It is freed as a TraceMap is.
 class Table {
   constructor(maps, options) {
-    const { load } = given.options(options, 'load');
+    const { load, refused } = given.options(options, 'load', 'refused');
     if (typeof maps !== 'object' || maps === null) throw new TypeError('`maps` must be an object or pairs of a URL and a map');
-    this.load = given.loader(load);
-    // The URLs that have a map here or were asked for, a character for each of their bytes.
-    this.known = new Set();
+    this.load = given.callable(load, 'load');
+    this.refused = given.callable(refused, 'refused');
+    this.refusals = [];
+    // Whether URLs that were named have a map here, by a character for each of their bytes.
+    this.known = new Map();
     this.counts = null;
     this.handle = addon.newTable();
     for (const [key, map] of maps[Symbol.iterator] ? maps : Object.entries(maps)) {
       const url = given.text(key, 'URL');
       const bytes = given.utf8(url, '`URL`');
-      const reported = put(this, url, map);
-      if (typeof reported === 'number') throw refusedUrl(reported, url);
-      this.known.add(bytes.toString('latin1'));
+      this.put(url, map);
+      this.known.set(bytes.toString('latin1'), true);
     }
+  }
+
+  // Puts a map into the table.
+  put(url, map) {
+    const isRead = map instanceof TraceMap;
+    const handle = isRead ? openMap(map) : standingAt(given.mapBytes(map), url);
+    const reported = addon.add(open(this), Buffer.from(url), handle);
+    if (typeof reported === 'number') throw refusedUrl(reported, url);
+    if (isRead) empty(map);
+  }
+
+  // Tells of a map that is not read.
+  tell(url, error) {
+    if (this.refused) this.refused(url, error);
+    else if (this.refusals.length < MOST_REFUSALS) this.refusals.push({ url, error });
   }
 
   close() {
@@ -42,29 +64,6 @@ function open(table) {
   return table.handle;
 }
 
-// Puts a map into a table, which may refuse it by a number.
-function put(table, url, map) {
-  const isRead = map instanceof TraceMap;
-  const handle = isRead ? openMap(map) : standingAt(given.mapBytes(map), url);
-  const reported = addon.add(open(table), Buffer.from(url), handle);
-  if (isRead && typeof reported !== 'number') empty(map);
-  return reported;
-}
-
-// Asks for the maps of the URLs that frames of the trace name and that were not asked for. A URL that is not UTF-8, or that no
-// table takes, has none. One whose map is refused is asked for again.
-function ask(table, trace) {
-  const numbers = new Float64Array(3);
-  while (addon.nextFrameUrl(trace, numbers)) {
-    const bytes = Buffer.from(trace.buffer, trace.byteOffset + numbers[0], numbers[1]);
-    const [key, url] = [bytes.toString('latin1'), bytes.toString()];
-    if (table.known.has(key)) continue;
-    const map = Buffer.from(url).equals(bytes) ? table.load(url) : null;
-    if (map !== null && map !== undefined) put(table, url, map);
-    table.known.add(key);
-  }
-}
-
 // What `rewrite` and a stream are asked: whether lines of ignored sources are hidden, and whether places anywhere are rewritten.
 function rewriting(options) {
   const { hideIgnored = false, anywhere = false } = given.options(options, 'hideIgnored', 'anywhere');
@@ -73,13 +72,11 @@ function rewriting(options) {
   return { hide, places };
 }
 
-// The text of these bytes, and in the numbers how many lines, frames or places it had, and how many were mapped and hidden.
-function rewritten(table, bytes, { hide, places }, numbers) {
+// The text of these bytes, and how many lines, frames or places it had, and how many were mapped and hidden.
+function rewritten(table, bytes, how, tell = (url, error) => table.tell(url, error)) {
   open(table);
-  if (table.load) ask(table, bytes);
-  const text = addon.rewrite(open(table), bytes, places, hide, numbers);
-  if (text === null) throw refusedText();
-  return text;
+  const parts = table.load ? ask(table, bytes, how.places, tell) : [];
+  return cutAndRewritten(open(table), bytes, parts, how);
 }
 
 function counted([lines, frames, mapped, hidden], { places }) {
@@ -90,9 +87,8 @@ function counted([lines, frames, mapped, hidden], { places }) {
 // wherever it stands. `table.counts` then says how many lines, frames or places it had, and how many were mapped and hidden.
 function rewrite(table, trace, options) {
   open(table);
-  const [bytes, how] = [given.bytes(trace, 'trace'), rewriting(options)];
-  const numbers = new Float64Array(4);
-  const text = rewritten(table, bytes, how, numbers);
+  const how = rewriting(options);
+  const { text, numbers } = rewritten(table, given.bytes(trace, 'trace'), how);
   table.counts = counted(numbers, how);
   return text;
 }

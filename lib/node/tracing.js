@@ -2,9 +2,8 @@
 // The calls of @jridgewell/trace-mapping, and look-ups of many positions at once.
 const addon = require('./addon.js');
 const given = require('./given.js');
-const { lines } = require('./json.js');
-const { TraceMap, json, once, open } = require('./map.js');
-const { NUMBERS, decoded, encoded, mappingAt } = require('./mappings.js');
+const { TraceMap, encodedMappings, linesOf, once, open, withMappings } = require('./map.js');
+const { NUMBERS, decoded, mappingAt } = require('./mappings.js');
 
 const GREATEST_LOWER_BOUND = 1;
 const LEAST_UPPER_BOUND = -1;
@@ -61,21 +60,10 @@ function eachMapping(map, call) {
 
 // The mappings as lines of segments.
 function decodedMappings(map) {
-  return once(map, 'decoded', (handle) => decoded(addon.mappings(handle), lines(json(map))));
-}
-
-// The mappings as a text: that of the map, where it has one.
-function encodedMappings(map) {
-  return once(map, 'encoded', (handle) => {
-    const { mappings, sections } = json(map);
-    return typeof mappings === 'string' && !sections ? mappings : encoded(addon.mappings(handle), lines(json(map)));
+  return once(map, 'decoded', (handle) => {
+    const numbers = addon.mappings(handle);
+    return decoded(numbers, linesOf(map, numbers));
   });
-}
-
-// The map as an object, with these mappings.
-function withMappings(map, mappings) {
-  const { version, file, names, sourceRoot, sources, sourcesContent, ignoreList } = map;
-  return { version, file, names, sourceRoot, sources, sourcesContent, mappings, ignoreList };
 }
 
 const decodedMap = (map) => withMappings(map, decodedMappings(map));
@@ -91,6 +79,10 @@ function sourceNumber(map, source) {
   const index = map.sources.indexOf(source);
   return index < 0 ? map.resolvedSources.indexOf(source) : index;
 }
+
+// The name and the content of the source of this number, from 0, where the map has them.
+const sourceName = (map, index) => addon.sourceName(open(map), given.source(index));
+const sourceContent = (map, index) => addon.sourceContent(open(map), given.source(index));
 
 // The content of this source, where the map has both.
 function sourceContentFor(map, source) {
@@ -108,6 +100,7 @@ function isIgnored(map, source) {
 
 module.exports = {
   AnyMap,
+  FlattenMap: AnyMap,
   GREATEST_LOWER_BOUND,
   LEAST_UPPER_BOUND,
   decodedMap,
@@ -119,6 +112,8 @@ module.exports = {
   lookUpMany,
   originalPositionFor,
   presortedDecodedMap: AnyMap,
+  sourceContent,
   sourceContentFor,
+  sourceName,
   traceSegment,
 };

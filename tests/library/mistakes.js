@@ -3,6 +3,10 @@
 const assert = require('node:assert');
 const fs = require('node:fs');
 const path = require('node:path');
+const util = require('node:util');
+const v8 = require('node:v8');
+const vm = require('node:vm');
+const chances = require('../vectors/chance.js').chanceFrom(11);
 const smap = require('smap');
 // What nobody else is to call has no name by which it is found.
 const within = (name) => require(path.join(path.dirname(require.resolve('smap')), name));
@@ -84,7 +88,7 @@ function many() {
 function beneath() {
   for (const name of ['smap/addon.js', 'smap/tracing.js']) refuses('Error', () => require(name), /not defined by "exports"/);
   const map = new smap.TraceMap(small);
-  const { handle } = map;
+  const { handle } = map.inner;
   addon.room.set([0, 12, 0]);
   handle();
   same([...addon.room.subarray(3)], [2, 10, 0, 1, 4, 1, 0]);
@@ -93,7 +97,7 @@ function beneath() {
       refuses('TypeError', () => call(handle, number), /whole number/);
     }
   }
-  refuses('Error', () => addon.sourceName(handle, 9), /no such source/);
+  refuses('RangeError', () => addon.sourceName(handle, 9), 'no such source');
   refuses('TypeError', () => addon.lookUpMany(handle, new Uint32Array(2), new Uint32Array(6)), /lengths/);
   refuses('TypeError', () => addon.counts({}), /no map/);
   refuses('TypeError', () => addon.counts(), /arguments/);
@@ -231,7 +235,7 @@ function members() {
   refuses('RangeError', () => smap.eachMapping(map, () => { throw new RangeError('stop'); }), 'stop');
   const decoded = [[[0, 0, 0, 0], [10, 0, 1, 4, 0]], [[1, 2, 1, 4]], [], [[5]], []];
   same(smap.decodedMappings(map), decoded);
-  same(smap.encodedMappings(map), 'AAAA,UACIA;CEAA;;K,;');
+  same(smap.encodedMappings(map), 'AAAA,UACIA;CEAA;;K;');
   same([smap.traceSegment(map, 0, 9), smap.traceSegment(map, 0, Infinity), smap.traceSegment(map, 3, 5)], [[0, 0, 0, 0], [10, 0, 1, 4, 0], [5]]);
   same([smap.traceSegment(map, 3, 4), smap.traceSegment(map, 4, 0), smap.traceSegment(map, 9, 0), smap.traceSegment(map, 0, -1)], [null, null, null, null]);
   refuses('Error', () => smap.traceSegment(map, -1, 0), /`line` must be greater than or equal to 0/);
@@ -243,7 +247,7 @@ function members() {
   same(['./a.js', 'src/b.js', null, 'a.js'].map((source) => smap.isIgnored(map, source)), [true, true, false, false]);
   const { version, file, sourceRoot, sources, sourcesContent, names, ignoreList } = map;
   same(smap.decodedMap(map), { version, file, names, sourceRoot, sources, sourcesContent, mappings: decoded, ignoreList });
-  same(smap.encodedMap(map), { version, file, names, sourceRoot, sources, sourcesContent, mappings: 'AAAA,UACIA;CEAA;;K,;', ignoreList });
+  same(smap.encodedMap(map), { version, file, names, sourceRoot, sources, sourcesContent, mappings: 'AAAA,UACIA;CEAA;;K;', ignoreList });
   same(new smap.TraceMap(map, 7, 'x') === map && new smap.AnyMap(map) === map, true);
   const bare = new smap.TraceMap('{"version":3,"sources":[],"x_google_ignoreList":[],"mappings":";"}');
   same([bare.file, bare.sourceRoot, bare.sourcesContent, bare.names, bare.ignoreList], [undefined, undefined, undefined, [], []]);
@@ -268,7 +272,113 @@ function members() {
   }
 }
 
+// A source's texts are asked for by themselves: no JSON of the map is parsed for them, and what was given is not kept.
+function sourceTexts() {
+  const content = 'é"\\\n'.repeat(1000);
+  const object = { version: 3, sourceRoot: 'r', sources: ['a.js', null, 'b.js'], sourcesContent: [content, null], names: [], mappings: 'AAAA' };
+  for (const given of [object, JSON.stringify(object), Buffer.from(JSON.stringify(object))]) {
+    const { parse } = JSON;
+    let most = 0;
+    JSON.parse = (text) => {
+      most = Math.max(most, text.length);
+      return parse(text);
+    };
+    try {
+      const map = new smap.TraceMap(given);
+      same([0, 1, 2].map((index) => smap.sourceName(map, index)), ['r/a.js', null, 'r/b.js']);
+      same([0, 1, 2].map((index) => smap.sourceContent(map, index)), [content, null, null]);
+      same(['a.js', 'r/a.js', null, 'r/b.js', 'c.js'].map((source) => smap.sourceContentFor(map, source)), [content, content, null, null, null]);
+      same([smap.isIgnored(map, 'a.js'), map.sourcesContent, map.sourcesContent === map.sourcesContent], [false, [content, null], true]);
+      same(smap.encodedMappings(map), 'AAAA');
+    } finally {
+      JSON.parse = parse;
+    }
+    same(most < 100, true);
+  }
+  const map = new smap.TraceMap(object);
+  for (const call of [smap.sourceName, smap.sourceContent]) {
+    for (const number of [3, -1, far, 2 ** 53, Infinity]) refuses('RangeError', () => call(map, number), 'no such source');
+    for (const bad of [0.5, NaN, '0', null, undefined]) refuses('TypeError', () => call(map, bad), /`source` must be a whole number/);
+    for (const bad of [7, null, small]) refuses('TypeError', () => call(bad, 0), /a TraceMap is wanted/);
+  }
+  v8.setFlagsFromString('--expose-gc');
+  const collect = vm.runInNewContext('gc');
+  const large = Buffer.from(JSON.stringify({ ...object, sourcesContent: ['x'.repeat(2 ** 20)] }));
+  // A thread of its own lets go what is collected.
+  const held = (most) => {
+    let bytes = Infinity;
+    for (let round = 0; round < 50 && bytes > most; round++) {
+      collect();
+      bytes = process.memoryUsage().arrayBuffers;
+    }
+    return bytes;
+  };
+  const before = held(0);
+  const maps = Array.from({ length: 30 }, () => new smap.TraceMap(Buffer.from(large)));
+  same(maps.every(({ sources }) => sources.length === 3), true);
+  const most = before + 10 * 2 ** 20;
+  same(held(most) <= most, true);
+  maps.forEach((each) => each.close());
+}
+
+// What the text of a map has, however its JSON is written.
+function spellings() {
+  const section = { version: 3, sources: ['s.js'], names: [], mappings: ';;A' };
+  const regular = {
+    version: 3, other: { a: ['}]"\\', { b: [] }, 1e3, true, null] }, file: 'f.js', sourceRoot: '"r"', sources: ['a\\"b.js', null, 'ä'],
+    sourcesContent: ['{"mappings":"\\\\"', null, ']\\'], names: [], ignoreList: [2], mappings: ';;AAAA;C,;,;',
+  };
+  const index = { version: 3, file: 'f.js', sections: [{ offset: { line: 1, column: 0 }, map: section }, { map: { ...section, mappings: ';' }, offset: { column: 3, line: 9 } }] };
+  const reversed = (object) => Object.fromEntries(Object.entries(object).reverse());
+  for (const [object, lines] of [[regular, 6], [index, 11], [{ version: 3, sections: [] }, 0], [{ ...index, sections: null, ...regular }, 6]]) {
+    const texts = [object, reversed(object)].flatMap((one) => [0, 1, '\t\r\n'].map((indent) => JSON.stringify(one, null, indent)));
+    const more = texts.flatMap((text) => [text, `\ufeff \n${text}\n`, `)]}'x\n${text}`, text.replace('"mappings"', '"m\\u0061ppings"').replace(/;"/g, '\\u003b"')]);
+    for (const text of more) {
+      const map = new smap.TraceMap(text);
+      if (!object.sections) same([map.sources, map.sourceRoot, map.sourcesContent, map.ignoreList], [regular.sources, '"r"', regular.sourcesContent, [2]]);
+      same(smap.decodedMappings(map).length, lines);
+      map.close();
+    }
+  }
+  // Any bytes are passed over.
+  const { chance, below } = chances;
+  const pieces = ['{', '}', '[', ']', '"', '\\', ',', ':', ' ', '\0', 'a', '1', 'null', '\x01', '"k":'];
+  for (let round = 0; round < 3000; round++) {
+    const bytes = Buffer.from(Array.from({ length: below(30) }, () => pieces[below(pieces.length)]).join('') + (chance() < 0.1 ? '"' : ''));
+    for (let at = 0; at <= bytes.length + 1; at++) {
+      const parts = addon.members(bytes, at);
+      assert.ok(parts.every((end, i) => end <= bytes.length + 1 && (i === 0 || end >= parts[i - 1])), `${bytes}`);
+    }
+  }
+  same(true, true);
+}
+
+// A map's own members are those that trace-mapping's has, and may be assigned.
+function ownMembers() {
+  const map = new smap.TraceMap({ version: 3, file: 'f.js', sourceRoot: 'r', sources: ['a.js'], names: ['n'], mappings: 'AAAAA' });
+  const members = { version: 3, file: 'f.js', names: ['n'], sourceRoot: 'r', sources: ['a.js'], sourcesContent: undefined, ignoreList: undefined, resolvedSources: ['r/a.js'] };
+  same(Object.keys(map), Object.keys(members));
+  same({ ...map }, members);
+  same(JSON.stringify(map), '{"version":3,"file":"f.js","names":["n"],"sourceRoot":"r","sources":["a.js"],"mappings":"AAAAA"}');
+  same(JSON.parse(JSON.stringify(map)), JSON.parse(JSON.stringify(smap.encodedMap(map))));
+  same(util.inspect(map), `TraceMap ${util.inspect(members)}`);
+  same(util.inspect({ a: { b: { c: map } } }).replace(/\s+/g, ' '), '{ a: { b: { c: [TraceMap] } } }');
+  map.sourceRoot = 'other';
+  map.sources = ['b.js'];
+  same([map.sourceRoot, map.sources, smap.encodedMap(map).sourceRoot, { ...map }.sources, Object.keys(map)], ['other', ['b.js'], 'other', ['b.js'], Object.keys(members)]);
+  same(smap.originalPositionFor(map, { line: 1, column: 0 }).source, 'r/a.js');
+  map.close();
+  same(util.inspect(map), 'TraceMap (closed)');
+  same(smap.FlattenMap === smap.AnyMap, true);
+}
+
 function decodedMaps() {
+  const bare = { sources: ['a.js'], names: [], mappings: [[[0, 0, 0, 0]]] };
+  for (const map of [bare, { version: 3, sections: [{ offset: { line: 0, column: 0 }, map: bare }] }]) {
+    same([smap.encodedMappings(new smap.TraceMap(map)), new smap.TraceMap(map).version], ['AAAA', 3]);
+  }
+  for (const version of [null, 2, '3']) refuses('Refused', () => new smap.TraceMap({ ...bare, version }), /M4 Version/);
+  refuses('Refused', () => new smap.TraceMap({ ...bare, mappings: 'AAAA' }), /M4 Version/);
   const given = (mappings) => ({ version: 3, sources: ['a.js'], names: ['n'], mappings });
   const lines = [[[0, 0, 0, 0], [10, 0, 1, 4, 0]], [], [[5]]];
   for (const map of [given(lines), { toJSON: () => given(lines) }, { toJSON: () => JSON.parse(small) }]) {
@@ -434,26 +544,26 @@ function composingAll() {
   refuses('TypeError', () => smap.composeAll(map, {}, { load: () => 7 }), /a map must be a text/);
   isOpen();
   // The places of inner maps, where one map more is taken over, and none twice.
-  const [places, taken] = [addon.newInners(map.handle), new smap.TraceMap(inner)];
+  const [places, taken] = [addon.newInners(map.inner.handle), new smap.TraceMap(inner)];
   // What is no object is refused by node itself.
   const other = (bad, words) => (bad === undefined ? /undefined/ : words);
-  for (const bad of [7, undefined, {}, map.handle]) {
-    refuses('TypeError', () => addon.putInner(bad, 0, second.handle), other(bad, /no inner maps/));
-    refuses('TypeError', () => addon.nextInner(map.handle, bad), other(bad, /no inner maps/));
-    refuses('TypeError', () => addon.composeAll(map.handle, bad, false, false), other(bad, /no inner maps/));
+  for (const bad of [7, undefined, {}, map.inner.handle]) {
+    refuses('TypeError', () => addon.putInner(bad, 0, second.inner.handle), other(bad, /no inner maps/));
+    refuses('TypeError', () => addon.nextInner(map.inner.handle, bad), other(bad, /no inner maps/));
+    refuses('TypeError', () => addon.composeAll(map.inner.handle, bad, false, false), other(bad, /no inner maps/));
   }
   for (const bad of [7, undefined, {}, places]) {
     refuses('TypeError', () => addon.putInner(places, 0, bad), other(bad, /no map/));
     refuses('TypeError', () => addon.newInners(bad), other(bad, /no map/));
   }
-  for (const bad of [-1, 0.5, 2 ** 32, '0']) refuses('TypeError', () => addon.putInner(places, bad, second.handle), /whole number of 32 bits/);
-  same([addon.putInner(places, 3, taken.handle), addon.putInner(places, 1, taken.handle)], [false, true]);
-  refuses('Error', () => addon.putInner(places, 2, taken.handle), 'the map is closed');
-  same([addon.putInner(places, 1, second.handle), addon.nextInner(map.handle, places), addon.nextInner(map.handle, places)], [false, 0, 2]);
-  same([addon.innerName(map.handle, places, 2), addon.innerName(map.handle, places, 3)], ['https://e.test/y/b.js', null]);
-  same([addon.nextInner(map.handle, places), addon.innerName(map.handle, places, 3), addon.nextInner(map.handle, places)], [3, 's.ts', null]);
+  for (const bad of [-1, 0.5, 2 ** 32, '0']) refuses('TypeError', () => addon.putInner(places, bad, second.inner.handle), /whole number of 32 bits/);
+  same([addon.putInner(places, 3, taken.inner.handle), addon.putInner(places, 1, taken.inner.handle)], [false, true]);
+  refuses('Error', () => addon.putInner(places, 2, taken.inner.handle), 'the map is closed');
+  same([addon.putInner(places, 1, second.inner.handle), addon.nextInner(map.inner.handle, places), addon.nextInner(map.inner.handle, places)], [false, 0, 2]);
+  same([addon.innerName(map.inner.handle, places, 2), addon.innerName(map.inner.handle, places, 3)], ['https://e.test/y/b.js', null]);
+  same([addon.nextInner(map.inner.handle, places), addon.innerName(map.inner.handle, places, 3), addon.nextInner(map.inner.handle, places)], [3, 's.ts', null]);
   addon.closeInners(places);
-  refuses('Error', () => addon.nextInner(map.handle, places), 'the inner maps are closed');
+  refuses('Error', () => addon.nextInner(map.inner.handle, places), 'the inner maps are closed');
   isOpen();
   second.close();
   refuses('Error', () => smap.composeAll(map, [[0, second]]), 'the map is closed');
@@ -502,9 +612,7 @@ function loading() {
   const asked = [];
   const load = (name) => {
     asked.push(name);
-    if (name === 'odd.js') return '{}';
-    if (name === 'stop.js') throw new RangeError(name);
-    return [url, 'async x', 'eval at x'].includes(name) ? small : null;
+    return [url, 'eval at x://y'].includes(name) ? small : null;
   };
   const table = new smap.Table({ 'b.js': small }, { load });
   same(table.counts, null);
@@ -515,21 +623,96 @@ function loading() {
     same(asked, [url, 'c.js']);
   }
   same(table.counts, { lines: 5, frames: 4, mapped: 3, hidden: 0 });
-  // A URL that no table takes, and one that is no text.
-  const odd = Buffer.from('f@async x:1:11\nf@eval at x:1:11\nf@\xff.js:1:11\n', 'latin1');
+  // Texts that are no URL and no path, one that is no text, and a URL that no table takes.
+  const odd = Buffer.from('f@async x:1:11\nf@[native code]:1:11\nf@../../../etc/passwd:1:11\nf@x/../y.js:1:11\nf@x//y.js:1:11\nf@\xff.js:1:11\nf@eval at x://y:1:11\n', 'latin1');
   same(smap.rewrite(table, odd), odd);
-  same(asked, [url, 'c.js', 'async x', 'eval at x']);
-  for (let round = 0; round < 2; round++) {
-    refuses('Refused', () => smap.rewrite(table, 'f@odd.js:1:1\n'), `refused: odd.js: M4 Version\n  ${noVersion}`, { number: 4, url: 'odd.js' });
-    refuses('RangeError', () => smap.rewrite(table, 'f@stop.js:1:1\n'), /stop\.js/);
-  }
-  same(asked.slice(4), ['odd.js', 'stop.js', 'odd.js', 'stop.js']);
+  same(asked, [url, 'c.js', 'eval at x://y']);
+  same(table.refusals.map(({ url: name, error }) => [name, error.message]), [['eval at x://y', 'usage: A1 BadUrl: "eval at x://y"']]);
+  const paths = ['/srv/x', 'C:\\app\\x', 'c:/app/x', 'x/y.mjs', './y.cjs', 'index.android.bundle', 'app:///x'];
+  smap.rewrite(table, paths.map((path) => `f@${path}:1:1\n`).join(''));
+  same(asked.slice(3), paths);
   const map = new smap.TraceMap(small);
   const lending = new smap.Table({}, { load: () => map });
   same(smap.rewrite(lending, 'f@g.js:1:11'), Buffer.from('f@a.js:2:5'));
-  refuses('Error', () => smap.rewrite(lending, 'f@h.js:1:11'), 'the map is closed');
-  for (const bad of [7, null, 'a.js', {}]) refuses('TypeError', () => new smap.Table({}, { load: bad }), /`load` must be a function/);
-  refuses('TypeError', () => smap.rewrite(new smap.Table({}, { load: () => 7 }), 'f@g.js:1:11'), /a map must be a text/);
+  same([String(smap.rewrite(lending, 'f@h.js:1:11')), lending.refusals[0].error.message], ['f@h.js:1:11', 'the map is closed']);
+  for (const bad of [7, null, 'a.js', {}]) {
+    refuses('TypeError', () => new smap.Table({}, { load: bad }), /`load` must be a function/);
+    refuses('TypeError', () => new smap.Table({}, { refused: bad }), /`refused` must be a function/);
+  }
+}
+
+// What a loader throws, and why its map is refused: the frames stay, and it is told once.
+function refusing() {
+  const asked = [];
+  const load = (name) => {
+    asked.push(name);
+    if (name === 'stop.js') throw new RangeError(name);
+    return { 'odd.js': '{}', 'seven.js': 7, 'later.js': Promise.resolve(small), 'a.min.js': small }[name];
+  };
+  const names = ['odd.js', 'stop.js', 'seven.js', 'later.js'];
+  const why = [`refused: odd.js: M4 Version\n  ${noVersion}`, 'stop.js', 'a map must be a text, a Uint8Array or a parsed map',
+    'a map must be a text, a Uint8Array or a parsed map, and not a promise of one'];
+  const trace = names.map((name) => `f@${name}:1:1\n`).join('');
+  const told = [];
+  for (const refused of [undefined, (name, error) => told.push({ url: name, error })]) {
+    const table = new smap.Table({}, { load, refused });
+    for (let round = 0; round < 2; round++) same(String(smap.rewrite(table, `${trace}f@a.min.js:1:11`)), `${trace}f@a.js:2:5`);
+    const reported = refused ? told : table.refusals;
+    same(reported.map(({ url, error }) => [url, error.message]), names.map((name, i) => [name, why[i]]));
+    same(reported.map(({ error }) => error.name), ['Refused', 'RangeError', 'TypeError', 'TypeError']);
+    same([reported[0].error.number, reported[0].error.url], [4, 'odd.js']);
+    same(asked.splice(0), [...names, 'a.min.js']);
+  }
+  // Not all are kept, and what the one that is told throws is thrown.
+  const many = new smap.Table({}, { load: () => '{}' });
+  smap.rewrite(many, Array.from({ length: 200 }, (_, i) => `f@${i}.js:1:1\n`).join(''));
+  same([many.refusals.length, many.refusals[99].url], [100, '99.js']);
+  const failing = new smap.Table({}, { load, refused: () => { throw new RangeError('told'); } });
+  refuses('RangeError', () => smap.rewrite(failing, trace), 'told');
+  refuses('TypeError', () => new smap.TraceMap(Promise.resolve(small)), /and not a promise of one$/);
+  refuses('TypeError', () => smap.composeAll(new smap.TraceMap(small), {}, { load: () => Promise.resolve(small) }), /and not a promise of one$/);
+}
+
+// URLs with a query or a fragment have one map together, and keep both where they have no original. Lines and columns are those
+// of `small`: 1:11 has an original, and 2:1 none.
+function cutUrls() {
+  const asked = [];
+  const load = (name) => {
+    asked.push(name);
+    return name.endsWith('x.min.js') ? small : null;
+  };
+  const url = 'https://e.test/x.min.js';
+  const pairs = [['?v=3', 1], ['?v=4', 1], ['#y?z', 1], ['?v=3', 2], ['', 1], ['?', 2]];
+  const [given, wanted] = [pairs.map(([more, line]) => [`${url}${more}:${line}:11`, line]), []];
+  for (const [place, line] of given) wanted.push(line === 1 ? 'https://e.test/a.js:2:5' : place);
+  for (let count = 1; count <= 2 ** pairs.length; count *= 2) {
+    const rows = Array.from({ length: count }, (_, i) => (i * 7) % pairs.length);
+    const texts = (places, before, behind) => rows.map((row) => `${before}${places[row]}${behind}`).join('');
+    const places = given.map(([place]) => place);
+    const mapped = rows.filter((row) => given[row][1] === 1).length;
+    const table = new smap.Table({}, { load });
+    same(String(smap.rewrite(table, texts(places, 'x\n    at f (', ')\n'))), texts(wanted, 'x\n    at f (', ')\n'));
+    same(table.counts, { lines: 2 * count, frames: count, mapped, hidden: 0 });
+    for (const [before, behind] of [['[', '] '], ['', '\n'], ['"', '"'], ['\x1b[36m', '\x1b[0m'], ['at=', ',']]) {
+      const line = texts(places, before, behind);
+      same(String(smap.rewrite(table, line, { anywhere: true })), texts(wanted, before, behind));
+      same([table.counts.places, table.counts.mapped], [count, mapped]);
+    }
+    same(asked.splice(0), [url]);
+  }
+  // A map that is given for the whole URL comes first, and one for the cut URL serves all.
+  const other = small.replace('a.js', 'o.js');
+  const both = new smap.Table({ [`${url}?v=3`]: other, [url]: small }, { load });
+  const text = `f@${url}?v=3:1:11\nf@${url}?v=4:1:11\n`;
+  for (const anywhere of [false, true]) {
+    same(String(smap.rewrite(both, text, { anywhere })), 'f@https://e.test/o.js:2:5\nf@https://e.test/a.js:2:5\n');
+  }
+  same(asked, []);
+  // Without a loader a URL is named as it stands.
+  same(String(smap.rewrite(new smap.Table({ [url]: small }), text)), text);
+  const hiding = new smap.Table({}, { load: () => small.replace('"names"', '"ignoreList":[0],"names"') });
+  same(String(smap.rewrite(hiding, text, { hideIgnored: true })), '');
+  same(hiding.counts, { lines: 2, frames: 2, mapped: 0, hidden: 2 });
 }
 
 function anywhere() {
@@ -540,7 +723,18 @@ function anywhere() {
   same(table.counts, { lines: 2, places: 3, mapped: 2 });
   refuses('Error', () => smap.rewrite(table, text, { anywhere: true, hideIgnored: true }), /`hideIgnored` with `anywhere`/);
   for (const bad of [7, null, 'yes']) refuses('TypeError', () => smap.rewrite(table, text, { anywhere: bad }), /`anywhere`/);
-  same(smap.rewrite(new smap.Table({}, { load: () => small }), text, { anywhere: true }), wanted);
+  // The URLs of places are asked for, and no other text before what could be one.
+  const asked = [];
+  const load = (name) => {
+    asked.push(name);
+    return name === 'g.js' ? small : null;
+  };
+  const loading = new smap.Table({}, { load });
+  same(smap.rewrite(loading, text, { anywhere: true }), wanted);
+  same(loading.counts, { lines: 2, places: 3, mapped: 2 });
+  const line = '12:30:45 x:1:2 y=/srv/b.js:1:2 {"stack":"f@app:///c.js?d=1:1:1\\n"} \x1b[1;36mhttps://e.test/e.js:1:1\x1b[0m a:7:8, (d/f.js:1:2)[native code:1:1]:3:12345678901';
+  same(String(smap.rewrite(loading, line, { anywhere: true })), line);
+  same(asked, ['g.js', 'h.js', '/srv/b.js', 'app:///c.js', 'https://e.test/e.js', 'd/f.js']);
 }
 
 // No option is passed over.
@@ -596,6 +790,9 @@ bases();
 paths();
 halves();
 members();
+sourceTexts();
+spellings();
+ownMembers();
 decodedMaps();
 bytes();
 shared();
@@ -604,6 +801,8 @@ compositions(process.argv[2]);
 composingAll();
 tables();
 loading();
+refusing();
+cutUrls();
 anywhere();
 options();
 closed();

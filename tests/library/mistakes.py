@@ -32,7 +32,7 @@ def refuses(error, call, *texts, **members):
     global reported
     try:
         got = call()
-    except Exception as raised:
+    except BaseException as raised:
         assert type(raised) is error, f"{raised!r} in place of {error.__name__}"
         for text in texts:
             assert text in str(raised), f"{raised} has no {text}"
@@ -365,33 +365,106 @@ def loading():
 
     def load(name):
         asked.append(name)
-        if name == "odd.js":
-            return b"{}"
-        if name == "stop.js":
-            raise KeyError(name)
-        return SMALL if name in (url, "async x", "eval at x") else None
+        return SMALL if name in (url, "eval at x://y") else None
 
     with Rewriter({"b.js": SMALL}, load=load) as rewriter:
         for _ in range(2):
             same(rewriter.rewrite(frame + b"f@b.js:1:11\nf@c.js:1:1\nat d.js\n" + frame), mapped + b"f@a.js:2:5\nf@c.js:1:1\nat d.js\n" + mapped)
             same(asked, [url, "c.js"])
         same(rewriter.counts, {"lines": 5, "frames": 4, "mapped": 3, "hidden": 0})
-        # A URL that no table takes, and one that is no text.
-        odd = b"f@async x:1:11\nf@eval at x:1:11\nf@\xff.js:1:11\n"
+        # Texts that are no URL and no path, one that is no text, and a URL that no table takes.
+        odd = (b"f@async x:1:11\nf@[native code]:1:11\nf@../../../etc/passwd:1:11\nf@x/../y.js:1:11\nf@x//y.js:1:11\nf@\xff.js:1:11\n"
+               b"f@eval at x://y:1:11\n")
         same(rewriter.rewrite(odd), odd)
-        same(asked, [url, "c.js", "async x", "eval at x"])
-        for _ in range(2):
-            refuses(Refused, lambda: rewriter.rewrite("f@odd.js:1:1\n"), "refused: odd.js: M4 Version", number=4, url="odd.js")
-            refuses(KeyError, lambda: rewriter.rewrite("f@stop.js:1:1\n"), "stop.js")
-        same(asked[4:], ["odd.js", "stop.js"] * 2)
+        same(asked, [url, "c.js", "eval at x://y"])
+        same([(name, str(error)) for name, error in rewriter.refusals], [("eval at x://y", "usage: A1 BadUrl: 'eval at x://y'")])
+        paths = ["/srv/x", "C:\\app\\x", "c:/app/x", "x/y.mjs", "./y.cjs", "index.android.bundle", "app:///x"]
+        rewriter.rewrite("".join(f"f@{path}:1:1\n" for path in paths))
+        same(asked[3:], paths)
     refuses(ValueError, lambda: rewriter.rewrite("f@e.js:1:1"), "closed")
     with SourceMap(SMALL) as given, Rewriter({}, load=lambda name: given) as rewriter:
         same(rewriter.rewrite("f@g.js:1:11"), b"f@a.js:2:5")
-        refuses(ValueError, lambda: rewriter.rewrite("f@h.js:1:11"), "closed")
+        same((rewriter.rewrite("f@h.js:1:11"), str(rewriter.refusals[0][1])), (b"f@h.js:1:11", "the map is closed"))
     for bad in (7, "a.js", {}):
-        refuses(TypeError, lambda: Rewriter({}, load=bad), "function", type(bad).__name__)
-    with Rewriter({}, load=lambda name: 7) as rewriter:
-        refuses(TypeError, lambda: rewriter.rewrite("f@g.js:1:11"), "bytes, a str or a Path", "int")
+        refuses(TypeError, lambda: Rewriter({}, load=bad), "load is a function", type(bad).__name__)
+        refuses(TypeError, lambda: Rewriter({}, refused=bad), "refused is a function", type(bad).__name__)
+
+
+def refusing():
+    # What a loader raises, and why its map is refused: the frames stay, and it is told once.
+    asked, told = [], []
+
+    def load(name):
+        asked.append(name)
+        if name == "stop.js":
+            raise KeyError(name)
+        return {"odd.js": b"{}", "seven.js": 7, "a.min.js": SMALL}[name]
+
+    names = ["odd.js", "stop.js", "seven.js"]
+    trace = "".join(f"f@{name}:1:1\n" for name in names)
+    for refused in (None, lambda *both: told.append(both)):
+        with Rewriter({}, load=load, refused=refused) as rewriter:
+            for _ in range(2):
+                same(rewriter.rewrite(trace + "f@a.min.js:1:11"), trace.encode() + b"f@a.js:2:5")
+            reported = told if refused else rewriter.refusals
+        same([(url, type(error)) for url, error in reported], list(zip(names, (Refused, KeyError, TypeError))))
+        same(str(reported[0][1]).splitlines()[0], "refused: odd.js: M4 Version")
+        same((reported[0][1].number, reported[0][1].url), (4, "odd.js"))
+        same(asked, names + ["a.min.js"])
+        asked.clear()
+
+    # Not all are kept, what the one that is told raises is raised, and what is no error ends the call.
+    with Rewriter({}, load=lambda name: b"{}") as rewriter:
+        rewriter.rewrite("".join(f"f@{i}.js:1:1\n" for i in range(200)))
+        same((len(rewriter.refusals), rewriter.refusals[99][0]), (100, "99.js"))
+
+    def fail(*_):
+        raise KeyError("told")
+
+    def interrupted(name):
+        raise KeyboardInterrupt
+
+    refuses(KeyError, lambda: Rewriter({}, load=load, refused=fail).rewrite(trace), "told")
+    refuses(KeyboardInterrupt, lambda: Rewriter({}, load=interrupted).rewrite(trace))
+
+
+def cut_urls():
+    # URLs with a query or a fragment have one map together, and keep both where they have no original. 1:11 has one, 2:11 none.
+    asked, url = [], "https://e.test/x.min.js"
+
+    def load(name):
+        asked.append(name)
+        return SMALL if name.endswith("x.min.js") else None
+
+    pairs = [("?v=3", 1), ("?v=4", 1), ("#y?z", 1), ("?v=3", 2), ("", 1), ("?", 2)]
+    places = [f"{url}{more}:{line}:11" for more, line in pairs]
+    wanted = ["https://e.test/a.js:2:5" if line == 1 else place for place, (_, line) in zip(places, pairs)]
+    for count in (1, 2, 4, 8, 16, 32, 64):
+        rows = [i * 7 % len(pairs) for i in range(count)]
+        mapped = sum(pairs[row][1] == 1 for row in rows)
+        texts = lambda given, before, behind: "".join(before + given[row] + behind for row in rows)
+        with Rewriter({}, load=load) as rewriter:
+            before, behind = "x\n    at f (", ")\n"
+            same(rewriter.rewrite(texts(places, before, behind)).decode(), texts(wanted, before, behind))
+            same(rewriter.counts, {"lines": 2 * count, "frames": count, "mapped": mapped, "hidden": 0})
+            for before, behind in (("[", "] "), ("", "\n"), ('"', '"'), ("\x1b[36m", "\x1b[0m"), ("at=", ",")):
+                same(rewriter.rewrite(texts(places, before, behind), anywhere=True).decode(), texts(wanted, before, behind))
+                same((rewriter.counts["places"], rewriter.counts["mapped"]), (count, mapped))
+        same(asked, [url])
+        asked.clear()
+    # A map that is given for the whole URL comes first, and one for the cut URL serves all.
+    text = f"f@{url}?v=3:1:11\nf@{url}?v=4:1:11\n"
+    with Rewriter({f"{url}?v=3": SMALL.replace(b"a.js", b"o.js"), url: SMALL}, load=load) as both:
+        for anywhere in (False, True):
+            for given in (text, memoryview(bytearray(text.encode()))):
+                same(both.rewrite(given, anywhere=anywhere), b"f@https://e.test/o.js:2:5\nf@https://e.test/a.js:2:5\n")
+    same(asked, [])
+    # Without a loader a URL is named as it stands.
+    with Rewriter({url: SMALL}) as plain:
+        same(plain.rewrite(text), text.encode())
+    with Rewriter({}, load=lambda name: SMALL.replace(b'"names"', b'"ignoreList":[0],"names"')) as hiding:
+        same(hiding.rewrite(text, hide_ignored=True), b"")
+        same(hiding.counts, {"lines": 2, "frames": 2, "mapped": 0, "hidden": 2})
 
 
 def anywhere():
@@ -400,8 +473,15 @@ def anywhere():
         same(rewriter.rewrite(text, anywhere=True), b"{a.js:2:5} [h.js:1:11] {g.js:9:9}\n    at a.js:2:5\n")
         same(rewriter.counts, {"lines": 2, "places": 3, "mapped": 2})
         refuses(ValueError, lambda: rewriter.rewrite(text, hide_ignored=True, anywhere=True), "hide_ignored with anywhere")
-    with Rewriter({}, load=lambda name: SMALL) as rewriter:
+    # The URLs of places are asked for, and no other text before what could be one.
+    asked = []
+    with Rewriter({}, load=lambda name: asked.append(name) or (SMALL if name == "g.js" else None)) as rewriter:
         same(rewriter.rewrite(text, anywhere=True), b"{a.js:2:5} [h.js:1:11] {g.js:9:9}\n    at a.js:2:5\n")
+        same(rewriter.counts, {"lines": 2, "places": 3, "mapped": 2})
+        line = ('12:30:45 x:1:2 y=/srv/b.js:1:2 {"stack":"f@app:///c.js?d=1:1:1\\n"} \x1b[1;36mhttps://e.test/e.js:1:1\x1b[0m a:7:8, '
+                '(d/f.js:1:2)[native code:1:1]:3:12345678901')
+        same(rewriter.rewrite(line, anywhere=True), line.encode())
+    same(asked, ["g.js", "h.js", "/srv/b.js", "app:///c.js", "https://e.test/e.js", "d/f.js"])
 
 
 def lists():
@@ -412,6 +492,26 @@ def lists():
         mappings = small.mappings()
         same((next(mappings), mappings.__length_hint__()), (wanted[0], 2))
         same((small.sources, small.names), ([("a.js", None, False)], ["n"]))
+        same((small.source_name(0), small.source_content(index=0), small.is_ignored(0), small.ignore_list), ("a.js", None, False, []))
+        same((small.closed, repr(small)), (False, "<SourceMap file=None sources=1 segments=3>"))
+        for call in (small.source, small.source_name, small.source_content, small.is_ignored):
+            for number in (1, -1, FAR, 2**64):
+                refuses(IndexError, lambda: call(number), f"no source {number}")
+            for other in (0.0, "0", None, True):
+                refuses(TypeError, lambda: call(other), "a source is a whole number")
+    same((small.closed, repr(small)), (True, "<SourceMap closed>"))
+    marked = '{"version":3,"file":"f.js","sources":["a.js",null,"b.js"],"sourcesContent":["x",null,"ä"],"ignoreList":[2,0],"mappings":""}'
+    with SourceMap(marked) as made:
+        same([made.source_name(index) for index in range(3)], ["a.js", None, "b.js"])
+        same([made.source_content(index) for index in range(3)], ["x", None, "ä"])
+        same([made.is_ignored(index) for index in range(3)], [True, False, True])
+        same((made.ignore_list, repr(made)), ([0, 2], "<SourceMap file='f.js' sources=3 segments=0>"))
+    for call in (made.source_name, made.source_content, made.is_ignored):
+        refuses(ValueError, lambda: call(0), "the map is closed")
+    with Rewriter({"a.js": SMALL}, load=lambda name: None) as rewriter:
+        rewriter.rewrite("f@b.js:1:1")
+        same((rewriter.closed, repr(rewriter)), (False, "<Rewriter maps=1>"))
+    same((rewriter.closed, repr(rewriter)), (True, "<Rewriter closed>"))
     # They stay when the map is closed.
     same((list(mappings), list(mappings), mappings.__length_hint__()), (wanted[1:], [], 0))
     with SourceMap('{"version":3,"sources":[],"mappings":""}') as empty:
@@ -494,6 +594,8 @@ if __name__ == "__main__":
     composing_all()
     tables()
     loading()
+    refusing()
+    cut_urls()
     anywhere()
     closed()
     lists()

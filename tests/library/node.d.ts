@@ -3,6 +3,7 @@ declare class Buffer extends Uint8Array {}
 declare module 'stream' {
   export class Transform {
     constructor(options?: object);
+    on(event: string | symbol, listener: (...args: any[]) => void): this;
     end(chunk?: string | Uint8Array): this;
   }
 }

@@ -20,7 +20,7 @@ const same = (got, wanted, what) => {
 const frame = (column) => `    at f (${url}:1:${column})`;
 // Lines that are frames, hidden frames, none, and too long or just not too long for frames.
 const filled = (length) => `    at ${'x'.repeat(length - frame(11).length + 1)} (${url}:1:11)`;
-const LINES = ['TypeError: ä 😀', frame(1), frame(11), frame(21), `${frame(12)}\r`, `f@${url}:1:25`, '', ' ', `{"stack":"Error\\n${frame(11)}\\n"}`,
+const LINES = ['TypeError: ä 😀', frame(1), frame(11), frame(21), `f@${url}?v=3:1:11`, `${frame(12)}\r`, `f@${url}:1:25`, '', ' ', `{"stack":"Error\\n${frame(11)}\\n"}`,
   `[${url}:1:11]`, 'plain', filled(65536), filled(65537), `${url}:1:11 ${'y'.repeat(70000)} ${url}:1:21`];
 
 function* cut(bytes, most) {
@@ -47,11 +47,10 @@ const loading = () => new smap.Table({}, { load: (asked) => (asked === url ? sma
 async function pieces() {
   same(filled(65536).length, 65536);
   for (let round = 0; round < 400; round++) {
-    const lines = Array.from({ length: below(12) }, () => LINES[below(round % 4 ? 11 : LINES.length)]);
+    const lines = Array.from({ length: below(12) }, () => LINES[below(round % 4 ? 12 : LINES.length)]);
     const bytes = Buffer.from(lines.join('\n') + (chance() < 0.5 ? '\n' : ''));
     for (const options of [undefined, {}, { hideIgnored: true }, { anywhere: true }]) {
       for (const make of [table, loading]) {
-        if (make === loading && options && options.anywhere) continue;
         const over = make();
         const wanted = smap.rewrite(over, bytes, options);
         const [stream, parts] = [new smap.RewriteStream(over, options), []];
@@ -133,16 +132,26 @@ async function backpressure() {
   assert.ok(most < 10 * text.length, `${most} bytes are held of ${400 * text.length}`);
 }
 
-async function errors() {
-  const failing = async (over, text, name, message, options) => {
-    const stream = new smap.RewriteStream(over, options);
-    await assert.rejects(run(Readable.from([text]), stream, sink([])), { name, message });
-    same(stream.destroyed, true);
+// A map that is refused and a loader that throws are told, and the stream goes on.
+async function refusals() {
+  const text = `${frame(1)}\nf@b.js:1:1\n${frame(11)}\nf@c.js:1:11\n`;
+  const wanted = `${frame(1)}\nf@b.js:1:1\n${frame(11)}\nf@a.js:2:5\n`;
+  const load = (asked) => {
+    if (asked === 'b.js') throw new RangeError(asked);
+    return asked === url ? '{}' : small;
   };
-  const gives = (map) => new smap.Table({}, { load: () => map });
-  await failing(gives('{}'), `${frame(1)}\n`, 'Refused', /m\.js: M4 Version/);
-  await failing(gives('{}'), frame(1), 'Refused', /m\.js: M4 Version/);
-  await failing(gives(7), frame(1), 'TypeError', /a map must be/);
+  for (const listens of [true, false]) {
+    const over = new smap.Table({}, { load });
+    const [stream, parts, told] = [new smap.RewriteStream(over), [], []];
+    if (listens) stream.on('refused', (asked, error) => told.push({ url: asked, error }));
+    await run(Readable.from(cut(Buffer.from(text), 7), { objectMode: false }), stream, sink(parts));
+    same(String(Buffer.concat(parts)), wanted);
+    same(over.refusals.length, listens ? 0 : 2);
+    same([...told, ...over.refusals].map(({ url: asked, error }) => [asked, error.name]), [[url, 'Refused'], ['b.js', 'RangeError']]);
+  }
+}
+
+async function errors() {
   const closing = table();
   closing.close();
   assert.throws(() => new smap.RewriteStream(closing), { message: 'the table is closed' });
@@ -169,6 +178,6 @@ async function children() {
 }
 
 (async () => {
-  for (const test of [pieces, early, passed, backpressure, errors, children]) await test();
+  for (const test of [pieces, early, passed, backpressure, refusals, errors, children]) await test();
   console.log('stream', reported);
 })();

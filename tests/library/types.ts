@@ -1,13 +1,13 @@
 // What tests/try-library gives to tsc --strict: the types of the library in node, as a script uses them.
 import {
-  AnyMap, EachMapping, EncodedSourceMap, GREATEST_LOWER_BOUND, LEAST_UPPER_BOUND, Refused, RewriteStream, SourceMapSegment, Table, TraceMap, compose,
+  AnyMap, EachMapping, EncodedSourceMap, FlattenMap, GREATEST_LOWER_BOUND, LEAST_UPPER_BOUND, Refused, RewriteStream, SourceMapSegment, Table, TraceMap, compose,
   composeAll, decodedMap, decodedMappings, eachMapping, encodedMap, encodedMappings, isIgnored, lookUpMany, originalPositionFor, presortedDecodedMap,
-  rewrite, sourceContentFor, traceSegment,
+  rewrite, sourceContent, sourceContentFor, sourceName, traceSegment,
 } from 'smap';
 
 const object = { version: 3, sources: ['a.js', null], names: [], mappings: [[[0, 0, 0, 0]]] };
 const map: TraceMap = new TraceMap(object, 'dist/a.js.map');
-const others: TraceMap[] = [new TraceMap('{}', new URL('https://e.test/'), 64), AnyMap(new Uint8Array(2)), new AnyMap('{}', null), presortedDecodedMap(object, null), new TraceMap(map)];
+const others: TraceMap[] = [new TraceMap('{}', new URL('https://e.test/'), 64), AnyMap(new Uint8Array(2)), new AnyMap('{}', null), new FlattenMap('{}'), presortedDecodedMap(object, null), new TraceMap(map)];
 
 const found = originalPositionFor(map, { line: 1, column: 0, bias: LEAST_UPPER_BOUND });
 const line: number = found.line === null ? GREATEST_LOWER_BOUND : found.line;
@@ -26,18 +26,23 @@ const list: number[] = decodedMap(map).ignoreList || [];
 const names: (string | null)[] = [...map.sources, ...map.resolvedSources, ...map.names, map.sourceRoot || null, ...(map.sourcesContent || [])];
 const content: string | null = sourceContentFor(map, 'a.js');
 const ignored: boolean = isIgnored(map, 'a.js');
+const first: (string | null)[] = [sourceName(map, 0), sourceContent(map, 0)];
+map.sourceRoot = undefined;
+map.sources = first;
+const saved: EncodedSourceMap = map.toJSON();
 const { sources, unmapped } = map.bytesBySource('x');
 const total: number = sources.reduce((sum, bytes) => sum + bytes, unmapped) + map.counts.segments;
 
 const made: Uint8Array[] = [compose(map, 0, others[0]), composeAll(map, { 'a.js': others[1] }, { load: (source) => source, prune: true }), map.write()];
-const table = new Table({ 'https://e.test/a.js': map }, { load: (url) => (url === '' ? null : '{}') });
+const table = new Table({ 'https://e.test/a.js': map }, { load: (url) => (url === '' ? null : '{}'), refused: (url, error) => names.push(url, String(error)) });
+names.push(...table.refusals.map(({ url }) => url));
 made.push(rewrite(table, 'f@a.js:1:1', { hideIgnored: true }));
 const stream: RewriteStream = new RewriteStream(table, { anywhere: true });
 const places: number = 'places' in stream.counts ? stream.counts.places : stream.counts.frames;
-stream.end('x');
+stream.on('refused', (url: string, error: unknown) => names.push(url, String(error))).end('x');
 table[Symbol.dispose]();
 map.close();
-export const all = [line, original, answers, columns, lines, text, written, list, names, content, ignored, total, made, places, new Refused('x').number];
+export const all = [line, original, answers, columns, lines, text, written, list, names, content, ignored, total, made, places, saved, new Refused('x').number];
 
 // What no call takes.
 // @ts-expect-error

@@ -9,6 +9,7 @@
 
 /* Throws an error, or one of a type. */
 napi_value refuse(napi_env env, const char *why);
+napi_value refuse_range(napi_env env, const char *why);
 napi_value refuse_type(napi_env env, const char *why);
 
 /* The arguments of a call, at least so many. No call has more than WORDS. */
@@ -98,6 +99,8 @@ call look_up, look_up_many, bytes_by_source;
 call mappings, encode;
 /* map.c */
 call read_map, counts, source_name, source_content, is_ignored, name, file, write_map;
+/* members.c */
+call members;
 /* refusals.c */
 call refusal_text, refusal_explain, compose_refusal_text, table_refusal_text, generated_refusal_text;
 call rewrite_refusal_text, write_refusal_text, encode_refusal_text;

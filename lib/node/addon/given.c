@@ -8,6 +8,11 @@ napi_value refuse(napi_env env, const char *why) {
     return NULL;
 }
 
+napi_value refuse_range(napi_env env, const char *why) {
+    napi_throw_range_error(env, NULL, why);
+    return NULL;
+}
+
 napi_value refuse_type(napi_env env, const char *why) {
     napi_throw_type_error(env, NULL, why);
     return NULL;

@@ -64,7 +64,7 @@ static bool source_of(napi_env env, napi_callback_info info, smap_source_text *s
     struct held *held = map_of(env, words[0]);
     if (!held || !number_of(env, words[1], &index)) return false;
     if (smap_source(&held->map, index, source) == SMAP_DONE) return true;
-    refuse(env, "no such source");
+    refuse_range(env, "no such source");
     return false;
 }
 

@@ -8,7 +8,7 @@ NAPI_MODULE_INIT() {
     const struct { const char *name; napi_callback call; } calls[] = {
         {"read", read_map}, {"refusalText", refusal_text}, {"refusalExplain", refusal_explain}, {"closeMap", close_map},
         {"closeTable", close_table}, {"closeInners", close_inners}, {"lookUpMany", look_up_many}, {"mappings", mappings},
-        {"encode", encode}, {"bytesBySource", bytes_by_source},
+        {"encode", encode}, {"bytesBySource", bytes_by_source}, {"members", members},
         {"counts", counts}, {"sourceName", source_name}, {"sourceContent", source_content}, {"isIgnored", is_ignored},
         {"name", name}, {"file", file}, {"write", write_map}, {"compose", compose}, {"newInners", new_inners},
         {"putInner", put_inner}, {"nextInner", next_inner}, {"innerName", inner_name}, {"composeAll", compose_all}, {"newTable", new_table},

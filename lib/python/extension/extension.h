@@ -79,6 +79,7 @@ void hand_over(struct held *map, struct held *taker);
 
 PyObject *held_new(PyTypeObject *type, PyObject *words, PyObject *named);
 void held_free(PyObject *self);
+PyObject *held_closed(PyObject *self, void *unused);
 
 /* The functions of the module, and a method of the map that mappings.c has. */
 PyObject *map_mappings(PyObject *self, PyObject *unused);

@@ -44,6 +44,11 @@ void held_free(PyObject *self) {
     Py_DECREF(type);
 }
 
+PyObject *held_closed(PyObject *self, void *unused) {
+    (void)unused;
+    return PyBool_FromLong(!((struct held *)self)->full);
+}
+
 bool idle(struct held *held) {
     while (held->busy) {
         PyLockStatus status;

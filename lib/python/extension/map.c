@@ -125,32 +125,42 @@ static PyObject *map_counts(PyObject *self, void *unused) {
     return tuple_of(counts_class, 6, items);
 }
 
-/* The texts are copied before the next call. */
-static PyObject *map_source(PyObject *self, PyObject *words, PyObject *named) {
+/* The source of a number, whose texts are lent until the next call. */
+static bool source_of(PyObject *self, PyObject *words, PyObject *named, const char *format, smap_source_text *source) {
     static char *names[] = {"index", NULL};
     struct held *held = (struct held *)self;
     PyObject *value;
     uint32_t index;
-    if (!PyArg_ParseTupleAndKeywords(words, named, "O:source", names, &value) || !index_of(value, "a source", &index)) return NULL;
-    if (!ready(&held, 1)) return NULL;
-    smap_source_text source = SMAP_SOURCE;
-    PyObject *items[3] = {NULL};
-    if (smap_source(&held->map, index, &source) == SMAP_DONE) {
-        items[0] = text_if(source.named, source.name);
-        items[1] = items[0] ? text_if(source.held, source.content) : NULL;
-        items[2] = PyBool_FromLong(source.ignored);
-        return tuple_of(source_class, 3, items);
-    }
-    return PyErr_Format(PyExc_IndexError, "no source %S", value);
+    if (!PyArg_ParseTupleAndKeywords(words, named, format, names, &value) || !index_of(value, "a source", &index)) return false;
+    if (!ready(&held, 1)) return false;
+    if (smap_source(&held->map, index, source) == SMAP_DONE) return true;
+    PyErr_Format(PyExc_IndexError, "no source %S", value);
+    return false;
 }
 
-static PyObject *map_source_name(PyObject *self, PyObject *value) {
-    struct held *held = (struct held *)self;
-    uint32_t index;
-    if (!index_of(value, "a source", &index) || !ready(&held, 1)) return NULL;
+static PyObject *map_source(PyObject *self, PyObject *words, PyObject *named) {
     smap_source_text source = SMAP_SOURCE;
-    smap_source(&held->map, index, &source);
-    return text_if(source.named, source.name);
+    PyObject *items[3] = {NULL};
+    if (!source_of(self, words, named, "O:source", &source)) return NULL;
+    items[0] = text_if(source.named, source.name);
+    items[1] = items[0] ? text_if(source.held, source.content) : NULL;
+    items[2] = PyBool_FromLong(source.ignored);
+    return tuple_of(source_class, 3, items);
+}
+
+static PyObject *map_source_name(PyObject *self, PyObject *words, PyObject *named) {
+    smap_source_text source = SMAP_SOURCE;
+    return source_of(self, words, named, "O:source_name", &source) ? text_if(source.named, source.name) : NULL;
+}
+
+static PyObject *map_source_content(PyObject *self, PyObject *words, PyObject *named) {
+    smap_source_text source = SMAP_SOURCE;
+    return source_of(self, words, named, "O:source_content", &source) ? text_if(source.held, source.content) : NULL;
+}
+
+static PyObject *map_is_ignored(PyObject *self, PyObject *words, PyObject *named) {
+    smap_source_text source = SMAP_SOURCE;
+    return source_of(self, words, named, "O:is_ignored", &source) ? PyBool_FromLong(source.ignored) : NULL;
 }
 
 static PyObject *map_name(PyObject *self, PyObject *words, PyObject *named) {
@@ -228,12 +238,17 @@ static PyMethodDef map_methods[] = {
      "mappings($self)\n--\n\nAn iterator over all mappings, in their order. It holds 32 bytes of memory for each."},
     {"source", WITH_NAMES(map_source), METH_VARARGS | METH_KEYWORDS,
      "source($self, index)\n--\n\nThis source, from 0. Raises `IndexError` where there is none."},
+    {"source_name", WITH_NAMES(map_source_name), METH_VARARGS | METH_KEYWORDS,
+     "source_name($self, index)\n--\n\nThe name of this source, or None."},
+    {"source_content", WITH_NAMES(map_source_content), METH_VARARGS | METH_KEYWORDS,
+     "source_content($self, index)\n--\n\nThe content of this source, where the map has it, or None."},
+    {"is_ignored", WITH_NAMES(map_is_ignored), METH_VARARGS | METH_KEYWORDS,
+     "is_ignored($self, index)\n--\n\nWhether the map says that a debugger should pass over this source."},
     {"name", WITH_NAMES(map_name), METH_VARARGS | METH_KEYWORDS,
      "name($self, index)\n--\n\nThis name, from 0, and None for None, as an answer without a name has it. Raises `IndexError` "
      "where there is none."},
     {"_read", map_read, METH_VARARGS, NULL},
     {"_look_up_many", map_look_up_many, METH_VARARGS, NULL},
-    {"_source_name", map_source_name, METH_O, NULL},
     {"_written", map_written, METH_NOARGS, NULL},
     {"_bytes_by_source", map_bytes_by_source, METH_O, NULL},
     {NULL, NULL, 0, NULL},
@@ -241,6 +256,7 @@ static PyMethodDef map_methods[] = {
 
 static PyGetSetDef map_properties[] = {
     {"counts", map_counts, NULL, "How much the map holds.", NULL},
+    {"closed", held_closed, NULL, "Whether the map is closed.", NULL},
     {"file", map_file, NULL, "The name of the generated file, where the map has one, or None.", NULL},
     {NULL, NULL, NULL, NULL, NULL},
 };

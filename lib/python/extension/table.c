@@ -1,5 +1,6 @@
 /* A table of the library, which Rewriter is made of, and the URLs of a trace. */
 #include "extension.h"
+#include <string.h>
 
 static PyObject *table_new(PyTypeObject *type, PyObject *words, PyObject *named) {
     struct held *held = (struct held *)held_new(type, words, named);
@@ -76,21 +77,36 @@ static PyObject *table_rewrite(PyObject *self, PyObject *words) {
     return rewritten(status, &bytes, &count);
 }
 
-/* The URLs that the frames of a trace name, each once, in their order. */
+/* Puts a URL into the dict, and where it begins into its list, if it has a query or a fragment. */
+static bool put_url(PyObject *urls, const uint8_t *bytes, const smap_frame_url *found) {
+    const uint8_t *place = bytes + found->start;
+    PyObject *url = PyBytes_FromStringAndSize((const char *)place, (Py_ssize_t)found->length), *start = NULL;
+    PyObject *starts = url ? PyDict_GetItemWithError(urls, url) : NULL;
+    bool put = starts != NULL;
+    if (url && !starts && !PyErr_Occurred()) {
+        starts = PyList_New(0);
+        put = starts && PyDict_SetItem(urls, url, starts) == 0;
+        Py_XDECREF(starts);
+    }
+    if (put && (memchr(place, '?', found->length) || memchr(place, '#', found->length))) {
+        start = PyLong_FromSize_t(found->start);
+        put = start && PyList_Append(starts, start) == 0;
+    }
+    Py_XDECREF(start);
+    Py_XDECREF(url);
+    return put;
+}
+
+/* The URLs that the frames of a trace name, in their order, each with a list of where it begins, if it has a query or a fragment. */
 PyObject *frame_urls(PyObject *module, PyObject *data) {
     (void)module;
     struct given given;
     if (!bytes_of(data, &given)) return NULL;
     PyObject *urls = PyDict_New();
     smap_frame_url found = {0};
-    while (urls && smap_next_frame_url(given.bytes, given.length, found.next, &found) == SMAP_DONE) {
-        PyObject *url = PyBytes_FromStringAndSize((const char *)given.bytes + found.start, (Py_ssize_t)found.length);
-        if (!url || PyDict_SetItem(urls, url, Py_None) < 0) Py_CLEAR(urls);
-        Py_XDECREF(url);
-    }
-    PyObject *keys = urls ? PyDict_Keys(urls) : NULL;
-    Py_XDECREF(urls);
-    return keys;
+    while (urls && smap_next_frame_url(given.bytes, given.length, found.next, &found) == SMAP_DONE)
+        if (!put_url(urls, given.bytes, &found)) Py_CLEAR(urls);
+    return urls;
 }
 
 static PyMethodDef table_methods[] = {
@@ -100,11 +116,17 @@ static PyMethodDef table_methods[] = {
     {NULL, NULL, 0, NULL},
 };
 
+static PyGetSetDef table_properties[] = {
+    {"closed", held_closed, NULL, "Whether it is closed.", NULL},
+    {NULL, NULL, NULL, NULL, NULL},
+};
+
 static PyType_Slot table_slots[] = {
     {Py_tp_doc, "A table of the library."},
     {Py_tp_new, table_new},
     {Py_tp_dealloc, table_free},
     {Py_tp_methods, table_methods},
+    {Py_tp_getset, table_properties},
     {0, NULL},
 };
 

@@ -32,7 +32,7 @@ def compose_all(outer: SourceMap, inners: Optional[Mapping[Union[str, int], Give
         raise TypeError(f"inner maps are a dict of sources and maps, not {type(inners).__name__}")
     if load is not None and not callable(load):
         raise TypeError(f"load is a function, not {type(load).__name__}")
-    names = [outer._source_name(number) for number in range(outer.counts.sources)]
+    names = [outer.source_name(number) for number in range(outer.counts.sources)]
     with closing(_smap.Inners(outer)) as places:
         for number, given in _by_number(names, inners or {}).items():
             _put(places, number, names[number] if number < len(names) else None, given)

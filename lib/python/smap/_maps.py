@@ -72,6 +72,16 @@ class SourceMap(_smap.Map):
         self._look_up_many(given, memoryview(found))
         return found
 
+    def __repr__(self) -> str:
+        if self.closed:
+            return "<SourceMap closed>"
+        return f"<SourceMap file={self.file!r} sources={self.counts.sources} segments={self.counts.segments}>"
+
+    @property
+    def ignore_list(self) -> List[int]:
+        """The numbers of the sources that a debugger should pass over."""
+        return [index for index in range(self.counts.sources) if self.is_ignored(index)]
+
     @property
     def sources(self) -> List[Source]:
         """All sources."""

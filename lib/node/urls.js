@@ -1,0 +1,53 @@
+'use strict';
+// The URLs for which a loader is asked. A text has a character for each of its bytes here.
+const addon = require('./addon.js');
+
+// What no URL and no path that is looked for has: blanks, control bytes, quotes and brackets.
+const STOPS = new Set([...Array(33).keys(), 127, ...Buffer.from('"\'`()<>[]{}')]);
+const MOST_BYTES = 2048;
+const POSITION = /:[1-9]\d{0,9}:[1-9]\d{0,9}(?!\d)/g;
+const COLOUR = /^[\d;]{0,32}m/;
+const [ESCAPE, BRACKET] = [27, 91];
+
+// A URL without its query and its fragment.
+const cut = (url) => url.split(/[?#]/, 1)[0];
+
+// Whether this is a URL or a path, and no other text of a log: an absolute path, or that of a script below.
+function isLocation(text) {
+  if (text.includes('://') || /^(?:\/|[a-z]:[\\/])/i.test(text)) return true;
+  return /\.(?:[cm]?js|bundle)$/.test(text) && !text.split(/[\\/]/).some((piece) => piece === '' || piece === '..');
+}
+
+// Where a URL or a path may begin that ends here, before the place in it; not before the least byte.
+function begin(text, least, end) {
+  let at = end;
+  while (at > least && !STOPS.has(text.charCodeAt(at - 1))) at -= 1;
+  if (text.charCodeAt(at - 1) === BRACKET && text.charCodeAt(at - 2) === ESCAPE) {
+    const colour = COLOUR.exec(text.slice(at, end));
+    if (colour) at += colour[0].length;
+  }
+  const run = text.slice(at, end);
+  const colon = run.indexOf('://');
+  let scheme = colon;
+  while (scheme > 0 && /[a-z\d+.-]/i.test(run[scheme - 1])) scheme -= 1;
+  while (scheme < colon && !/[a-z]/i.test(run[scheme])) scheme += 1;
+  return at + (colon > scheme ? scheme : Math.max(...[...',;|=@'].map((mark) => cut(run).lastIndexOf(mark))) + 1);
+}
+
+// Where the URLs and paths begin and end that may stand before places anywhere in a text. The library says which of them do.
+function* besidePlaces(bytes) {
+  const text = bytes.toString('latin1');
+  let least = 0;
+  for (const { 0: position, index } of text.matchAll(POSITION)) {
+    yield [begin(text, Math.max(least, index - MOST_BYTES), index), index];
+    least = index + position.length;
+  }
+}
+
+// Where the URLs of the frames of a trace begin and end.
+function* ofFrames(bytes) {
+  const numbers = new Float64Array(3);
+  while (addon.nextFrameUrl(bytes, numbers)) yield [numbers[0], numbers[0] + numbers[1]];
+}
+
+module.exports = { MOST_BYTES, besidePlaces, cut, isLocation, ofFrames };
