@@ -12,13 +12,19 @@ import sys
 import time
 import zipfile
 from pathlib import Path
-from typing import Dict
+from typing import Dict, List
 
 
 def project(pyproject: Path) -> Dict[str, str]:
     """The texts of the table `project`."""
     table = pyproject.read_text().partition("[project]\n")[2].partition("\n[")[0]
     return dict(re.findall(r'^([a-z-]+) = "(.*)"$', table, re.MULTILINE))
+
+
+def listed(pyproject: Path, key: str) -> List[str]:
+    """The texts of a list in it."""
+    found = re.search(rf"^{key} = \[(.*?)\]$", pyproject.read_text(), re.MULTILINE | re.DOTALL)
+    return re.findall(r'"(.*?)"', found[1]) if found else []
 
 
 def record(path: str, data: bytes) -> str:
@@ -31,6 +37,8 @@ def main(folder: Path, pyproject: Path, readme: Path, to: Path, tag: str) -> Non
     name = f"{reported['name']}-{reported['version']}"
     metadata = (
         f"Metadata-Version: 2.1\nName: {reported['name']}\nVersion: {reported['version']}\nSummary: {reported['description']}\n"
+        f"Keywords: {','.join(listed(pyproject, 'keywords'))}\n"
+        + "".join(f"Classifier: {each}\n" for each in listed(pyproject, "classifiers")) +
         f"Requires-Python: {reported['requires-python']}\nDescription-Content-Type: text/markdown\n\n{readme.read_text()}"
     )
     wheel = f"Wheel-Version: 1.0\nGenerator: smap\nRoot-Is-Purelib: false\nTag: {tag}\n"

@@ -2,6 +2,7 @@
 
 import copy
 import ctypes
+import json
 import mmap
 import os
 import pickle
@@ -196,7 +197,7 @@ def bases():
     refuses(Refused, lambda: SourceMap(SMALL, base="x" * 100000), "the base is no URL", "99800 characters more", number=0)
     url = "https://e.test/a.map"
     refuses(Refused, lambda: SourceMap(b"{}", base=url), f"refused: {url}: M4 Version\n", number=4, url=url)
-    for base in (7, b"https://e.test/", Path("a")):
+    for base in (7, b"https://e.test/", ["a"]):
         refuses(TypeError, lambda: SourceMap(SMALL, base=base), "base is a str", type(base).__name__)
     # No base of a test is so long.
     long = refused_map(b"", Refusal(18, 0, 0, 0, 0, 0), None, "https://e.test/")
@@ -357,6 +358,40 @@ def tables():
         Rewriter({"a.js": given}).close()
         refuses(ValueError, lambda: given.look_up(0, 12), "closed")
         refuses(ValueError, lambda: Rewriter({"a.js": given}), "closed")
+
+
+def paths():
+    # The path of the map, its root, a source, and what that is called.
+    rows = [
+        ("dist/a.js.map", None, "../src/a.ts", "src/a.ts"),
+        ("a.js.map", "src", "./a.ts", "src/a.ts"),
+        ("./dist/a.js.map", "", "b.ts", "dist/b.ts"),
+        ("../dist/a.js.map", None, "../../b.ts", "../../b.ts"),
+        ("/srv/dist/a.js.map", None, "../../../b.ts", "/b.ts"),
+        ("no URL", None, "x/../b.ts", "b.ts"),
+        ("dist/a.js.map", None, "https://e.test/x/../b.ts", "https://e.test/b.ts"),
+        ("dist/a.js.map", "https://e.test/s", "b.ts", "https://e.test/s/b.ts"),
+        ("dist/a.js.map", "/root", "../b.ts", "/b.ts"),
+        ("dist/a.js.map", None, "//e.test/../b.ts", "//e.test/../b.ts"),
+        ("dist/a.js.map", None, "b.vue?x=../y#z/..", "dist/b.vue?x=../y#z/.."),
+        ("dist/a.js.map", "src", None, None),
+        ("dist/ä.js.map", None, "ö.ts", "dist/ö.ts"),
+        ("dist/a.js.map", None, "/x/./y//z.ts", "/x/y/z.ts"),
+    ]
+    for path, root, source, name in rows:
+        regular = {"version": 3, "sourceRoot": root, "sources": ["c.ts", source], "names": [], "mappings": "ACAA"}
+        index = {"version": 3, "sections": [{"offset": {"line": 0, "column": 0}, "map": regular}]}
+        for given in (json.dumps(regular), b")]}'\n" + json.dumps(regular).encode(), "\ufeff" + json.dumps(index)):
+            with SourceMap(given, Path(path)) as made:
+                same((made.source_name(1), made.look_up(0, 0).source), (name, 1))
+                same(json.loads(made.write())["sources"][1], name)
+    refuses(Refused, lambda: SourceMap("no JSON", Path("a.js")), "refused: a.js: M2 NotJson\n", number=2, url=None)
+    refuses(Refused, lambda: SourceMap("dist/a.js.map"), "`SourceMap.from_file` reads the file at a path", number=2)
+    for given in (b"dist/a.js.map", "{dist/a.js.map", "a\nb", ""):
+        try:
+            SourceMap(given)
+        except Refused as refused:
+            same("from_file" in str(refused), False)
 
 
 def loading():
@@ -593,6 +628,7 @@ if __name__ == "__main__":
     encoding()
     composing_all()
     tables()
+    paths()
     loading()
     refusing()
     cut_urls()

@@ -65,6 +65,12 @@ def file_name(data: Any) -> Optional[str]:
     return os.fsencode(data).decode(errors="replace") if isinstance(data, os.PathLike) else None
 
 
+def path_hint(data: Any) -> str:
+    """What is said of a text that is no JSON, where it looks like a path."""
+    is_path = isinstance(data, str) and 0 < len(data) <= 4096 and "\n" not in data and "{" not in data
+    return "  a str is the text of a map: `SourceMap.from_file` reads the file at a path\n" if is_path else ""
+
+
 def trace_bytes(data: Any) -> Held:
     """The bytes of a trace."""
     return _bytes(data, "a trace is bytes or a str")

@@ -7,6 +7,7 @@ from typing import Iterable, List, Optional, Tuple, Type, TypeVar, Union
 
 from . import _given, _smap
 from ._answers import Mapping, Source
+from ._paths import placed
 from ._reported import (BAD_BASE, Refused, refused_base, refused_composition, refused_encoding, refused_generated,
                         refused_map, refused_writing)
 
@@ -14,20 +15,28 @@ from ._reported import (BAD_BASE, Refused, refused_base, refused_composition, re
 _ANSWER_BYTES = 7 * 4
 
 _Map = TypeVar("_Map", bound="SourceMap")
+Base = Union[str, "os.PathLike[str]"]
 
 
 class SourceMap(_smap.Map):
     """A source map that was read. It is freed by `close`, at the end of a `with`, or when nothing names it any more."""
 
-    def __init__(self, data: _given.FileData, base: Optional[str] = None, interval: int = 64) -> None:
+    def __init__(self, data: _given.FileData, base: Optional[Base] = None, interval: int = 64) -> None:
         """Reads a map file: its bytes, its text as a `str`, or the file at a `Path`. `base` is the URL at which it
-        stands. The index has a checkpoint at every `interval`-th segment of a line, 1 to 4096. Raises `Refused`, or
-        `MemoryError`."""
-        held = _given.file_bytes(data, "a map")
-        self._take(held, base, _given.interval(interval), _given.file_name(data) or base, base)
+        stands, or the `Path`, from whose folder relative sources go on. The index has a checkpoint at every `interval`-th
+        segment of a line, 1 to 4096. Raises `Refused`, or `MemoryError`."""
+        held, path, number = _given.file_bytes(data, "a map"), _given.file_name(base), _given.interval(interval)
+        url = None if isinstance(base, os.PathLike) else base
+        name, hint = _given.file_name(data) or path or url, _given.path_hint(data)
+        self._take(held, url, number, name, url, hint)
+        if path is not None:
+            # No call of the library takes a path, so the names of the sources are put into the map.
+            text = placed(held, [self.source_name(index) for index in range(self.counts.sources)], path)
+            self.close()
+            self._take(text, None, number, name, None)
 
     @classmethod
-    def from_file(cls: Type[_Map], path: Union[str, "os.PathLike[str]"], base: Optional[str] = None,
+    def from_file(cls: Type[_Map], path: Union[str, "os.PathLike[str]"], base: Optional[Base] = None,
                   interval: int = 64) -> _Map:
         """The map of the file at a path, which may be a `str` here."""
         return cls(Path(path), base, interval)
@@ -44,7 +53,8 @@ class SourceMap(_smap.Map):
             self._take(held, None, 64, url, url)
         return self
 
-    def _take(self, held: _given.Held, base: Optional[str], interval: int, name: Optional[str], url: Optional[str]) -> None:
+    def _take(self, held: _given.Held, base: Optional[str], interval: int, name: Optional[str], url: Optional[str],
+              hint: str = "") -> None:
         base_bytes = b""
         if base is not None:
             try:
@@ -55,7 +65,7 @@ class SourceMap(_smap.Map):
                 raise refused_base(BAD_BASE, base, url)
         refusal = self._read(held, base_bytes, interval)
         if refusal is not None:
-            raise refused_map(held, refusal, name, base or "", url)
+            raise refused_map(held, refusal, name, base or "", url, hint)
 
     def __enter__(self: _Map) -> _Map:
         return self

@@ -44,12 +44,13 @@ class Why(NamedTuple):
     sentences: str
 
 
-BAD_BASE, LONG_BASE = 0, 18
+BAD_BASE, NOT_JSON, LONG_BASE = 0, 2, 18
 NO_SOURCE, TOO_LONG, TOO_MUCH = 4, 1, 3
 
 
-def refused_map(held: Held, refusal: Refusal, name: Optional[str], base: str, url: Optional[str] = None) -> Refused:
-    """Why the map of these bytes and of this name, if it has one, is refused at this base."""
+def refused_map(held: Held, refusal: Refusal, name: Optional[str], base: str, url: Optional[str] = None,
+                hint: str = "") -> Refused:
+    """Why the map of these bytes and of this name, if it has one, is refused at this base. The hint is for what is no JSON."""
     number = refusal.number
     if number in (BAD_BASE, LONG_BASE):
         return refused_base(number, base, url)
@@ -57,6 +58,8 @@ def refused_map(held: Held, refusal: Refusal, name: Optional[str], base: str, ur
     section = refusal.section if placed else None
     text = f"refused: {name}: {_text(refusal)}" if name else f"refused: {_text(refusal)}"
     why = _why(held, refusal)
+    if why and number == NOT_JSON:
+        why = why._replace(sentences=why.sentences + hint)
     if number == 14:
         return Refused(text, number, section, refusal.fault, refusal.line, refusal.byte, url=url, why=why)
     return Refused(text, number, section, build=refusal.build or None, url=url, why=why)
