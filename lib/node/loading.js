@@ -7,9 +7,10 @@ const { MOST_BYTES, besidePlaces, cut, isLocation, ofFrames } = require('./urls.
 const LF = 10;
 // So many bytes before a URL and behind it say whether it is that of a place: a colour, and the line and the column.
 const [BEFORE, BEHIND] = [48, 24];
+const POSITION = /^:\d+:\d+/;
 
 // Asks a table's loader for the map of each URL that the text names, without query and fragment, and that was not asked for.
-// Gives where the parts stand without which URLs have a map.
+// Gives the parts without which URLs have a map: where each begins and ends, and the place without it.
 function ask(table, bytes, places, tell) {
   const parts = [];
   for (const [start, end] of (places ? besidePlaces : ofFrames)(bytes)) {
@@ -22,7 +23,9 @@ function ask(table, bytes, places, tell) {
       table.known.set(short, false);
       table.known.set(short, isLoaded(table, short, tell));
     }
-    if (short !== url && table.known.get(short)) parts.push([start + short.length, end]);
+    if (short === url || !table.known.get(short)) continue;
+    const position = POSITION.exec(bytes.toString('latin1', end, end + BEHIND));
+    if (position) parts.push({ begin: start + short.length, end, place: short + position[0] });
   }
   return parts;
 }
@@ -51,36 +54,65 @@ function rewritten(handle, bytes, { places, hide }) {
   return { text, numbers };
 }
 
-const without = (bytes, parts) =>
-  Buffer.concat([...parts, [bytes.length]].map(([start], i) => bytes.subarray(i ? parts[i - 1][1] : 0, start)));
-
 const answered = ({ numbers: [, , mapped, hidden] }) => mapped + hidden;
+
+function without(bytes, parts) {
+  const kept = parts.map(({ begin }, i) => bytes.subarray(i ? parts[i - 1].end : 0, begin));
+  return Buffer.concat([...kept, bytes.subarray(parts[parts.length - 1].end)]);
+}
+
+// Those of the parts whose places are replaced or hidden, in lines of their own with an empty one behind each.
+function withOriginal(handle, parts, how) {
+  if (!parts.length) return parts;
+  const lines = parts.map(({ place }) => (how.places ? place : `@${place}`));
+  const reported = rewritten(handle, Buffer.from(lines.map((line) => `${line}\n\n`).join(''), 'latin1'), how);
+  const count = answered(reported);
+  if (count === 0 || count === parts.length) return count ? parts : [];
+  const found = reported.text.toString('latin1').split('\n');
+  const [changed, others] = [[], []];
+  let at = 0;
+  parts.forEach((part, i) => {
+    (found[at] === lines[i] ? others : changed).push(part);
+    at += found[at] === '' ? 1 : 2;
+  });
+  if (changed.length === count) return changed;
+  // What is replaced by the same text is known by its number alone.
+  const some = changed.length ? [others] : halvesOf(others);
+  return [...changed, ...some.flatMap((each) => withOriginal(handle, each, how))].sort((one, other) => one.begin - other.begin);
+}
+
+const halvesOf = (list) => [list.slice(0, list.length >> 1), list.slice(list.length >> 1)];
 
 // The bytes that say what becomes of the frames or places of the first and the last of these parts, and of those between.
 function around(bytes, parts, { places }) {
-  const [first, last] = [parts[0][0], parts[parts.length - 1][1]];
-  if (places) return [Math.max(0, first - MOST_BYTES - BEFORE), last + BEHIND];
-  return [bytes.lastIndexOf(LF, first) + 1, bytes.indexOf(LF, last) + 1 || bytes.length];
+  const [{ begin }, { end }] = [parts[0], parts[parts.length - 1]];
+  if (places) return [Math.max(0, begin - MOST_BYTES - BEFORE), end + BEHIND];
+  return [bytes.lastIndexOf(LF, begin) + 1, bytes.indexOf(LF, end) + 1 || bytes.length];
 }
 
-// Those of the parts without which a frame or a place more is replaced.
+// Those of the parts without which a frame or a place more is replaced where it stands.
 function needless(handle, bytes, parts, how) {
-  if (!parts.length) return [];
+  if (!parts.length) return parts;
   const [from, to] = around(bytes, parts, how);
-  const [text, moved] = [bytes.subarray(from, to), parts.map((part) => part.map((at) => at - from))];
+  const moved = parts.map(({ begin, end }) => ({ begin: begin - from, end: end - from }));
+  const text = bytes.subarray(from, to);
   const gained = answered(rewritten(handle, without(text, moved), how)) - answered(rewritten(handle, text, how));
   if (gained === parts.length) return parts;
   if (gained <= 0 || parts.length === 1) return [];
-  const middle = parts.length >> 1;
-  return [...needless(handle, bytes, parts.slice(0, middle), how), ...needless(handle, bytes, parts.slice(middle), how)];
+  return halvesOf(parts).flatMap((half) => needless(handle, bytes, half, how));
 }
 
 // The text of these bytes, where each of the parts is left out that keeps a frame or a place from being replaced.
 function cutAndRewritten(handle, bytes, parts, how) {
-  const left = needless(handle, bytes, parts, how);
-  const short = rewritten(handle, left.length ? without(bytes, left) : bytes, how);
+  const whole = rewritten(handle, bytes, how);
+  if (!parts.length) return whole;
+  const over = (some) => (some.length ? rewritten(handle, without(bytes, some), how) : whole);
+  const left = withOriginal(handle, parts, how);
+  const tried = over(left);
+  // A place may be none where it stands.
+  const short = answered(tried) - answered(whole) === left.length ? tried : over(needless(handle, bytes, left, how));
   // What has a map and no original is a place, too.
-  if (how.places && left.length < parts.length) short.numbers[1] = rewritten(handle, without(bytes, parts), how).numbers[1];
+  if (how.places && left.length < parts.length) short.numbers[1] = over(parts).numbers[1];
   return short;
 }
 

@@ -715,6 +715,30 @@ function cutUrls() {
   same(hiding.counts, { lines: 2, frames: 2, mapped: 0, hidden: 2 });
 }
 
+// Texts by chance over a loader, beside a table in which each map stands under each whole URL. One map leads to its own URL.
+function cutByChance() {
+  const { chance, below } = chances;
+  const own = '{"version":3,"sources":["own.js"],"names":[],"ignoreList":[0],"mappings":"AAAA,UAAU;AACA"}';
+  const maps = { 'https://e.test/x.js': small, 'https://e.test/own.js': own, '/srv/y.js': small, 'z.js': small.replace('a.js', 'b\\"c') };
+  const urls = Object.keys(maps).flatMap((url) => ['', '?v=1', '?v=2#z', '#', '?a=,b'].map((more) => url + more));
+  const exact = new smap.Table(urls.map((url) => [url, maps[url.split(/[?#]/)[0]]]));
+  const pick = (list) => list[below(list.length)];
+  const place = () => `${pick([...urls, 'https://e.test/no.js?v=1', 'q'])}:${1 + below(3)}:${pick([1, 5, 11, 12])}`;
+  const around = [['    at f (', ')'], ['f@', ''], ['at ', ''], ['', ''], ['x', ''], ['[', '] '], ['\x1b[31m', '\x1b[0m'], ['"', '",'], ['', '7 '], ['_', ' '], [',', ';']];
+  for (let round = 0; round < 600; round++) {
+    const options = pick([{}, { hideIgnored: true }, { anywhere: true }]);
+    let text = '';
+    for (let count = below([3, 20, 200][round % 3]); count > 0; count--) {
+      const [before, behind] = pick(around);
+      text += `${before}${place()}${behind}${options.anywhere && chance() < 0.4 ? '' : '\n'}`;
+    }
+    const loading = new smap.Table({}, { load: (url) => maps[url] });
+    same(String(smap.rewrite(loading, text, options)), String(smap.rewrite(exact, text, options)));
+    same(loading.counts, exact.counts);
+    loading.close();
+  }
+}
+
 function anywhere() {
   const text = '{g.js:1:11} [h.js:1:11] {g.js:9:9}\n    at g.js:1:11\n';
   const wanted = Buffer.from('{a.js:2:5} [h.js:1:11] {g.js:9:9}\n    at a.js:2:5\n');
@@ -803,6 +827,7 @@ tables();
 loading();
 refusing();
 cutUrls();
+cutByChance();
 anywhere();
 options();
 closed();

@@ -6,6 +6,7 @@ import json
 import mmap
 import os
 import pickle
+import random
 import sys
 import tempfile
 from array import array
@@ -502,6 +503,28 @@ def cut_urls():
         same(hiding.counts, {"lines": 2, "frames": 2, "mapped": 0, "hidden": 2})
 
 
+def cut_by_chance():
+    # Texts by chance over a loader, beside a table in which each map stands under each whole URL. One map leads to its own URL.
+    chance = random.Random(7)
+    own = b'{"version":3,"sources":["own.js"],"names":[],"ignoreList":[0],"mappings":"AAAA,UAAU;AACA"}'
+    maps = {"https://e.test/x.js": SMALL, "https://e.test/own.js": own, "/srv/y.js": SMALL, "z.js": SMALL.replace(b"a.js", b'b\\"c')}
+    urls = [url + more for url in maps for more in ("", "?v=1", "?v=2#z", "#", "?a=,b")]
+    around = [("    at f (", ")"), ("f@", ""), ("at ", ""), ("", ""), ("x", ""), ("[", "] "), ("\x1b[31m", "\x1b[0m"), ('"', '",'),
+              ("", "7 "), ("_", " "), (",", ";")]
+    with Rewriter({url: maps[url.split("?")[0].split("#")[0]] for url in urls}) as exact:
+        for _ in range(400):
+            options = chance.choice([{}, {"hide_ignored": True}, {"anywhere": True}])
+            text = ""
+            for _ in range(chance.randrange(chance.choice([3, 20, 200]))):
+                before, behind = chance.choice(around)
+                url = chance.choice(urls + ["https://e.test/no.js?v=1", "q"])
+                end = "" if "anywhere" in options and chance.random() < 0.4 else "\n"
+                text += f"{before}{url}:{chance.randint(1, 3)}:{chance.choice([1, 5, 11, 12])}{behind}{end}"
+            with Rewriter({}, load=maps.get) as rewriter:
+                same(rewriter.rewrite(text, **options), exact.rewrite(text, **options))
+                same(rewriter.counts, exact.counts)
+
+
 def anywhere():
     text = "{g.js:1:11} [h.js:1:11] {g.js:9:9}\n    at g.js:1:11\n"
     with Rewriter({"g.js": SMALL}) as rewriter:
@@ -632,6 +655,7 @@ if __name__ == "__main__":
     loading()
     refusing()
     cut_urls()
+    cut_by_chance()
     anywhere()
     closed()
     lists()

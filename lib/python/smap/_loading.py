@@ -1,25 +1,35 @@
 """The maps that a loader gives, and texts that name their URLs with a query or a fragment."""
 
-from typing import Callable, Dict, Iterable, List, Optional, Tuple
+import re
+from typing import Callable, Dict, Iterable, List, NamedTuple, Optional, Tuple
 
 from . import _smap
 from ._given import Held
 from ._reported import refused_text
 from ._urls import MOST_BYTES, beside_places, cut, is_location
 
-# Where a part of a text begins and ends.
-Part = Tuple[int, int]
+
+
+class Part(NamedTuple):
+    """A part of a text, without which a URL has a map, and the place without it."""
+
+    begin: int
+    end: int
+    place: bytes
+
+
 # A text that was rewritten, with how many lines, frames or places, mapped and hidden ones it had.
 Rewritten = Tuple[bytes, Tuple[int, int, int, int]]
 Rewrite = Callable[[Held], Optional[Rewritten]]
 
 # So many bytes before a URL and behind it say whether it is that of a place: a colour, and the line and the column.
 _BEFORE, _BEHIND = 48, 24
+_POSITION = re.compile(rb":[0-9]+:[0-9]+")
 
 
 def ask(known: Dict[bytes, bool], held: Held, anywhere: bool, is_loaded: Callable[[bytes], bool]) -> List[Part]:
-    """Asks for the map of each URL that the text names, without query and fragment, and that is not known. Gives where the
-    parts stand without which URLs have a map."""
+    """Asks for the map of each URL that the text names, without query and fragment, and that is not known. Gives the
+    parts without which URLs have a map."""
     parts: List[Part] = []
     for url, starts in _named(held, anywhere):
         if known.get(url):
@@ -31,8 +41,13 @@ def ask(known: Dict[bytes, bool], held: Held, anywhere: bool, is_loaded: Callabl
             # It may rewrite over the same maps itself.
             known[short] = False
             known[short] = is_loaded(short)
-        if short != url and known[short]:
-            parts.extend((start + len(short), start + len(url)) for start in starts)
+        if short == url or not known[short]:
+            continue
+        for start in starts:
+            end = start + len(url)
+            position = _POSITION.match(bytes(held[end:end + _BEHIND]))
+            if position:
+                parts.append(Part(start + len(short), end, short + position.group()))
     return sorted(parts)
 
 
@@ -44,44 +59,74 @@ def _named(held: Held, anywhere: bool) -> Iterable[Tuple[bytes, List[int]]]:
 
 def cut_and_rewritten(rewrite: Rewrite, held: Held, parts: List[Part], anywhere: bool) -> Rewritten:
     """The rewritten text, where each of the parts is left out that keeps a frame or a place from being replaced."""
+    whole = _whole(rewrite, held)
     if not parts:
-        return _whole(rewrite, held)
-    whole = bytes(held)
-    left = _needless(rewrite, whole, parts, anywhere)
-    text, (lines, places, mapped, hidden) = _whole(rewrite, _without(whole, left))
+        return whole
+    text = bytes(held)
+    left = _with_original(rewrite, parts, anywhere)
+    short = _whole(rewrite, _without(text, left)) if left else whole
+    if _answered(short) - _answered(whole) != len(left):
+        # A place may be none where it stands.
+        short = _whole(rewrite, _without(text, _needless(rewrite, text, left, anywhere)))
+    rewritten, (lines, places, mapped, hidden) = short
     if anywhere and len(left) < len(parts):
         # What has a map and no original is a place, too.
-        places = _whole(rewrite, _without(whole, parts))[1][1]
-    return text, (lines, places, mapped, hidden)
+        places = _whole(rewrite, _without(text, parts))[1][1]
+    return rewritten, (lines, places, mapped, hidden)
 
 
-# Those of the parts without which a frame or a place more is replaced.
-def _needless(rewrite: Rewrite, held: bytes, parts: List[Part], anywhere: bool) -> List[Part]:
+# Those of the parts whose places are replaced or hidden, in lines of their own with an empty one behind each.
+def _with_original(rewrite: Rewrite, parts: List[Part], anywhere: bool) -> List[Part]:
     if not parts:
         return []
-    begin, end = _around(held, parts, anywhere)
-    text, moved = held[begin:end], [(start - begin, stop - begin) for start, stop in parts]
-    gained = _answered(_whole(rewrite, _without(text, moved))) - _answered(_whole(rewrite, text))
+    lines = [part.place if anywhere else b"@" + part.place for part in parts]
+    reported = _whole(rewrite, b"".join(line + b"\n\n" for line in lines))
+    count = _answered(reported)
+    if count in (0, len(parts)):
+        return parts if count else []
+    found = iter(reported[0].split(b"\n"))
+    changed: List[Part] = []
+    others: List[Part] = []
+    for part, line in zip(parts, lines):
+        got = next(found)
+        (others if got == line else changed).append(part)
+        if got:
+            next(found)
+    if len(changed) == count:
+        return changed
+    # What is replaced by the same text is known by its number alone.
+    middle = 0 if changed else len(others) // 2
+    some = (_with_original(rewrite, half, anywhere) for half in (others[:middle], others[middle:]))
+    return sorted(sum(some, changed))
+
+
+# Those of the parts without which a frame or a place more is replaced where it stands.
+def _needless(rewrite: Rewrite, text: bytes, parts: List[Part], anywhere: bool) -> List[Part]:
+    if not parts:
+        return []
+    begin, end = _around(text, parts, anywhere)
+    moved = [part._replace(begin=part.begin - begin, end=part.end - begin) for part in parts]
+    gained = _answered(_whole(rewrite, _without(text[begin:end], moved))) - _answered(_whole(rewrite, text[begin:end]))
     if gained == len(parts):
         return parts
     if gained <= 0 or len(parts) == 1:
         return []
     middle = len(parts) // 2
-    return _needless(rewrite, held, parts[:middle], anywhere) + _needless(rewrite, held, parts[middle:], anywhere)
+    return _needless(rewrite, text, parts[:middle], anywhere) + _needless(rewrite, text, parts[middle:], anywhere)
 
 
 # The bytes that say what becomes of the frames or places of the first and the last of these parts, and of those between.
-def _around(held: bytes, parts: List[Part], anywhere: bool) -> Part:
-    first, last = parts[0][0], parts[-1][1]
+def _around(text: bytes, parts: List[Part], anywhere: bool) -> Tuple[int, int]:
+    first, last = parts[0].begin, parts[-1].end
     if anywhere:
         return max(0, first - MOST_BYTES - _BEFORE), last + _BEHIND
-    return held.rfind(b"\n", 0, first) + 1, held.find(b"\n", last) + 1 or len(held)
+    return text.rfind(b"\n", 0, first) + 1, text.find(b"\n", last) + 1 or len(text)
 
 
-def _without(held: bytes, parts: List[Part]) -> bytes:
-    ends = [0, *(stop for _, stop in parts)]
-    starts = [*(start for start, _ in parts), len(held)]
-    return b"".join(held[end:start] for end, start in zip(ends, starts))
+def _without(text: bytes, parts: List[Part]) -> bytes:
+    ends = [0, *(part.end for part in parts)]
+    begins = [*(part.begin for part in parts), len(text)]
+    return b"".join(text[end:begin] for end, begin in zip(ends, begins))
 
 
 def _whole(rewrite: Rewrite, held: Held) -> Rewritten:

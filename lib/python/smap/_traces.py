@@ -5,7 +5,7 @@ from collections.abc import Mapping as AnyMapping
 from typing import Callable, Dict, List, Mapping, Optional, Tuple, Union
 
 from . import _given, _smap
-from ._loading import ask, cut_and_rewritten
+from ._loading import Part, ask, cut_and_rewritten
 from ._maps import SourceMap
 from ._reported import refused_url
 
@@ -107,7 +107,7 @@ class Rewriter(_smap.Table):
             "lines": lines, "frames": places, "mapped": mapped, "hidden": hidden}
         return text
 
-    def _ask(self, held: _given.Held, anywhere: bool) -> List[Tuple[int, int]]:
+    def _ask(self, held: _given.Held, anywhere: bool) -> List[Part]:
         if self._load is None:
             return []
         with self._asking:

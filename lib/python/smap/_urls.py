@@ -1,6 +1,7 @@
 """The URLs for which a loader is asked, as bytes of a text."""
 
 import re
+from functools import lru_cache
 from typing import Iterator, Tuple
 
 from ._given import Held
@@ -47,11 +48,18 @@ def _begin(text: Held, least: int, end: int) -> int:
     if text[max(0, begin - 2):begin] == b"\x1b[":
         colour = _COLOUR.match(run)
         run = run[colour.end():] if colour else run
+    return end - _length_in(run)
+
+
+# How long the URL or the path is at the end of what may be a part of one.
+@lru_cache(maxsize=4096)
+def _length_in(run: bytes) -> int:
     before, colon, behind = run.partition(b"://")
-    scheme = _FIRST_OF_SCHEME.search(_from_end(_SCHEME, before)) if colon else None
+    letters = _from_end(_SCHEME, before)
+    scheme = _FIRST_OF_SCHEME.search(letters) if colon else None
     if scheme:
-        return end - len(_from_end(_SCHEME, before)) + scheme.start() - len(colon) - len(behind)
-    return end - len(run) + max((mark.end() for mark in _MARK.finditer(cut(run))), default=0)
+        return len(letters) - scheme.start() + len(colon) + len(behind)
+    return len(run) - max((mark.end() for mark in _MARK.finditer(cut(run))), default=0)
 
 
 # The longest text of this kind at the end.
