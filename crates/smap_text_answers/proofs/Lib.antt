@@ -1,5 +1,6 @@
 mod BytesLaws
 mod Examples
+mod LoaderLaws
 mod SourcesLaws
 mod StoreLaws
 mod TraceLaws

@@ -1,30 +1,26 @@
 -- The maps that are read when a text names them: each from its file, and what is said of one that can't be had.
-use Rattle.std.specs.Prelude.{◌≡◌, ◌⊎◌, ℕ, ◌+◌, ◌-◌, ◌^◌, ◌==◌, List, Option, Some, None, Result, Ok, MatchBool, cond, length, max, min, nat_lt}
+use Rattle.std.specs.Prelude.{◌≡◌, ◌⊎◌, ℕ, ◌+◌, ◌-◌, ◌^◌, ◌==◌, List, Option, Some, None, Ok, MatchBool, cond, if◌then◌else◌, length, max, min, nat_lt}
 use Rattle.url.specs.Parts.{Parts}
 use Rattle.std.specs.Option.{option_or}
+use Rattle.std.specs.Str.{is_utf8}
 use Rattle.smap_codes.specs.declared.code.Code.{Code}
 use Rattle.smap_io.specs.Device.{SinkSeen}
 use Rattle.smap_locations.specs.Paths.{without_query}
 use Rattle.smap_record.specs.Record.{MapRecord, record_of}
-use Rattle.smap_record.specs.declared.refusal.MapRefusal.{MapRefusal}
-use Rattle.smap_replies.specs.Files.{IsUnread, MayRead}
-use Rattle.smap_replies.specs.Map.{Never, ReportsFound, refusal_result}
+use Rattle.smap_replies.specs.Files.{MayRead}
+use Rattle.smap_replies.specs.Base.{base_of}
+use Rattle.smap_replies.specs.Map.{Never, ReportsMap}
 use Rattle.smap_text_answers.specs.Lines.{map_memory_line}
 use Rattle.smap_replies.specs.Outcome.{Report, failure, out_of_memory}
 use Rattle.smap_replies.specs.Streams.{IsReportedTo}
-use Rattle.smap_text_answers.specs.Trace.{IsBaseUsed}
 use Rattle.smap_text_answers.specs.declared.loader.FileLoader.{FileLoader}
 
--- ---- a map at the URL that is used
+-- ---- its base
 
--- the bytes give this at the URL that is used
-abbrev pub IsReadAs : Option Parts → (k : ℕ) → (url bytes : List ℕ) → Result MapRecord MapRefusal → Type 0
-IsReadAs base k url bytes found = (used : Option Parts) × IsBaseUsed base url used × (record_of bytes used k ≡ found)
-
--- and are refused so
-abbrev pub IsReadRefusal : Option Parts → (k : ℕ) → (url path bytes : List ℕ) → Report → Type 0
-IsReadRefusal base k url path bytes report =
-    (used : Option Parts) × IsBaseUsed base url used × ReportsFound (refusal_result path) (record_of bytes used k) Never report
+-- the URL against which the sources of a map are resolved that is read for a URL: the base where there is one, else that URL
+-- without its query and its fragment, where that is UTF-8 and a URL
+abbrev pub base_at : Option Parts → (url : List ℕ) → Option Parts
+base_at base url = if is_utf8 (without_query url) then base_of base (without_query url) else base
 
 -- ---- what reads maps
 
@@ -56,12 +52,11 @@ module _ (Reads : MayRead) (base : Option Parts) (k number : ℕ) where
   -- reading the file at this path gives so many bytes, and these are a map that states this
   abbrev pub IsLoaded : (url path : List ℕ) → MapRecord → (file_bytes : ℕ) → Type 0
   IsLoaded url path stated file_bytes = (bytes : List ℕ) × Reads number path (Ok bytes) × (file_bytes ≡ length bytes)
-      × IsReadAs base k (without_query url) bytes (Ok stated)
+      × (record_of bytes (base_at base url) k ≡ Ok stated)
 
   -- or it can't be read, or its map is refused, and this is reported, memory aside
   abbrev pub FailsToRead : (url path : List ℕ) → Report → Type 0
-  FailsToRead url path report = IsUnread Reads number path report
-      ⊎ ((bytes : List ℕ) × Reads number path (Ok bytes) × IsReadRefusal base k (without_query url) path bytes report)
+  FailsToRead url path report = ReportsMap Reads number path (base_at base url) k Never report
 
   -- the same, or memory ran out, which is reported with the path, if there is memory for that
   abbrev pub FailsToLoad : (url path : List ℕ) → Report → Type 0

@@ -15,7 +15,7 @@ use Rattle.smap_places.specs.PlacesBy.{RewritesPlacesBy}
 use Rattle.smap_places.specs.PlacesOver.{RewritesPlacesFrontOver, RewritesPlacesOver}
 use Rattle.smap_places.specs.StoredPlaces.{stored_place_at}
 use Rattle.smap_record.specs.Record.{MapRecord}
-use Rattle.smap_store.specs.ByPath.{MapsByPath, stored_maps}
+use Rattle.smap_store.specs.ByPath.{stored_maps}
 use Rattle.smap_store.specs.Cache.{CacheSeen}
 use Rattle.smap_store.specs.Stored.{FindsIn, GivesIn, StoredSeen, found_in}
 use Rattle.smap_trace.specs.MapsOf.{MapsByUrl, RewritesBy}
@@ -26,7 +26,7 @@ use Rattle.smap_command.specs.Lines.{line_from}
 use Rattle.smap_replies.specs.Lines.{memory_line}
 use Rattle.smap_text_answers.specs.Loader.{LoaderSeen, Loads, MayLoad}
 use Rattle.smap_replies.specs.Outcome.{Report, answer, fault_report}
-use Rattle.smap_text_answers.specs.SameBytes.{BytesByPath, IsSettled, ReadsSame}
+use Rattle.smap_text_answers.specs.SameBytes.{BytesByPath, ReadsSame, maps_at}
 use Rattle.smap_text_answers.specs.Sources.{GathersSources}
 use Rattle.smap_replies.specs.Streams.{Ends, IsReportedTo, Sinks, Streams}
 use Rattle.smap_replies.specs.Arguments.{argument_of}
@@ -134,9 +134,9 @@ RewritesTextBy anywhere maps begins hide most before after counts =
 -- becomes what these maps make of it, however few are kept
 abbrev pub AnswersByPath : MayRead → Option Parts → (k : ℕ) → RequestSeen → MapSources → StoreEnd → (before after : Streams) → Type 0
 AnswersByPath Reads base k request sources end before after =
-    (bytes_at : BytesByPath) (load : MapsByPath) → ReadsSame Reads (length request.arguments + 1) bytes_at → IsSettled base k bytes_at load
+    (bytes_at : BytesByPath) → ReadsSame Reads (length request.arguments + 1) bytes_at
     → (counts : RewriteCounts) → end.result ≡ Ok counts → end.status ≡ 0 → end.shortages ≡ 0
-    → RewritesTextBy request.anywhere (stored_maps load sources.words sources.locations) (places_of sources) request.hide_ignored request.limit_bytes
+    → RewritesTextBy request.anywhere (stored_maps (maps_at base k bytes_at) sources.words sources.locations) (places_of sources) request.hide_ignored request.limit_bytes
     (devices_seen before.input before.sinks.output) (devices_seen after.input after.sinks.output) counts
 
 -- ---- what is reported at the end

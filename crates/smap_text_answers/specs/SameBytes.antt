@@ -1,13 +1,11 @@
--- What the maps of a text are, where each path gives the same bytes whenever it is read. Where no base is given, whether that of
--- a map is its URL or none is left open, since `url` may call any URL too long: so the maps are taken as they come out either way.
+-- What the maps of a text are, where each path gives the same bytes whenever it is read.
 use Rattle.std.specs.Prelude.{◌≡◌, ℕ, List, Option, Some, None, Result, Ok, Err}
 use Rattle.url.specs.Parts.{Parts}
-use Rattle.smap_locations.specs.Paths.{without_query}
 use Rattle.smap_record.specs.Record.{MapRecord, record_of}
 use Rattle.smap_record.specs.declared.refusal.MapRefusal.{MapRefusal}
 use Rattle.smap_store.specs.ByPath.{MapsByPath}
 use Rattle.smap_replies.specs.Files.{MayRead}
-use Rattle.smap_text_answers.specs.Loader.{LoaderSeen, IsReadAs}
+use Rattle.smap_text_answers.specs.Loader.{LoaderSeen, base_at}
 
 -- ---- the files
 
@@ -31,11 +29,9 @@ abbrev pub stated_by : Option Parts → (k : ℕ) → Option (List ℕ) → Opti
 stated_by base k None = None
 stated_by base k (Some bytes) = stated_in (record_of bytes base k)
 
--- each map of a URL that the bytes at a path may be is this one, whichever base is used
-abbrev pub IsSettled : Option Parts → (k : ℕ) → BytesByPath → MapsByPath → Type 0
-IsSettled base k bytes_at load =
-    (url path bytes : List ℕ) (stated : MapRecord) → bytes_at path ≡ Some bytes → IsReadAs base k (without_query url) bytes (Ok stated)
-    → load url path ≡ Some stated
+-- the map of a URL from each path
+abbrev pub maps_at : Option Parts → (k : ℕ) → BytesByPath → MapsByPath
+maps_at base k bytes_at url path = stated_by (base_at base url) k (bytes_at path)
 
 -- ---- what was reported
 

@@ -25,10 +25,6 @@ use Rattle.smap_replies.specs.Outcome.{OrMemory, Report, answer, fault_report, m
 
 -- ---- the table
 
--- the base that is used is `base_of`; or there is none where none is given, as for a URL that is no text
-abbrev pub IsBaseUsed : Option Parts → (url : List ℕ) → Option Parts → Type 0
-IsBaseUsed base url used = (used ≡ base_of base url) ⊎ ((base ≡ None) × (used ≡ None))
-
 -- the maps of a trace, each under its URL
 abbrev pub Maps : Type 0
 Maps = List (List ℕ × MapRecord)

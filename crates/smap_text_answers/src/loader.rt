@@ -1,9 +1,11 @@
 //! The maps that are read when a text names them.
 ghost use Rattle.std.specs.Prelude.{◌≡◌, option_copied, IfErr, IfOk};
 ghost use Rattle.smap_text_answers.specs.Lines.{map_memory_line};
-ghost use Rattle.smap_text_answers.specs.Loader.{FailsToLoad, FailsToRead, IsLoaded, Notes, loader_seen, named_report, IsReadAs, IsReadRefusal};
+ghost use Rattle.smap_text_answers.specs.Loader.{FailsToLoad, FailsToRead, IsLoaded, Notes, base_at, loader_seen, named_report};
+ghost use Rattle.smap_record.specs.MapFile.{IsMapOf};
+ghost use Rattle.smap_record.specs.Record.{record_of};
+ghost use Rattle.smap_replies.specs.Map.{Never, ReportsFound, refusal_result};
 ghost use Rattle.smap_replies.specs.Outcome.{OrMemory, failure_report, failure};
-ghost use Rattle.smap_locations.specs.Paths.{without_query};
 
 use crate::lines;
 use smap_codes::Code;
@@ -60,12 +62,12 @@ impl<F: FileReader, E: ByteSink> FileLoader<'_, '_, '_, F, E> {
         path: &str,
         bytes: Vec<u8>,
     ) -> Result<MapFile, Failure>
-        ensures read { IfOk result (λ map. IsReadAs (option_copied self.now.maps.now.base)
-            self.now.maps.now.interval (without_query url.now) bytes.items (Ok map.stated)) }
-        ensures refused { IfErr result (λ failure. OrMemory
-            (IsReadRefusal (option_copied self.now.maps.now.base) self.now.maps.now.interval
-            (without_query url.now) path.now bytes.items)
-            (failure_report failure)) }
+        ensures read { IfOk result (IsMapOf (record_of bytes.items
+            (base_at (option_copied self.now.maps.now.base) url.now) self.now.maps.now.interval)
+            self.now.maps.now.interval) }
+        ensures refused { IfErr result (λ failure. OrMemory (ReportsFound (refusal_result path.now)
+            (record_of bytes.items (base_at (option_copied self.now.maps.now.base) url.now)
+            self.now.maps.now.interval) Never) (failure_report failure)) }
     {
         match str::from_utf8(without_query(url)) {
             Ok(url) => read_map_at(alloc, self.maps, url, path, bytes),

@@ -1,16 +1,12 @@
 -- Laws of what reads maps from files, which its trait asks for.
-use Rattle.std.specs.Prelude.{ℕ, List, Option, Some, None, Ok, option_copied, refl}
+use Rattle.std.specs.Prelude.{ℕ, List, Option, Some, None, option_copied, refl}
 use Rattle.std.proofs.Common.{inl, inr, subst, sym, ◌∙◌}
 use Rattle.url.specs.Parts.{Parts}
-use Rattle.smap_record.specs.MapFile.{IsMapOf, Map}
-use Rattle.smap_record.specs.Record.{MapRecord, record_of}
+use Rattle.smap_record.specs.Record.{MapRecord}
 use Rattle.smap_store.specs.Loaded.{record_in}
 use Rattle.smap_replies.specs.Files.{MayRead}
-use Rattle.smap_text_answers.specs.Loader.{FailsToLoad, FailsToRead, IsSameLoader, LoaderSeen, Loads, MayLoad, named_report, IsReadAs, IsReadRefusal}
-use Rattle.smap_replies.specs.Map.{Never, ReportsFound, refusal_result}
+use Rattle.smap_text_answers.specs.Loader.{FailsToLoad, FailsToRead, IsSameLoader, LoaderSeen, Loads, MayLoad, named_report}
 use Rattle.smap_replies.specs.Outcome.{OrMemory, Report, out_of_memory}
-use Rattle.smap_text_answers.specs.Trace.{IsBaseUsed}
-use Rattle.smap_replies.specs.Base.{base_of}
 use Rattle.smap_text_answers.specs.declared.loader.FileLoader.{FileLoader}
 
 module _ (Reads : MayRead) (base : Option Parts) (k number : ℕ) where
@@ -28,31 +24,6 @@ pub same_load : {F E : Type 0} (gives : F → MayRead) (old new : FileLoader F E
 same_load gives old new same url path found may =
     subst (λ n. MayLoad (gives old.maps.now.files.now) (option_copied old.maps.now.base) old.maps.now.interval n url path found) same.number
     (subst (λ m. MayLoad (gives m.now.files.now) (option_copied m.now.base) m.now.interval new.number url path found) same.maps may)
-
--- ---- a map whose URL is no text has the base that is given, or none
-
-used_is : (base : Option Parts) (url : List ℕ) → IsBaseUsed base url base
-used_is None url = inr (refl, refl)
-used_is (Some base) url = inl refl
-
-pub read_unbased : (base : Option Parts) (k : ℕ) (url bytes : List ℕ) (map : Map) → IsMapOf (record_of bytes base k) k map → IsReadAs base k url bytes (Ok map.stated)
-read_unbased base k url bytes map is = (base, used_is base url, is.0)
-
-pub refused_unbased : (base : Option Parts) (k : ℕ) (url path bytes : List ℕ) (report : Report)
-    → OrMemory (ReportsFound (refusal_result path) (record_of bytes base k) Never) report → OrMemory (IsReadRefusal base k url path bytes) report
-refused_unbased base k url path bytes report (inl memory) = inl memory
-refused_unbased base k url path bytes report (inr refused) = inr (base, used_is base url, refused)
-
--- and one whose URL is a text has that which is given, or its URL
-
-pub read_based : (base : Option Parts) (k : ℕ) (url bytes : List ℕ) (map : Map) → IsMapOf (record_of bytes (base_of base url) k) k map
-    → IsReadAs base k url bytes (Ok map.stated)
-read_based base k url bytes map is = (base_of base url, inl refl, is.0)
-
-pub refused_based : (base : Option Parts) (k : ℕ) (url path bytes : List ℕ) (report : Report)
-    → OrMemory (ReportsFound (refusal_result path) (record_of bytes (base_of base url) k) Never) report → OrMemory (IsReadRefusal base k url path bytes) report
-refused_based base k url path bytes report (inl memory) = inl memory
-refused_based base k url path bytes report (inr refused) = inr (base_of base url, inl refl, refused)
 
 -- ---- why a map can't be had, named
 

@@ -5,7 +5,6 @@ use Rattle.std.proofs.Common.{ap, arith, inl, inr, refl, subst, sym, ◌∙◌}
 use Rattle.url.specs.Parts.{Parts}
 use Rattle.smap_lines.specs.Editing.{DevicesSeen, devices_seen}
 use Rattle.smap_lines.specs.declared.fault.LineFault.{LineFault}
-use Rattle.smap_locations.specs.Paths.{without_query}
 use Rattle.smap_places.specs.Places.{PlaceUrl}
 use Rattle.smap_places.specs.PlacesBy.{RewritesPlacesBy}
 use Rattle.smap_places.specs.Laws.PlacesBy.{places_by}
@@ -22,13 +21,12 @@ use Rattle.smap_trace.specs.Rewriting.{RewritesOver}
 use Rattle.smap_trace.specs.declared.outcome.RewriteCounts.{RewriteCounts}
 use Rattle.smap_trace.specs.declared.outcome.Summary.{Summary}
 use Rattle.smap_replies.specs.Files.{MayRead}
-use Rattle.smap_text_answers.specs.Loader.{FailsToLoad, LoaderSeen, Loads}
+use Rattle.smap_text_answers.specs.Loader.{FailsToLoad, LoaderSeen, Loads, base_at}
 use Rattle.smap_replies.specs.Map.{Never, ReportsFound, refusal_result}
 use Rattle.smap_replies.specs.Outcome.{Report}
 use Rattle.smap_text_answers.specs.RewriteFrom.{AnswersByPath, IsOverStore, IsStoredRewritten, RequestSeen, RewritesTextBy, places_of, store_start}
-use Rattle.smap_text_answers.specs.SameBytes.{BytesByPath, IsSettled, IsSilent, ReadsSame, stated_by, stated_in}
+use Rattle.smap_text_answers.specs.SameBytes.{BytesByPath, IsSilent, ReadsSame, maps_at, stated_by, stated_in}
 use Rattle.smap_replies.specs.Streams.{Streams}
-use Rattle.smap_text_answers.specs.Trace.{IsBaseUsed}
 use Rattle.smap_text_answers.specs.declared.rewriting.StoreEnd.{StoreEnd}
 use Rattle.smap_text_answers.specs.declared.sources.MapSources.{MapSources}
 
@@ -58,17 +56,10 @@ module _ {L : Type 0} (Steps : LoadsStep L) (Good : L → Type 0) (load : MapsBy
 
 -- ---- where nothing was reported, so no map was refused
 
--- a base that is given settles the maps
-pub settled_by : (base : Parts) (k : ℕ) (bytes_at : BytesByPath) → IsSettled (Some base) k bytes_at (λ url path. stated_by (Some base) k (bytes_at path))
-settled_by base k bytes_at url path bytes stated is (used, uses, read) =
-    ap (stated_by (Some base) k) is ∙ ap stated_in (ap (λ u. record_of bytes u k) (sym (go uses)) ∙ read)
-  where
-    go : IsBaseUsed (Some base) (without_query url) used → used ≡ Some base
-    go (inl is) = is
-    go (inr none) = cc
+module _ (Reads : MayRead) (base : Option Parts) (k number : ℕ) (bytes_at : BytesByPath) (same : ReadsSame Reads number bytes_at) where
+  abbrev load : MapsByPath
+  load = maps_at base k bytes_at
 
-module _ (Reads : MayRead) (base : Option Parts) (k number : ℕ) (bytes_at : BytesByPath) (same : ReadsSame Reads number bytes_at) (load : MapsByPath)
-    (settled : IsSettled base k bytes_at load) where
   -- what is said of a map that can't be had has a status
   refused_status : (path : List ℕ) (report : Report) (found : Result MapRecord MapRefusal) → ReportsFound (refusal_result path) found Never report
       → report.status ≡ 1
@@ -80,8 +71,8 @@ module _ (Reads : MayRead) (base : Option Parts) (k number : ℕ) (bytes_at : By
   fails_reported url path report (inl memory) few = let status = ap (λ t. t.status) memory in omega (arith, status, few)
   fails_reported url path report (inr (inl named)) few = let status = ap (λ t. t.status) named in omega (arith, status, few)
   fails_reported url path report (inr (inr (inl unread))) few = let status = ap (λ t. t.status) unread.1 in omega (arith, status, few)
-  fails_reported url path report (inr (inr (inr (bytes, read, (used, uses, reported))))) few =
-      let status = refused_status path report (record_of bytes used k) reported in omega (arith, status, few)
+  fails_reported url path report (inr (inr (inr (bytes, read, reported)))) few =
+      let status = refused_status path report (record_of bytes (base_at base url) k) reported in omega (arith, status, few)
 
   loads_settled : (old new : LoaderSeen) (url path : List ℕ) (came : Option (MapRecord × ℕ)) → Loads Reads base k number old url path came new
       → IsSilent new → IsSilent old × (record_in came ≡ load url path)
@@ -90,7 +81,7 @@ module _ (Reads : MayRead) (base : Option Parts) (k number : ℕ) (bytes_at : By
       absurd (fails_reported url path loads.0 loads.1 (omega (arith, status, silent)))
   loads_settled old new url path (Some (stated, file_bytes)) loads silent =
       let (bytes, read, many, is) = loads.0 in
-      (subst IsSilent loads.1 silent, sym (settled url path bytes stated (same path bytes read) is))
+      (subst IsSilent loads.1 silent, sym (ap (stated_by (base_at base url) k) (same path bytes read) ∙ ap stated_in is))
 
   pub same_settled : (sources : MapSources) (anywhere hide : Bool) (most : ℕ) (before after : DevicesSeen) (old new : StoredSeen LoaderSeen) (counts : RewriteCounts)
       → IsStoredRewritten Reads base k number sources anywhere hide most old new before after (Ok counts) → old.cache.kept ≡ []
@@ -105,12 +96,12 @@ module _ (Reads : MayRead) (base : Option Parts) (k number : ℕ) (bytes_at : By
 -- and so it is of a run
 pub same_run : (Reads : MayRead) (base : Option Parts) (k : ℕ) (request : RequestSeen) (sources : MapSources) (end : StoreEnd) (before after : Streams)
     → IsOverStore Reads base k request sources end before after → AnswersByPath Reads base k request sources end before after
-same_run Reads base k request sources end before after over bytes_at load same settled counts result silent enough =
+same_run Reads base k request sources end before after over bytes_at same counts result silent enough =
     let P : Result RewriteCounts LineFault → Type 0 = λ result.
     IsStoredRewritten Reads base k (length request.arguments + 1) sources request.anywhere request.hide_ignored request.limit_bytes
     (store_start sources request.cache_bytes before.sinks.errors before.sinks.code) over.last
     (devices_seen before.input before.sinks.output) (devices_seen after.input after.sinks.output) result in
-    same_settled Reads base k (length request.arguments + 1) bytes_at same load settled sources request.anywhere request.hide_ignored request.limit_bytes
+    same_settled Reads base k (length request.arguments + 1) bytes_at same sources request.anywhere request.hide_ignored request.limit_bytes
     (devices_seen before.input before.sinks.output) (devices_seen after.input after.sinks.output)
     (store_start sources request.cache_bytes before.sinks.errors before.sinks.code) over.last counts (subst P result over.rewritten) refl
     (sym over.status ∙ silent) (sym over.shortages ∙ enough)
