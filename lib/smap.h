@@ -240,8 +240,8 @@ uint32_t smap_table_new(smap_table *table);
 
 /* Puts the map into the table, under the URL that frames name. The table takes the map over: its handle is empty then.
  * Where it returns 1, `refusal` is 1 where no frame can name such a URL, 2 where the table has a map under it, and 0
- * where the URL is not UTF-8, and the map stays in its handle. Where it returns 3 the map is freed, and its handle is
- * empty. */
+ * where the URL is not UTF-8, and the map stays in its handle. Where it returns 3, which no such URL gets, the map is
+ * freed, and its handle is empty. */
 uint32_t smap_table_add(smap_table *table, const uint8_t *url, size_t url_length, smap_map *map, uint32_t *refusal);
 
 /* Lends what the program prints on this refusal of smap_table_add, "A1 BadUrl" or "A2 Twice". Returns 1 for another number. */

@@ -90,6 +90,9 @@ static void reading(void) {
     insist(read_small(base, length, 64, &map, &refusal) == SMAP_REFUSED && refusal.number == 0 && !map.at, "a long base that is no URL");
     memcpy(base, "https://e.test/", 15);
     insist(read_small(base, length, 64, &map, &refusal) == SMAP_DONE, "a long base");
+    smap_source_text source = SMAP_SOURCE;
+    insist(smap_source(&map, 0, &source) == SMAP_DONE && source.name.length == 19, "a source at a long base");
+    insist(!memcmp(source.name.bytes, "https://e.test/a.js", 19), "its name");
     smap_map_free(&map);
     free(base);
     const uint32_t others[] = {0, 17, 18, 19, UINT32_MAX};

@@ -1,12 +1,11 @@
 //! The maps of a trace.
 ghost use Rattle.std.specs.Prelude.{◌≡◌, ◌≢◌, ◌⊎◌, [], None, Some, IsSome, IfSome, IfOk, IfErr, IsUtf8, string_bytes};
 ghost use Rattle.smap_c.specs.Tables.{IsAdded, IsFree, IsNotAdded};
+ghost use Rattle.smap_trace.specs.Table.{url_refusal};
 
 use crate::handles::{MapHandle, TableHandle};
 use crate::status::{DONE, NO_MEMORY, REFUSED};
-use smap_codes::Code;
-use smap_record::MapFile;
-use smap_trace::{Table, TableRefusal};
+use smap_trace::{Table, TableRefusal, is_bad_url};
 use std::alloc::Global;
 
 /// Makes a table without maps.
@@ -27,7 +26,8 @@ pub extern "C" fn smap_table_new(alloc: Global, table: &mut TableHandle) -> u32
 
 /// Puts a map into a table, under its URL, which frames name as it stands here, in UTF-8. The table takes the map over,
 /// and its handle is empty then. Where the map is refused, both stay, and `refusal` is 1 or 2, that of A1 or A2, or 0
-/// where the URL is not UTF-8. Where there is not enough memory, the table stays, and the map is freed.
+/// where the URL is not UTF-8. Where there is not enough memory for one that is not refused, the table stays, and the map is
+/// freed.
 #[unsafe(no_mangle)]
 pub extern "C" fn smap_table_add(
     alloc: Global,
@@ -40,7 +40,7 @@ pub extern "C" fn smap_table_add(
     requires map { IsSome map.old.held }
     ensures added { result ≡ 0 → IsAdded table.old.held url.now map.old.held table.new.held }
     ensures taken { result ≢ 1 → map.new.held ≡ None }
-    ensures sound { result ≡ 0 → IsFree table.old.held url.now }
+    ensures sound { result ≢ 1 → IsFree table.old.held url.now }
     ensures refused { result ≡ 1 → IsNotAdded table.old.held url.now refusal.new }
     ensures unreported { result ≢ 1 → refusal.new ≡ refusal.old }
     ensures back { result ≡ 1 → map.new.held ≡ map.old.held }
@@ -51,50 +51,31 @@ pub extern "C" fn smap_table_add(
         *refusal = 0;
         return REFUSED;
     };
+    if let Some(refused) = refusal_of(table.lend(), url) {
+        *refusal = refused.code().number();
+        return REFUSED;
+    }
     let file = map.empty(alloc);
     let Ok(owned) = String::from_str(alloc, text) else {
         return NO_MEMORY;
     };
     match table.lend().add(owned, file) {
         Ok(()) => DONE,
-        Err((TableRefusal::Memory, _url, _file)) => NO_MEMORY,
-        Err((TableRefusal::BadUrl, _url, file)) => give_back(
-            alloc,
-            file,
-            map,
-            Code::A1.number(),
-            refusal,
-        ),
-        Err((TableRefusal::Twice, _url, file)) => give_back(
-            alloc,
-            file,
-            map,
-            Code::A2.number(),
-            refusal,
-        ),
+        Err(_no_memory) => NO_MEMORY,
     }
 }
 
-// Puts a map that was refused back into its handle, with the number of the refusal.
-fn give_back(
-    alloc: Global,
-    file: MapFile,
-    map: &mut MapHandle,
-    number: u32,
-    refusal: &mut u32,
-) -> u32
-    ensures back { result ≡ 1 → (map.new.held ≡ Some file) × (refusal.new ≡ number) }
-    ensures lost { result ≡ 3 → (map.new.held ≡ map.old.held) × (refusal.new ≡ refusal.old) }
-    ensures status { (result ≡ 1) ⊎ (result ≡ 3) }
+// Why a table takes no map under a URL, which is asked before the map leaves its handle.
+fn refusal_of(table: &Table, url: &[u8]) -> Option<TableRefusal>
+    ensures { result ≡ url_refusal table.now url.now }
 {
-    match MapHandle::new(alloc, file) {
-        Ok(handle) => {
-            *map = handle;
-            *refusal = number;
-            REFUSED
-        }
-        Err(_failed) => NO_MEMORY,
+    if is_bad_url(url) {
+        return Some(TableRefusal::BadUrl);
     }
+    if table.map_for(url).is_some() {
+        return Some(TableRefusal::Twice);
+    }
+    None
 }
 
 /// Frees a table with its maps, and leaves its handle empty.
