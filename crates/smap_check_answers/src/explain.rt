@@ -25,7 +25,7 @@ fn answer_word(alloc: Global, word: &str) -> Result<Reply, Failure>
         (report_of result) }
 {
     match code_called(word) {
-        Some(code) => Ok(Reply::Text(code_text(alloc, &row_of(code))?)),
+        Some(code) => Ok(Reply::Text(code_text(alloc, row_of(code))?)),
         None => {
             let line = no_code_text(alloc, word)?;
             Err(Failure::Refusal { code: None, line })

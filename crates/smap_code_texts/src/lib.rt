@@ -2,7 +2,7 @@
 //!
 //! ```text
 //! if let Some(code) = code_called("M14") {
-//!     print(code_text(alloc, &row_of(code))?);
+//!     print(code_text(alloc, row_of(code))?);
 //! }
 //! ```
 #![tactic(auto)]

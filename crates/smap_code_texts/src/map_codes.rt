@@ -3,7 +3,7 @@
 use crate::row::Row;
 use smap_codes::Code;
 
-pub const M1: Row = Row {
+pub const M1: &Row = &Row {
     code: Code::M1,
     meaning: "\
         The file has more than 67,108,864 bytes, the most that a map may have. A list of maps or a \
@@ -14,7 +14,7 @@ pub const M1: Row = Row {
         ones.",
 };
 
-pub const M2: Row = Row {
+pub const M2: &Row = &Row {
     code: Code::M2,
     meaning: "The file is no JSON text.",
     cause: "\
@@ -24,14 +24,14 @@ pub const M2: Row = Row {
         `smap check --explain FILE` says what the file begins as, and where it ends or is broken.",
 };
 
-pub const M3: Row = Row {
+pub const M3: &Row = &Row {
     code: Code::M3,
     meaning: "The file is JSON, but its value is no object.",
     cause: "Several maps were written as one list, or only a part of a map was written.",
     remedy: "Give a file whose JSON value is the object of the map.",
 };
 
-pub const M4: Row = Row {
+pub const M4: &Row = &Row {
     code: Code::M4,
     meaning: "The key `version` is missing, or is not the number 3.",
     cause: "\
@@ -41,7 +41,7 @@ pub const M4: Row = Row {
         Write `3` without quotes, point and exponent. Have a map of version 1 or 2 written anew.",
 };
 
-pub const M5: Row = Row {
+pub const M5: &Row = &Row {
     code: Code::M5,
     meaning: "\
         The key `sections` is no list of at most 65,536 objects, each with an object as its `map`.",
@@ -51,7 +51,7 @@ pub const M5: Row = Row {
     remedy: "Write the map of each section into it, and leave `sections` out of a regular map.",
 };
 
-pub const M6: Row = Row {
+pub const M6: &Row = &Row {
     code: Code::M6,
     meaning: "\
         A section, whose number follows, has no `offset` with a `line` and a `column`, each a whole \
@@ -60,7 +60,7 @@ pub const M6: Row = Row {
     remedy: "Write both, from 0, without quotes, sign, point and exponent.",
 };
 
-pub const M7: Row = Row {
+pub const M7: &Row = &Row {
     code: Code::M7,
     meaning: "The map of a section, whose number follows, is an index map itself.",
     cause: "Bundles that have index maps were joined once more.",
@@ -69,7 +69,7 @@ pub const M7: Row = Row {
         map written.",
 };
 
-pub const M8: Row = Row {
+pub const M8: &Row = &Row {
     code: Code::M8,
     meaning: "\
         The key `sources` is missing, or is no list of strings and nulls, or there are more than \
@@ -78,7 +78,7 @@ pub const M8: Row = Row {
     remedy: "Write the names of the sources as a list, or `[]` where there are none.",
 };
 
-pub const M9: Row = Row {
+pub const M9: &Row = &Row {
     code: Code::M9,
     meaning: "\
         The key `names` is there and is no list of strings, or there are more than 33,554,432 names.",
@@ -86,14 +86,14 @@ pub const M9: Row = Row {
     remedy: "Write strings alone, or leave `names` out where there are none.",
 };
 
-pub const M10: Row = Row {
+pub const M10: &Row = &Row {
     code: Code::M10,
     meaning: "The key `sourcesContent` is there and is no list of strings and nulls.",
     cause: "The writer put an object, `false` or a number where it had no text of a source.",
     remedy: "Write null for each source whose text is not there.",
 };
 
-pub const M11: Row = Row {
+pub const M11: &Row = &Row {
     code: Code::M11,
     meaning: "\
         The key `ignoreList`, or in its place `x_google_ignoreList`, is there and is no list of \
@@ -106,21 +106,21 @@ pub const M11: Row = Row {
         those of the section.",
 };
 
-pub const M12: Row = Row {
+pub const M12: &Row = &Row {
     code: Code::M12,
     meaning: "The key `file` or `sourceRoot` is there and is no string.",
     cause: "The writer put a number, a list or `false` there.",
     remedy: "Write a string, or leave the key out.",
 };
 
-pub const M13: Row = Row {
+pub const M13: &Row = &Row {
     code: Code::M13,
     meaning: "The key `mappings` is missing, or is no string, or has more than 67,108,864 bytes.",
     cause: "The writer wrote the mappings as a list, or left them out since there are none.",
     remedy: "Write them as one string in Base64 VLQ, which is empty where there are none.",
 };
 
-pub const M14: Row = Row {
+pub const M14: &Row = &Row {
     code: Code::M14,
     meaning: "\
         The mappings of a section have a fault at the place that follows: section, fault, line, \
@@ -132,7 +132,7 @@ pub const M14: Row = Row {
         See the code F1 to F11 that stands with it. `smap check --explain FILE` shows the segment.",
 };
 
-pub const M15: Row = Row {
+pub const M15: &Row = &Row {
     code: Code::M15,
     meaning: "The sections of the map do not stand one after the other.",
     cause: "Maps were joined at offsets that do not fit the files that were joined.",
@@ -140,7 +140,7 @@ pub const M15: Row = Row {
         See the code B1 to B5 that stands with it. `smap check --explain FILE` shows the places.",
 };
 
-pub const M16: Row = Row {
+pub const M16: &Row = &Row {
     code: Code::M16,
     meaning: "The URL of a source is too long, which is 4 GB or more.",
     cause: "\
@@ -148,7 +148,7 @@ pub const M16: Row = Row {
     remedy: "Shorten the base, `sourceRoot` or the name of the source.",
 };
 
-pub const M17: Row = Row {
+pub const M17: &Row = &Row {
     code: Code::M17,
     meaning: "Memory ran out while the map was read. The program prints `memory` for it.",
     cause: "The map is large, or many maps are held at once.",

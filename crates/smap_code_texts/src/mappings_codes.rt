@@ -3,7 +3,7 @@
 use crate::row::Row;
 use smap_codes::Code;
 
-pub const F1: Row = Row {
+pub const F1: &Row = &Row {
     code: Code::F1,
     meaning: "A byte of the segment is no digit of Base64.",
     cause: "\
@@ -12,7 +12,7 @@ pub const F1: Row = Row {
     remedy: "Drop what is no digit, and write `+` for `-` and `/` for `_`.",
 };
 
-pub const F2: Row = Row {
+pub const F2: &Row = &Row {
     code: Code::F2,
     meaning: "\
         The segment ends within a number, since its last digit says that another one follows.",
@@ -20,35 +20,35 @@ pub const F2: Row = Row {
     remedy: "Have the map written again, or take the whole file.",
 };
 
-pub const F3: Row = Row {
+pub const F3: &Row = &Row {
     code: Code::F3,
     meaning: "A number of the segment has more than 7 digits.",
     cause: "The string is damaged, or its writer pads numbers.",
     remedy: "Have the map written by a tool that writes each number in its shortest spelling.",
 };
 
-pub const F4: Row = Row {
+pub const F4: &Row = &Row {
     code: Code::F4,
     meaning: "A number of the segment is more than 2147483647 away from 0.",
     cause: "The string is damaged, or a number overflowed in its writer.",
     remedy: "Have the map written again.",
 };
 
-pub const F5: Row = Row {
+pub const F5: &Row = &Row {
     code: Code::F5,
     meaning: "A number of the segment is 0 with a minus sign, such as `B`.",
     cause: "Its writer takes the sign before it takes the number.",
     remedy: "Have the writer write `A` for 0.",
 };
 
-pub const F6: Row = Row {
+pub const F6: &Row = &Row {
     code: Code::F6,
     meaning: "The segment has other than 1, 4 or 5 numbers.",
     cause: "The string is damaged, or it uses an extension of the format.",
     remedy: "Have the map written without extensions.",
 };
 
-pub const F7: Row = Row {
+pub const F7: &Row = &Row {
     code: Code::F7,
     meaning: "\
         After the segment a value is below 0: the generated column, the source, the original line or \
@@ -57,7 +57,7 @@ pub const F7: Row = Row {
     remedy: "Have the map written again, or join maps with a tool that adds their values up.",
 };
 
-pub const F8: Row = Row {
+pub const F8: &Row = &Row {
     code: Code::F8,
     meaning: "\
         After the segment a value is past 2147483647: the generated column, the source, the original \
@@ -66,7 +66,7 @@ pub const F8: Row = Row {
     remedy: "Have the map written again.",
 };
 
-pub const F9: Row = Row {
+pub const F9: &Row = &Row {
     code: Code::F9,
     meaning: "The generated column of the segment is less than the one before it on its line.",
     cause: "Its writer puts segments out of order.",
@@ -74,14 +74,14 @@ pub const F9: Row = Row {
         Have the writer sort the segments of each line, or rewrite the map with a tool that does.",
 };
 
-pub const F10: Row = Row {
+pub const F10: &Row = &Row {
     code: Code::F10,
     meaning: "The segment names a source that the list `sources` does not have.",
     cause: "The list was cut, or `mappings` comes from another map.",
     remedy: "Give the map the whole list, or the mappings that belong to it.",
 };
 
-pub const F11: Row = Row {
+pub const F11: &Row = &Row {
     code: Code::F11,
     meaning: "The segment names a name that the list `names` does not have.",
     cause: "The list was cut or left out, or `mappings` comes from another map.",

@@ -6,8 +6,8 @@ use crate::{alone_codes, index_codes, map_codes, mappings_codes, trace_codes, wr
 use smap_codes::Code;
 
 /// What is to be known of this code.
-pub fn row_of(code: Code) -> Row
-    ensures { result.code ≡ code }
+pub fn row_of(code: Code) -> &'static Row
+    ensures { result.now.code ≡ code }
 {
     match code {
         Code::M1 => map_codes::M1,

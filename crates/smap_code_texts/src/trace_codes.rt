@@ -3,7 +3,7 @@
 use crate::row::Row;
 use smap_codes::Code;
 
-pub const A1: Row = Row {
+pub const A1: &Row = &Row {
     code: Code::A1,
     meaning: "\
         No frame of a trace can name this URL: it is empty, has a line end, or begins with `async ` \
@@ -14,21 +14,21 @@ pub const A1: Row = Row {
     remedy: "Write the URL as the frames have it, without what stands around it.",
 };
 
-pub const A2: Row = Row {
+pub const A2: &Row = &Row {
     code: Code::A2,
     meaning: "The URL, the prefix or the name has a map already.",
     cause: "It is given by two arguments, or by an argument and a list.",
     remedy: "Give it once.",
 };
 
-pub const A3: Row = Row {
+pub const A3: &Row = &Row {
     code: Code::A3,
     meaning: "Memory ran out while a map was put into a table.",
     cause: "The table is large.",
     remedy: "Give the process more memory.",
 };
 
-pub const P1: Row = Row {
+pub const P1: &Row = &Row {
     code: Code::P1,
     meaning: "The line of standard input whose number follows is the first that is no position.",
     cause: "\
@@ -36,35 +36,35 @@ pub const P1: Row = Row {
     remedy: "Write LINE and COLUMN, both from 1, with blanks or one `:` between them.",
 };
 
-pub const P2: Row = Row {
+pub const P2: &Row = &Row {
     code: Code::P2,
     meaning: "A line of standard input has more than 65,536 bytes, which is no position.",
     cause: "Standard input is another file, or has lost its line ends.",
     remedy: "Write a position a line.",
 };
 
-pub const X1: Row = Row {
+pub const X1: &Row = &Row {
     code: Code::X1,
     meaning: "Reading standard input failed.",
     cause: "It is a folder, or a device that failed.",
     remedy: "See to it that standard input can be read.",
 };
 
-pub const X2: Row = Row {
+pub const X2: &Row = &Row {
     code: Code::X2,
     meaning: "Writing to standard output failed.",
     cause: "The disk is full, or the program behind the pipe has ended.",
     remedy: "Make room, or read the output to its end.",
 };
 
-pub const X3: Row = Row {
+pub const X3: &Row = &Row {
     code: Code::X3,
     meaning: "Standard input has more than 1,073,741,824 bytes, or more than `--limit` says.",
     cause: "It is a log that is very long or never ends.",
     remedy: "Ask for more with `--limit`, or hand the text over in parts.",
 };
 
-pub const X4: Row = Row {
+pub const X4: &Row = &Row {
     code: Code::X4,
     meaning: "Memory ran out while a text was rewritten. The program prints `memory` for it.",
     cause: "The maps are large, or there are many.",
