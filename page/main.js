@@ -5,12 +5,12 @@ import { elementOf } from './elements.js';
 import { fileName, generated, map, owned } from './held.js';
 import { lineOf, mappingAt } from './map.js';
 import { drawView, go, openFromList, see, step, wrap } from './moves.js';
-import { answerOf, report } from './report.js';
+import { WELCOME, answerOf, report } from './report.js';
 import { bytesOf, contentOf, isIgnored, many, nameOf, ranked, share } from './sources.js';
 import { state } from './state.js';
 import { treeOf } from './tree.js';
 import { visible } from './units.js';
-import { areas, list, openSource, paintSwatch, panes, showOpen } from './views.js';
+import { areas, list, paintSwatch, panes, showOpen } from './views.js';
 
 function start() {
   readColours();
@@ -34,8 +34,10 @@ function start() {
   list.show(sources);
   areas.show(treeOf(sources, owned.unmapped));
   panes.generated.show(generated);
-  if (ranked.length > 0) openSource(ranked[0]);
-  else showOpen();
+  showOpen();
+  // Both panes show the first place of the largest source.
+  if (ranked.length > 0) openFromList(ranked[0]);
+  if (state.asked) state.asked.note = WELCOME;
   report();
 }
 

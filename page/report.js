@@ -5,7 +5,9 @@ import { lineOf } from './map.js';
 import { isIgnored, nameOf } from './sources.js';
 import { state } from './state.js';
 import { visible } from './units.js';
-export { answerOf, report };
+export { WELCOME, answerOf, report };
+
+const WELCOME = 'Point at either text. ? shows the keys.';
 
 // What `smap lookup` says of a mapping, in parts.
 function partsOf(index) {
@@ -42,8 +44,8 @@ function report() {
   elementOf('asked').textContent = at ? `${at.line + 1}:${at.column + 1}` : '';
   elementOf('arrow').textContent = at ? '→' : '';
   showAnswer(at ? partsOf(index) : {});
-  const start = isText ? 'Point at either text.' : 'Click an area or a folder to open it.';
+  const start = isText ? WELCOME : 'Click an area or a folder to open it. ? shows the keys.';
   const note = elementOf('note');
-  note.textContent = at ? (isPointed ? '' : asked.note) : `${start} ? shows the keys.`;
+  note.textContent = at ? (isPointed ? '' : asked.note) : start;
   note.title = note.textContent;
 }

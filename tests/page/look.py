@@ -15,7 +15,7 @@ import browsers
 import files
 from guards import try_contrast, try_hostile, try_large
 from pages import Checks, Page, asked, opened, press_button
-from texts import try_bytes, try_field, try_keys, try_marks, try_pointing, try_positions, try_preview
+from texts import try_bytes, try_field, try_keys, try_marks, try_opened, try_pointing, try_positions, try_preview
 from views import NARROW, try_filter, try_folders, try_hash, try_hidden, try_labels, try_line, try_none, try_room
 
 SIZE = 5000000
@@ -117,6 +117,8 @@ def main() -> int:
                     if name == "receipt":
                         took = min(took, opened(browser, pages[name]))
                         print(f"{kind.name}: {took / 1000:.2f} s to open {pages[name].path.stat().st_size:,} bytes")
+                        try_opened(browser, pages[name], checks)
+                        opened(browser, pages[name])
                     try_bytes(browser, pages[name], checks)
                     if name in ("receipt", "index"):
                         try_positions(browser, pages[name], checks)

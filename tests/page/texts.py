@@ -111,6 +111,27 @@ def try_pointing(browser: browsers.Browser, page: Page, checks: Checks, count: i
         browser.move(5, 5)
 
 
+def try_opened(browser: browsers.Browser, page: Page, checks: Checks) -> None:
+    """What a page shows first: the first place of the largest source, in both texts."""
+    opened(browser, page)
+    owned, _ = page.sources()
+    largest = owned.index(max(owned))
+    line, column, first = next(
+        (number + 1, mapping[0] + 1, mapping)
+        for number, line in enumerate(maps.decode(page.shown["mappings"]))
+        for mapping in line
+        if len(mapping) > 1 and mapping[1] == largest
+    )
+    checks.insist("the source that is open at first", open_source(browser), largest)
+    checks.insist("the place at first", said(browser, "#asked"), f"{line}:{column}")
+    checks.insist("the answer at first", said(browser, "#answer"), page.answers([(line, column)])[0])
+    checks.insist("the note at first", said(browser, "#note"), "Point at either text. ? shows the keys.")
+    checks.insist("whether it is in view", is_seen(browser, "generated", line, column), True)
+    checks.insist("whether its original is in view", is_seen(browser, "original", first[2] + 1, first[3] + 1), True)
+    let_go(browser)
+    checks.insist("the place after Escape", said(browser, "#asked"), "")
+
+
 def try_preview(browser: browsers.Browser, page: Page, checks: Checks) -> None:
     """What is pointed at shows for as long as it is. The page is that of examples/receipt.min.js."""
     asked(browser, "2:4472")
