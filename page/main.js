@@ -2,6 +2,7 @@
 import { letGo, listenToPanes } from './choose.js';
 import { readColours } from './colours.js';
 import { elementOf } from './elements.js';
+import { listenToFrames } from './frames.js';
 import { fileName, generated, map, owned } from './held.js';
 import { lineOf, mappingAt } from './map.js';
 import { drawView, go, openFromList, see, step, wrap } from './moves.js';
@@ -75,6 +76,7 @@ function listenToKeys() {
 function listen() {
   listenToPanes();
   listenToKeys();
+  listenToFrames();
   list.listen(openFromList);
   areas.listen(openFromList);
   elementOf('go').addEventListener('submit', (event) => {

@@ -9,9 +9,11 @@ import { many, sourceOf } from './sources.js';
 import { state } from './state.js';
 import { visible } from './units.js';
 import { areas, openSource, panes } from './views.js';
-export { drawView, go, openFromList, see, step, wrap };
+export { drawView, go, isOwn, openFromList, ownFiles, see, step, wrap };
 
+// The names by which frames call the generated file.
 const ownFiles = [fileName, record.file ? fileOf(record.file) : fileName];
+const isOwn = (url) => ownFiles.includes(fileOf(url));
 
 // To the place of the generated text that a text names.
 function go(text) {
@@ -38,7 +40,7 @@ function noteOn(line, column, index, url) {
   const length = generated.lengthOf(line);
   if (column > length) return `line ${line + 1} has ${many(length, 'column', 'columns')}`;
   if (index < 0) return 'no mapping stands on that line at or before that column';
-  if (!url || ownFiles.includes(fileOf(url))) return '';
+  if (!url || isOwn(url)) return '';
   return `the frame names ${visible(fileOf(url) || url)}, and this is ${visible(fileName)}`;
 }
 

@@ -1,5 +1,5 @@
 // What a text says where to go: a position, or a frame of a trace as V8, Firefox and Safari print it. All count from 1 here.
-export { fileOf, placeIn };
+export { fileOf, framesIn, placeIn };
 
 const LARGEST = 2147483648;
 
@@ -25,4 +25,10 @@ function placeIn(text, files) {
   if (own) return own;
   const frame = /^(?:at .* \(|at (?:async )?|[^@]*@)?([^\s@]*):(\d{1,10}):(\d{1,10})\)?$/.exec(said);
   return (frame && placeOf(frame[2], frame[3], frame[1])) ?? places[0] ?? null;
+}
+
+// The lines of a trace that name a place of a file, each with that place.
+function framesIn(trace, files) {
+  const frames = trace.split('\n').map((line) => ({ text: line.trim(), place: placeIn(line, files) }));
+  return frames.filter(({ place }) => place?.url);
 }

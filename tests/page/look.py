@@ -15,7 +15,7 @@ import browsers
 import files
 from guards import try_contrast, try_hostile, try_large
 from pages import Checks, Page, asked, opened, press_button
-from texts import try_bytes, try_field, try_keys, try_marks, try_opened, try_pointing, try_positions, try_preview
+from texts import PASTE, try_bytes, try_field, try_frames, try_keys, try_marks, try_opened, try_pointing, try_positions, try_preview
 from views import NARROW, try_filter, try_folders, try_hash, try_hidden, try_labels, try_line, try_none, try_room
 
 SIZE = 5000000
@@ -47,6 +47,9 @@ def keep_views(browser: browsers.Browser, pages: Dict[str, Page], to: Path, sche
     keep(browser, to, f"{start}-opened.png", checks)
     asked(browser, "2:4472")
     keep(browser, to, f"{start}-text.png", checks)
+    browser.run(PASTE, (pages["receipt"].map_path.parent / "receipt.trace").read_text())
+    keep(browser, to, f"{start}-frames.png", checks)
+    press_button(browser, "#frames-close")
     press_button(browser, "#see-areas")
     keep(browser, to, f"{start}-areas.png", checks)
     press_button(browser, "#help")
@@ -129,6 +132,8 @@ def main() -> int:
                 try_none(browser, pages["receipt"], checks)
                 try_preview(browser, pages["receipt"], checks)
                 try_field(browser, pages["receipt"], checks)
+                opened(browser, pages["receipt"])
+                try_frames(browser, pages["receipt"], checks)
                 try_keys(browser, pages["receipt"], checks)
                 try_hash(browser, pages["receipt"], checks)
                 checks.about = f"{kind.name}, marked"

@@ -199,6 +199,53 @@ def try_field(browser: browsers.Browser, page: Page, checks: Checks) -> None:
     checks.insist("the place behind #", said(browser, "#asked"), total)
 
 
+PASTE = """
+    const clipboardData = new DataTransfer();
+    clipboardData.setData('text/plain', arguments[0]);
+    const paste = new ClipboardEvent('paste', { clipboardData, bubbles: true, cancelable: true });
+    return document.getElementById('place').dispatchEvent(paste);
+"""
+FRAMES = """
+    return [...document.querySelectorAll('#frames-list button')].map((one) =>
+        [...one.children].map(({ textContent }) => textContent).concat(one.getAttribute('aria-current') === 'true'));
+"""
+
+
+def try_frames(browser: browsers.Browser, page: Page, checks: Checks) -> None:
+    """A trace that is pasted. The page is that of examples/receipt.min.js."""
+    trace = (page.map_path.parent / "receipt.trace").read_text()
+    lines = [line.strip() for line in trace.split("\n") if ".js:" in line]
+    places = [tuple(map(int, line.rstrip(")").rsplit(":", 2)[1:])) for line in lines]
+    checks.insist("whether one line is pasted as any text", browser.run(PASTE, lines[0] + "\n"), True)
+    checks.insist("whether frames are shown of one line", browser.run(FRAMES), [])
+    before = browser.run("return smapPage.pointOf('generated', 1, 1)")
+    browser.run(PASTE, "Error\n    at other (https://example.test/other.js:9:9)\n" + trace)
+    browser.settle()
+    rows = browser.run(FRAMES)
+    wanted = [["at other (https://example.test/other.js:9:9)", "another file", False]]
+    wanted += [[line, answer, i == 0] for i, (line, answer) in enumerate(zip(lines, page.answers(places)))]
+    checks.insist("the frames", rows, wanted)
+    checks.insist("how many", said(browser, "#frames-count"), f"{len(lines) + 1} frames")
+    checks.insist("the place of the first of this file", said(browser, "#asked"), f"{places[0][0]}:{places[0][1]}")
+    for i, (line, column) in enumerate(places):
+        press_button(browser, f"#frames-list li:nth-child({i + 2}) button")
+        checks.insist(f"the place of frame {i}", said(browser, "#asked"), f"{line}:{column}")
+        checks.insist(f"the frame in the field {i}", browser.run("return document.getElementById('place').value"), lines[i])
+        checks.insist(f"whether frame {i} is in view", is_seen(browser, "generated", line, column), True)
+        checks.insist(f"the frame that is marked {i}", [row[2] for row in browser.run(FRAMES)].index(True), i + 1)
+    browser.run(PASTE, "".join(f"at f{i} (https://example.test/receipt.min.js:1:{i + 1})\n" for i in range(1500)))
+    checks.insist("how many of many", said(browser, "#frames-count"), "the first 1,000 frames")
+    checks.insist("frames of many", len(browser.run(FRAMES)), 1000)
+    browser.run(PASTE, "at <img src=x onerror='window.hostile = 9'> (x.js:1:1)\nat \u202eb (x.js:1:1)\n")
+    checks.insist("a hostile trace", [row[0] for row in browser.run(FRAMES)], [
+        "at <img src=x onerror='window.hostile = 9'> (x.js:1:1)", "at \\u202eb (x.js:1:1)"])
+    press_button(browser, "#frames-close")
+    checks.insist("whether frames are hidden", browser.run("return document.getElementById('frames').hidden"), True)
+    asked(browser, "1:1")
+    browser.settle()
+    checks.insist("where the texts stand again", browser.run("return smapPage.pointOf('generated', 1, 1)"), before)
+
+
 def try_keys(browser: browsers.Browser, page: Page, checks: Checks) -> None:
     """The keys. The page is that of examples/receipt.min.js."""
     lines = maps.decode(page.shown["mappings"])
