@@ -1,7 +1,6 @@
 'use strict';
 // Checks what was given: what no call of the library may get is refused here, and never read as something else.
 const { isUint8Array, isUint32Array, isAnyArrayBuffer, isSharedArrayBuffer } = require('util').types;
-const { parsed } = require('./json.js');
 const { encoded, numbersOf } = require('./mappings.js');
 
 // The greatest number of 32 bits. No map has a line, a column or a source of this number or a greater one.
@@ -80,7 +79,7 @@ function mapBytes(value) {
     throw new TypeError('a map must be a text, a Uint8Array or a parsed map');
   }
   if (typeof value.then === 'function') throw new TypeError('a map must be a text, a Uint8Array or a parsed map, and not a promise of one');
-  return Buffer.from(JSON.stringify(withText(parsed(value))));
+  return Buffer.from(JSON.stringify(withText(typeof value.toJSON === 'function' ? value.toJSON() : value)));
 }
 
 const isObject = (value) => typeof value === 'object' && value !== null && !Array.isArray(value);

@@ -3,9 +3,8 @@
 const { inspect } = require('util');
 const addon = require('./addon.js');
 const given = require('./given.js');
-const { parsed, parts } = require('./json.js');
 const { NUMBERS, each, encoded } = require('./mappings.js');
-const { outlineOf } = require('./outline.js');
+const { numbersTo, outlineOf, renamed } = require('./outline.js');
 const { besideMap, isPath } = require('./paths.js');
 const { BAD_BASE, Refused, refusedGenerated, refusedMap, refusedWriting } = require('./refused.js');
 
@@ -49,12 +48,7 @@ function readAtPath(bytes, path, interval) {
   const unplaced = read(bytes, '', interval, path);
   const names = namesOf(unplaced);
   addon.closeMap(unplaced);
-  const map = parsed(bytes);
-  for (const part of parts(map)) {
-    part.sources = names.splice(0, part.sources.length).map((name) => besideMap(path, name));
-    part.sourceRoot = undefined;
-  }
-  return read(Buffer.from(JSON.stringify(map)), '', interval, path);
+  return read(renamed(bytes, names.map((name) => besideMap(path, name))), '', interval, path);
 }
 
 // The names of the sources of a map.
@@ -96,8 +90,6 @@ function withMappings(map, mappings) {
   const { version, file, names, sourceRoot, sources, sourcesContent, ignoreList } = map;
   return { version, file, names, sourceRoot, sources, sourcesContent, mappings, ignoreList };
 }
-
-const numbersTo = (count) => Array.from({ length: count }, (_, index) => index);
 
 // What the JSON of a regular map has by this key.
 function json(map, key) {

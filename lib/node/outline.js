@@ -10,6 +10,7 @@ function begin(bytes) {
   return bytes[at] === 0x29 ? bytes.indexOf(LF, at) : at;
 }
 
+const numbersTo = (count) => Array.from({ length: count }, (_, index) => index);
 const textOf = (bytes, [from, to]) => bytes.toString('utf8', from, to);
 
 // Where the values stand of the object that begins at this byte, by their keys. What is null is as not there.
@@ -22,6 +23,28 @@ function members(bytes, at) {
     found.set(key.includes('\\') ? JSON.parse(`"${key}"`) : key, isNull ? undefined : value);
   }
   return found;
+}
+
+// The regular maps of these members: those of the sections, or the map itself.
+function parts(bytes, map) {
+  const sections = map.get('sections');
+  if (!sections) return [map];
+  const found = addon.members(bytes, sections[0]);
+  return numbersTo(found.length / 4).map((i) => members(bytes, members(bytes, found[4 * i + 2]).get('map')[0]));
+}
+
+// The text of a map whose sources have these names, and no root.
+function renamed(bytes, names) {
+  const [left, changes] = [names.slice(), []];
+  for (const part of parts(bytes, members(bytes, begin(bytes)))) {
+    const [sources, root] = [part.get('sources'), part.get('sourceRoot')];
+    const count = addon.members(bytes, sources[0]).length / 4;
+    changes.push([...sources, JSON.stringify(left.splice(0, count))]);
+    if (root) changes.push([...root, '""']);
+  }
+  changes.sort(([one], [other]) => one - other);
+  const pieces = changes.flatMap(([from, , text], i) => [bytes.subarray(i ? changes[i - 1][1] : 0, from), Buffer.from(text)]);
+  return Buffer.concat([...pieces, bytes.subarray(changes.length ? changes[changes.length - 1][1] : 0)]);
 }
 
 // How many lines begin in a text of mappings behind its last segment.
@@ -62,4 +85,4 @@ function outlineOf(bytes) {
   };
 }
 
-module.exports = { outlineOf };
+module.exports = { numbersTo, outlineOf, renamed };

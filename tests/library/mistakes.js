@@ -333,7 +333,10 @@ function spellings() {
   for (const [object, lines] of [[regular, 6], [index, 11], [{ version: 3, sections: [] }, 0], [{ ...index, sections: null, ...regular }, 6]]) {
     const texts = [object, reversed(object)].flatMap((one) => [0, 1, '\t\r\n'].map((indent) => JSON.stringify(one, null, indent)));
     const more = texts.flatMap((text) => [text, `\ufeff \n${text}\n`, `)]}'x\n${text}`, text.replace('"mappings"', '"m\\u0061ppings"').replace(/;"/g, '\\u003b"')]);
+    // Of a key that stands twice the last value counts.
+    if (!object.sections) more.push(...texts.map((text) => text.replace('{', '{"sources":["old.js"],"mappings":";;;;;;;","sourceRoot":"old",')));
     for (const text of more) {
+      same(new smap.TraceMap(text, 'd/m.js').resolvedSources, new smap.TraceMap(text).resolvedSources.map((name) => name && `d/${name}`));
       const map = new smap.TraceMap(text);
       if (!object.sections) same([map.sources, map.sourceRoot, map.sourcesContent, map.ignoreList], [regular.sources, '"r"', regular.sourcesContent, [2]]);
       same(smap.decodedMappings(map).length, lines);
