@@ -2,11 +2,11 @@
 // The maps that a table's loader gives, and texts that name their URLs with a query or a fragment.
 const addon = require('./addon.js');
 const { refusedText } = require('./refused.js');
-const { MOST_BYTES, besidePlaces, cut, isLocation, ofFrames } = require('./urls.js');
+const { BEFORE, BEHIND, MOST_BYTES, besidePlaces, cut, isLocation, ofFrames } = require('./urls.js');
 
 const LF = 10;
-// So many bytes before a URL and behind it say whether it is that of a place: a colour, and the line and the column.
-const [BEFORE, BEHIND] = [48, 24];
+// So many places are tried at once.
+const MOST_PARTS = 1 << 16;
 const POSITION = /^:\d+:\d+/;
 
 // Asks a table's loader for the map of each URL that the text names, without query and fragment, and that was not asked for.
@@ -64,6 +64,7 @@ function without(bytes, parts) {
 // Those of the parts whose places are replaced or hidden, in lines of their own with an empty one behind each.
 function withOriginal(handle, parts, how) {
   if (!parts.length) return parts;
+  if (parts.length > MOST_PARTS) return halvesOf(parts).flatMap((half) => withOriginal(handle, half, how));
   const lines = parts.map(({ place }) => (how.places ? place : `@${place}`));
   const reported = rewritten(handle, Buffer.from(lines.map((line) => `${line}\n\n`).join(''), 'latin1'), how);
   const count = answered(reported);

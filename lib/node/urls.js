@@ -5,6 +5,10 @@ const addon = require('./addon.js');
 // What no URL and no path that is looked for has: blanks, control bytes, quotes and brackets.
 const STOPS = new Set([...Array(33).keys(), 127, ...Buffer.from('"\'`()<>[]{}')]);
 const MOST_BYTES = 2048;
+// So many bytes before a URL and behind it say whether it is that of a place: a colour, and the line and the column.
+const [BEFORE, BEHIND] = [48, 24];
+// A text is searched in blocks of so many bytes, since no string is as long as the longest text.
+const BLOCK = 1 << 20;
 const POSITION = /:[1-9]\d{0,9}:[1-9]\d{0,9}(?!\d)/g;
 const COLOUR = /^[\d;]{0,32}m/;
 const [ESCAPE, BRACKET] = [27, 91];
@@ -36,11 +40,17 @@ function begin(text, least, end) {
 
 // Where the URLs and paths begin and end that may stand before places anywhere in a text. The library says which of them do.
 function* besidePlaces(bytes) {
-  const text = bytes.toString('latin1');
   let least = 0;
-  for (const { 0: position, index } of text.matchAll(POSITION)) {
-    yield [begin(text, Math.max(least, index - MOST_BYTES), index), index];
-    least = index + position.length;
+  for (let block = 0; block < bytes.length; block += BLOCK) {
+    const from = Math.max(0, block - MOST_BYTES - BEFORE);
+    const text = bytes.toString('latin1', from, block + BLOCK + BEHIND);
+    for (const { 0: position, index } of text.matchAll(POSITION)) {
+      const end = from + index;
+      if (end < Math.max(least, block)) continue;
+      if (end >= block + BLOCK) break;
+      yield [from + begin(text, Math.max(least - from, index - MOST_BYTES, 0), index), end];
+      least = end + position.length;
+    }
   }
 }
 
@@ -50,4 +60,4 @@ function* ofFrames(bytes) {
   while (addon.nextFrameUrl(bytes, numbers)) yield [numbers[0], numbers[0] + numbers[1]];
 }
 
-module.exports = { MOST_BYTES, besidePlaces, cut, isLocation, ofFrames };
+module.exports = { BEFORE, BEHIND, MOST_BYTES, besidePlaces, cut, isLocation, ofFrames };

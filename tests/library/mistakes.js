@@ -703,6 +703,12 @@ function cutUrls() {
     }
     same(asked.splice(0), [url]);
   }
+  // Places that stand where one block of a long text ends and the next begins.
+  const long = new smap.Table({}, { load });
+  for (let length = 2 ** 20 - url.length - 12; length < 2 ** 20 + 3; length++) {
+    same(String(smap.rewrite(long, `${'-'.repeat(length - 1)} ${url}?v=3:1:11`, { anywhere: true })).slice(length), 'https://e.test/a.js:2:5');
+  }
+  same(asked.splice(0), [url]);
   // A map that is given for the whole URL comes first, and one for the cut URL serves all.
   const other = small.replace('a.js', 'o.js');
   const both = new smap.Table({ [`${url}?v=3`]: other, [url]: small }, { load });
