@@ -9,7 +9,6 @@ from ._reported import refused_text
 from ._urls import MOST_BYTES, beside_places, cut, is_location
 
 
-
 class Part(NamedTuple):
     """A part of a text, without which a URL has a map, and the place without it."""
 
