@@ -27,25 +27,22 @@ const VERSION: &str = "0.1.0";
 pub fn command_line<'a>(alloc: Global) -> Result<Command<'a>, AllocError>
     ensures { IfOk result (λ command. app_of command ≡ smap) }
 {
-    let commands = vec![in alloc;
-        lookup_command(alloc)?,
-        positions_command(alloc)?,
-        mappings_command(alloc)?,
-        sources_command(alloc)?,
-        rewrite_command(alloc)?,
-        check_command(alloc)?,
-        show_command(alloc)?,
-        compose_command(alloc)?,
-        explain_command(alloc)?,
-        raw_command(alloc)?,
-    ]?;
     Command::new(alloc, "smap")
         .bin_name("smap")?
         .version(VERSION)
         .about("Answers questions about source maps")
         .after_help(STATUSES)
         .subcommand_required(true)
-        .subcommands(commands)
+        .subcommand(lookup_command(alloc)?)?
+        .subcommand(positions_command(alloc)?)?
+        .subcommand(mappings_command(alloc)?)?
+        .subcommand(sources_command(alloc)?)?
+        .subcommand(rewrite_command(alloc)?)?
+        .subcommand(check_command(alloc)?)?
+        .subcommand(show_command(alloc)?)?
+        .subcommand(compose_command(alloc)?)?
+        .subcommand(explain_command(alloc)?)?
+        .subcommand(raw_command(alloc)?)
 }
 
 fn lookup_command<'a>(alloc: Global) -> Result<Command<'a>, AllocError>
