@@ -183,6 +183,10 @@ end_read text bytes line end is_text same at read =
 
 -- ---- line after line
 
+pub first_and_rest : (lines : List (List ℕ)) (first : List ℕ) (rest : List (List ℕ)) → slice_get lines 0 ≡ Some first → drop 1 lines ≡ rest → lines ≡ first ∷ rest
+first_and_rest [] first rest is after = absurd (cc)
+first_and_rest (line ∷ lines) first rest is after = let same : line ≡ first = cc in ap (λ l. l ∷ lines) same ∙ ap (λ l. first ∷ l) after
+
 pub from_start : (content : List ℕ) → IsRestFrom content 0 content
 from_start content = record { start = 0; within = refl; lines = refl }
 

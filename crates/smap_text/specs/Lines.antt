@@ -1,5 +1,5 @@
 -- The lines of a text (ECMAScript, line terminator sequences). A text is a list of characters here.
-use Rattle.std.specs.Prelude.{◌≡◌, ℕ, Bool, false, List, [], ◌∷◌, ◌==◌, ◌||◌, ◌&&◌, if◌then◌else◌, drop, length, take}
+use Rattle.std.specs.Prelude.{◌≡◌, ℕ, Bool, false, List, [], ◌∷◌, ◌==◌, ◌||◌, ◌&&◌, Option, None, Some, if◌then◌else◌, drop, length, take}
 use Rattle.std.specs.Str.{chars}
 
 -- LF, CR, and the line and the paragraph separator
@@ -26,6 +26,11 @@ lines_from c line_feed_follows lines =
 unfoldable pub lines_of : List ℕ → List (List ℕ)
 lines_of [] = [] ∷ []
 lines_of (c ∷ cs) = lines_from c (has_line_feed_first cs) (lines_of cs)
+
+-- the lines of what follows a line's end, where the line has one
+abbrev pub lines_behind : Option (List ℕ) → List (List ℕ)
+lines_behind None = []
+lines_behind (Some rest) = lines_of (chars rest)
 
 -- the bytes of a text from one byte on that have the lines from this number on, from 0
 pub record IsRestFrom (content : List ℕ) (line : ℕ) (rest : List ℕ) : Type 0 where

@@ -21,6 +21,6 @@ mod texts;
 
 pub use code_units::units;
 pub use excerpts::excerpt;
-pub use lines::line_at;
+pub use lines::{line_at, split_line};
 pub use place::{Place, unit_place};
 pub use texts::{shown, shown_byte};

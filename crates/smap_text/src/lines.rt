@@ -1,8 +1,8 @@
 //! The lines of a text (ECMAScript, line terminator sequences).
-ghost use Rattle.std.specs.Prelude.{◌≡◌, ◌≤◌, ◌-◌, [], length, drop, take, Some, option_map, slice_get, IfSome, MatchOption};
+ghost use Rattle.std.specs.Prelude.{◌≡◌, ◌≤◌, ◌-◌, [], ◌∷◌, length, drop, take, Some, option_copied, option_map, slice_get, IfSome, MatchOption};
 ghost use Rattle.std.specs.Str.{chars};
 ghost use Rattle.smap_text.specs.Private.Ends.{end_bytes, line_bytes};
-ghost use Rattle.smap_text.specs.Lines.{IsSliceAt, lines_of};
+ghost use Rattle.smap_text.specs.Lines.{IsSliceAt, lines_behind, lines_of};
 
 /// The line of this number, from 0, without its line end; `None` where there are fewer. Lines end in LF, CR LF, CR,
 /// U+2028 or U+2029, and an empty content has one empty line.
@@ -15,14 +15,24 @@ pub fn line_at(content: &str, line: u32) -> Option<&str>
     for _passed in 0..line {
         rest = after_first_line(rest)?;
     }
-    Some(first_line(rest))
+    Some(split_line(rest).0)
 }
 
-fn first_line(text: &str) -> &str
-    ensures line { slice_get (lines_of (chars text.now)) 0 ≡ Some (chars result.now) }
-    ensures front { take (length result.now) text.now ≡ result.now }
+/// The first line of a text, without its end, and what follows that end; `None` where the line has none.
+pub fn split_line(text: &str) -> (&str, Option<&str>)
+    ensures lines { lines_of (chars text.now)
+        ≡ chars result.0.now ∷ lines_behind (option_copied result.1) }
+    ensures front { take (length result.0.now) text.now ≡ result.0.now }
+    ensures rest { IfSome result.1 (λ rest.
+        drop (length text.now - length rest.now) text.now ≡ rest.now) }
 {
-    &text[..line_bytes(text.as_bytes())]
+    let bytes = text.as_bytes();
+    let end = line_bytes(bytes);
+    let line = &text[..end];
+    match end_bytes(&bytes[end..]) {
+        0 => (line, None),
+        length => (line, Some(&text[end + length..])),
+    }
 }
 
 // What follows the first line of a text and its end; `None` where the text ends with that line.
@@ -32,12 +42,7 @@ fn after_first_line(text: &str) -> Option<&str>
     ensures rest { IfSome result (λ rest.
         drop (length text.now - length rest.now) text.now ≡ rest.now) }
 {
-    let bytes = text.as_bytes();
-    let end = line_bytes(bytes);
-    match end_bytes(&bytes[end..]) {
-        0 => None,
-        length => Some(&text[end + length..]),
-    }
+    split_line(text).1
 }
 
 // How many bytes stand before the first line end of a text.

@@ -1,23 +1,15 @@
-use Rattle.std.proofs.Common.{◌<◌, ap, sym, ◌∙◌, arith}
+use Rattle.std.proofs.Common.{◌≡◌, List, [], ℕ, drop, Option, None, Some, ap}
+use Rattle.std.specs.Borrow.{Bor}
+use Rattle.std.specs.Option.{option_copied}
+use Rattle.std.specs.Prelude.{MatchOption}
 use Rattle.std.specs.Str.{chars}
-use Rattle.smap_text.specs.Lines.{lines_of}
-use Rattle.smap_text.proofs.LineLaws.{end_read}
+use Rattle.smap_text.specs.Lines.{lines_behind, lines_of}
 use Rattle.smap_text.proofs.lines.after_first_line.Goals as goal
 
-pub range_from-requires : goal.range_from-requires
-range_from-requires c =
-    let some : 0 < c.end_bytes.result = omega arith in
-    λ _. ((end_read c.args.text.now c.as_bytes-bytes.result.now c.line_bytes-end.result c.end_bytes.result c.utf8.text
-    c.as_bytes-bytes.ensures.value c.line_bytes-end.ensures.bytes c.end_bytes.ensures).after some).0
+by_rest : (rest : Option (Bor (List ℕ))) (lines : List (List ℕ)) → lines ≡ lines_behind (option_copied rest)
+    → MatchOption rest (lines ≡ []) (λ text. lines ≡ lines_of (chars text.now))
+by_rest None lines are = are
+by_rest (Some text) lines are = are
 
-pub returns-in-0-clause-lines : goal.returns-in-0-clause-lines
-returns-in-0-clause-lines c =
-    (end_read c.args.text.now c.as_bytes-bytes.result.now c.line_bytes-end.result c.end_bytes.result c.utf8.text
-    c.as_bytes-bytes.ensures.value c.line_bytes-end.ensures.bytes c.end_bytes.ensures).last c.in-0.is
-
-pub returns-in_default-clause-lines : goal.returns-in_default-clause-lines
-returns-in_default-clause-lines c =
-    let some : 0 < c.end_bytes.result = omega arith in
-    ((end_read c.args.text.now c.as_bytes-bytes.result.now c.line_bytes-end.result c.end_bytes.result c.utf8.text
-    c.as_bytes-bytes.ensures.value c.line_bytes-end.ensures.bytes c.end_bytes.ensures).after some).1
-    ∙ ap (λ l. lines_of (chars l)) (sym c.range_from.ensures.value)
+pub returns-clause-lines : goal.returns-clause-lines
+returns-clause-lines c = by_rest c.split_line.result.1 _ (ap (drop 1) c.split_line.ensures.lines)

@@ -1,4 +1,4 @@
-use Rattle.std.proofs.Common.{◌≡◌, Some, slice_get, subst, sym, rules, arith}
+use Rattle.std.proofs.Common.{◌≡◌, Some, slice_get, ap, subst, sym, rules, arith}
 use Rattle.std.specs.Str.{chars}
 use Rattle.smap_text.specs.Lines.{IsRestFrom, lines_of}
 use Rattle.smap_text.proofs.LineLaws.{from_start, from_next, line_here, none_after}
@@ -23,8 +23,8 @@ returns-in_err-rest-clause-text c =
 pub returns-clause-text : goal.returns-clause-text
 returns-clause-text c =
     let same : c.loop-passed._passed ≡ c.args.line = omega arith in
-    sym (subst (λ n. slice_get (lines_of (chars c.args.content.now)) n ≡ Some (chars c.first_line.result.now)) same
-    (line_here c.args.content.now c.loop-passed._passed c.loop-passed.rest.now c.first_line.result.now c.loop-passed.invariant.1 c.first_line.ensures.line))
+    sym (subst (λ n. slice_get (lines_of (chars c.args.content.now)) n ≡ Some (chars c.split_line.result.0.now)) same
+    (line_here c.args.content.now c.loop-passed._passed c.loop-passed.rest.now c.split_line.result.0.now c.loop-passed.invariant.1 (ap (λ l. slice_get l 0) c.split_line.ensures.lines)))
 
 pub returns-clause-slice : goal.returns-clause-slice
 returns-clause-slice c =
@@ -32,5 +32,5 @@ returns-clause-slice c =
     record {
       rest = c.loop-passed.rest.now;
       from = subst (λ n. IsRestFrom c.args.content.now n c.loop-passed.rest.now) same c.loop-passed.invariant.1;
-      front = c.first_line.ensures.front;
+      front = c.split_line.ensures.front;
     }

@@ -1,0 +1,4 @@
+mod CountLaws
+mod Examples
+mod PlaceLaws
+mod StandingLaws

@@ -1,0 +1,5 @@
+pub mod Words
+pub mod Standing
+pub mod Fresh
+pub mod Fit
+pub mod Private

@@ -1,0 +1,85 @@
+//! A place in a line.
+ghost use Rattle.std.specs.Prelude.{◌≡◌, ◌≤◌, List, ℕ, None};
+ghost use Rattle.std.specs.Str.{chars};
+ghost use Rattle.smap_fit.specs.Private.Places.{IsLeft};
+ghost use Rattle.smap_fit.specs.Standing.{goes_on, is_substitution, standing_on};
+
+use crate::characters::{split_character, units_of};
+use crate::standing::Standing;
+use crate::words::is_word_character;
+
+/// A place in a line: how many UTF-16 code units are before it, the character before it, and what is left behind it.
+#[derive(Drop)]
+pub struct LinePlace<'a> {
+    pub column: u32,
+    pub before: Option<char>,
+    pub left: &'a str,
+}
+
+impl<'a> LinePlace<'a> {
+    /// The start of a line.
+    pub fn start(line: &'a str) -> Self
+        ensures column { result.column ≡ 0 }
+        ensures left { IsLeft (chars line.now) 0 result.before (chars result.left.now) }
+    {
+        LinePlace {
+            column: 0,
+            before: None,
+            left: line,
+        }
+    }
+
+    /// How a column that is not before the place stands in its line. The place goes on to it, or to the last before it that
+    /// there is.
+    pub fn standing(&mut self, column: u32) -> Standing
+        requires { self.old.column ≤ column }
+        ensures column { self.new.column ≤ column }
+        ensures left { (whole : List ℕ)
+            → IsLeft whole self.old.column self.old.before (chars self.old.left.now)
+            → IsLeft whole self.new.column self.new.before (chars self.new.left.now) }
+        ensures standing { (whole : List ℕ)
+            → IsLeft whole self.old.column self.old.before (chars self.old.left.now)
+            → result ≡ standing_on None whole column }
+    {
+        while self.column < column {
+            let Some((character, left)) = split_character(self.left) else {
+                return Standing::PastText;
+            };
+            let units = units_of(character);
+            if column - self.column < units {
+                return Standing::InsideWord;
+            }
+            self.column += units;
+            self.before = Some(character);
+            self.left = left;
+        }
+        if self.goes_on() {
+            Standing::InsideWord
+        } else {
+            Standing::Fits
+        }
+    }
+
+    // Whether a word goes on from the character before the place to the one at it.
+    fn goes_on(&self) -> bool
+        ensures { result ≡ goes_on self.now.before (chars self.now.left.now) }
+    {
+        let Some(before) = self.before else {
+            return false;
+        };
+        let Some((next, behind)) = split_character(self.left) else {
+            return false;
+        };
+        is_word_character(before) && is_word_character(next) && !is_substitution(next, behind)
+    }
+}
+
+// Whether a substitution in a template begins with this character, which this text follows.
+fn is_substitution(character: char, behind: &str) -> bool
+    ensures { result ≡ is_substitution character (chars behind.now) }
+{
+    match split_character(behind) {
+        Some((next, _)) => character == '$' && next == '{',
+        None => false,
+    }
+}
