@@ -29,6 +29,7 @@ function drawRows(pane, rows) {
   for (const row of rows) drawSegments(pane, row, lit);
   drawLit(context, lit);
   for (const row of rows) drawText(pane, row);
+  for (const row of rows) drawFound(pane, row);
   drawCaret(pane);
   context.restore();
   drawGutter(pane, rows);
@@ -75,6 +76,19 @@ function drawLit(context, lit) {
     context.lineWidth = isChosen ? 2 : 1.25;
     context.strokeRect(left, y + 1, right - left, LINE_HEIGHT - 2);
   }
+}
+
+// What a search found is framed, and underlined.
+function drawFound({ context, text, cell, finder }, { line, begin, end, y, zero }) {
+  finder?.visit(line, begin, end, (from, to, isCurrent) => {
+    const left = zero + text.cellsBefore(line, Math.max(from, begin)) * cell;
+    const width = zero + text.cellsBefore(line, Math.min(to, end)) * cell - left;
+    context.fillStyle = colours.accent;
+    context.fillRect(left, y + LINE_HEIGHT - 2, width, 2);
+    context.strokeStyle = colours.accent;
+    context.lineWidth = isCurrent ? 2 : 1;
+    context.strokeRect(left, y + 1, width, LINE_HEIGHT - 2);
+  });
 }
 
 function drawText(pane, row) {

@@ -11,7 +11,7 @@ import { bytesOf, contentOf, isIgnored, many, nameOf, ranked, share } from './so
 import { state } from './state.js';
 import { treeOf } from './tree.js';
 import { visible } from './units.js';
-import { areas, list, paintSwatch, panes, showOpen } from './views.js';
+import { areas, finders, list, paintSwatch, panes, showOpen } from './views.js';
 
 function start() {
   readColours();
@@ -48,12 +48,18 @@ function redrawAll() {
   paintSwatch();
 }
 
+// The field for the search in the pane with the focus.
+function find() {
+  see('text');
+  (document.activeElement === panes.original.scroller ? finders.original : finders.generated).field.select();
+}
+
 function listenToKeys() {
   const keys = {
     n: () => step(1),
     p: () => step(-1),
     g: () => elementOf('place').select(),
-    '/': () => elementOf('place').select(),
+    '/': find,
     w: () => wrap(document.activeElement === panes.original.scroller ? 'original' : 'generated'),
     t: () => see('text'),
     a: () => see('areas'),
@@ -77,6 +83,7 @@ function listen() {
   listenToPanes();
   listenToKeys();
   listenToFrames();
+  for (const finder of Object.values(finders)) finder.listen();
   list.listen(openFromList);
   areas.listen(openFromList);
   elementOf('go').addEventListener('submit', (event) => {

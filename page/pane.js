@@ -34,6 +34,7 @@ class Pane {
     this.past = 0;
     this.left = 0;
     this.top = 0;
+    this.finder?.forget();
     this.resize();
   }
 
@@ -111,12 +112,17 @@ class Pane {
   }
 
   wrap(wraps) {
-    const { line, base } = this.lineOfRow(Math.max(0, Math.min(Math.floor((this.top - TOP) / LINE_HEIGHT), this.rows - 1)));
-    const place = this.caret ?? { line, column: this.text ? this.text.columnAt(line, base + this.left / this.cell) : 0 };
+    const place = this.caret ?? this.topPlace();
     this.wraps = wraps;
     this.left = 0;
     this.resize();
     this.reveal(place.line, place.column);
+  }
+
+  // The first place that is seen.
+  topPlace() {
+    const { line, base } = this.lineOfRow(Math.max(0, Math.min(Math.floor((this.top - TOP) / LINE_HEIGHT), this.rows - 1)));
+    return { line, column: this.text ? this.text.columnAt(line, base + this.left / this.cell) : 0 };
   }
 
   // ---- scrolling
@@ -234,9 +240,19 @@ class Pane {
     });
   }
 
+  // Goes to a place, as a click on it does, and shows it.
+  arrive(place) {
+    this.reveal(place.line, place.column);
+    this.choose(place);
+    this.caret = place;
+    this.reveal(place.line, place.column);
+    this.later();
+  }
+
   // Tells of the place that is pointed at, or null, and of the one that is clicked.
   listen({ point, choose }) {
     const { scroller } = this;
+    this.choose = choose;
     scroller.addEventListener('pointermove', (event) => {
       const place = this.placeAt(event.clientX, event.clientY);
       point(place && !place.isPast ? place : null);

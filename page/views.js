@@ -2,17 +2,22 @@
 import { Areas } from './areas.js';
 import { colourOf } from './colours.js';
 import { added, elementOf, isolated } from './elements.js';
+import { Finder } from './find.js';
 import { List } from './list.js';
 import { Pane } from './pane.js';
 import { visitGenerated, visitOriginal } from './segments.js';
 import { isIgnored, many, nameOf, rankOf, sourceOf } from './sources.js';
 import { isLit, state } from './state.js';
 import { visible } from './units.js';
-export { areas, list, openSource, paintSwatch, panes, showOpen };
+export { areas, finders, list, openSource, paintSwatch, panes, showOpen };
 
 const panes = {
   generated: new Pane(elementOf('generated'), { wraps: true, segments: visitGenerated, isLit }),
   original: new Pane(elementOf('original'), { wraps: false, segments: visitOriginal, isLit }),
+};
+const finders = {
+  generated: new Finder(elementOf('generated'), panes.generated),
+  original: new Finder(elementOf('original'), panes.original),
 };
 const list = new List(elementOf('list'));
 const areas = new Areas(elementOf('areas'), elementOf('way'));

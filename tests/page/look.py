@@ -13,6 +13,7 @@ from typing import Dict, Tuple
 
 import browsers
 import files
+from finding import try_find, try_find_large, try_find_strange
 from guards import try_contrast, try_hostile, try_large
 from pages import Checks, Page, asked, opened, press_button
 from texts import PASTE, try_bytes, try_field, try_frames, try_keys, try_marks, try_opened, try_pointing, try_positions, try_preview
@@ -134,6 +135,7 @@ def main() -> int:
                 try_field(browser, pages["receipt"], checks)
                 opened(browser, pages["receipt"])
                 try_frames(browser, pages["receipt"], checks)
+                try_find(browser, pages["receipt"], checks)
                 try_keys(browser, pages["receipt"], checks)
                 try_hash(browser, pages["receipt"], checks)
                 checks.about = f"{kind.name}, marked"
@@ -147,9 +149,11 @@ def main() -> int:
                 checks.about = f"{kind.name}, hostile"
                 opened(browser, pages["hostile"])
                 checks.insist("what the browser complains of", browser.complaints(), [])
+                try_find_strange(browser, pages["hostile"], checks)
                 try_hostile(browser, pages["hostile"], checks)
                 checks.about = f"{kind.name}, bundle"
                 print(f"{kind.name}: {try_large(browser, pages['bundle'], pages['receipt'], checks)}")
+                try_find_large(browser, pages["bundle"], checks)
                 try_labels(browser, pages["bundle"], checks)
                 checks.about = f"{kind.name}, pictures"
                 keep_views(browser, pages, pictures, "light", checks)
