@@ -1,6 +1,7 @@
 // The start of the page, what its field, buttons and keys do, and what a test may ask.
 import { letGo, listenToPanes } from './choose.js';
 import { readColours } from './colours.js';
+import { copyLine, copyPlace, listenToCopying } from './copying.js';
 import { elementOf } from './elements.js';
 import { listenToFrames } from './frames.js';
 import { fileName, generated, map, owned } from './held.js';
@@ -48,10 +49,16 @@ function redrawAll() {
   paintSwatch();
 }
 
-// The field for the search in the pane with the focus.
+// The pane with the focus, or else the generated one.
+function paneInUse() {
+  return document.activeElement === panes.original.scroller ? 'original' : 'generated';
+}
+
+// The field for the search in that pane.
 function find() {
+  const { field } = finders[paneInUse()];
   see('text');
-  (document.activeElement === panes.original.scroller ? finders.original : finders.generated).field.select();
+  field.select();
 }
 
 function listenToKeys() {
@@ -60,7 +67,9 @@ function listenToKeys() {
     p: () => step(-1),
     g: () => elementOf('place').select(),
     '/': find,
-    w: () => wrap(document.activeElement === panes.original.scroller ? 'original' : 'generated'),
+    w: () => wrap(paneInUse()),
+    c: copyPlace,
+    l: () => copyLine(paneInUse()),
     t: () => see('text'),
     a: () => see('areas'),
     '?': () => elementOf('keys').showModal(),
@@ -83,6 +92,7 @@ function listen() {
   listenToPanes();
   listenToKeys();
   listenToFrames();
+  listenToCopying();
   for (const finder of Object.values(finders)) finder.listen();
   list.listen(openFromList);
   areas.listen(openFromList);
@@ -97,12 +107,6 @@ function listen() {
   for (const name of Object.keys(panes)) {
     elementOf(name).querySelector('.wrap').addEventListener('click', () => wrap(name));
   }
-  document.addEventListener('copy', (event) => {
-    const isOwn = event.target instanceof HTMLInputElement || !state.asked || elementOf('texts').hidden || String(getSelection());
-    if (isOwn) return;
-    event.clipboardData.setData('text/plain', `${elementOf('asked').textContent} ${elementOf('answer').textContent}`);
-    event.preventDefault();
-  });
   new ResizeObserver(redrawAll).observe(document.querySelector('main'));
   matchMedia('(prefers-color-scheme: dark)').addEventListener('change', () => {
     readColours();

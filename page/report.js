@@ -43,6 +43,7 @@ function report() {
   else if (isText && asked) at = asked;
   elementOf('asked').textContent = at ? `${at.line + 1}:${at.column + 1}` : '';
   elementOf('arrow').textContent = at ? '→' : '';
+  elementOf('copy-place').hidden = !isText || !asked;
   showAnswer(at ? partsOf(index) : {});
   const start = isText ? WELCOME : 'Click an area or a folder to open it. ? shows the keys.';
   const note = elementOf('note');

@@ -290,7 +290,34 @@ def try_keys(browser: browsers.Browser, page: Page, checks: Checks) -> None:
     focus(browser, "#generated .scroller")
     browser.run("window.addEventListener('copy', (event) => { window.copied = event.clipboardData.getData('text/plain'); })")
     browser.chord("Control", "c")
-    checks.insist("what is copied", browser.run("return window.copied"), f"2:1896 {page.answers([(2, 1896)])[0]}")
+    place = f"2:1896 {page.answers([(2, 1896)])[0]}"
+    checks.insist("what is copied", browser.run("return window.copied"), place)
+    source = open_source(browser)
+    line = int(place.rsplit(":", 2)[1])
+    lines = {
+        "generated": maps.split_lines(page.text)[1][0],
+        "original": maps.split_lines(page.shown["sourcesContent"][source])[line - 1][0],
+    }
+    ways = [("c", "", place, "copied the place"), ("", "#copy-place", place, "copied the place")]
+    for pane, number in (("generated", 2), ("original", line)):
+        ways += [("l", pane, lines[pane], f"copied line {number}"), ("", f"#{pane} .copy", lines[pane], f"copied line {number}")]
+    for key, at, wanted, note in ways:
+        asked(browser, "2:1896")
+        browser.run("window.copied = null")
+        if key:
+            focus(browser, f"#{at or 'generated'} .scroller")
+            browser.press(key)
+        else:
+            x, y = browser.middle(at)
+            browser.click(x, y)
+        checks.insist(f"what {key or at} copies", browser.run("return window.copied"), wanted)
+        checks.insist(f"what is said of {key or at}", said(browser, "#note"), note)
+    browser.press("Escape")
+    browser.run("window.copied = null")
+    for key in "cl":
+        browser.press(key)
+    checks.insist("what is copied where nothing is chosen", browser.run("return window.copied"), None)
+    checks.insist("whether there is a button for it", browser.run("return document.getElementById('copy-place').hidden"), True)
 
     # The list, and each thing that Tab leads to has a name.
     focus(browser, "#list")
