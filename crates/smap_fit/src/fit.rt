@@ -42,9 +42,9 @@ impl Fit {
     }
 }
 
-/// How a map fits a generated text, whose lines end in LF, CR LF, CR, U+2028 or U+2029. A mapping that only continues the one
-/// before it, on its line and from its original line, as many columns further in both, is not counted. Where each mapping
-/// stands at the first character of a word, at one of no word, or at a line's end, the map fits.
+/// How a map fits a generated text, whose lines end in LF, CR LF, CR, U+2028 or U+2029. A mapping that only continues the
+/// one before it, on its line and from its original line, as many columns further in both, is not counted. Where each
+/// mapping stands at the first character of a word, at one of no word, or at a line's end, the map fits.
 pub fn fit_of(alloc: Global, map: &MapFile, generated: &str) -> Fit
     ensures counts { result ≡ fit_in generated.now (joined map.now.stated.parts) }
     ensures law { AllAtStarts generated.now (joined map.now.stated.parts) → fits result ≡ true }

@@ -13,8 +13,8 @@ use crate::line_place::LinePlace;
 use crate::standing::Standing;
 use smap_text::split_line;
 
-/// A place in the code of a text, from which a walk goes on: the number of its line, from 0, the place in it, and what follows the
-/// line's end.
+/// A place in the code of a text, from which a walk goes on: the number of its line, from 0, the place in it, and what
+/// follows the line's end.
 #[derive(Drop)]
 pub struct TextPlace<'a> {
     pub line: u32,
@@ -38,8 +38,8 @@ impl<'a> TextPlace<'a> {
         }
     }
 
-    /// How a position that is not before the place stands in the text. The place goes on to it, or to the last before it that
-    /// there is.
+    /// How a position that is not before the place stands in the text. The place goes on to it, or to the last before it
+    /// that there is.
     pub fn standing(&mut self, line: u32, column: u32) -> Standing
         requires { IsAtOrBefore
             (position_at self.old.line self.old.here.column) (position_at line column) }
