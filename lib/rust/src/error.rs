@@ -75,6 +75,12 @@ impl error::Error for Error {
     }
 }
 
+impl From<Refused> for Error {
+    fn from(refused: Refused) -> Error {
+        Error::Refused(refused)
+    }
+}
+
 impl From<io::Error> for Error {
     fn from(error: io::Error) -> Error {
         Error::Io(error)
@@ -226,17 +232,20 @@ impl Refused {
         }
     }
 
-    /// Why a map is refused.
-    pub(crate) fn map(refusal: sys::smap_refusal, base: Option<&str>) -> Refused {
+    /// Why a map is refused, or that there is no memory to say it.
+    pub(crate) fn map(refusal: sys::smap_refusal, base: Option<&str>) -> Error {
         let (text, name) = match refusal.number {
-            sys::SMAP_BASE_NO_URL => (Some("the base is no URL".to_string()), base),
-            sys::SMAP_BASE_TOO_LONG => (Some("the base is too long".to_string()), None),
+            sys::SMAP_BASE_NO_URL => (Ok("the base is no URL".to_string()), base),
+            sys::SMAP_BASE_TOO_LONG => (Ok("the base is too long".to_string()), None),
             _ => (library::refusal_text(&refusal), None),
         };
-        Refused {
-            name: name.map(str::to_string),
-            map: Some(refusal),
-            ..Refused::new(text)
+        match text {
+            Ok(text) => Error::Refused(Refused {
+                text,
+                name: name.map(str::to_string),
+                map: Some(refusal),
+            }),
+            Err(error) => error,
         }
     }
 

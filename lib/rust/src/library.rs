@@ -21,7 +21,7 @@ pub(crate) use texts::{
     table_refusal_text, version, write_refusal_text,
 };
 
-use crate::error::{Error, Refused};
+use crate::error::Error;
 use crate::sys;
 use std::slice;
 
@@ -62,10 +62,10 @@ unsafe fn copied(text: &sys::smap_text) -> String {
 }
 
 /// What a status says. Where it is that of a refusal, the call says why.
-fn done(status: u32, why: impl FnOnce() -> Refused) -> Result<(), Error> {
+fn done<W: Into<Error>>(status: u32, why: impl FnOnce() -> W) -> Result<(), Error> {
     match status {
         sys::SMAP_DONE => Ok(()),
-        sys::SMAP_REFUSED => Err(Error::Refused(why())),
+        sys::SMAP_REFUSED => Err(why().into()),
         _ => Err(Error::OutOfMemory),
     }
 }

@@ -80,7 +80,7 @@ impl<'a, W: Write> Rewriting<'a, W> {
             self.put(new + last + 1)?;
         }
         if self.held.len() > MOST_TEXT {
-            return Err(Error::Refused(Refused::text()));
+            return Err(Refused::text().into());
         }
         if self.what != What::Places && self.held.len() > MOST_LINE {
             self.pass(self.held.len())?;

@@ -1,7 +1,7 @@
 //! Bytes that the library hands out.
 
 use super::{done, lent, no_text};
-use crate::error::{Error, Refused};
+use crate::error::Error;
 use crate::sys;
 use std::ops::Deref;
 use std::ptr;
@@ -17,9 +17,9 @@ unsafe impl Send for Bytes {}
 
 impl Bytes {
     /// What a call hands out. Where it refuses, the other one says why.
-    pub(super) fn of(
+    pub(super) fn of<W: Into<Error>>(
         call: impl FnOnce(*mut sys::smap_bytes) -> u32,
-        why: impl FnOnce() -> Refused,
+        why: impl FnOnce() -> W,
     ) -> Result<Bytes, Error> {
         let mut handle = sys::smap_bytes {
             at: ptr::null_mut(),

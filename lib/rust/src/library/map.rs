@@ -37,7 +37,7 @@ impl Map {
     pub(crate) fn read(bytes: &[u8], base: Option<&str>, interval: u32) -> Result<Map, Error> {
         let (base_bytes, base_length) = match base {
             // To the library that would be none.
-            Some("") => return Err(Error::Refused(Refused::map(NO_URL, base))),
+            Some("") => return Err(Refused::map(NO_URL, base)),
             Some(base) => (base.as_ptr(), base.len()),
             None => (&NOTHING as *const u8, 0),
         };
@@ -176,7 +176,7 @@ impl Map {
             Err(Error::Refused(_)) => {
                 let is_there = u64::from(source) < self.counts().sources;
                 let number = if is_there { TOO_LARGE } else { NO_SOURCE };
-                Err(Error::Refused(Refused::composition(number)))
+                Err(Refused::composition(number).into())
             }
             Err(error) => Err(error),
         }

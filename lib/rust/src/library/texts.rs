@@ -4,12 +4,10 @@ use super::{copied, no_text, Bytes};
 use crate::error::{Error, Reason, Refused};
 use crate::sys;
 
-/// What is said of a refusal of a map file, if it is one.
-pub(crate) fn refusal_text(refusal: &sys::smap_refusal) -> Option<String> {
+/// What is said of a refusal of a map file.
+pub(crate) fn refusal_text(refusal: &sys::smap_refusal) -> Result<String, Error> {
     let call = |bytes| unsafe { sys::smap_refusal_text(refusal, bytes) };
-    Bytes::of(call, Refused::nothing)
-        .ok()
-        .map(|bytes| bytes.to_text())
+    Ok(Bytes::of(call, Refused::nothing)?.to_text())
 }
 
 /// Why the file of these bytes is refused so. Of a refusal that no map has, nothing.
