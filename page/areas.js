@@ -89,7 +89,7 @@ class Areas {
       button.dataset.bytes = String(child.bytes);
       button.dataset.source = String(child.source);
       if (child.source >= 0) {
-        button.style.backgroundColor = colourOf(rankOf(child.source), colours.tint * 2);
+        button.style.backgroundColor = colourOf(rankOf(child.source), colours.tint);
         button.addEventListener('click', () => this.open(child.source));
       }
       if (label) button.append(label);

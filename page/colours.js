@@ -1,4 +1,5 @@
 // The colours of the page's style, and those of the sources.
+import { SHADES, shadeOf } from './shades.js';
 export { colourOf, colours, readColours };
 
 const colours = {};
@@ -17,12 +18,11 @@ function readColours() {
     row: of('row'),
     tint: Number(of('tint')),
     lit: Number(of('lit')),
-    light: of('light'),
+    shades: Array.from({ length: SHADES }, (_, i) => of(`shade-${i}`)),
   });
 }
 
 // The colour of a source by its rank, the largest source being the first.
 function colourOf(rank, alpha) {
-  const hue = (212 + rank * 137.508) % 360;
-  return `hsl(${hue.toFixed(1)} 72% ${colours.light} / ${alpha})`;
+  return `rgb(${colours.shades[shadeOf(rank)]} / ${alpha})`;
 }

@@ -56,7 +56,7 @@ function drawSegments(pane, row, lit) {
       context.fillStyle = colourOf(rank, colours.tint);
       context.fillRect(left, y + 1, right - left, LINE_HEIGHT - 2);
       if (from >= begin) {
-        context.fillStyle = colourOf(rank, colours.tint * 2.2);
+        context.fillStyle = colourOf(rank, colours.tint * 2);
         context.fillRect(left, y + 1, 1, LINE_HEIGHT - 2);
       }
     }

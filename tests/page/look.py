@@ -13,6 +13,7 @@ from typing import Dict, Tuple
 
 import browsers
 import files
+from eyes import try_neighbours
 from finding import try_find, try_find_large, try_find_strange
 from guards import try_contrast, try_hostile, try_large
 from pages import Checks, Page, asked, opened, press_button
@@ -74,6 +75,9 @@ def keep_views(browser: browsers.Browser, pages: Dict[str, Page], to: Path, sche
     keep(browser, to, f"{start}-bundle-areas.png", checks)
     opened(browser, pages["bundle"])
     try_contrast(browser, pages["bundle"], checks)
+    try_neighbours(browser, pages["bundle"], checks)
+    opened(browser, pages["receipt"])
+    try_neighbours(browser, pages["receipt"], checks)
     opened(browser, pages["empty"])
     keep(browser, to, f"{start}-empty.png", checks)
 
