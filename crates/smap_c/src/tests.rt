@@ -1,5 +1,5 @@
 //! Each call once on its happy path, with ample memory, and that what is freed can be had again.
-ghost use Rattle.std.specs.Prelude.{IfOk, IsSome};
+ghost use Rattle.std.specs.Prelude.{◌≡◌, IfOk, IsSome};
 
 mod composing;
 mod encoding;
@@ -71,6 +71,34 @@ fn no_table(alloc: Global) -> Result<TableHandle, Fail> {
     }
 }
 
+// That a call did what it was asked.
+fn assert_done(rt: &impl Abort, status: u32)
+    ensures { status ≡ 0 }
+{
+    assert_eq!(rt; status, DONE);
+}
+
+// That a call refused what it was given.
+fn assert_refused(rt: &impl Abort, status: u32)
+    ensures { status ≡ 1 }
+{
+    assert_eq!(rt; status, REFUSED);
+}
+
+// That this is the text that was lent.
+fn assert_text(rt: &impl Abort, lent: &Text<'_>, wanted: &str) {
+    assert_eq!(rt; lent.text, wanted.as_bytes());
+}
+
+// That these bytes were handed out.
+fn assert_bytes(rt: &impl Abort, bytes: &mut BytesHandle, wanted: &str)
+    requires { IsSome bytes.old.held }
+{
+    let mut text = Text { text: b"" };
+    assert_done(rt, smap_bytes_text(bytes, &mut text));
+    assert_text(rt, &text, wanted);
+}
+
 // Reads a file of this text, which stands at this base, into the handle.
 fn read_into(rt: &impl Abort, alloc: Global, text: &str, base: &str, map: &mut MapHandle)
     ensures { IsSome map.new.held }
@@ -84,7 +112,7 @@ fn read_into(rt: &impl Abort, alloc: Global, text: &str, base: &str, map: &mut M
         map,
         &mut refusal,
     );
-    assert!(rt; status == DONE);
+    assert_done(rt, status);
 }
 
 // The map of such a file.
@@ -109,10 +137,10 @@ fn positions_are_looked_up(rt: HostRuntime) -> Result<(), Fail> {
         named: 9,
         name: 9,
     };
-    assert_eq!(&rt; smap_look_up(alloc, &mut map, 0, 5, &mut found), DONE);
+    assert_done(&rt, smap_look_up(alloc, &mut map, 0, 5, &mut found));
     assert!(&rt; found.kind == 2 && found.generated_column == 1 && found.source == 0);
     assert!(&rt; found.line == 1 && found.column == 1 && found.named == 0 && found.name == 0);
-    assert_eq!(&rt; smap_look_up_from(alloc, &mut map, 1, 0, &mut found), DONE);
+    assert_done(&rt, smap_look_up_from(alloc, &mut map, 1, 0, &mut found));
     assert!(&rt; found.kind == 2 && found.line == 3 && found.column == 1);
     let positions = [
         Position { line: 0, column: 0 },
@@ -120,9 +148,9 @@ fn positions_are_looked_up(rt: HostRuntime) -> Result<(), Fail> {
         Position { line: 1, column: 7 },
     ];
     let mut answers = [found, found, found];
-    assert_eq!(&rt;
+    assert_done(
+        &rt,
         smap_look_up_many(alloc, &mut map, &positions, &mut answers),
-        DONE
     );
     assert!(&rt; answers[0].kind == 2 && answers[0].named == 1 && answers[0].line == 0);
     assert!(&rt; answers[1].kind == 0 && answers[2].kind == 2 && answers[2].line == 3);
@@ -142,7 +170,7 @@ fn counts_are_reported(rt: HostRuntime) -> Result<(), Fail> {
         lines: 0,
         checkpoints: 0,
     };
-    assert_eq!(&rt; smap_counts(&mut map, &mut counts), DONE);
+    assert_done(&rt, smap_counts(&mut map, &mut counts));
     assert!(&rt; counts.sections == 1 && counts.sources == 1 && counts.names == 1);
     assert!(&rt; counts.segments == 3 && counts.lines == 2 && counts.checkpoints == 2);
     Ok(())
@@ -159,18 +187,18 @@ fn texts_are_lent(rt: HostRuntime) -> Result<(), Fail> {
         held: 0,
         ignored: 9,
     };
-    assert_eq!(&rt; smap_source(&mut sourced, 0, &mut source), DONE);
+    assert_done(&rt, smap_source(&mut sourced, 0, &mut source));
     assert_eq!(&rt; source.name, "https://h.test/m/a.js".as_bytes());
     assert_eq!(&rt; source.content, "x".as_bytes());
     assert!(&rt; source.named == 1 && source.held == 1 && source.ignored == 0);
     let mut named = read_map(&rt, alloc, MAP, "")?;
     let mut name = Text { text: b"" };
-    assert_eq!(&rt; smap_name(&mut named, 0, &mut name), DONE);
-    assert_eq!(&rt; name.text, "f".as_bytes());
+    assert_done(&rt, smap_name(&mut named, 0, &mut name));
+    assert_text(&rt, &name, "f");
     let mut filed = read_map(&rt, alloc, MAP, "")?;
     let mut file = Text { text: b"" };
-    assert_eq!(&rt; smap_file(&mut filed, &mut file), DONE);
-    assert_eq!(&rt; file.text, "out.js".as_bytes());
+    assert_done(&rt, smap_file(&mut filed, &mut file));
+    assert_text(&rt, &file, "out.js");
     Ok(())
 }
 
@@ -179,12 +207,11 @@ fn maps_are_written_and_composed(rt: HostRuntime) -> Result<(), Fail> {
     let alloc = rt.alloc();
     let mut outer = read_map(&rt, alloc, MAP, "")?;
     let mut written = no_bytes(alloc)?;
-    assert_eq!(&rt; smap_map_write(alloc, &mut outer, &mut written), DONE);
-    let mut text = Text { text: b"" };
-    assert_eq!(&rt; smap_bytes_text(&mut written, &mut text), DONE);
-    assert_eq!(&rt;
-        text.text,
-        r#"{"file":"out.js","mappings":"AAAAA,CACC;AAEA","names":["f"],"sources":["a.js"],"sourcesContent":["x"],"version":3}"#.as_bytes()
+    assert_done(&rt, smap_map_write(alloc, &mut outer, &mut written));
+    assert_bytes(
+        &rt,
+        &mut written,
+        r#"{"file":"out.js","mappings":"AAAAA,CACC;AAEA","names":["f"],"sources":["a.js"],"sourcesContent":["x"],"version":3}"#,
     );
     let mut inner = read_map(
         &rt,
@@ -203,11 +230,10 @@ fn maps_are_written_and_composed(rt: HostRuntime) -> Result<(), Fail> {
         &mut refusal,
     );
     assert!(&rt; status == DONE && refusal == 9);
-    let mut text = Text { text: b"" };
-    assert_eq!(&rt; smap_bytes_text(&mut composed, &mut text), DONE);
-    assert_eq!(&rt;
-        text.text,
-        r#"{"file":"out.js","mappings":"ACEEA,C;A","names":["f"],"sources":["a.js","b.ts"],"sourcesContent":["x",null],"version":3}"#.as_bytes()
+    assert_bytes(
+        &rt,
+        &mut composed,
+        r#"{"file":"out.js","mappings":"ACEEA,C;A","names":["f"],"sources":["a.js","b.ts"],"sourcesContent":["x",null],"version":3}"#,
     );
     Ok(())
 }
@@ -220,27 +246,31 @@ fn refusals_are_reported(rt: HostRuntime) -> Result<(), Fail> {
     let status = smap_map_read(alloc, b"[]", b"", 2, &mut map, &mut refusal);
     assert!(&rt; status == REFUSED && refusal.number == 3);
     let mut reported = no_bytes(alloc)?;
-    assert_eq!(&rt; smap_refusal_text(alloc, &refusal, &mut reported), DONE);
-    let mut text = Text { text: b"" };
-    assert_eq!(&rt; smap_bytes_text(&mut reported, &mut text), DONE);
-    assert_eq!(&rt; text.text, "M3 NotObject".as_bytes());
+    assert_done(&rt, smap_refusal_text(alloc, &refusal, &mut reported));
+    assert_bytes(&rt, &mut reported, "M3 NotObject");
     let status = smap_map_read(alloc, MAP.as_bytes(), b"h.test", 2, &mut map, &mut refusal);
     assert!(&rt; status == REFUSED && refusal.number == 0);
-    assert_eq!(&rt; smap_compose_refusal_text(2, &mut text), DONE);
-    assert_eq!(&rt; text.text, "C2 TooLarge".as_bytes());
-    assert_eq!(&rt; smap_table_refusal_text(1, &mut text), DONE);
-    assert_eq!(&rt; text.text, "A1 BadUrl".as_bytes());
-    assert_eq!(&rt; smap_table_refusal_text(3, &mut text), REFUSED);
-    assert_eq!(&rt; smap_compose_refusal_text(4, &mut text), DONE);
-    assert_eq!(&rt; text.text, "C4 NoSource".as_bytes());
-    assert_eq!(&rt; smap_write_refusal_text(1, &mut text), DONE);
-    assert_eq!(&rt; text.text, "O1 TextTooLong".as_bytes());
-    assert_eq!(&rt; smap_rewrite_refusal_text(3, &mut text), DONE);
-    assert_eq!(&rt; text.text, "X3 TooMuch".as_bytes());
-    assert_eq!(&rt; smap_generated_refusal_text(1, &mut text), DONE);
-    assert_eq!(&rt; text.text, "NotUtf8".as_bytes());
-    assert_eq!(&rt; smap_generated_refusal_text(2, &mut text), DONE);
-    assert_eq!(&rt; text.text, "TooLarge".as_bytes());
+    Ok(())
+}
+
+#[test]
+fn refusals_have_texts(rt: HostRuntime) -> Result<(), Fail> {
+    let mut text = Text { text: b"" };
+    assert_done(&rt, smap_compose_refusal_text(2, &mut text));
+    assert_text(&rt, &text, "C2 TooLarge");
+    assert_done(&rt, smap_table_refusal_text(1, &mut text));
+    assert_text(&rt, &text, "A1 BadUrl");
+    assert_refused(&rt, smap_table_refusal_text(3, &mut text));
+    assert_done(&rt, smap_compose_refusal_text(4, &mut text));
+    assert_text(&rt, &text, "C4 NoSource");
+    assert_done(&rt, smap_write_refusal_text(1, &mut text));
+    assert_text(&rt, &text, "O1 TextTooLong");
+    assert_done(&rt, smap_rewrite_refusal_text(3, &mut text));
+    assert_text(&rt, &text, "X3 TooMuch");
+    assert_done(&rt, smap_generated_refusal_text(1, &mut text));
+    assert_text(&rt, &text, "NotUtf8");
+    assert_done(&rt, smap_generated_refusal_text(2, &mut text));
+    assert_text(&rt, &text, "TooLarge");
     Ok(())
 }
 
@@ -248,7 +278,7 @@ fn refusals_are_reported(rt: HostRuntime) -> Result<(), Fail> {
 fn a_trace_is_rewritten(rt: HostRuntime) -> Result<(), Fail> {
     let alloc = rt.alloc();
     let mut table = no_table(alloc)?;
-    assert_eq!(&rt; smap_table_new(alloc, &mut table), DONE);
+    assert_done(&rt, smap_table_new(alloc, &mut table));
     let mut map = read_map(&rt, alloc, MAP, "")?;
     let mut refusal = 9;
     let status = smap_table_add(
@@ -270,20 +300,13 @@ fn a_trace_is_rewritten(rt: HostRuntime) -> Result<(), Fail> {
     let status = smap_rewrite(alloc, &mut table, trace, false, &mut bytes, &mut counts);
     assert!(&rt; status == DONE && counts.lines == 2 && counts.frames == 1);
     assert!(&rt; counts.mapped == 1 && counts.hidden == 0);
-    let mut text = Text { text: b"" };
-    assert_eq!(&rt; smap_bytes_text(&mut bytes, &mut text), DONE);
-    assert_eq!(&rt; text.text, "Error: x\n    at g (a.js:2:2)\n".as_bytes());
+    assert_bytes(&rt, &mut bytes, "Error: x\n    at g (a.js:2:2)\n");
     let places = b"[https://h.test/out.js:1:2] {https://h.test/out.js:9:9}";
     let mut bytes = no_bytes(alloc)?;
     let status = smap_rewrite_anywhere(alloc, &mut table, places, &mut bytes, &mut counts);
     assert!(&rt; status == DONE && counts.lines == 1 && counts.frames == 2);
     assert!(&rt; counts.mapped == 1 && counts.hidden == 0);
-    let mut text = Text { text: b"" };
-    assert_eq!(&rt; smap_bytes_text(&mut bytes, &mut text), DONE);
-    assert_eq!(&rt;
-        text.text,
-        "[a.js:2:2] {https://h.test/out.js:9:9}".as_bytes()
-    );
+    assert_bytes(&rt, &mut bytes, "[a.js:2:2] {https://h.test/out.js:9:9}");
     smap_table_free(alloc, &mut table);
     Ok(())
 }
@@ -296,14 +319,14 @@ fn urls_of_frames_are_found(rt: HostRuntime) -> Result<(), Fail> {
         length: 9,
         next: 9,
     };
-    assert_eq!(&rt; smap_next_frame_url(trace, 0, &mut found), DONE);
+    assert_done(&rt, smap_next_frame_url(trace, 0, &mut found));
     assert!(&rt; found.start == 16 && found.length == 4 && found.next == 27);
-    assert_eq!(&rt; smap_next_frame_url(trace, 27, &mut found), DONE);
+    assert_done(&rt, smap_next_frame_url(trace, 27, &mut found));
     assert!(&rt; found.start == 30 && found.length == 6 && found.next == 41);
-    assert_eq!(&rt; smap_next_frame_url(trace, 41, &mut found), DONE);
+    assert_done(&rt, smap_next_frame_url(trace, 41, &mut found));
     assert!(&rt; found.start == 46 && found.length == 1 && found.next == 51);
-    assert_eq!(&rt; smap_next_frame_url(trace, 51, &mut found), REFUSED);
-    assert_eq!(&rt; smap_next_frame_url(trace, 99, &mut found), REFUSED);
+    assert_refused(&rt, smap_next_frame_url(trace, 51, &mut found));
+    assert_refused(&rt, smap_next_frame_url(trace, 99, &mut found));
     assert!(&rt; found.start == 46 && found.length == 1 && found.next == 51);
     Ok(())
 }
@@ -334,13 +357,13 @@ fn what_is_freed_can_be_had_again(rt: HostRuntime) -> Result<(), Fail> {
             before = pages(&rt)?;
         }
         read_into(&rt, alloc, text.as_str(), "", &mut map);
-        assert_eq!(&rt; smap_map_write(alloc, &mut map, &mut bytes), DONE);
+        assert_done(&rt, smap_map_write(alloc, &mut map, &mut bytes));
         smap_bytes_free(alloc, &mut bytes);
         smap_map_free(alloc, &mut map);
         read_into(&rt, alloc, text.as_str(), "", &mut map);
-        assert_eq!(&rt; smap_table_new(alloc, &mut table), DONE);
+        assert_done(&rt, smap_table_new(alloc, &mut table));
         let status = smap_table_add(alloc, &mut table, b"out.js", &mut map, &mut refusal);
-        assert!(&rt; status == DONE);
+        assert_done(&rt, status);
         smap_table_free(alloc, &mut table);
     }
     assert!(&rt; pages(&rt)? < before.saturating_add(2_000));

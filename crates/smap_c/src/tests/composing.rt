@@ -1,7 +1,7 @@
 //! A map composed with the maps of its sources.
 ghost use Rattle.std.specs.Prelude.{◌≡◌, IsSome};
 
-use super::{no_bytes, no_map, read_map};
+use super::{assert_bytes, assert_done, assert_refused, assert_text, no_bytes, no_map, read_map};
 use crate::composing::{
     ComposeOptions, smap_compose_all, smap_inners_free, smap_inners_new, smap_inners_put,
     smap_inners_take,
@@ -12,7 +12,6 @@ use crate::read::smap_map_free;
 use crate::status::{DONE, REFUSED};
 use crate::steps::{smap_inners_name, smap_inners_next};
 use crate::texts::Text;
-use crate::written::smap_bytes_text;
 use std::alloc::Global;
 use std::process::Abort;
 use std::test::Fail;
@@ -65,9 +64,7 @@ fn compose_into(
     let mut refusal = 9;
     let status = smap_compose_all(alloc, outer, inners, &options, &mut bytes, &mut refusal);
     assert!(rt; status == DONE && refusal == 9);
-    let mut text = Text { text: b"" };
-    assert_eq!(rt; smap_bytes_text(&mut bytes, &mut text), DONE);
-    assert_eq!(rt; text.text, wanted.as_bytes());
+    assert_bytes(rt, &mut bytes, wanted);
     Ok(())
 }
 
@@ -77,9 +74,9 @@ fn a_map_is_composed_with_all_maps_of_its_sources(rt: HostRuntime) -> Result<(),
     let mut outer = read_map(&rt, alloc, OUTER, "")?;
     let mut inner = read_map(&rt, alloc, INNER, "")?;
     let mut inners = no_inners(alloc)?;
-    assert_eq!(&rt; smap_inners_new(alloc, &mut outer, &mut inners), DONE);
-    assert_eq!(&rt; smap_inners_put(alloc, &mut inners, 2, &mut inner), REFUSED);
-    assert_eq!(&rt; smap_inners_put(alloc, &mut inners, 1, &mut inner), DONE);
+    assert_done(&rt, smap_inners_new(alloc, &mut outer, &mut inners));
+    assert_refused(&rt, smap_inners_put(alloc, &mut inners, 2, &mut inner));
+    assert_done(&rt, smap_inners_put(alloc, &mut inners, 1, &mut inner));
     let whole = ComposeOptions {
         prune: false,
         no_content: false,
@@ -91,9 +88,9 @@ fn a_map_is_composed_with_all_maps_of_its_sources(rt: HostRuntime) -> Result<(),
     };
     compose_into(&rt, alloc, &mut outer, &mut inners, less, LESS)?;
     let mut back = no_map(alloc)?;
-    assert_eq!(&rt; smap_inners_take(&mut inners, 0, &mut back), REFUSED);
-    assert_eq!(&rt; smap_inners_take(&mut inners, 1, &mut back), DONE);
-    assert_eq!(&rt; smap_inners_take(&mut inners, 1, &mut inner), REFUSED);
+    assert_refused(&rt, smap_inners_take(&mut inners, 0, &mut back));
+    assert_done(&rt, smap_inners_take(&mut inners, 1, &mut back));
+    assert_refused(&rt, smap_inners_take(&mut inners, 1, &mut inner));
     smap_map_free(alloc, &mut back);
     smap_inners_free(alloc, &mut inners);
     smap_map_free(alloc, &mut outer);
@@ -107,19 +104,16 @@ fn sources_are_asked_for_step_by_step(rt: HostRuntime) -> Result<(), Fail> {
     let mut inner = read_map(&rt, alloc, INNER, "")?;
     let mut innermost = read_map(&rt, alloc, INNERMOST, "")?;
     let mut inners = no_inners(alloc)?;
-    assert_eq!(&rt; smap_inners_new(alloc, &mut outer, &mut inners), DONE);
+    assert_done(&rt, smap_inners_new(alloc, &mut outer, &mut inners));
     let (mut source, mut refusal) = (9, 9);
     let status = smap_inners_next(alloc, &mut outer, &mut inners, &mut source, &mut refusal);
     assert!(&rt; status == DONE && source == 0 && refusal == 9);
     let status = smap_inners_next(alloc, &mut outer, &mut inners, &mut source, &mut refusal);
     assert!(&rt; status == DONE && source == 1);
-    assert_eq!(&rt; smap_inners_put(alloc, &mut inners, 1, &mut inner), DONE);
+    assert_done(&rt, smap_inners_put(alloc, &mut inners, 1, &mut inner));
     let status = smap_inners_next(alloc, &mut outer, &mut inners, &mut source, &mut refusal);
     assert!(&rt; status == DONE && source == 2 && refusal == 9);
-    assert_eq!(&rt;
-        smap_inners_put(alloc, &mut inners, 2, &mut innermost),
-        DONE
-    );
+    assert_done(&rt, smap_inners_put(alloc, &mut inners, 2, &mut innermost));
     let status = smap_inners_next(alloc, &mut outer, &mut inners, &mut source, &mut refusal);
     assert!(&rt; status == REFUSED && source == 2 && refusal == 0);
     let all = ComposeOptions {
@@ -128,10 +122,7 @@ fn sources_are_asked_for_step_by_step(rt: HostRuntime) -> Result<(), Fail> {
     };
     compose_into(&rt, alloc, &mut outer, &mut inners, all, CHAIN)?;
     let mut name = Text { text: b"" };
-    assert_eq!(&rt;
-        smap_inners_name(&mut outer, &mut inners, 3, &mut name),
-        DONE
-    );
-    assert_eq!(&rt; name.text, "out/b.js".as_bytes());
+    assert_done(&rt, smap_inners_name(&mut outer, &mut inners, 3, &mut name));
+    assert_text(&rt, &name, "out/b.js");
     Ok(())
 }

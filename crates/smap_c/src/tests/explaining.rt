@@ -4,9 +4,7 @@ use crate::read::smap_map_read;
 use crate::reason::{Reason, smap_refusal_explain};
 use crate::refusal::numbered;
 use crate::status::{DONE, REFUSED};
-use crate::tests::{no_bytes, no_map};
-use crate::texts::Text;
-use crate::written::smap_bytes_text;
+use crate::tests::{assert_bytes, no_bytes, no_map};
 use std::test::Fail;
 
 // Its segment stands at column 2 and leads to line 1 of source 0, which there is not.
@@ -36,11 +34,10 @@ fn a_refusal_is_explained(rt: HostRuntime) -> Result<(), Fail> {
     assert!(&rt; reason.has_least == 1 && reason.least == 0);
     assert!(&rt; reason.has_most == 1 && reason.most == -1);
     assert!(&rt; reason.has_column == 1 && reason.generated_column == 2);
-    let mut text = Text { text: b"" };
-    assert_eq!(&rt; smap_bytes_text(&mut reported, &mut text), DONE);
-    assert_eq!(&rt;
-        text.text,
-        "  segment \"EACA\" at line 1, column 3, numbers 2, 0, 1, 0\n  source index 0, and the map has 0 sources\n".as_bytes()
+    assert_bytes(
+        &rt,
+        &mut reported,
+        "  segment \"EACA\" at line 1, column 3, numbers 2, 0, 1, 0\n  source index 0, and the map has 0 sources\n",
     );
     Ok(())
 }

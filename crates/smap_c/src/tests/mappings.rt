@@ -1,8 +1,7 @@
 //! All mappings of a map, and the version.
 
 use crate::mappings::smap_map_mappings;
-use crate::status::DONE;
-use crate::tests::{no_bytes, read_map};
+use crate::tests::{assert_done, assert_text, no_bytes, read_map};
 use crate::texts::Text;
 use crate::version::smap_version;
 use crate::written::smap_bytes_text;
@@ -34,9 +33,9 @@ fn mappings_are_handed_out(rt: HostRuntime) -> Result<(), Fail> {
     let alloc = rt.alloc();
     let mut map = read_map(&rt, alloc, MAP, "")?;
     let mut bytes = no_bytes(alloc)?;
-    assert_eq!(&rt; smap_map_mappings(alloc, &mut map, &mut bytes), DONE);
+    assert_done(&rt, smap_map_mappings(alloc, &mut map, &mut bytes));
     let mut text = Text { text: b"" };
-    assert_eq!(&rt; smap_bytes_text(&mut bytes, &mut text), DONE);
+    assert_done(&rt, smap_bytes_text(&mut bytes, &mut text));
     let mut wanted = Vec::from_slice(alloc, &FIRST)?;
     wanted.extend_from_slice(&SECOND)?;
     wanted.extend_from_slice(&THIRD)?;
@@ -48,7 +47,7 @@ fn mappings_are_handed_out(rt: HostRuntime) -> Result<(), Fail> {
 #[test]
 fn the_version_is_lent(rt: HostRuntime) -> Result<(), Fail> {
     let mut version = Text { text: b"" };
-    assert_eq!(&rt; smap_version(&mut version), DONE);
-    assert_eq!(&rt; version.text, "0.1.0".as_bytes());
+    assert_done(&rt, smap_version(&mut version));
+    assert_text(&rt, &version, "0.1.0");
     Ok(())
 }
