@@ -9,9 +9,9 @@ use smap_record::MapFile;
 /// An outer map, a source of it, an inner map and an interval: what is written of the composed map, or why
 /// there is none.
 pub fn two(row: &Row<'_>, answer: &mut Answer) -> Result<(), RowFault> {
-    let interval = row.number(4)?;
+    let (source, interval) = (row.number(2)?, row.number(4)?);
     let (outer, inner) = (map_of(row, 1, interval)?, map_of(row, 3, interval)?);
-    let composed = compose(row.alloc(), &outer, row.number(2)?, &inner);
+    let composed = compose(row.alloc(), &outer, source, &inner);
     put_composed(row, answer, composed)
 }
 
@@ -33,15 +33,35 @@ pub fn three(row: &Row<'_>, answer: &mut Answer) -> Result<(), RowFault> {
     let first = map_of(row, 1, interval)?;
     let second = map_of(row, 3, interval)?;
     let third = map_of(row, 5, interval)?;
-    let (source, after) = (row.number(2)?, row.number(4)?);
-    let two = composed_map(row, &first, source, &second, interval)?;
+    put_first_two_first(row, answer, &first, &second, &third)?;
+    put_last_two_first(row, answer, &first, &second, &third)
+}
+
+fn put_first_two_first(
+    row: &Row<'_>,
+    answer: &mut Answer,
+    first: &MapFile,
+    second: &MapFile,
+    third: &MapFile,
+) -> Result<(), RowFault> {
     let Ok(sources) = u32::try_from(first.sources()) else {
         return Err(RowFault::BadNumber);
     };
-    let place = sources.saturating_add(after);
-    put_composed(row, answer, compose(row.alloc(), &two, place, &third))?;
-    let two = composed_map(row, &second, after, &third, interval)?;
-    put_composed(row, answer, compose(row.alloc(), &first, source, &two))
+    let place = sources.saturating_add(row.number(4)?);
+    let two = composed_map(row, first, row.number(2)?, second)?;
+    put_composed(row, answer, compose(row.alloc(), &two, place, third))
+}
+
+fn put_last_two_first(
+    row: &Row<'_>,
+    answer: &mut Answer,
+    first: &MapFile,
+    second: &MapFile,
+    third: &MapFile,
+) -> Result<(), RowFault> {
+    let source = row.number(2)?;
+    let two = composed_map(row, second, row.number(4)?, third)?;
+    put_composed(row, answer, compose(row.alloc(), first, source, &two))
 }
 
 // The map that is read of what two maps compose to.
@@ -50,8 +70,8 @@ fn composed_map(
     outer: &MapFile,
     source: u32,
     inner: &MapFile,
-    interval: u32,
 ) -> Result<MapFile, RowFault> {
+    let interval = row.number(6)?;
     let Ok(composed) = compose(row.alloc(), outer, source, inner) else {
         return Err(RowFault::Refused);
     };

@@ -1,10 +1,11 @@
 //! Each position of a map.
 use crate::answer::Answer;
 use crate::fault::RowFault;
-use crate::indexes::is_few;
+use crate::indexes::{Direction, is_few};
 use crate::lists::answer_text;
 use crate::maps::map_of;
 use crate::row::Row;
+use smap_index::Answer as Found;
 use smap_mappings::Meter;
 use smap_record::MapFile;
 use std::alloc::Global;
@@ -29,18 +30,19 @@ fn put_line(
     most_column: u32,
     interval: u32,
 ) -> Result<(), RowFault> {
-    let mut before = Changes::new(alloc);
-    let mut after = Changes::new(alloc);
-    for column in 0..=most_column {
-        let mut meter = Meter::new(alloc);
-        let found = answer_text(alloc, &map.look_up(line, column, &mut meter))?;
-        before.put(column, found, is_few(&meter, map.checkpoints(), interval))?;
-        let mut meter = Meter::new(alloc);
-        let found = answer_text(alloc, &map.look_up_from(line, column, &mut meter))?;
-        after.put(column, found, is_few(&meter, map.checkpoints(), interval))?;
+    for way in [Direction::Before, Direction::After] {
+        let mut changes = Changes::new(alloc);
+        for column in 0..=most_column {
+            let mut meter = Meter::new(alloc);
+            let found = match way {
+                Direction::Before => map.look_up(line, column, &mut meter),
+                Direction::After => map.look_up_from(line, column, &mut meter),
+            };
+            changes.put(column, &found, is_few(&meter, map.checkpoints(), interval))?;
+        }
+        answer.put_text(&changes.text)?;
     }
-    answer.put_text(&before.text)?;
-    answer.put_text(&after.text)
+    Ok(())
 }
 
 // The columns from which on the answer is another, each with that answer.
@@ -60,7 +62,8 @@ impl Changes {
         }
     }
 
-    fn put(&mut self, column: u32, found: String, is_few: bool) -> Result<(), RowFault> {
+    fn put(&mut self, column: u32, found: &Found, is_few: bool) -> Result<(), RowFault> {
+        let found = answer_text(self.alloc, found)?;
         if found.as_str() == self.last.as_str() && is_few {
             return Ok(());
         }

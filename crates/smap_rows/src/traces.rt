@@ -57,10 +57,10 @@ fn put_outcome(
 /// An input, an output, `hide` or `show`, an interval, a trace, and the URLs and maps of a table: the lines, frames, replaced
 /// and hidden frames, and what the trace becomes.
 pub fn frames(row: &Row<'_>, answer: &mut Answer) -> Result<(), RowFault> {
+    let is_hiding = row.field(3)? == "hide";
     let table = table_of(row, 6, row.number(4)?)?;
     let mut input = source(row, 1, 5)?;
     let mut output = sink(row, 2)?;
-    let is_hiding = row.field(3)? == "hide";
     let outcome = rewrite(row.alloc(), &mut input, &mut output, &table, is_hiding);
     put_outcome(row, answer, outcome, &output)
 }
