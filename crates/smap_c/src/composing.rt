@@ -65,11 +65,13 @@ pub extern "C" fn smap_inners_put(
 ) -> u32
     requires inners { IsSome inners.old.held }
     requires map { IsSome map.old.held }
-    ensures put { IfSome inners.old.held (λ places. result ≡ 0 →
-        inners.new.held ≡ Some (record places { maps = slice_set places.maps source map.old.held })) }
+    ensures put { IfSome inners.old.held (λ places. result ≡ 0 → inners.new.held
+        ≡ Some (record places { maps = slice_set places.maps source map.old.held })) }
     ensures taken { result ≡ 0 → map.new.held ≡ None }
-    ensures refused { IfSome inners.old.held (λ places. result ≡ 1 → is_free places.maps source ≡ false) }
-    ensures sound { IfSome inners.old.held (λ places. result ≡ 0 → IsTrue (is_free places.maps source)) }
+    ensures refused { IfSome inners.old.held (λ places.
+        result ≡ 1 → is_free places.maps source ≡ false) }
+    ensures sound { IfSome inners.old.held (λ places.
+        result ≡ 0 → IsTrue (is_free places.maps source)) }
     ensures stays { result ≢ 0 →
         (inners.new.held ≡ inners.old.held) × (map.new.held ≡ map.old.held) }
     ensures status { (result ≡ 0) ⊎ (result ≡ 1) }
@@ -94,7 +96,8 @@ pub extern "C" fn smap_inners_take(
         (map.new.held ≡ map_at places.maps source)
         × (inners.new.held ≡ Some (record places { maps = slice_set places.maps source None }))) }
     ensures held { result ≡ 0 → IsSome map.new.held }
-    ensures refused { IfSome inners.old.held (λ places. result ≡ 1 → map_at places.maps source ≡ None) }
+    ensures refused { IfSome inners.old.held (λ places.
+        result ≡ 1 → map_at places.maps source ≡ None) }
     ensures stays { result ≢ 0 →
         (inners.new.held ≡ inners.old.held) × (map.new.held ≡ map.old.held) }
     ensures status { (result ≡ 0) ⊎ (result ≡ 1) }
@@ -110,8 +113,8 @@ pub extern "C" fn smap_inners_take(
 }
 
 /// Composes a map with the maps of its sources, all at once, and writes the map that they come to, with less where the
-/// options say so. Once `smap_inners_next` composed it, what it came to stands in its stead. Where they are refused, `refusal`
-/// is 1 or 2: that of C1, where there are more places than sources, or of C2. All maps stay.
+/// options say so. Once `smap_inners_next` composed it, what it came to stands in its stead. Where they are refused,
+/// `refusal` is 1 or 2: that of C1, where there are more places than sources, or of C2. All maps stay.
 #[unsafe(no_mangle)]
 pub extern "C" fn smap_compose_all(
     alloc: Global,
@@ -123,10 +126,12 @@ pub extern "C" fn smap_compose_all(
 ) -> u32
     requires outer { IsSome outer.old.held }
     requires inners { IsSome inners.old.held }
-    ensures text { IfSome outer.old.held (λ outside. IfSome inners.old.held (λ places. result ≡ 0 →
-        IsOkAnd (text_in outside places options.now) (λ text. bytes.new.held ≡ Some text))) }
-    ensures refused { IfSome outer.old.held (λ outside. IfSome inners.old.held (λ places. result ≡ 1 →
-        IsErrAnd (text_in outside places options.now) (λ why. refusal.new ≡ compose_number why))) }
+    ensures text { IfSome outer.old.held (λ outside. IfSome inners.old.held (λ places.
+        result ≡ 0 → IsOkAnd (text_in outside places options.now)
+        (λ text. bytes.new.held ≡ Some text))) }
+    ensures refused { IfSome outer.old.held (λ outside. IfSome inners.old.held (λ places.
+        result ≡ 1 → IsErrAnd (text_in outside places options.now)
+        (λ why. refusal.new ≡ compose_number why))) }
     ensures counted { IfSome outer.old.held (λ outside. IfSome inners.old.held (λ places.
         length (whole_of outside places).stated.sources < length places.maps → result ≡ 1)) }
     ensures unreported { result ≢ 1 → refusal.new ≡ refusal.old }

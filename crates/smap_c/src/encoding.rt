@@ -28,8 +28,8 @@ pub struct MappingNumbers {
     pub name: u32,
 }
 
-/// Why mappings have no text. `number` is that of E1 to E3, and `mapping` that of the first that is refused, from 0; of E3 it
-/// is 0.
+/// Why mappings have no text. `number` is that of E1 to E3, and `mapping` that of the first that is refused, from 0; of E3
+/// it is 0.
 #[repr(C)]
 #[derive(Clone, Copy)]
 pub struct EncodeNumbers {

@@ -71,16 +71,15 @@ impl Inners {
     pub(crate) fn is_free(&self, source: u32) -> bool
         ensures { result ≡ is_free self.now.maps source }
     {
-        match self.maps.get(source as usize) {
-            Some(place) => place.is_none(),
-            None => false,
-        }
+        matches!(self.maps.get(source as usize), Some(None))
     }
 
     /// Puts the map of this source in its place.
     pub(crate) fn put(&mut self, source: u32, map: Box<MapFile>)
         requires { IsTrue (is_free self.old.maps source) }
-        ensures { self.new ≡ record self.old { maps = slice_set self.old.maps source (Some map.value) } }
+        ensures { self.new ≡ record self.old {
+          maps = slice_set self.old.maps source (Some map.value);
+        } }
     {
         self.maps[source as usize] = Some(map);
     }
@@ -89,10 +88,7 @@ impl Inners {
     pub(crate) fn has_map(&self, source: u32) -> bool
         ensures { result ≡ is_some (map_at self.now.maps source) }
     {
-        match self.maps.get(source as usize) {
-            Some(place) => place.is_some(),
-            None => false,
-        }
+        matches!(self.maps.get(source as usize), Some(Some(_)))
     }
 
     /// Takes the map of this source, which has one, out of its place.

@@ -25,8 +25,9 @@ pub extern "C" fn smap_bytes_by_source(
     requires held { IsSome map.old.held }
     requires places { IfSome map.old.held (λ held.
         length sources.old ≡ length held.stated.sources) }
-    ensures counts { IfSome map.old.held (λ held. result ≡ 0 → IsBytesBySource
-        (length held.stated.sources) (joined held.stated.parts) generated.now sources.new unmapped.new) }
+    ensures counts { IfSome map.old.held (λ held. result ≡ 0 →
+        IsBytesBySource (length held.stated.sources) (joined held.stated.parts) generated.now
+        sources.new unmapped.new) }
     ensures refused { result ≡ 1 → IsTextRefused generated.now refusal.new }
     ensures sound { (number : ℕ) → IsTextRefused generated.now number → result ≡ 1 }
     ensures unreported { result ≢ 1 → refusal.new ≡ refusal.old }

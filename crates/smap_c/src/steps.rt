@@ -16,17 +16,17 @@ use crate::status::{DONE, REFUSED};
 use crate::texts::Text;
 use crate::written::not_composed;
 use smap_compose::ComposeRefusal;
-use smap_record::{MapFile, MapRefusal};
+use smap_record::{MapFile, MapRefusal, source_name};
 use std::alloc::{AllocError, Global};
 
 // How many segments stand between the checkpoints of a map that others came to.
 const INTERVAL: u32 = 64;
 
-/// Asks for the map of the next source, from 0, of which one is wanted: that has a name, which none of the sources that lead
-/// to it has, and no map in its place. Where there is none, and maps are in the places, these are composed with the map, as
-/// `smap_compose_all` does; they are freed, and their sources stand behind the others from then on and are asked for. Where no
-/// map is wanted any more, it returns 1, and `refusal` is 0. Else it is 1 or 2: that of C1 or, where what they come to is too
-/// large to be composed or to be read as a map, C2.
+/// Asks for the map of the next source, from 0, of which one is wanted: that has a name, which none of the sources that
+/// lead to it has, and no map in its place. Where there is none, and maps are in the places, these are composed with the
+/// map, as `smap_compose_all` does; they are freed, and their sources stand behind the others from then on and are asked
+/// for. Where no map is wanted any more, it returns 1, and `refusal` is 0. Else it is 1 or 2: that of C1 or, where what they
+/// come to is too large to be composed or to be read as a map, C2.
 #[unsafe(no_mangle)]
 pub extern "C" fn smap_inners_next(
     alloc: Global,
@@ -40,11 +40,13 @@ pub extern "C" fn smap_inners_next(
     ensures asked { IfSome outer.old.held (λ outside. IfSome inners.old.held (λ old.
         result ≡ 0 → IfSome inners.new.held (λ new. IsNext outside old (Some source.new) new))) }
     ensures over { IfSome outer.old.held (λ outside. IfSome inners.old.held (λ old.
-        result ≡ 1 → refusal.new ≡ 0 → IfSome inners.new.held (λ new. IsNext outside old None new))) }
+        result ≡ 1 → refusal.new ≡ 0 →
+        IfSome inners.new.held (λ new. IsNext outside old None new))) }
     ensures refused { IfSome outer.old.held (λ outside. IfSome inners.old.held (λ old.
         result ≡ 1 → refusal.new ≢ 0 → IsStepRefused outside old refusal.new)) }
     ensures held { IsSome inners.new.held }
-    ensures unreported { (result ≢ 0 → source.new ≡ source.old) × (result ≢ 1 → refusal.new ≡ refusal.old) }
+    ensures unreported { (result ≢ 0 → source.new ≡ source.old)
+        × (result ≢ 1 → refusal.new ≡ refusal.old) }
     ensures stays { (outer.new.held ≡ outer.old.held)
         × (result ≢ 0 → (result ≢ 1) ⊎ (refusal.new ≢ 0) → inners.new.held ≡ inners.old.held) }
     ensures status { (result ≡ 0) ⊎ (result ≡ 1) ⊎ (result ≡ 3) }
@@ -73,7 +75,8 @@ pub extern "C" fn smap_inners_name<'a>(
     requires outer { IsSome outer.old.held }
     requires inners { IsSome inners.old.held }
     ensures { IfSome outer.old.held (λ outside. IfSome inners.old.held (λ places.
-        MatchOption (name_of_source (whole_of outside places) source) ((result ≡ 1) × (name.new ≡ name.old))
+        MatchOption (name_of_source (whole_of outside places) source)
+        ((result ≡ 1) × (name.new ≡ name.old))
         (λ text. (result ≡ 0) × (name.new.text.now ≡ text)))) }
 {
     match name_of(inners.lend().whole_of(outer.lend()), source) {
@@ -150,7 +153,8 @@ impl Inners {
     // Composes the map with those in the places, and has places for the sources of what they come to.
     fn follow(&mut self, alloc: Global, outer: &MapFile) -> Result<(), ComposeRefusal>
         ensures followed { OnOk result (IsFollowed outer.now self.old self.new) }
-        ensures refused { IfErr result (λ why. (why ≡ Memory) ⊎ IsNotFollowed outer.now self.old why) }
+        ensures refused { IfErr result (λ why. (why ≡ Memory)
+            ⊎ IsNotFollowed outer.now self.old why) }
         ensures stays { IsErr result → self.new ≡ self.old }
     {
         let options = ComposeOptions {
@@ -209,10 +213,7 @@ fn is_led_by(whole: &MapFile, leads: &[Option<u32>], source: u32, name: &str) ->
 fn lead_of(leads: &[Option<u32>], source: u32) -> Option<u32>
     ensures { result ≡ option_flatten (slice_get leads.now source) }
 {
-    match leads.get(source as usize) {
-        Some(lead) => *lead,
-        None => None,
-    }
+    *leads.get(source as usize)?
 }
 
 // Whether one of these places has a map.
@@ -270,13 +271,7 @@ fn read_back(alloc: Global, text: &[u8]) -> Result<MapFile, ComposeRefusal>
 fn name_of(map: &MapFile, source: u32) -> Option<&str>
     ensures { option_map (λ name. name.now) result ≡ name_of_source map.now source }
 {
-    match map.source(source) {
-        Some(entry) => match &entry.name {
-            Some(name) => Some(name.text()),
-            None => None,
-        },
-        None => None,
-    }
+    source_name(map.source(source))
 }
 
 // Whether a source of the map is called so.

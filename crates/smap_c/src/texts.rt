@@ -35,8 +35,10 @@ pub extern "C" fn smap_source<'a>(
     source: &mut Source<'a>,
 ) -> u32
     requires { IsSome map.old.held }
-    ensures reported { IfSome map.old.held (λ held. MatchOption (slice_get held.stated.sources index)
-        ((result ≡ 1) × (source.new ≡ source.old)) (λ stated. (result ≡ 0) × IsReported stated source.new)) }
+    ensures reported { IfSome map.old.held (λ held.
+        MatchOption (slice_get held.stated.sources index)
+        ((result ≡ 1) × (source.new ≡ source.old))
+        (λ stated. (result ≡ 0) × IsReported stated source.new)) }
 {
     match map.lend().source(index) {
         Some(entry) => {
@@ -62,7 +64,8 @@ pub extern "C" fn smap_source<'a>(
 pub extern "C" fn smap_name<'a>(map: &'a mut MapHandle, index: u32, name: &mut Text<'a>) -> u32
     requires { IsSome map.old.held }
     ensures reported { IfSome map.old.held (λ held. MatchOption (slice_get held.stated.names index)
-        ((result ≡ 1) × (name.new ≡ name.old)) (λ text. (result ≡ 0) × (name.new.text.now ≡ text))) }
+        ((result ≡ 1) × (name.new ≡ name.old))
+        (λ text. (result ≡ 0) × (name.new.text.now ≡ text))) }
 {
     match map.lend().name(index) {
         Some(text) => {
@@ -78,7 +81,8 @@ pub extern "C" fn smap_name<'a>(map: &'a mut MapHandle, index: u32, name: &mut T
 pub extern "C" fn smap_file<'a>(map: &'a mut MapHandle, file: &mut Text<'a>) -> u32
     requires { IsSome map.old.held }
     ensures reported { IfSome map.old.held (λ held. MatchOption held.stated.file
-        ((result ≡ 1) × (file.new ≡ file.old)) (λ text. (result ≡ 0) × (file.new.text.now ≡ text))) }
+        ((result ≡ 1) × (file.new ≡ file.old))
+        (λ text. (result ≡ 0) × (file.new.text.now ≡ text))) }
 {
     match map.lend().file() {
         Some(text) => {
