@@ -67,12 +67,6 @@ one_stated inners inner = map-append (option_map (λ (read : Map). read.stated))
 
 -- ---- places of lists
 
-pub from_place : {X : Type 0} (xs : List X) (i : ℕ) (x : X) → slice_get xs i ≡ Some x → drop i xs ≡ x ∷ drop (i + 1) xs
-from_place [] i x there = absurd (cc)
-from_place (y ∷ xs) zero x there = let same : y ≡ x = cc in ap (λ y. y ∷ xs) same
-from_place (y ∷ xs) (suc i) x there =
-    let one : suc i + 1 ≡ suc (i + 1) = omega arith in from_place xs i x there ∙ ap (λ n. x ∷ drop n (y ∷ xs)) (sym one)
-
 pub line_at : (all : List (List ℕ)) (n : ℕ) (line : List ℕ) → n < length all → line ≡ get_or all n line → drop n all ≡ line ∷ drop (n + 1) all
 line_at all n line inside is = rw (add-one) (drop-cons all n line inside ∙ ap (λ first. first ∷ drop (suc n) all) (sym is))
 

@@ -95,7 +95,8 @@ fn composed(
 /// The composed map, or why maps are not composed.
 pub fn reported(alloc: Global, made: Result<Reply, ComposeRefusal>) -> Result<Reply, Failure>
     ensures { MatchResult made (λ reply. report_of result ≡ reply_report reply)
-        (λ refusal. OrMemory (λ report. report ≡ compose_refusal_result refusal) (report_of result)) }
+        (λ refusal. OrMemory (λ report. report ≡ compose_refusal_result refusal)
+        (report_of result)) }
 {
     match made {
         Ok(reply) => Ok(reply),

@@ -42,8 +42,8 @@ pub fn answer_compose_all<F: FileReader>(
     options: WriteOptions,
 ) -> Result<Reply, Failure>
     ensures { OrMemory (ReportsAllComposed (F.gives reader.now) options maps.now.outer.now
-        (map argument_of maps.now.words.now) (option_copied maps.now.list) (option_copied maps.now.base))
-        (report_of result) }
+        (map argument_of maps.now.words.now) (option_copied maps.now.list)
+        (option_copied maps.now.base)) (report_of result) }
 {
     let outer_reader = MapReader {
         files: reader,
@@ -63,7 +63,8 @@ fn composed_with<F: FileReader>(
     options: WriteOptions,
 ) -> Result<Reply, Failure>
     ensures { OrMemory (ReportsInners (F.gives reader.now) options
-        (map argument_of maps.now.words.now) (option_copied maps.now.list) outer.stated) (report_of result) }
+        (map argument_of maps.now.words.now) (option_copied maps.now.list) outer.stated)
+        (report_of result) }
 {
     let inners = gathered_inners(alloc, reader, maps, &outer)?;
     reported(alloc, all_line(alloc, outer, inners, options))
@@ -78,8 +79,10 @@ fn gathered_inners<F: FileReader>(
 ) -> Result<Vec<Option<MapFile>>, Failure>
     ensures gathered { (inners_reported result ≡ Err out_of_memory)
         ⊎ GathersInners (F.gives reader.now) outer.now.stated.sources
-        (map argument_of maps.now.words.now) (option_copied maps.now.list) (inners_reported result) }
-    ensures counted { IfOk result (λ inners. length inners.items ≡ length outer.now.stated.sources) }
+        (map argument_of maps.now.words.now) (option_copied maps.now.list)
+        (inners_reported result) }
+    ensures counted { IfOk result (λ inners. length inners.items
+        ≡ length outer.now.stated.sources) }
 {
     let outer = OuterMap::new(alloc, outer)?;
     let named = named_inners(alloc, reader, &outer, maps.words, maps.list)?;

@@ -227,7 +227,8 @@ pub fn read_inners<F: FileReader>(
 ) -> Result<Vec<Option<MapFile>>, Failure>
     requires { IsOuter outer.now }
     ensures reads { (inners_reported result ≡ Err out_of_memory)
-        ⊎ ReadsInners (F.gives reader.now) named.now outer.now.map.now.stated.sources [] (inners_reported result) }
+        ⊎ ReadsInners (F.gives reader.now) named.now outer.now.map.now.stated.sources []
+        (inners_reported result) }
     ensures counted { IfOk result (λ inners. length inners.items
         ≡ length outer.now.map.now.stated.sources) }
 {
@@ -267,10 +268,7 @@ fn read_source<F: FileReader>(
 fn pair_of<'a>(named: &'a NamedPaths, source: &'a SourceEntry) -> Option<(&'a str, &'a str)>
     ensures { pair_seen result ≡ pair_of named.now (source_of source.now) }
 {
-    match &source.name {
-        Some(name) => pair_under(named, name.text()),
-        None => None,
-    }
+    pair_under(named, source.name.as_ref()?.text())
 }
 
 // This name and the path under it, where there is one.

@@ -1,14 +1,13 @@
 //! A map that is composed with those of its sources, which are found by their names.
-ghost use Rattle.std.specs.Prelude.{◌≡◌, ◌||◌, ℕ, List, false, length, option_and_then, option_copied, slice_get, IfErr, IfOk, OnOk};
+ghost use Rattle.std.specs.Prelude.{◌≡◌, ◌||◌, ℕ, List, false, length, option_copied, IfErr, IfOk, OnOk};
 ghost use Rattle.std.specs.List.{list_any};
 ghost use Rattle.std.specs.Option.{option_map_or};
 ghost use Rattle.std.specs.Str.{bytes_eq};
 ghost use Rattle.smap_compose_answers.specs.ComposeAll.{is_called};
 ghost use Rattle.smap_compose_answers.specs.Private.OuterMap.{AreNamesOf, IsOuter, is_among};
-ghost use Rattle.smap_record.specs.Written.{text_of_source};
 ghost use Rattle.smap_replies.specs.declared.outcome.Failure.TheVariants.{Memory};
 
-use smap_record::MapFile;
+use smap_record::{MapFile, source_name};
 use smap_replies::Failure;
 use std::alloc::{AllocError, Global};
 use std::collections::BTreeMap;
@@ -30,9 +29,7 @@ impl<'a> OuterMap<'a> {
         let Ok(count) = u32::try_from(map.sources()) else {
             return Err(Failure::Memory);
         };
-        let Ok(names) = names_of(alloc, map, count) else {
-            return Err(Failure::Memory);
-        };
+        let names = names_of(alloc, map, count)?;
         Ok(OuterMap { map, count, names })
     }
 
@@ -56,7 +53,7 @@ fn names_of<'a>(
 {
     let mut names = BTreeMap::new(alloc);
     for i in 0..count {
-        add_name(&mut names, name_of(map, i))?;
+        add_name(&mut names, source_name(map.source(i)))?;
     }
     Ok(names)
 }
@@ -64,7 +61,8 @@ fn names_of<'a>(
 // Adds a name, where there is one, to those before it.
 fn add_name<'a>(names: &mut BTreeMap<&'a str, ()>, name: Option<&'a str>) -> Result<(), AllocError>
     ensures { OnOk result ((text : List ℕ) → is_among names.new text
-        ≡ (is_among names.old text || option_map_or (bytes_eq text) (option_copied name.entry) false)) }
+        ≡ (is_among names.old text
+        || option_map_or (bytes_eq text) (option_copied name.entry) false)) }
 {
     match name {
         Some(name) => {
@@ -73,11 +71,4 @@ fn add_name<'a>(names: &mut BTreeMap<&'a str, ()>, name: Option<&'a str>) -> Res
         }
         None => Ok(()),
     }
-}
-
-// The name of source `i`, where it has one.
-fn name_of(map: &MapFile, i: u32) -> Option<&str>
-    ensures { option_copied result ≡ option_and_then text_of_source (slice_get map.now.stated.sources i) }
-{
-    Some(map.source(i)?.name.as_ref()?.text())
 }

@@ -4,7 +4,8 @@ use Rattle.std.proofs.lemmas.Result.{err_from_is_err_and}
 use Rattle.smap_record.specs.Sources.{source_of}
 use Rattle.smap_compose_answers.specs.ComposeAll.{ReadsInners}
 use Rattle.smap_compose_answers.specs.Private.Inners.{inners_stated}
-use Rattle.smap_compose_answers.proofs.InnersLaws.{from_place, inners_next, inners_refused, on_done, one_stated}
+use Rattle.smap_compose.proofs.ListLaws.{from_place}
+use Rattle.smap_compose_answers.proofs.InnersLaws.{inners_next, inners_refused, on_done, one_stated}
 use Rattle.smap_compose_answers.proofs.inners.read_inners.Goals as goal
 
 pub loop-i-preserved : goal.loop-i-preserved

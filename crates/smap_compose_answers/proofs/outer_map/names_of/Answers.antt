@@ -4,7 +4,7 @@ use Rattle.smap_compose_answers.proofs.outer_map.names_of.Goals as goal
 
 pub loop-i-preserved : goal.loop-i-preserved
 loop-i-preserved c =
-    one_further c.args.map.now.stated.sources c.loop-i.names c.add_name.new.names c.loop-i.i _ c.name_of.ensures c.in_ok-add_name.ensures
+    one_further c.args.map.now.stated.sources c.loop-i.names c.add_name.new.names c.loop-i.i _ (rw c.source.ensures at c.source_name.ensures) c.in_ok-add_name.ensures
     c.loop-i.invariant
 
 pub returns : goal.returns
