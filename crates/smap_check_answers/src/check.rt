@@ -39,11 +39,11 @@ struct Reporting {
 }
 
 /// Checks the map file at this path and then those at the other paths of the options, one after another: each is read,
-/// reported and let go before the next is read, whether it is accepted or refused, can't be read, or memory runs out. A file is
-/// reported by one line, with its path where there are others; as JSON a map, accepted or refused, is reported by one object.
-/// Gives the greatest status of all. Where standard output fails, nothing more is read. The caller gives a standard output
-/// that has not failed. The code of the first refusal that is reported on standard error is put into `first`, where that has
-/// none.
+/// reported and let go before the next is read, whether it is accepted or refused, can't be read, or memory runs out. A file
+/// is reported by one line, with its path where there are others; as JSON a map, accepted or refused, is reported by one
+/// object. Gives the greatest status of all. Where standard output fails, nothing more is read. The caller gives a standard
+/// output that has not failed. The code of the first refusal that is reported on standard error is put into `first`, where
+/// that has none.
 #[tactic(auto, unfolding(crate::specs::Check::paths_of))]
 pub fn answer_check<F: FileReader, W: ByteSink, E: ByteSink>(
     alloc: Global,
@@ -126,7 +126,7 @@ fn checked_file<F: FileReader>(
 {
     match maps.files.read_file(alloc, number, path) {
         Ok(bytes) => answer_bytes(alloc, maps, &bytes, path, how),
-        Err(ReadFailure::Device) => Err(unread(alloc, maps.files, path, how.explain)),
+        Err(ReadFailure::Device) => Err(unread(alloc, maps.files, path, how)),
         Err(ReadFailure::Memory) => Err(Failure::Memory),
     }
 }
@@ -179,7 +179,7 @@ fn refused_reply(
     match how.form {
         FileForm::Object => object_reply(alloc, path, bytes, refused),
         FileForm::Counts | FileForm::Named => {
-            Err(line_failure(alloc, path, bytes, refused, how.explain))
+            Err(line_failure(alloc, path, bytes, refused, how))
         }
     }
 }
@@ -217,12 +217,12 @@ fn line_failure(
     path: &str,
     bytes: &[u8],
     refused: MapRefusal,
-    explain: bool,
+    how: Reporting,
 ) -> Failure
     ensures { OrMemory (λ report. (refused ≢ Memory)
-        × IsLineReported bytes.now path.now explain refused report) (failure_report result) }
+        × IsLineReported bytes.now path.now how.explain refused report) (failure_report result) }
 {
-    let line = if explain {
+    let line = if how.explain {
         why_line(alloc, path, bytes, refused)
     } else {
         refusal_line(alloc, path, refused)
@@ -251,10 +251,10 @@ fn why_line(
 }
 
 // That the file at a path can't be read and, where that is asked, why not.
-fn unread<F: FileReader>(alloc: Global, reader: &F, path: &str, explain: bool) -> Failure
-    ensures { OrMemory (IsUnreadReported path.now explain) (failure_report result) }
+fn unread<F: FileReader>(alloc: Global, reader: &F, path: &str, how: Reporting) -> Failure
+    ensures { OrMemory (IsUnreadReported path.now how.explain) (failure_report result) }
 {
-    let line = if explain {
+    let line = if how.explain {
         cause_line(alloc, path, reader.unread_cause(path))
     } else {
         file_failed_line(alloc, path)
