@@ -11,10 +11,10 @@ use smap_command::Command;
 use smap_compose_answers::{AllMaps, TwoMaps, answer_compose, answer_compose_all, answer_show};
 use smap_io::{ByteSink, ByteSource};
 use smap_map_answers::{
-    LookUp, SourceOptions, answer_content, answer_lookup, answer_mappings, answer_positions,
-    answer_raw, answer_sources,
+    LookUp, answer_content, answer_lookup, answer_mappings, answer_positions, answer_raw,
+    answer_sources,
 };
-use smap_positions::AnswerOptions;
+use smap_positions::{AnswerOptions, Direction, MappingsOptions, SourceOptions};
 use smap_replies::{FileReader, Loaded, LoadedFiles, MapReader, report};
 use smap_text_answers::{TextRequest, answer_rewrite};
 use std::alloc::Global;
@@ -97,7 +97,7 @@ pub fn run_reading<F: FileReader, R: ByteSource, W: ByteSink, E: ByteSink>(
             let asked = LookUp {
                 line: *line,
                 column: *column,
-                after: *after,
+                direction: Direction::of(*after),
                 options: *options,
             };
             answer_lookup(alloc, &maps, path, asked)
@@ -109,8 +109,8 @@ pub fn run_reading<F: FileReader, R: ByteSource, W: ByteSink, E: ByteSink>(
             ..
         } => {
             let options = AnswerOptions {
-                after: *after,
-                json: form.is_json(),
+                direction: Direction::of(*after),
+                form: *form,
             };
             answer_positions(alloc, &maps, path, options, input, output)
         }
@@ -119,7 +119,13 @@ pub fn run_reading<F: FileReader, R: ByteSource, W: ByteSink, E: ByteSink>(
             line,
             form,
             ..
-        } => answer_mappings(alloc, &maps, path, *line, form.is_json(), output),
+        } => {
+            let options = MappingsOptions {
+                line: *line,
+                form: *form,
+            };
+            answer_mappings(alloc, &maps, path, options, output)
+        }
         Command::Sources {
             path,
             generated,
@@ -129,7 +135,7 @@ pub fn run_reading<F: FileReader, R: ByteSource, W: ByteSink, E: ByteSink>(
         } => {
             let options = SourceOptions {
                 by_bytes: *by_bytes,
-                json: form.is_json(),
+                form: *form,
             };
             answer_sources(alloc, &maps, path, generated.as_deref(), options)
         }

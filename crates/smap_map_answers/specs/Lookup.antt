@@ -7,6 +7,7 @@ use Rattle.smap_index.specs.Parts.{joined}
 use Rattle.smap_record.specs.Record.{MapRecord}
 use Rattle.smap_positions.specs.Json.{lookup_json}
 use Rattle.smap_positions.specs.Lookup.{lookup_text}
+use Rattle.smap_positions.specs.declared.options.Direction.{Direction}
 use Rattle.smap_verdicts.specs.Nearest.{nearest_text}
 
 -- which mappings stand nearest to the position
@@ -14,11 +15,11 @@ abbrev pub about_text : (line column : ℕ) → MapRecord → List ℕ
 about_text line column stated = nearest_text line (neighbours (joined stated.parts) line column)
 
 -- the answer as text and, where that is asked, the mappings nearest to the position
-abbrev pub lookup_lines : (after explain : Bool) (line column : ℕ) → MapRecord → List ℕ
-lookup_lines after false line column stated = lookup_text after line column stated
-lookup_lines after true line column stated = lookup_text after line column stated ++ about_text line column stated
+abbrev pub lookup_lines : Direction → (explain : Bool) (line column : ℕ) → MapRecord → List ℕ
+lookup_lines direction false line column stated = lookup_text direction line column stated
+lookup_lines direction true line column stated = lookup_text direction line column stated ++ about_text line column stated
 
--- for a generated line and column, from 0: at the position or before it or, where that is asked, at it or after it
-abbrev pub lookup_print : (after : Bool) → LookupOptions → (line column : ℕ) → MapRecord → List ℕ
-lookup_print after options line column stated =
-    if is_json options.form then lookup_json after line column stated else lookup_lines after options.explain line column stated
+-- for a generated line and column, from 0
+abbrev pub lookup_print : Direction → LookupOptions → (line column : ℕ) → MapRecord → List ℕ
+lookup_print direction options line column stated =
+    if is_json options.form then lookup_json direction line column stated else lookup_lines direction options.explain line column stated

@@ -6,6 +6,7 @@ use Rattle.smap_lines.specs.declared.fault.LineFault.{LineFault}
 use Rattle.smap_lines.specs.declared.fault.LineFault.TheVariants.{Write, Memory}
 use Rattle.smap_record.specs.Record.{MapRecord}
 use Rattle.smap_positions.specs.Mappings.{mappings_text}
+use Rattle.smap_positions.specs.declared.options.MappingsOptions.{MappingsOptions}
 use Rattle.smap_replies.specs.Files.{MayRead}
 use Rattle.smap_replies.specs.Map.{IsStated, Never, ReportsMap}
 use Rattle.smap_replies.specs.Outcome.{OrMemory, Report, answer, fault_report}
@@ -17,21 +18,21 @@ printing_report (Ok done) = answer []
 printing_report (Err fault) = fault_report fault
 
 -- a text is printed whole, and flushed; or up to a fault, which is of the output or of memory
-abbrev pub IsPrinted : (text : List ℕ) → (before after : SinkSeen) → Result Unit LineFault → Type 0
-IsPrinted text before after (Ok done) = Takes before.taken after.taken text × (after.flushed ≡ true)
-IsPrinted text before after (Err fault) = TakesFront before.taken after.taken text × ((fault ≡ Write) ⊎ (fault ≡ Memory))
+abbrev pub IsTextPrinted : (text : List ℕ) → (before after : SinkSeen) → Result Unit LineFault → Type 0
+IsTextPrinted text before after (Ok done) = Takes before.taken after.taken text × (after.flushed ≡ true)
+IsTextPrinted text before after (Err fault) = TakesFront before.taken after.taken text × ((fault ≡ Write) ⊎ (fault ≡ Memory))
 
 -- printing a text on standard output says this
 pub record PrintingReports (text : List ℕ) (before after : SinkSeen) (report : Report) : Type 0 where
   pub result : Result Unit LineFault
-  pub printed : IsPrinted text before after result
+  pub printed : IsTextPrinted text before after result
   pub output_failed : after.failed ≡ is_write_fault result
   pub untouched : result ≡ Err Memory → after ≡ before
   pub reported : report ≡ printing_report result
 
 -- what `mappings` prints over the map of a file: that there is none, or memory ran out, and then standard output stays as it
 -- is; or what printing its mappings comes to
-abbrev pub MappingsReports : MayRead → (path : List ℕ) → Option Parts → (k : ℕ) → (line : Option ℕ) (json : Bool) → (before after : SinkSeen) → Report → Type 0
-MappingsReports Reads path base k line json before after report =
+abbrev pub MappingsReports : MayRead → (path : List ℕ) → Option Parts → (k : ℕ) → MappingsOptions → (before after : SinkSeen) → Report → Type 0
+MappingsReports Reads path base k options before after report =
     ((after ≡ before) × OrMemory (ReportsMap Reads 0 path base k Never) report)
-    ⊎ ((stated : MapRecord) × IsStated Reads 0 path base k stated × PrintingReports (mappings_text json line stated) before after report)
+    ⊎ ((stated : MapRecord) × IsStated Reads 0 path base k stated × PrintingReports (mappings_text options stated) before after report)

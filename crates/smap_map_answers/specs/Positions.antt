@@ -8,6 +8,7 @@ use Rattle.smap_lines.specs.declared.fault.LineFault.TheVariants.{TooMuch, Memor
 use Rattle.smap_record.specs.Record.{MapRecord}
 use Rattle.smap_positions.specs.Answering.{AnswersPositions}
 use Rattle.smap_positions.specs.Positions.{answered_line}
+use Rattle.smap_positions.specs.declared.options.AnswerOptions.{AnswerOptions}
 use Rattle.smap_positions.specs.declared.answering.PositionsSummary.{PositionsSummary}
 use Rattle.smap_replies.specs.Files.{MayRead}
 use Rattle.smap_map_answers.specs.Lines.{bad_position_refused_line}
@@ -34,15 +35,15 @@ positions_report (Err fault) = fault_report fault
 -- ---- the positions
 
 -- the positions are answered to their end, or up to a fault
-abbrev pub IsAnswered : MapRecord → (from json : Bool) → (before after : DevicesSeen) → Result PositionsSummary LineFault → Type 0
-IsAnswered stated from json before after (Ok summary) = AnswersPositions before after stated from json summary
-IsAnswered stated from json before after (Err fault) = EditsFront (answered_line stated from json) most_text_bytes before after fault
+abbrev pub IsAnswered : MapRecord → AnswerOptions → (before after : DevicesSeen) → Result PositionsSummary LineFault → Type 0
+IsAnswered stated options before after (Ok summary) = AnswersPositions before after stated options summary
+IsAnswered stated options before after (Err fault) = EditsFront (answered_line stated options) most_text_bytes before after fault
 
 -- answering the positions on standard input from this map says this; a refusal for a bad line or a long one comes after
 -- their answers, which are flushed
-pub record AnsweredReports (stated : MapRecord) (from json : Bool) (before after : DevicesSeen) (report : Report) : Type 0 where
+pub record AnsweredReports (stated : MapRecord) (options : AnswerOptions) (before after : DevicesSeen) (report : Report) : Type 0 where
   pub result : Result PositionsSummary LineFault
-  pub answered : IsAnswered stated from json before after result
+  pub answered : IsAnswered stated options before after result
   pub input_failed : after.input.failed ≡ is_read_fault result
   pub output_failed : after.output.failed ≡ is_write_fault result
   pub flushed : report.status ≡ 1 → (result ≡ Err TooMuch) ⊎ (after.output.flushed ≡ true)
@@ -51,7 +52,7 @@ pub record AnsweredReports (stated : MapRecord) (from json : Bool) (before after
 
 -- what `positions` prints over the map of a file: that there is none, or memory ran out, and then standard input and output
 -- stay as they are; or what the answers come to
-abbrev pub PositionsReports : MayRead → (path : List ℕ) → Option Parts → (k : ℕ) → (from json : Bool) → (before after : DevicesSeen) → Report → Type 0
-PositionsReports Reads path base k from json before after report =
+abbrev pub PositionsReports : MayRead → (path : List ℕ) → Option Parts → (k : ℕ) → AnswerOptions → (before after : DevicesSeen) → Report → Type 0
+PositionsReports Reads path base k options before after report =
     ((after ≡ before) × OrMemory (ReportsMap Reads 0 path base k Never) report)
-    ⊎ ((stated : MapRecord) × IsStated Reads 0 path base k stated × AnsweredReports stated from json before after report)
+    ⊎ ((stated : MapRecord) × IsStated Reads 0 path base k stated × AnsweredReports stated options before after report)

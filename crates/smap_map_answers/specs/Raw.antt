@@ -20,15 +20,16 @@ use Rattle.smap_replies.specs.Outcome.{OrMemory, Report, answer, failure, refusa
 abbrev pub without_last_line_end : List ℕ → List ℕ
 without_last_line_end bytes = if slice_index bytes (length bytes - 1) == 10 then take (length bytes - 1) bytes else bytes
 
-abbrev pub answer_line : Answer → List ℕ
-answer_line Nothing = none_line
-answer_line (Unmapped column) = unmapped_line
-answer_line (Found column origin) = found_line origin.source origin.line origin.column origin.name
+-- the line for an answer, by indices
+abbrev pub raw_line : Answer → List ℕ
+raw_line Nothing = none_line
+raw_line (Unmapped column) = unmapped_line
+raw_line (Found column origin) = found_line origin.source origin.line origin.column origin.name
 
 -- the first fault of a text, where it has one, and else what a position in it answers
 abbrev pub fault_or_answer : Option Fault → Answer → Report
 fault_or_answer (Some fault) found = refusal (Some (kind_code fault.kind)) (refused_line fault)
-fault_or_answer None found = answer (answer_line found)
+fault_or_answer None found = answer (raw_line found)
 
 -- what a text reports a generated line and column, from 0; its indices may be any
 abbrev pub text_result : List ℕ → ℕ → ℕ → Report

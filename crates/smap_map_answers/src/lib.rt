@@ -1,9 +1,9 @@
-//! What is answered from one map: for a position or several, or of all of its mappings, of its sources, or of a bare mappings
-//! text.
+//! What is answered from one map: for a position or several, or of all of its mappings, of its sources, or of a bare
+//! mappings text.
 //!
 //! ```text
 //! let options = LookupOptions { form: Form::Text, explain: false };
-//! let asked = LookUp { line: 0, column: 5, after: false, options };
+//! let asked = LookUp { line: 0, column: 5, direction: Direction::AtOrBefore, options };
 //! let outcome = answer_lookup(alloc, &maps, "app.js.map", asked);
 //! ```
 #![tactic(auto)]
@@ -19,4 +19,4 @@ pub use lookup::{LookUp, answer_lookup};
 pub use mappings::answer_mappings;
 pub use positions::answer_positions;
 pub use raw::answer_raw;
-pub use source_list::{SourceOptions, answer_content, answer_sources};
+pub use source_list::{answer_content, answer_sources};

@@ -9,10 +9,10 @@ use std::alloc::{AllocError, Global};
 
 /// Standard error: a line of standard input is no position (P1); its number, from 1, and an LF follow. This and the next are
 /// made of their codes, and stand here whole since they are printed without taking memory.
-pub const BAD_POSITION: &str = "refused: P1 BadPosition ";
+pub const BAD_POSITION_REFUSED: &str = "refused: P1 BadPosition ";
 
 /// Standard error: a line of standard input is longer than a position is (P2).
-pub const LONG_POSITION: &str = "refused: P2 LongLine\n";
+pub const LONG_POSITION_REFUSED: &str = "refused: P2 LongLine\n";
 
 /// Standard error: the map has no source of this index, or not its content.
 pub const NO_CONTENT: &str = "refused: no content\n";

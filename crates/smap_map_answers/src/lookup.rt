@@ -5,7 +5,7 @@ ghost use Rattle.smap_replies.specs.Map.{IsLine, ReportsMap};
 ghost use Rattle.smap_replies.specs.Outcome.{OrMemory, report_of};
 
 use smap_command::LookupOptions;
-use smap_positions::{lookup_as_json, lookup_text};
+use smap_positions::{Direction, lookup_as_json, lookup_text};
 use smap_record::{MapFile, Meter};
 use smap_replies::{Failure, FileReader, MapReader, Reply, read_map};
 use smap_verdicts::nearest_text;
@@ -18,8 +18,8 @@ pub struct LookUp {
     pub line: u32,
     /// The generated column, from 0.
     pub column: u32,
-    /// Whether the first mapping at the position or after it answers, and not the last at it or before it.
-    pub after: bool,
+    /// Which mapping answers.
+    pub direction: Direction,
     /// How the answer is reported.
     pub options: LookupOptions,
 }
@@ -33,7 +33,7 @@ pub fn answer_lookup<F: FileReader>(
 ) -> Result<Reply, Failure>
     ensures { OrMemory (ReportsMap (F.gives maps.now.files.now) 0 path.now
         (option_copied maps.now.base) maps.now.interval
-        (IsLine (lookup_print asked.after asked.options asked.line asked.column)))
+        (IsLine (lookup_print asked.direction asked.options asked.line asked.column)))
         (report_of result) }
 {
     let map = read_map(alloc, maps, 0, path)?;
@@ -43,10 +43,10 @@ pub fn answer_lookup<F: FileReader>(
 // What is printed for what a map answers for a position.
 fn lookup_print(alloc: Global, map: &MapFile, asked: LookUp) -> Result<Vec<u8>, AllocError>
     ensures { IfOk result (λ text. text.items
-        ≡ lookup_print asked.after asked.options asked.line asked.column map.now.stated) }
+        ≡ lookup_print asked.direction asked.options asked.line asked.column map.now.stated) }
 {
     if asked.options.form.is_json() {
-        lookup_as_json(alloc, map, asked.line, asked.column, asked.after)
+        lookup_as_json(alloc, map, asked.line, asked.column, asked.direction)
     } else {
         lookup_lines(alloc, map, asked)
     }
@@ -55,10 +55,11 @@ fn lookup_print(alloc: Global, map: &MapFile, asked: LookUp) -> Result<Vec<u8>, 
 // The same as text.
 fn lookup_lines(alloc: Global, map: &MapFile, asked: LookUp) -> Result<Vec<u8>, AllocError>
     ensures { IfOk result (λ text. text.items
-        ≡ lookup_lines asked.after asked.options.explain asked.line asked.column map.now.stated) }
+        ≡ lookup_lines asked.direction asked.options.explain asked.line asked.column
+        map.now.stated) }
 {
     let (line, column) = (asked.line, asked.column);
-    let mut text = lookup_text(alloc, map, line, column, asked.after)?;
+    let mut text = lookup_text(alloc, map, line, column, asked.direction)?;
     if asked.options.explain {
         text.extend_from_slice(about_text(alloc, map, line, column)?.as_bytes())?;
     }

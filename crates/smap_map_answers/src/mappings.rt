@@ -5,45 +5,41 @@ ghost use Rattle.smap_replies.specs.Outcome.{report_of};
 ghost use Rattle.smap_positions.specs.Mappings.{mappings_text};
 
 use smap_io::ByteSink;
-use smap_positions::print_mappings;
+use smap_positions::{MappingsOptions, print_mappings};
 use smap_record::MapFile;
 use smap_replies::{Failure, FileReader, MapReader, Reply, read_map};
 use std::alloc::Global;
 
-/// Reads the map that the file at this path is, and prints its mappings, or those of this generated line, from 0, on
-/// standard output. The caller gives one that has not failed.
+/// Reads the map that the file at this path is, and prints those of its mappings that the options ask for on standard
+/// output. The caller gives one that has not failed.
 pub fn answer_mappings<F: FileReader, W: ByteSink>(
     alloc: Global,
     maps: &MapReader<'_, F>,
     path: &str,
-    line: Option<u32>,
-    json: bool,
+    options: MappingsOptions,
     output: &mut W,
 ) -> Result<Reply, Failure>
     requires output_works { (W.seen output.old).failed ≡ false }
     ensures { MappingsReports (F.gives maps.now.files.now) path.now (option_copied maps.now.base)
-        maps.now.interval line json
-        (W.seen output.old) (W.seen output.new)
-        (report_of result) }
+        maps.now.interval options (W.seen output.old) (W.seen output.new) (report_of result) }
 {
     let map = read_map(alloc, maps, 0, path)?;
-    printed_mappings(alloc, &map, line, json, output)
+    printed_mappings(alloc, &map, options, output)
 }
 
 // Prints the mappings of this map.
 fn printed_mappings<W: ByteSink>(
     alloc: Global,
     map: &MapFile,
-    line: Option<u32>,
-    json: bool,
+    options: MappingsOptions,
     output: &mut W,
 ) -> Result<Reply, Failure>
     requires output_works { (W.seen output.old).failed ≡ false }
-    ensures { PrintingReports (mappings_text json line map.now.stated)
+    ensures { PrintingReports (mappings_text options map.now.stated)
         (W.seen output.old) (W.seen output.new)
         (report_of result) }
 {
-    match print_mappings(alloc, map, line, json, output) {
+    match print_mappings(alloc, map, options, output) {
         Ok(()) => Ok(Reply::Rewritten),
         Err(fault) => Err(Failure::Fault(fault)),
     }

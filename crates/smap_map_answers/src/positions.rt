@@ -35,8 +35,7 @@ pub fn answer_positions<F: FileReader, R: ByteSource, W: ByteSink>(
     requires input_works { (R.seen input.old).failed ≡ false }
     requires output_works { (W.seen output.old).failed ≡ false }
     ensures { PositionsReports (F.gives maps.now.files.now) path.now (option_copied maps.now.base)
-        maps.now.interval options.after options.json
-        (devices_seen (R.seen input.old) (W.seen output.old))
+        maps.now.interval options (devices_seen (R.seen input.old) (W.seen output.old))
         (devices_seen (R.seen input.new) (W.seen output.new))
         (report_of result) }
 {
@@ -54,7 +53,7 @@ fn answer_over<R: ByteSource, W: ByteSink>(
 ) -> Result<Reply, Failure>
     requires input_works { (R.seen input.old).failed ≡ false }
     requires output_works { (W.seen output.old).failed ≡ false }
-    ensures { AnsweredReports map.now.stated options.after options.json
+    ensures { AnsweredReports map.now.stated options
         (devices_seen (R.seen input.old) (W.seen output.old))
         (devices_seen (R.seen input.new) (W.seen output.new))
         (report_of result) }
@@ -85,10 +84,8 @@ fn refused_positions(room: String, summary: PositionsSummary) -> Option<Failure>
     if summary.answered != summary.lines {
         return Some(Failure::refusal(Code::P2, long_line(room)));
     }
-    match summary.first_bad {
-        Some(number) => Some(Failure::refusal(Code::P1, bad_position(room, number))),
-        None => None,
-    }
+    let number = summary.first_bad?;
+    Some(Failure::refusal(Code::P1, bad_position(room, number)))
 }
 
 #[tactic(auto, unfolding(smap_codes::specs::Codes::called))]
@@ -96,7 +93,7 @@ fn long_line(mut room: String) -> String
     requires { IsRoom room }
     ensures { string_bytes result ≡ code_refused_line P2 }
 {
-    put(&mut room, lines::LONG_POSITION);
+    put(&mut room, lines::LONG_POSITION_REFUSED);
     room
 }
 
@@ -107,7 +104,7 @@ fn bad_position(mut room: String, number: u64) -> String
     ensures { string_bytes result ≡ bad_position_refused_line number }
 {
     let mut digits = Buffer::new();
-    put(&mut room, lines::BAD_POSITION);
+    put(&mut room, lines::BAD_POSITION_REFUSED);
     put(&mut room, digits.format(number));
     put(&mut room, "\n");
     room

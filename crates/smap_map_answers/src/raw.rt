@@ -8,7 +8,7 @@ ghost use Rattle.smap_mappings.specs.Within.{IsWithin};
 ghost use Rattle.smap_index.specs.Answer.{answer_at_or_before};
 ghost use Rattle.smap_index.specs.Faults.{is_interval};
 ghost use Rattle.smap_replies.specs.Outcome.{OrMemory, report_of};
-ghost use Rattle.smap_map_answers.specs.Raw.{answer_line, fault_or_answer, raw_result, text_result, without_last_line_end, RawReports};
+ghost use Rattle.smap_map_answers.specs.Raw.{raw_line, fault_or_answer, raw_result, text_result, without_last_line_end, RawReports};
 ghost use Rattle.smap_lines.specs.Editing.{devices_seen};
 ghost use Rattle.smap_io.specs.Device.{SinkSeen};
 
@@ -109,7 +109,7 @@ fn answer_mappings(
     match PackedText::check(text, MOST_INDICES, MOST_INDICES) {
         Ok(packed) => {
             let answer = look_up(alloc, packed, line, column, interval)?;
-            Ok(Reply::Text(answer_line(alloc, &answer)?))
+            Ok(Reply::Text(raw_line(alloc, &answer)?))
         }
         Err((TextRefusal::Fault(fault), _)) => {
             let line = lines::refused_line(alloc, fault)?;
@@ -158,8 +158,8 @@ fn no_memory(_refusal: BuildRefusal) -> AllocError
     AllocError
 }
 
-fn answer_line(alloc: Global, answer: &Answer) -> Result<String, AllocError>
-    ensures { IfOk result (λ text. string_bytes text ≡ answer_line answer.now) }
+fn raw_line(alloc: Global, answer: &Answer) -> Result<String, AllocError>
+    ensures { IfOk result (λ text. string_bytes text ≡ raw_line answer.now) }
 {
     match answer {
         Answer::Nothing => String::from_str(alloc, NONE),

@@ -6,19 +6,10 @@ ghost use Rattle.smap_map_answers.specs.SourceList.{IsSourcesReported, ReportsGe
 
 use crate::lines;
 use smap_codes::Code;
-use smap_positions::sources_text;
+use smap_positions::{SourceOptions, sources_text};
 use smap_record::{MOST_FILE_BYTES, MapFile};
 use smap_replies::{Failure, FileReader, MapReader, Reply, file_bytes, read_map, refused_file};
 use std::alloc::Global;
-
-/// How the sources of a map are reported.
-#[derive(Clone, Copy)]
-pub struct SourceOptions {
-    /// Whether those that make the most bytes come first.
-    pub by_bytes: bool,
-    /// Whether each line is a JSON object.
-    pub json: bool,
-}
 
 /// Reads the map that the file at this path is, and its generated file, where one is given, and prints the map's sources.
 pub fn answer_sources<F: FileReader>(
@@ -30,7 +21,7 @@ pub fn answer_sources<F: FileReader>(
 ) -> Result<Reply, Failure>
     ensures { OrMemory (ReportsMap (F.gives maps.now.files.now) 0 path.now
         (option_copied maps.now.base) maps.now.interval
-        (ReportsSources (F.gives maps.now.files.now) options.by_bytes options.json
+        (ReportsSources (F.gives maps.now.files.now) options
         (option_copied generated.entry))) (report_of result) }
 {
     let map = read_map(alloc, maps, 0, path)?;
@@ -45,7 +36,7 @@ fn sources_of<F: FileReader>(
     generated: Option<&str>,
     options: SourceOptions,
 ) -> Result<Reply, Failure>
-    ensures { OrMemory (ReportsSources (F.gives reader.now) options.by_bytes options.json
+    ensures { OrMemory (ReportsSources (F.gives reader.now) options
         (option_copied generated.entry) map.now.stated) (report_of result) }
 {
     match generated {
@@ -65,7 +56,7 @@ fn sources_in(
     bytes: Vec<u8>,
     options: SourceOptions,
 ) -> Result<Reply, Failure>
-    ensures { OrMemory (ReportsGenerated options.by_bytes options.json path.now map.now.stated
+    ensures { OrMemory (ReportsGenerated options path.now map.now.stated
         bytes.items) (report_of result) }
 {
     if bytes.len() > MOST_FILE_BYTES {
@@ -84,10 +75,10 @@ fn reported_sources(
     generated: Option<&str>,
     options: SourceOptions,
 ) -> Result<Reply, Failure>
-    ensures { OrMemory (IsSourcesReported options.by_bytes options.json
+    ensures { OrMemory (IsSourcesReported options
         (option_copied generated.entry) map.now.stated) (report_of result) }
 {
-    let text = sources_text(alloc, map, generated, options.by_bytes, options.json)?;
+    let text = sources_text(alloc, map, generated, options)?;
     Ok(Reply::Bytes(text))
 }
 
@@ -123,8 +114,5 @@ fn content_of(map: &MapFile, source: u32) -> Option<&str>
     ensures { option_map (λ content. content.now) result
         ≡ option_and_then (λ s. s.content) (slice_get map.now.stated.sources source) }
 {
-    match map.source(source) {
-        Some(entry) => entry.content.as_deref(),
-        None => None,
-    }
+    map.source(source)?.content.as_deref()
 }

@@ -2,15 +2,11 @@
 use Rattle.std.proofs.Common.{◌≡◌, ◌/◌, ◌%◌, ◌==◌, ◌||◌, ℕ, Bool, true, false, cond, ltb, List, [], ◌∷◌, ◌++◌, Some, None, flat_map, refl, sym, ap, ◌∙◌, arith}
 use Rattle.std.specs.Char.{digit_char, is_ascii_control}
 use Rattle.std.specs.List.{list_any}
-use Rattle.std.proofs.lemmas.Bool.{cond-false, cond-true}
+use Rattle.std.proofs.lemmas.Bool.{cond-false, cond-true, or_parts}
 use Rattle.std.proofs.lemmas.List.Concat.{flat_map_single}
 use Rattle.json.specs.Print.{escape, escape_byte, escape_letter}
 use Rattle.smap_text.specs.Shown.{shown, shown_byte}
 use Rattle.smap_positions.specs.Private.Escapes.{is_escaped, short_escape, shown_piece}
-
-or_parts : (a b : Bool) → (a || b) ≡ false → (a ≡ false) × (b ≡ false)
-or_parts true b e = cc
-or_parts false b e = (refl, e)
 
 -- a text in which each byte stands for itself
 pub same_text : (f : ℕ → List ℕ) (test : ℕ → Bool) → ((byte : ℕ) → test byte ≡ false → f byte ≡ byte ∷ []) → (text : List ℕ)

@@ -7,15 +7,12 @@ use Rattle.std.specs.List.{AllByRecursion, prefix_len}
 use Rattle.std.proofs.lemmas.Bool.{and_parts, cond-false, cond-true, cond_both, eqb-true}
 use Rattle.std.proofs.lemmas.List.{drop_at, take-append-drop, take_at}
 use Rattle.smap_lines.specs.Bytes.{IsLineEnd, is_blank}
+use Rattle.smap_lines.specs.Laws.Number.{none_else}
 use Rattle.smap_lines.specs.Numbers.{IsPrinted, decimal_number, read_on}
 use Rattle.smap_positions.specs.Position.{AreBlanks, IsPosition, IsSeparator}
 use Rattle.smap_positions.specs.PositionOf.{after_blanks, after_digits, column_after, column_of, first_number, is_line_end, position_in, position_of}
 use Rattle.smap_positions.specs.PositionOf.{position_with, separator_len}
 use Rattle.smap_positions.specs.declared.printed_position.PrintedPosition.{PrintedPosition}
-
-none_else : {A : Type 0} (b : Bool) (o : Option A) (y : A) → cond b o None ≡ Some y → (b ≡ true) × (o ≡ Some y)
-none_else true o y e = (refl, e)
-none_else false o y e = cc
 
 -- ---- what a text begins with
 

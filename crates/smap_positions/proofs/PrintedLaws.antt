@@ -8,6 +8,7 @@ use Rattle.smap_lines.specs.Laws.Put.{takes_both}
 use Rattle.std.proofs.lemmas.Bool.{cond-false, ltb-true}
 use Rattle.smap_mappings.specs.Order.{IsAtOrBefore, IsInOrder}
 use Rattle.smap_mappings.specs.declared.mapping.Mapping.{Mapping}
+use Rattle.smap_command.specs.declared.options.Form.{Form}
 use Rattle.smap_record.specs.Record.{MapRecord}
 use Rattle.smap_positions.specs.Mappings.{is_on_line, printed_mapping, printed_mappings}
 use Rattle.smap_positions.specs.Private.Past.{is_past_line}
@@ -34,24 +35,24 @@ none_on_line line mapping (next ∷ rest) past order =
     (other_line line mapping.line past)
     ∙ none_on_line line next rest (next_past line mapping next past order.0) order.1
 
-module _ (json : Bool) (line : Option ℕ) (stated : MapRecord) where
+module _ (form : Form) (line : Option ℕ) (stated : MapRecord) where
   first_of : (t : Bool) (mapping : Mapping) (rest : List Mapping) →
-      flat_map (printed_mapping json stated) (cond t (mapping ∷ rest) rest)
-      ≡ cond t (printed_mapping json stated mapping) [] ++ flat_map (printed_mapping json stated) rest
+      flat_map (printed_mapping form stated) (cond t (mapping ∷ rest) rest)
+      ≡ cond t (printed_mapping form stated mapping) [] ++ flat_map (printed_mapping form stated) rest
   first_of true mapping rest = refl
   first_of false mapping rest = refl
 
   -- what is printed of one mapping and those after it
   pub printed_first : (mapping : Mapping) (rest : List Mapping) →
-      printed_mappings json line stated (mapping ∷ rest)
-      ≡ cond (is_on_line line mapping) (printed_mapping json stated mapping) [] ++ printed_mappings json line stated rest
+      printed_mappings form line stated (mapping ∷ rest)
+      ≡ cond (is_on_line line mapping) (printed_mapping form stated mapping) [] ++ printed_mappings form line stated rest
   printed_first mapping rest = first_of (is_on_line line mapping) mapping (filter (is_on_line line) rest)
 
   -- nothing is printed of mappings in order from one on that stands past the line
   pub none_past : (line_is : Option ℕ) (mapping : Mapping) (rest : List Mapping) → is_past_line line_is mapping ≡ true → IsInOrder (mapping ∷ rest)
-      → printed_mappings json line_is stated (mapping ∷ rest) ≡ []
+      → printed_mappings form line_is stated (mapping ∷ rest) ≡ []
   none_past None mapping rest past order = cc
-  none_past (Some n) mapping rest past order = ap (flat_map (printed_mapping json stated)) (none_on_line n mapping rest (ltb-true n mapping.line past) order)
+  none_past (Some n) mapping rest past order = ap (flat_map (printed_mapping form stated)) (none_on_line n mapping rest (ltb-true n mapping.line past) order)
 
 -- ---- what was put where nothing waited
 

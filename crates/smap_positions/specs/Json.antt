@@ -1,6 +1,6 @@
 -- What is answered as JSON: an object a line, its keys in the order of their bytes. Lines and columns count from 1, indices
 -- from 0.
-use Rattle.std.specs.Prelude.{ℕ, ◌+◌, Bool, List, [], ◌∷◌, ◌++◌, Option, codes, nat_eq, option_and_then, option_map, slice_get}
+use Rattle.std.specs.Prelude.{ℕ, ◌+◌, List, [], ◌∷◌, ◌++◌, Option, codes, nat_eq, option_and_then, option_map, slice_get}
 use Rattle.std.specs.List.{after_first, before_first}
 use Rattle.serde_json.specs.Data.{Data, boolean, number, string, array, object, unsigned, no_items, item, Members, no_members, member}
 use Rattle.serde_json.specs.Written.{compact_text}
@@ -11,6 +11,7 @@ use Rattle.smap_record.specs.Record.{MapRecord}
 use Rattle.smap_record.specs.Sources.{StatedSource}
 use Rattle.smap_record.specs.Written.{is_ignored_where, member_where, text_of_source, value_of_text}
 use Rattle.smap_positions.specs.Lookup.{answer_excerpt, lookup_answer}
+use Rattle.smap_positions.specs.declared.options.Direction.{Direction}
 use Rattle.smap_positions.specs.declared.printed_position.PrintedPosition.{PrintedPosition}
 
 abbrev pub count : ℕ → Data
@@ -75,7 +76,7 @@ abbrev pub json_line : Data → List ℕ
 json_line value = compact_text value ++ 10 ∷ []
 
 -- what is answered for a generated line and column, from 0, with the excerpt
-abbrev pub lookup_json : (after : Bool) (line column : ℕ) → MapRecord → List ℕ
-lookup_json after line column stated =
-    let answer = lookup_answer after line column stated in
+abbrev pub lookup_json : Direction → (line column : ℕ) → MapRecord → List ℕ
+lookup_json direction line column stated =
+    let answer = lookup_answer direction line column stated in
     json_line (answer_value (answer_excerpt stated answer) stated (record { line = line + 1; column = column + 1 }) answer)

@@ -1,5 +1,5 @@
 -- What `lookup` answers: where a generated place comes from, by the names that the map gives.
-use Rattle.std.specs.Prelude.{ℕ, Bool, List, [], ◌∷◌, ◌++◌, Option, Some, None, codes, if◌then◌else◌, option_and_then, slice_get}
+use Rattle.std.specs.Prelude.{ℕ, Bool, false, true, List, [], ◌∷◌, ◌++◌, Option, Some, None, codes, option_and_then, slice_get}
 use Rattle.std.specs.Fmt.{decimal}
 use Rattle.smap_mappings.specs.declared.mapping.Origin.{Origin}
 use Rattle.smap_index.specs.declared.answer.Answer.{Answer}
@@ -11,6 +11,8 @@ use Rattle.smap_text.specs.Excerpt.{excerpt_of}
 use Rattle.smap_text.specs.Shown.{shown}
 use Rattle.smap_command.specs.Lines.{line_from}
 use Rattle.smap_positions.specs.Lines.{none_line, unmapped_line, place_line}
+use Rattle.smap_positions.specs.declared.options.Direction.{Direction}
+use Rattle.smap_positions.specs.declared.options.Direction.TheVariants.{AtOrBefore, AtOrAfter}
 
 -- how a source of this index prints: by its name or, where it has none, by its index in brackets
 abbrev pub source_text : (name : Option (List ℕ)) → ℕ → List ℕ
@@ -45,14 +47,17 @@ abbrev pub excerpt_lines : Option (List ℕ) → List ℕ
 excerpt_lines None = []
 excerpt_lines (Some excerpt) = line_from (excerpt ∷ [])
 
--- what the map answers for a generated line and column, from 0: at the position or before it or, where that is asked, at
--- it or after it
-abbrev pub lookup_answer : (after : Bool) (line column : ℕ) → MapRecord → Answer
-lookup_answer after line column stated =
-    if after then answer_of_map_from stated line column else answer_of_map stated line column
+abbrev pub direction_of : (after : Bool) → Direction
+direction_of false = AtOrBefore
+direction_of true = AtOrAfter
+
+-- what the map answers for a generated line and column, from 0
+abbrev pub lookup_answer : Direction → (line column : ℕ) → MapRecord → Answer
+lookup_answer AtOrBefore line column stated = answer_of_map stated line column
+lookup_answer AtOrAfter line column stated = answer_of_map_from stated line column
 
 -- what is printed for it: a line, and after that of a place its excerpt
-abbrev pub lookup_text : (after : Bool) (line column : ℕ) → MapRecord → List ℕ
-lookup_text after line column stated =
-    let answer = lookup_answer after line column stated in
+abbrev pub lookup_text : Direction → (line column : ℕ) → MapRecord → List ℕ
+lookup_text direction line column stated =
+    let answer = lookup_answer direction line column stated in
     answer_line stated answer ++ excerpt_lines (answer_excerpt stated answer)

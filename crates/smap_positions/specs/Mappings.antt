@@ -11,8 +11,11 @@ use Rattle.smap_index.specs.Parts.{joined}
 use Rattle.smap_record.specs.Record.{MapRecord}
 use Rattle.smap_record.specs.Sources.{StatedSource}
 use Rattle.smap_record.specs.Written.{is_ignored_where}
+use Rattle.smap_command.specs.Options.{is_json}
+use Rattle.smap_command.specs.declared.options.Form.{Form}
 use Rattle.smap_positions.specs.Json.{count, json_line, origin_members}
 use Rattle.smap_positions.specs.Lookup.{answer_line}
+use Rattle.smap_positions.specs.declared.options.MappingsOptions.{MappingsOptions}
 
 -- ---- a mapping
 
@@ -45,8 +48,8 @@ abbrev pub mapping_value : MapRecord → Mapping → Data
 mapping_value stated mapping = value_with stated mapping.line mapping.column mapping.origin
 
 -- the line for a mapping, as JSON or as text
-abbrev pub printed_mapping : (json : Bool) → MapRecord → Mapping → List ℕ
-printed_mapping json stated mapping = if json then json_line (mapping_value stated mapping) else mapping_line stated mapping
+abbrev pub printed_mapping : Form → MapRecord → Mapping → List ℕ
+printed_mapping form stated mapping = if is_json form then json_line (mapping_value stated mapping) else mapping_line stated mapping
 
 -- ---- all of them
 
@@ -56,9 +59,9 @@ is_on_line None mapping = true
 is_on_line (Some line) mapping = mapping.line == line
 
 -- the lines for those of these mappings that stand on this generated line or, where none is given, for all
-abbrev pub printed_mappings : (json : Bool) (line : Option ℕ) → MapRecord → List Mapping → List ℕ
-printed_mappings json line stated mappings = flat_map (printed_mapping json stated) (filter (is_on_line line) mappings)
+abbrev pub printed_mappings : Form → (line : Option ℕ) → MapRecord → List Mapping → List ℕ
+printed_mappings form line stated mappings = flat_map (printed_mapping form stated) (filter (is_on_line line) mappings)
 
 -- what is printed of the mappings of a map
-unfoldable pub mappings_text : (json : Bool) (line : Option ℕ) → MapRecord → List ℕ
-mappings_text json line stated = printed_mappings json line stated (joined stated.parts)
+unfoldable pub mappings_text : MappingsOptions → MapRecord → List ℕ
+mappings_text options stated = printed_mappings options.form options.line stated (joined stated.parts)

@@ -5,33 +5,36 @@ use Rattle.smap_index.specs.declared.answer.Answer.{Answer}
 use Rattle.smap_lines.specs.Edited.{edited, is_short}
 use Rattle.smap_lines.specs.Lines.{Line, lines_with_ends}
 use Rattle.smap_record.specs.Record.{MapRecord}
+use Rattle.smap_command.specs.Options.{is_json}
 use Rattle.smap_positions.specs.Json.{answer_value, bad_position_value, json_line}
 use Rattle.smap_positions.specs.Lines.{bad_position_line}
 use Rattle.smap_positions.specs.Lookup.{answer_line, lookup_answer}
 use Rattle.smap_positions.specs.PositionOf.{position_of}
+use Rattle.smap_positions.specs.declared.options.AnswerOptions.{AnswerOptions}
+use Rattle.smap_positions.specs.declared.options.Direction.{Direction}
 use Rattle.smap_positions.specs.declared.printed_position.PrintedPosition.{PrintedPosition}
 
 -- ---- a line
 
--- what a map answers for a position: at it or before it or, where that is asked, at it or after it
-abbrev pub position_answer : (after : Bool) → MapRecord → PrintedPosition → Answer
-position_answer after stated position = lookup_answer after (position.line - 1) (position.column - 1) stated
+-- what a map answers for a position
+abbrev pub position_answer : Direction → MapRecord → PrintedPosition → Answer
+position_answer direction stated position = lookup_answer direction (position.line - 1) (position.column - 1) stated
 
 -- the line for a position, as JSON or as text; and for what is none
-abbrev pub position_line : (after json : Bool) → MapRecord → Option PrintedPosition → List ℕ
-position_line after json stated None = if json then json_line bad_position_value else bad_position_line
-position_line after json stated (Some position) =
-    let answer = position_answer after stated position in
-    if json then json_line (answer_value None stated position answer) else answer_line stated answer
+abbrev pub position_line : AnswerOptions → MapRecord → Option PrintedPosition → List ℕ
+position_line options stated None = if is_json options.form then json_line bad_position_value else bad_position_line
+position_line options stated (Some position) =
+    let answer = position_answer options.direction stated position in
+    if is_json options.form then json_line (answer_value None stated position answer) else answer_line stated answer
 
-abbrev pub answered_line : MapRecord → (after json : Bool) → Line → List ℕ
-answered_line stated after json line = position_line after json stated (position_of line.bytes)
+abbrev pub answered_line : MapRecord → AnswerOptions → Line → List ℕ
+answered_line stated options line = position_line options stated (position_of line.bytes)
 
 -- ---- a text
 
 -- a text of positions, answered
-abbrev pub answered : List ℕ → MapRecord → (after json : Bool) → List ℕ
-answered text stated after json = edited (answered_line stated after json) text
+abbrev pub answered : List ℕ → MapRecord → AnswerOptions → List ℕ
+answered text stated options = edited (answered_line stated options) text
 
 abbrev pub is_position_line : Line → Bool
 is_position_line line = is_some (position_of line.bytes)

@@ -12,7 +12,10 @@ use Rattle.smap_shares.specs.declared.rows.SourceRow.{SourceRow}
 use Rattle.smap_positions.specs.Json.{count, json_line}
 use Rattle.smap_positions.specs.Lines.{ignored_text}
 use Rattle.smap_command.specs.Lines.{line_from}
+use Rattle.smap_command.specs.Options.{is_json}
+use Rattle.smap_command.specs.declared.options.Form.{Form}
 use Rattle.smap_positions.specs.Lookup.{source_text}
+use Rattle.smap_positions.specs.declared.options.SourceOptions.{SourceOptions}
 
 -- the map has the source's content
 abbrev pub has_content : Option StatedSource → Bool
@@ -59,22 +62,22 @@ totals_value unmapped total = object (member (codes "total") (count total) (memb
 
 -- ---- all of it
 
-abbrev pub printed_row : (json : Bool) → MapRecord → SourceRow → List ℕ
-printed_row json stated row =
-    if json then json_line (row_value row (slice_get stated.sources row.source)) else row_line row (slice_get stated.sources row.source)
+abbrev pub printed_row : Form → MapRecord → SourceRow → List ℕ
+printed_row form stated row =
+    if is_json form then json_line (row_value row (slice_get stated.sources row.source)) else row_line row (slice_get stated.sources row.source)
 
 -- nothing where there is no generated text
-abbrev pub printed_totals : (json : Bool) (unmapped : ℕ) → (generated : Option (List ℕ)) → List ℕ
-printed_totals json unmapped None = []
-printed_totals json unmapped (Some text) = if json then json_line (totals_value unmapped (length text)) else totals_lines unmapped (length text)
+abbrev pub printed_totals : Form → (unmapped : ℕ) → (generated : Option (List ℕ)) → List ℕ
+printed_totals form unmapped None = []
+printed_totals form unmapped (Some text) = if is_json form then json_line (totals_value unmapped (length text)) else totals_lines unmapped (length text)
 
 -- the text for these rows of a map
-abbrev pub rows_text : (json : Bool) → MapRecord → (generated : Option (List ℕ)) → List SourceRow → List ℕ
-rows_text json stated generated rows =
-    flat_map (printed_row json stated) rows ++ printed_totals json (unmapped_in (joined stated.parts) generated) generated
+abbrev pub rows_text : Form → MapRecord → (generated : Option (List ℕ)) → List SourceRow → List ℕ
+rows_text form stated generated rows =
+    flat_map (printed_row form stated) rows ++ printed_totals form (unmapped_in (joined stated.parts) generated) generated
 
 -- what is printed of the sources of a map: by index or, by their bytes, those with the most first
-pub record IsSourcesText (by_bytes json : Bool) (stated : MapRecord) (generated : Option (List ℕ)) (text : List ℕ) : Type 0 where
+pub record IsSourcesText (options : SourceOptions) (stated : MapRecord) (generated : Option (List ℕ)) (text : List ℕ) : Type 0 where
   pub rows : List SourceRow
-  pub ordered : IsOrderedRows by_bytes (rows_of (joined stated.parts) generated (length stated.sources)) rows
-  pub printed : text ≡ rows_text json stated generated rows
+  pub ordered : IsOrderedRows options.by_bytes (rows_of (joined stated.parts) generated (length stated.sources)) rows
+  pub printed : text ≡ rows_text options.form stated generated rows

@@ -3,19 +3,25 @@ ghost use Rattle.std.specs.Prelude.{◌≡◌, ◌+◌, option_and_then, option_
 ghost use Rattle.smap_record.specs.Sources.{source_of};
 ghost use Rattle.smap_positions.specs.Lookup.{answer_excerpt, lookup_answer, source_excerpt};
 
+use crate::options::Direction;
 use smap_record::{Answer, MapFile, Meter, Origin, SourceEntry};
 use smap_text::excerpt;
 use std::alloc::{AllocError, Global};
 
-/// What a map answers for a position, at it or before it or, with `after`, at it or after it. The call takes no memory.
-pub fn lookup_answer(alloc: Global, map: &MapFile, line: u32, column: u32, after: bool) -> Answer
-    ensures { result ≡ lookup_answer after line column map.now.stated }
+/// What a map answers for a position. The call takes no memory.
+pub fn lookup_answer(
+    alloc: Global,
+    map: &MapFile,
+    line: u32,
+    column: u32,
+    direction: Direction,
+) -> Answer
+    ensures { result ≡ lookup_answer direction line column map.now.stated }
 {
     let mut meter = Meter::new(alloc);
-    if after {
-        map.look_up_from(line, column, &mut meter)
-    } else {
-        map.look_up(line, column, &mut meter)
+    match direction {
+        Direction::AtOrBefore => map.look_up(line, column, &mut meter),
+        Direction::AtOrAfter => map.look_up_from(line, column, &mut meter),
     }
 }
 
@@ -59,10 +65,7 @@ pub fn name_at(map: &MapFile, index: Option<u32>) -> Option<&str>
     ensures { option_map (λ name. name.now) result
         ≡ option_and_then (slice_get map.now.stated.names) index }
 {
-    match index {
-        Some(index) => map.name(index),
-        None => None,
-    }
+    map.name(index?)
 }
 
 /// A number that counts from 0, counted from 1.

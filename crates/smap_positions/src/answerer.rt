@@ -4,9 +4,9 @@ ghost use Rattle.smap_lines.specs.LineOutput.{IsPut};
 ghost use Rattle.smap_positions.specs.Positions.{position_line};
 
 use crate::answer::lookup_answer;
-use crate::answer_options::AnswerOptions;
 use crate::gathered_line::GatheredLine;
 use crate::json_form::{AskedPosition, put_answer_object, put_bad_position};
+use crate::options::AnswerOptions;
 use crate::output::Output;
 use crate::printed_position::PrintedPosition;
 use crate::reading::read_position;
@@ -76,8 +76,7 @@ impl PositionAnswerer<'_> {
         output: &mut LineOutput<'_, W>,
     ) -> Result<(), DeviceFault>
         ensures { IsPut W.seen output.old output.new
-            (position_line self.now.options.after self.now.options.json self.now.map.now.stated
-            position) result }
+            (position_line self.now.options self.now.map.now.stated position) result }
     {
         let mut line = GatheredLine {
             output,
@@ -92,8 +91,7 @@ impl PositionAnswerer<'_> {
     // Puts the line for a position, and for what is none.
     fn put_line<O: Output>(&self, position: Option<PrintedPosition>, output: &mut O)
         ensures { O.Puts output.old output.new
-            (position_line self.now.options.after self.now.options.json self.now.map.now.stated
-            position) }
+            (position_line self.now.options self.now.map.now.stated position) }
     {
         match position {
             Some(position) => self.put_answer(position, output),
@@ -104,10 +102,9 @@ impl PositionAnswerer<'_> {
     // Puts the line for what is no position.
     fn put_bad<O: Output>(&self, output: &mut O)
         ensures { O.Puts output.old output.new
-            (position_line self.now.options.after self.now.options.json self.now.map.now.stated
-            None) }
+            (position_line self.now.options self.now.map.now.stated None) }
     {
-        if self.options.json {
+        if self.options.form.is_json() {
             put_bad_position(output)
         } else {
             output.put(BAD_POSITION.as_bytes())
@@ -117,13 +114,12 @@ impl PositionAnswerer<'_> {
     // Puts the line for a position.
     fn put_answer<O: Output>(&self, position: PrintedPosition, output: &mut O)
         ensures { O.Puts output.old output.new
-            (position_line self.now.options.after self.now.options.json self.now.map.now.stated
-            (Some position)) }
+            (position_line self.now.options self.now.map.now.stated (Some position)) }
     {
         let line = position.line.saturating_sub(1);
         let column = position.column.saturating_sub(1);
-        let answer = lookup_answer(self.alloc, self.map, line, column, self.options.after);
-        if self.options.json {
+        let answer = lookup_answer(self.alloc, self.map, line, column, self.options.direction);
+        if self.options.form.is_json() {
             let asked = AskedPosition {
                 line: u64::from(position.line),
                 column: u64::from(position.column),

@@ -6,8 +6,8 @@ ghost use Rattle.smap_lines.specs.declared.fault.LineFault.TheVariants.{Memory};
 ghost use Rattle.smap_positions.specs.Answering.{AnswersPositions};
 ghost use Rattle.smap_positions.specs.Positions.{answered_line};
 
-use crate::answer_options::AnswerOptions;
 use crate::answerer::PositionAnswerer;
+use crate::options::AnswerOptions;
 use smap_io::{ByteSink, ByteSource};
 use smap_lines::{LineFault, MOST_TEXT_BYTES, edit_lines};
 use smap_record::MapFile;
@@ -44,9 +44,9 @@ pub fn answer_positions<R: ByteSource, W: ByteSink>(
     ensures answers { IfOk result (λ summary. AnswersPositions
         (devices_seen (R.seen input.old) (W.seen output.old))
         (devices_seen (R.seen input.new) (W.seen output.new))
-        map.now.stated options.after options.json summary) }
+        map.now.stated options summary) }
     ensures front { IfErr result (λ fault. EditsFront
-        (answered_line map.now.stated options.after options.json) most_text_bytes
+        (answered_line map.now.stated options) most_text_bytes
         (devices_seen (R.seen input.old) (W.seen output.old))
         (devices_seen (R.seen input.new) (W.seen output.new)) fault) }
     ensures input_failure { (R.seen input.new).failed ≡ is_read_fault result }

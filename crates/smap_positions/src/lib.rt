@@ -3,17 +3,18 @@
 //! positions that are read, columns in UTF-16 code units.
 //!
 //! ```text
-//! let text = lookup_text(alloc, &map, 0, 5, after)?;
+//! let text = lookup_text(alloc, &map, 0, 5, Direction::AtOrBefore)?;
 //! let position = read_position(b"12:7")?;
-//! let options = AnswerOptions { after: false, json: true };
+//! let options = AnswerOptions { direction: Direction::AtOrAfter, form: Form::Json };
 //! let summary = answer_positions(alloc, &mut input, &mut output, &map, options)?;
-//! print_mappings(alloc, &map, Some(0), false, &mut output)?;
-//! let text = sources_text(alloc, &map, Some(generated), true, false)?;
+//! let options = MappingsOptions { line: Some(0), form: Form::Text };
+//! print_mappings(alloc, &map, options, &mut output)?;
+//! let options = SourceOptions { by_bytes: true, form: Form::Text };
+//! let text = sources_text(alloc, &map, Some(generated), options)?;
 //! ```
 #![tactic(auto)]
 
 mod answer;
-mod answer_options;
 mod answerer;
 mod answering;
 mod gathered_line;
@@ -22,6 +23,7 @@ mod json_form;
 mod lookup;
 mod map_text;
 mod mappings;
+mod options;
 mod output;
 mod printed_position;
 mod reading;
@@ -30,10 +32,10 @@ mod sources;
 mod text_form;
 
 pub use answer::from_one;
-pub use answer_options::AnswerOptions;
 pub use answering::{PositionsSummary, answer_positions};
 pub use lookup::{lookup_as_json, lookup_text};
 pub use mappings::print_mappings;
+pub use options::{AnswerOptions, Direction, MappingsOptions, SourceOptions};
 pub use printed_position::PrintedPosition;
 pub use reading::read_position;
 pub use smap_lines::LineFault;

@@ -6,23 +6,24 @@ ghost use Rattle.smap_positions.specs.Lookup.{lookup_text};
 use crate::answer::{answer_excerpt, from_one, lookup_answer};
 use crate::growing_text::GrowingText;
 use crate::json_form::{AskedPosition, put_answer_object};
+use crate::options::Direction;
 use crate::output::Output;
 use crate::text_form::put_answer_line;
 use smap_record::MapFile;
 use std::alloc::{AllocError, Global};
 
-/// What is printed for a generated line and column, both from 0: the line for what the map answers at the position or
-/// before it or, with `after`, at it or after it, and after that of a place its excerpt.
+/// What is printed for a generated line and column, both from 0: the line for what the map answers, and after that of a
+/// place its excerpt.
 pub fn lookup_text(
     alloc: Global,
     map: &MapFile,
     line: u32,
     column: u32,
-    after: bool,
+    direction: Direction,
 ) -> Result<Vec<u8>, AllocError>
-    ensures { IfOk result (λ text. text.items ≡ lookup_text after line column map.now.stated) }
+    ensures { IfOk result (λ text. text.items ≡ lookup_text direction line column map.now.stated) }
 {
-    let answer = lookup_answer(alloc, map, line, column, after);
+    let answer = lookup_answer(alloc, map, line, column, direction);
     let excerpt = answer_excerpt(alloc, map, &answer)?;
     let mut text = GrowingText::new(alloc);
     put_answer_line(map, &answer, &mut text);
@@ -33,18 +34,18 @@ pub fn lookup_text(
     text.text()
 }
 
-/// What is printed as JSON for a generated line and column, both from 0: the object for what the map answers at the
-/// position or before it or, with `after`, at it or after it, with the excerpt, where there is one, and an LF.
+/// What is printed as JSON for a generated line and column, both from 0: the object for what the map answers, with the
+/// excerpt, where there is one, and an LF.
 pub fn lookup_as_json(
     alloc: Global,
     map: &MapFile,
     line: u32,
     column: u32,
-    after: bool,
+    direction: Direction,
 ) -> Result<Vec<u8>, AllocError>
-    ensures { IfOk result (λ text. text.items ≡ lookup_json after line column map.now.stated) }
+    ensures { IfOk result (λ text. text.items ≡ lookup_json direction line column map.now.stated) }
 {
-    let answer = lookup_answer(alloc, map, line, column, after);
+    let answer = lookup_answer(alloc, map, line, column, direction);
     let excerpt = answer_excerpt(alloc, map, &answer)?;
     let mut text = GrowingText::new(alloc);
     let asked = AskedPosition {

@@ -10,16 +10,18 @@ ghost use Rattle.smap_positions.specs.Private.Past.{is_past_line};
 use crate::answer::from_one;
 use crate::gathered_line::GatheredLine;
 use crate::json_form::put_mapping_object;
+use crate::options::MappingsOptions;
 use crate::output::{Output, put_number};
 use crate::short_text::ShortText;
 use crate::text_form::{UNMAPPED, put_origin_line};
+use smap_command::Form;
 use smap_io::{ByteSink, DeviceFault};
 use smap_lines::{Gathered, LineFault, LineOutput};
 use smap_record::{MapFile, Mapping};
 use std::alloc::Global;
 
-/// Prints the mappings of a map, or those of this generated line, which counts from 0, a line each in their order, as JSON
-/// or as text. The caller gives an output that has not failed.
+/// Prints the mappings of a map that the options ask for, a line each in their order. The caller gives an output that has
+/// not failed.
 ///
 /// It walks through the map's mappings and holds none of them. A room of 65,536 bytes is made before the first write, lines
 /// are gathered in it and written when it is full, and at the end, and no line takes memory. The first failure ends it, and
@@ -27,16 +29,15 @@ use std::alloc::Global;
 pub fn print_mappings<W: ByteSink>(
     alloc: Global,
     map: &MapFile,
-    line: Option<u32>,
-    json: bool,
+    options: MappingsOptions,
     output: &mut W,
 ) -> Result<(), LineFault>
     requires output_works { (W.seen output.old).failed ≡ false }
     ensures printed { OnOk result (Takes (W.seen output.old).taken (W.seen output.new).taken
-        (mappings_text json line map.now.stated)) }
+        (mappings_text options map.now.stated)) }
     ensures flushed { OnOk result ((W.seen output.new).flushed ≡ true) }
     ensures front { OnErr result (TakesFront (W.seen output.old).taken (W.seen output.new).taken
-        (mappings_text json line map.now.stated)) }
+        (mappings_text options map.now.stated)) }
     ensures faults { IfErr result (λ fault. (fault ≡ Write) ⊎ (fault ≡ Memory)) }
     ensures output_failure { (W.seen output.new).failed ≡ is_write_fault result }
     ensures memory_output { IfErr result (λ fault. fault ≡ Memory → output.new ≡ output.old) }
@@ -44,7 +45,7 @@ pub fn print_mappings<W: ByteSink>(
     let Ok(mut gathered) = Gathered::new(alloc) else {
         return Err(LineFault::Memory);
     };
-    let Ok(()) = write_mappings(alloc, map, line, json, &mut gathered, output) else {
+    let Ok(()) = write_mappings(alloc, map, options, &mut gathered, output) else {
         return Err(LineFault::Write);
     };
     match output.flush() {
@@ -57,24 +58,23 @@ pub fn print_mappings<W: ByteSink>(
 fn write_mappings<W: ByteSink>(
     alloc: Global,
     map: &MapFile,
-    line: Option<u32>,
-    json: bool,
+    options: MappingsOptions,
     gathered: &mut Gathered,
     output: &mut W,
 ) -> Result<(), DeviceFault>
     requires none { gathered.old ≡ [] }
     ensures written { OnOk result (Takes (W.seen output.old).taken (W.seen output.new).taken
-        (mappings_text json line map.now.stated)) }
+        (mappings_text options map.now.stated)) }
     ensures no_failure { OnOk result ((W.seen output.new).failed ≡ (W.seen output.old).failed) }
     ensures front { OnErr result (TakesFront (W.seen output.old).taken (W.seen output.new).taken
-        (mappings_text json line map.now.stated)) }
+        (mappings_text options map.now.stated)) }
     ensures failure { OnErr result ((W.seen output.new).failed ≡ true) }
 {
     let mut lent = LineOutput {
         gathered,
         sink: output,
     };
-    put_mappings(alloc, map, line, json, &mut lent)?;
+    put_mappings(alloc, map, options, &mut lent)?;
     lent.write()
 }
 
@@ -83,17 +83,16 @@ fn write_mappings<W: ByteSink>(
 fn put_mappings<W: ByteSink>(
     alloc: Global,
     map: &MapFile,
-    line: Option<u32>,
-    json: bool,
+    options: MappingsOptions,
     output: &mut LineOutput<'_, W>,
 ) -> Result<(), DeviceFault>
-    ensures { IsPut W.seen output.old output.new (mappings_text json line map.now.stated) result }
+    ensures { IsPut W.seen output.old output.new (mappings_text options map.now.stated) result }
 {
     for mapping in map.mappings(alloc) {
-        if is_past_line(line, &mapping) {
+        if is_past_line(options.line, &mapping) {
             return Ok(());
         }
-        put_asked(map, line, &mapping, json, output)?;
+        put_asked(map, options, &mapping, output)?;
     }
     Ok(())
 }
@@ -102,27 +101,23 @@ fn put_mappings<W: ByteSink>(
 fn is_past_line(line: Option<u32>, mapping: &Mapping) -> bool
     ensures { result ≡ is_past_line line mapping.now }
 {
-    match line {
-        Some(line) => line < mapping.line,
-        None => false,
-    }
+    line.is_some_and(|line| line < mapping.line)
 }
 
 // Puts the line for a mapping after the bytes that wait, if it is asked for.
 fn put_asked<W: ByteSink>(
     map: &MapFile,
-    line: Option<u32>,
+    options: MappingsOptions,
     mapping: &Mapping,
-    json: bool,
     output: &mut LineOutput<'_, W>,
 ) -> Result<(), DeviceFault>
     ensures { IsPut W.seen output.old output.new
-        (if is_on_line line mapping.now
-        then printed_mapping json map.now.stated mapping.now else [])
+        (if is_on_line options.line mapping.now
+        then printed_mapping options.form map.now.stated mapping.now else [])
         result }
 {
-    if is_on_line(line, mapping) {
-        put_gathered(map, mapping, json, output)
+    if is_on_line(options.line, mapping) {
+        put_gathered(map, mapping, options.form, output)
     } else {
         Ok(())
     }
@@ -132,38 +127,35 @@ fn put_asked<W: ByteSink>(
 fn is_on_line(line: Option<u32>, mapping: &Mapping) -> bool
     ensures { result ≡ is_on_line line mapping.now }
 {
-    match line {
-        Some(line) => mapping.line == line,
-        None => true,
-    }
+    line.is_none_or(|line| mapping.line == line)
 }
 
 // Puts the line for a mapping after the bytes that wait.
 fn put_gathered<W: ByteSink>(
     map: &MapFile,
     mapping: &Mapping,
-    json: bool,
+    form: Form,
     output: &mut LineOutput<'_, W>,
 ) -> Result<(), DeviceFault>
     ensures { IsPut W.seen output.old output.new
-        (printed_mapping json map.now.stated mapping.now) result }
+        (printed_mapping form map.now.stated mapping.now) result }
 {
     let mut line = GatheredLine {
         output,
         text: ShortText::new(),
         done: Ok(()),
     };
-    put_mapping(map, mapping, json, &mut line);
+    put_mapping(map, mapping, form, &mut line);
     line.hand_on();
     line.done
 }
 
 // Puts the line for a mapping.
-fn put_mapping<O: Output>(map: &MapFile, mapping: &Mapping, json: bool, output: &mut O)
+fn put_mapping<O: Output>(map: &MapFile, mapping: &Mapping, form: Form, output: &mut O)
     ensures { O.Puts output.old output.new
-        (printed_mapping json map.now.stated mapping.now) }
+        (printed_mapping form map.now.stated mapping.now) }
 {
-    if json {
+    if form.is_json() {
         put_mapping_object(map, mapping, output)
     } else {
         put_mapping_line(map, mapping, output)

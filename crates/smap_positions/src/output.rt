@@ -18,7 +18,8 @@ pub trait Output {
     ghost puts_none: { (output : Self) → Puts output output [] };
 
     // Two pieces, one after the other, are one.
-    ghost puts_both: { (old mid new : Self) (first second : List ℕ) → Puts old mid first → Puts mid new second → Puts old new (first ++ second) };
+    ghost puts_both: { (old mid new : Self) (first second : List ℕ)
+        → Puts old mid first → Puts mid new second → Puts old new (first ++ second) };
 }
 
 /// Puts a number behind what stands before it.

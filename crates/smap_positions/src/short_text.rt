@@ -8,7 +8,7 @@ use std::marker::Model;
 const MOST_SHORT: usize = 256;
 
 // How many digits a number has at most.
-const MOST_DIGITS: usize = 20;
+const MOST_DECIMAL_DIGITS: usize = 20;
 
 /// A text of at most 256 bytes.
 #[derive(Drop)]
@@ -68,14 +68,14 @@ impl ShortText {
         ensures added { result ≡ true → self.new ≡ self.old ++ decimal number }
         ensures full { result ≡ false → self.new ≡ self.old }
     {
-        if MOST_SHORT - self.length < MOST_DIGITS {
+        if MOST_SHORT - self.length < MOST_DECIMAL_DIGITS {
             return false;
         }
         // The digits end in the middle of a room of twice their greatest count, so that a piece of fixed size can be copied.
-        let mut digits = [0; 2 * MOST_DIGITS];
-        let start = write_digits(number, &mut digits, MOST_DIGITS);
-        let end = self.length + MOST_DIGITS;
-        self.bytes[self.length..end].copy_from_slice(&digits[start..start + MOST_DIGITS]);
+        let mut digits = [0; 2 * MOST_DECIMAL_DIGITS];
+        let start = write_digits(number, &mut digits, MOST_DECIMAL_DIGITS);
+        let end = self.length + MOST_DECIMAL_DIGITS;
+        self.bytes[self.length..end].copy_from_slice(&digits[start..start + MOST_DECIMAL_DIGITS]);
         self.length = end - start;
         true
     }

@@ -13,47 +13,48 @@ ghost use Rattle.smap_positions.specs.Sources.{totals_lines, totals_value};
 use crate::growing_text::GrowingText;
 use crate::json_form::{bool_text, put_ignored};
 use crate::map_text::put_json_text;
+use crate::options::SourceOptions;
 use crate::output::{Output, put_number};
 use crate::text_form::put_source;
+use smap_command::Form;
 use smap_record::{MapFile, SourceEntry, is_ignored, source_name};
 use smap_shares::{SourceRow, source_table};
 use std::alloc::{AllocError, Global};
 
 /// What is printed of the sources of a map, a line each as JSON or as text: its index, how many segments it has and, where
 /// the generated text is given, how many bytes of it the source makes; and then how many come from none, and how many there
-/// are. They stand by index or, `by_bytes`, those with the most bytes first.
+/// are.
 pub fn sources_text(
     alloc: Global,
     map: &MapFile,
     generated: Option<&str>,
-    by_bytes: bool,
-    json: bool,
+    options: SourceOptions,
 ) -> Result<Vec<u8>, AllocError>
-    ensures { IfOk result (λ text. IsSourcesText by_bytes json map.now.stated
+    ensures { IfOk result (λ text. IsSourcesText options map.now.stated
         (option_copied generated.entry) text.items) }
 {
-    let table = source_table(alloc, map, generated, by_bytes)?;
+    let table = source_table(alloc, map, generated, options.by_bytes)?;
     let mut text = GrowingText::new(alloc);
-    put_rows(map, &table.rows, json, &mut text);
-    put_totals(table.unmapped, generated, json, &mut text);
+    put_rows(map, &table.rows, options.form, &mut text);
+    put_totals(table.unmapped, generated, options.form, &mut text);
     text.text()
 }
 
 // Puts the lines for rows of a map.
-fn put_rows<O: Output>(map: &MapFile, rows: &[SourceRow], json: bool, output: &mut O)
-    ensures { O.Puts output.old output.new (flat_map (printed_row json map.now.stated) rows.now) }
+fn put_rows<O: Output>(map: &MapFile, rows: &[SourceRow], form: Form, output: &mut O)
+    ensures { O.Puts output.old output.new (flat_map (printed_row form map.now.stated) rows.now) }
 {
     for row in rows {
-        put_row(map, row, json, output);
+        put_row(map, row, form, output);
     }
 }
 
 // Puts the line for a row.
-fn put_row<O: Output>(map: &MapFile, row: &SourceRow, json: bool, output: &mut O)
-    ensures { O.Puts output.old output.new (printed_row json map.now.stated row.now) }
+fn put_row<O: Output>(map: &MapFile, row: &SourceRow, form: Form, output: &mut O)
+    ensures { O.Puts output.old output.new (printed_row form map.now.stated row.now) }
 {
     let entry = map.source(row.source);
-    if json {
+    if form.is_json() {
         put_row_object(entry, row, output)
     } else {
         put_row_line(entry, row, output)
@@ -100,10 +101,7 @@ fn no_content_text(held: bool) -> &'static [u8]
 fn has_content(entry: Option<&SourceEntry>) -> bool
     ensures { result ≡ has_content (option_map (λ entry. source_of entry.now) entry.entry) }
 {
-    match entry {
-        Some(entry) => entry.content.is_some(),
-        None => false,
-    }
+    entry.is_some_and(|entry| entry.content.is_some())
 }
 
 // Puts the line for a row of a source as JSON.
@@ -145,13 +143,13 @@ fn put_members<O: Output>(entry: Option<&SourceEntry>, row: &SourceRow, output: 
 }
 
 // Puts how many bytes come from no source, and how many there are, where the generated text is given.
-fn put_totals<O: Output>(unmapped: u64, generated: Option<&str>, json: bool, output: &mut O)
+fn put_totals<O: Output>(unmapped: u64, generated: Option<&str>, form: Form, output: &mut O)
     ensures { O.Puts output.old output.new
-        (printed_totals json unmapped (option_copied generated.entry)) }
+        (printed_totals form unmapped (option_copied generated.entry)) }
 {
     if let Some(text) = generated {
         let total = text.len() as u64;
-        if json {
+        if form.is_json() {
             put_totals_object(unmapped, total, output)
         } else {
             put_totals_lines(unmapped, total, output)

@@ -11,7 +11,7 @@ bad_with None number is_position = if is_position then None else Some number
 
 -- what becomes of a line
 abbrev pub answer_of : PositionAnswerer → Line → List ℕ
-answer_of answerer = answered_line answerer.map.now.stated answerer.options.after answerer.options.json
+answer_of answerer = answered_line answerer.map.now.stated answerer.options
 
 -- the editor after a line
 abbrev pub after_position : PositionAnswerer → Line → PositionAnswerer

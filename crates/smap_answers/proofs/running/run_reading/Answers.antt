@@ -10,21 +10,21 @@ returns g c = elim c.match-command.branch [
       (runs_one _ _ _ _ _ _ (refl, (rw (w.deref-in-Show.ensures, c.base.ensures, c.interval.ensures, w.in-Show.is) at w.answer_show-outcome.ensures))
       (rw (w.output-is, w.outcome-is) at c.report.ensures))
   | in-Lookup w ↦ rw (w.in-Lookup.is, w.input-is)
-      (runs_one _ _ _ _ _ _ (refl, (rw (w.deref-in-Lookup.ensures, c.base.ensures, c.interval.ensures, w.in-Lookup.is) at w.answer_lookup-outcome.ensures))
+      (runs_one _ _ _ _ _ _ (refl, (rw (w.deref-in-Lookup.ensures, w.of.ensures, c.base.ensures, c.interval.ensures, w.in-Lookup.is) at w.answer_lookup-outcome.ensures))
       (rw (w.output-is, w.outcome-is) at c.report.ensures))
   | in-Positions w ↦ rw (w.in-Positions.is, w.input-is)
-      (runs_one _ _ _ _ _ _ (rw (w.deref-in-Positions.ensures, w.is_json.ensures, c.base.ensures, c.interval.ensures, w.in-Positions.is) at
+      (runs_one _ _ _ _ _ _ (rw (w.deref-in-Positions.ensures, w.of-in-Positions.ensures, c.base.ensures, c.interval.ensures, w.in-Positions.is) at
       w.answer_positions-outcome.ensures) (rw (w.output-is, w.outcome-is) at c.report.ensures))
   | in-Mappings w ↦ rw (w.in-Mappings.is, w.input-is)
       (runs_one _ _ _ _ _ _ (
         refl,
-        (rw (w.deref-in-Mappings.ensures, w.is_json-in-Mappings.ensures, c.base.ensures, c.interval.ensures, w.in-Mappings.is) at
+        (rw (w.deref-in-Mappings.ensures, c.base.ensures, c.interval.ensures, w.in-Mappings.is) at
             w.answer_mappings-outcome.ensures),
       ) (rw (w.output-is, w.outcome-is) at c.report.ensures))
   | in-Sources w ↦ rw (w.in-Sources.is, w.input-is)
       (runs_one _ _ _ _ _ _ (
         refl,
-        (rw (w.deref-in-Sources.ensures, w.is_json-in-Sources.ensures, w.as_deref.ensures.value, c.base.ensures, c.interval.ensures, w.in-Sources.is) at
+        (rw (w.deref-in-Sources.ensures, w.as_deref.ensures.value, c.base.ensures, c.interval.ensures, w.in-Sources.is) at
             w.answer_sources-outcome.ensures),
       ) (rw (w.output-is, w.outcome-is) at c.report.ensures))
   | in-SourceContent w ↦ rw (w.in-SourceContent.is, w.input-is)

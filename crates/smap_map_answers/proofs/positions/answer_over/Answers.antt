@@ -6,7 +6,7 @@ use Rattle.smap_map_answers.proofs.positions.answer_over.Goals as goal
 pub returns-in-Err-flush : goal.returns-in-Err-flush
 returns-in-Err-flush g c = record {
   result = Err Write;
-  answered = written_front _ _ _ _ _ _ _ _ c.in-Ok-answer_positions.ensures.answers c.in-Err-flush.ensures.keeps;
+  answered = written_front _ _ _ _ _ _ _ c.in-Ok-answer_positions.ensures.answers c.in-Err-flush.ensures.keeps;
   input_failed = c.in-Ok-answer_positions.ensures.input_failure;
   output_failed = c.in-Err-flush.ensures.failure;
   flushed = λ one. absurd (cc);
@@ -15,4 +15,4 @@ returns-in-Err-flush g c = record {
 }
 
 pub returns-in_default : goal.returns-in_default
-returns-in_default g c = no_room _ _ _ _ c.requires.input_works c.requires.output_works
+returns-in_default g c = no_room _ _ _ c.requires.input_works c.requires.output_works

@@ -13,13 +13,13 @@ pub returns-in-Ok : goal.returns-in-Ok
 returns-in-Ok c =
     let items : string_bytes c.in-Ok.text ≡ c.args.bytes.items = ap (λ (v : Vec ℕ Global). v.items) c.in-Ok.ensures.ok in
     let short : length c.args.bytes.items ≤ most_file_bytes = omega (arith, c.len.ensures) in
-    of_text c.args.options.by_bytes c.args.options.json c.args.path.now c.args.map.now.stated c.args.bytes.items (report_of c.reported_sources.result) short
+    of_text c.args.options c.args.path.now c.args.map.now.stated c.args.bytes.items (report_of c.reported_sources.result) short
     (subst IsUtf8 items (IsUtf8-string_bytes c.in-Ok.text))
-    (subst (λ bytes. OrMemory (IsSourcesReported c.args.options.by_bytes c.args.options.json (Some bytes) c.args.map.now.stated) (report_of c.reported_sources.result))
+    (subst (λ bytes. OrMemory (IsSourcesReported c.args.options (Some bytes) c.args.map.now.stated) (report_of c.reported_sources.result))
     (c.deref.ensures ∙ items) c.reported_sources.ensures)
 
 pub returns : goal.returns
 returns c =
     let short : length c.args.bytes.items ≤ most_file_bytes = omega (arith, c.len.ensures) in
-    of_no_text c.args.options.by_bytes c.args.options.json c.args.path.now c.args.map.now.stated c.args.bytes.items _ short
+    of_no_text c.args.options c.args.path.now c.args.map.now.stated c.args.bytes.items _ short
     (λ is_text. false≢true (c.in-Err.ensures.succeeds is_text)) c.refused_file-in-Err.ensures

@@ -10,10 +10,9 @@ use Rattle.smap_positions.proofs.answering.answer_positions.Goals as goal
 pub returns-clause-answers : goal.returns-clause-answers
 returns-clause-answers g c =
     let stated = c.args.map.now.stated in
-    let after = c.args.options.after in
-    let json = c.args.options.json in
-    let edits = edits_one (OnlyStep answer_of after_position) (answered_line stated after json) after_position (AnswersFrom stated after json)
-    (only_answer stated after json) _ _ _ _ _ _ (λ line. refl) c.in_ok-counts.ensures.edits in
+    let options = c.args.options in
+    let edits = edits_one (OnlyStep answer_of after_position) (answered_line stated options) after_position (AnswersFrom stated options)
+    (only_answer stated options) _ _ _ _ _ _ (λ line. refl) c.in_ok-counts.ensures.edits in
     record {
       bytes = edits.0;
       edits = edits.1;
@@ -24,4 +23,4 @@ returns-clause-answers g c =
 pub returns-in_err-counts-clause-front : goal.returns-in_err-counts-clause-front
 returns-in_err-counts-clause-front g c =
     let p = err_from_is_err_and c.from_residual.result c.from_residual.ensures.1 in
-    rw (p.1, p.2) (edits_front_one (answered_line c.args.map.now.stated c.args.options.after c.args.options.json) _ _ _ _ c.in_err-counts.ensures.front)
+    rw (p.1, p.2) (edits_front_one (answered_line c.args.map.now.stated c.args.options) _ _ _ _ c.in_err-counts.ensures.front)

@@ -16,15 +16,15 @@ loop-mapping-init g c =
       can = tt;
       finite = tt;
       ordered = subst IsInOrder (sym list) ordered;
-      put = ([], puts_none _, ap (printed_mappings c.args.json c.args.line c.args.map.now.stated) (sym list));
+      put = ([], puts_none _, ap (printed_mappings c.args.options.form c.args.options.line c.args.map.now.stated) (sym list));
     }
 
 pub returns-then-is_past_line : goal.returns-then-is_past_line
 unfolding mappings_text
 returns-then-is_past_line g c =
-    let lines = printed_mappings c.args.json c.args.line c.args.map.now.stated in
+    let lines = printed_mappings c.args.options.form c.args.options.line c.args.map.now.stated in
     let so_far = c.loop-mapping.invariant in
-    let none = none_past c.args.json c.args.line c.args.map.now.stated c.args.line c.in-Some.mapping _
+    let none = none_past c.args.options.form c.args.options.line c.args.map.now.stated c.args.options.line c.in-Some.mapping _
     (sym c.is_past_line.ensures ∙ c.if-is_past_line.true) (subst IsInOrder c.in-Some.ensures.steps so_far.ordered) in
     subst (λ l. Puts g.W.ByteSink.seen c.args.output.now c.loop-mapping.output l)
     (sym (so_far.put.2 ∙ ap (λ l. so_far.put.0 ++ lines l) c.in-Some.ensures.steps ∙ ap (λ l. so_far.put.0 ++ l) none ∙ append-nil so_far.put.0))
@@ -33,9 +33,9 @@ returns-then-is_past_line g c =
 pub loop-mapping-preserved : goal.loop-mapping-preserved
 loop-mapping-preserved g c =
     let so_far = c.loop-mapping.invariant in
-    let lines = printed_mappings c.args.json c.args.line c.args.map.now.stated in
+    let lines = printed_mappings c.args.options.form c.args.options.line c.args.map.now.stated in
     let front = so_far.put.0 in
-    let first = printed_first c.args.json c.args.line c.args.map.now.stated c.in-Some.mapping _ in
+    let first = printed_first c.args.options.form c.args.options.line c.args.map.now.stated c.in-Some.mapping _ in
     record {
       can = tt;
       finite = tt;
@@ -51,9 +51,9 @@ pub returns-in_err-put_asked : goal.returns-in_err-put_asked
 unfolding mappings_text
 returns-in_err-put_asked g c =
     let so_far = c.loop-mapping.invariant in
-    let lines = printed_mappings c.args.json c.args.line c.args.map.now.stated in
+    let lines = printed_mappings c.args.options.form c.args.options.line c.args.map.now.stated in
     let front = so_far.put.0 in
-    let first = printed_first c.args.json c.args.line c.args.map.now.stated c.in-Some.mapping _ in
+    let first = printed_first c.args.options.form c.args.options.line c.args.map.now.stated c.in-Some.mapping _ in
     let p = err_from_is_err_and c.from_residual.result c.from_residual.ensures.1 in
     rw p.1 (subst (λ l. FailsToPut g.W.ByteSink.seen c.args.output.now c.put_asked.new.output l)
     (sym (so_far.put.2 ∙ ap (λ l. front ++ lines l) c.in-Some.ensures.steps ∙ ap (λ l. front ++ l) first))
@@ -63,7 +63,7 @@ pub returns : goal.returns
 unfolding mappings_text
 returns g c =
     let so_far = c.loop-mapping.invariant in
-    let lines = printed_mappings c.args.json c.args.line c.args.map.now.stated in
+    let lines = printed_mappings c.args.options.form c.args.options.line c.args.map.now.stated in
     subst (λ l. Puts g.W.ByteSink.seen c.args.output.now c.loop-mapping.output l)
     (sym (so_far.put.2 ∙ ap (λ l. so_far.put.0 ++ lines l) c.in-None.ensures.steps.0 ∙ append-nil so_far.put.0))
     so_far.put.1

@@ -8,7 +8,7 @@ use Rattle.smap_positions.proofs.mappings.put_mappings.Given as goal
 -- the lines for the mappings before those that are left were put, and these are in order
 abbrev pub invariant-loop-mapping : goal.invariant-loop-mapping
 invariant-loop-mapping g l =
-    let lines = printed_mappings l.json l.line l.map.stated in
+    let lines = printed_mappings l.options.form l.options.line l.map.stated in
     record {
       can : (goal.iterator-loop-mapping g).can_next l.mapping-iterator;
       finite : (goal.iterator-loop-mapping g).is_finite l.mapping-iterator;

@@ -25,6 +25,6 @@ returns-clause-added c room =
     let copied = rw c.write_digits-start.ensures.written at c.copy_from_slice.ensures.after in
     let short : length (decimal c.args.number) ≤ start + 20 - start = omega (arith, c.write_digits-start.ensures.start) in
     let kept : before + 20 - start ≡ length (take before c.self.inside.bytes) + length (decimal c.args.number) =
-    omega (arith, c.write_digits-start.ensures.start, length-take before c.self.inside.bytes, c.self.invariant, c.self.told, c.if-self-lt-MOST_DIGITS.false) in
+    omega (arith, c.write_digits-start.ensures.start, length-take before c.self.inside.bytes, c.self.invariant, c.self.told, c.if-self-lt-MOST_DECIMAL_DIGITS.false) in
     rw (copied, ← c.self.view_is) (digits_kept (take before c.self.inside.bytes) (decimal c.args.number) _ _ (start + 20 - start)
     (before + 20 - start) short kept)
