@@ -21,6 +21,7 @@ _smap() {
     check) options='--base --explain --interval --json --help' ;;
     show) options='--base --no-content --prune --help' ;;
     compose) options='--base --inner --inners --no-content --prune --help' ;;
+    fit) options='--json --help' ;;
     explain) options='--help' ;;
     raw) options='--interval --help' ;;
     esac
@@ -36,7 +37,7 @@ _smap() {
     elif [[ $current == -* ]]; then
         mapfile -t COMPREPLY < <(compgen -W "$options" -- "$current")
     elif [[ -z $command || $command == help ]]; then
-        mapfile -t COMPREPLY < <(compgen -W 'lookup positions mappings sources rewrite check show compose explain raw help' -- "$current")
+        mapfile -t COMPREPLY < <(compgen -W 'lookup positions mappings sources rewrite check show compose fit explain raw help' -- "$current")
     elif [[ $command == explain ]]; then
         mapfile -t COMPREPLY < <(compgen -W 'M1 M2 M3 M4 M5 M6 M7 M8 M9 M10 M11 M12 M13 M14 M15 M16 M17 F1 F2 F3 F4 F5 F6 F7 F8 F9 F10 F11 B1 B2 B3 B4 B5 O1 C1 C2 C4 A1 A2 P1 P2 X1 X2 X3' -- "$current")
     elif [[ $command != raw ]]; then

@@ -4,6 +4,7 @@ use Rattle.smap_command.specs.Limits.{usual_interval}
 pub use Rattle.smap_command.specs.Runnable.{IsRunnable}
 use Rattle.smap_check_answers.specs.Check.{ChecksAll, form_of, paths_of}
 use Rattle.smap_check_answers.specs.Explain.{ReportsCode}
+use Rattle.smap_check_answers.specs.Fit.{FitsPair, pairs_of}
 use Rattle.smap_compose_answers.specs.Compose.{ReportsComposed}
 use Rattle.smap_compose_answers.specs.ComposeAll.{ReportsAllComposed}
 use Rattle.smap_compose_answers.specs.Show.{shown_result}
@@ -15,13 +16,14 @@ use Rattle.smap_map_answers.specs.SourceList.{ReportsSources, content_result}
 use Rattle.smap_positions.specs.Lookup.{direction_of}
 use Rattle.smap_replies.specs.Arguments.{argument_of}
 use Rattle.smap_replies.specs.Files.{MayRead}
+use Rattle.smap_replies.specs.InTurn.{ReportsEach}
 use Rattle.smap_replies.specs.Map.{IsLine, IsResult, ReportsMap}
 use Rattle.smap_replies.specs.Runs.{ReportsAside, ReportsUnread, RunsOne}
 use Rattle.smap_replies.specs.Streams.{Streams}
 use Rattle.smap_text_answers.specs.Rewrite.{RunsRewrite}
 use Rattle.smap_command.specs.declared.command.Command.{Command}
 use Rattle.smap_command.specs.declared.command.Command.TheVariants.{Raw, Check, Show, Lookup, Positions, Mappings, Sources, SourceContent, Rewrite}
-use Rattle.smap_command.specs.declared.command.Command.TheVariants.{Compose, ComposeAll, Explain}
+use Rattle.smap_command.specs.declared.command.Command.TheVariants.{Compose, ComposeAll, Fit, Explain}
 
 -- a run of a command over files of which reading gives this, and the status with which it ends
 abbrev pub Runs : MayRead → Command → (status : ℕ) → (before after : Streams) → Type 0
@@ -42,4 +44,6 @@ Runs Reads (Compose outer source inner base options) =
     RunsOne (ReportsAside (ReportsComposed Reads options (string_bytes outer) source (string_bytes inner) base))
 Runs Reads (ComposeAll outer inners list base options) =
     RunsOne (ReportsAside (ReportsAllComposed Reads options (string_bytes outer) (map argument_of inners.items) (option_map string_bytes list) base))
+Runs Reads (Fit paths form) = λ status before after. (after.input ≡ before.input)
+    × ReportsEach (FitsPair Reads None usual_interval (is_json form)) 0 (pairs_of (map string_bytes paths.items)) status before.sinks after.sinks
 Runs Reads (Explain code) = RunsOne (ReportsAside (ReportsCode (option_map string_bytes code)))

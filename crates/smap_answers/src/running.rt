@@ -5,7 +5,7 @@ ghost use Rattle.smap_answers.specs.Run.{Runs};
 ghost use Rattle.smap_command.specs.Runnable.{IsRunnable};
 ghost use Rattle.smap_replies.specs.Streams.{streams_seen};
 
-use smap_check_answers::{answer_check, answer_explain};
+use smap_check_answers::{answer_check, answer_explain, answer_fit};
 use smap_codes::Code;
 use smap_command::Command;
 use smap_compose_answers::{AllMaps, TwoMaps, answer_compose, answer_compose_all, answer_show};
@@ -51,7 +51,7 @@ pub fn run<R: ByteSource, W: ByteSink, E: ByteSink>(
 
 /// Runs a command over the files that it names, and gives the exit status. Of several files each is let go once its map
 /// is read; one that can't be read is reported before any refusal, and the first of them ends the run; but `Check` reports
-/// each file by itself, and goes on to the next, up to a failure of standard output. The code of the first refusal that is
+/// each file by itself, and `Fit` each pair, and goes on to the next, up to a failure of standard output. The code of the first refusal that is
 /// reported on standard error is put into `first`, where that has none. The caller gives a command at whose
 /// interval checkpoints may stand and whose numbers of bytes are in their ranges, and devices that have not failed.
 pub fn run_reading<F: FileReader, R: ByteSource, W: ByteSink, E: ByteSink>(
@@ -183,6 +183,9 @@ pub fn run_reading<F: FileReader, R: ByteSource, W: ByteSink, E: ByteSink>(
                 base: base.as_ref(),
             };
             answer_compose_all(alloc, reader, &all, *options)
+        }
+        Command::Fit { paths, form } => {
+            return answer_fit(alloc, &maps, paths, form.is_json(), output, errors, first);
         }
         Command::Explain { code } => answer_explain(alloc, code.as_deref()),
     };

@@ -22,7 +22,7 @@ use Rattle.clap.specs.declared.builder.value_parser.ValueParser.TheVariants as p
 use Rattle.clap.specs.declared.error.Error.{Error}
 use Rattle.clap.specs.declared.error.kind.ErrorKind.TheVariants.{DisplayHelp, DisplayVersion, OutOfMemory}
 use Rattle.smap_arguments.specs.CommandLine.{base_rule, bytes_number, bytes_rule, check, compose, content_rule, flag_rule, interval_number, interval_rule}
-use Rattle.smap_arguments.specs.CommandLine.{explain, list_rule, lookup, mappings, named, number, order_rule, pairs_rule, positions, raw, rewrite, show, smap, source_number, sources}
+use Rattle.smap_arguments.specs.CommandLine.{explain, fit, list_rule, lookup, mappings, named, number, order_rule, pairs_rule, positions, raw, rewrite, show, smap, source_number, sources}
 use Rattle.smap_arguments.specs.declared.usage.Usage.{Usage}
 use Rattle.smap_arguments.specs.declared.usage.Usage.TheVariants.{Help, Words, Memory}
 use Rattle.smap_arguments.specs.Arguments.{HasArguments, HasCommand, HasValue, HasValues}
@@ -275,6 +275,9 @@ compose_plain = (
   ),
 )
 
+fit_plain : Each (IsPlain at_argument) (built_leaf fit.top).rules
+fit_plain = (more_values at_argument 1 (codes "MAP GENERATED") true, (flag_plain 2 (codes "json") refl, (help_plain, tt)))
+
 explain_plain : Each (IsPlain at_argument) (built_leaf explain.top).rules
 explain_plain = (value at_argument 1 (codes "CODE") false, (help_plain, tt))
 
@@ -306,10 +309,13 @@ each_gives word no_help = (
               (
                 λ answers. level_gives at_argument (built_leaf compose.top) compose_plain,
                 (
-                  λ answers. level_gives at_argument (built_leaf explain.top) explain_plain,
+                  λ answers. level_gives at_argument (built_leaf fit.top) fit_plain,
                   (
-                    λ answers. level_gives at_argument (built_leaf raw.top) raw_plain,
-                    (λ answers. absurd (is_no_help (bytes_eq (codes "help") word) refl answers), tt),
+                    λ answers. level_gives at_argument (built_leaf explain.top) explain_plain,
+                    (
+                      λ answers. level_gives at_argument (built_leaf raw.top) raw_plain,
+                      (λ answers. absurd (is_no_help (bytes_eq (codes "help") word) refl answers), tt),
+                    ),
                   ),
                 ),
               ),

@@ -12,7 +12,7 @@ use Rattle.clap.specs.declared.parser.matches.ArgMatches.{ArgMatches}
 use Rattle.clap.specs.declared.parser.matches.ArgMatches.TheViews.{out-ArgMatches, out-SubCommand}
 use Rattle.clap.specs.declared.parser.matches.SubCommand.{SubCommand}
 use Rattle.smap_command.specs.declared.command.Command.{Command}
-use Rattle.smap_arguments.specs.CommandLine.{check, compose, explain, interval_number, lookup, mappings, named, number, positions, raw, rewrite, show, sources}
+use Rattle.smap_arguments.specs.CommandLine.{check, compose, explain, fit, interval_number, lookup, mappings, named, number, positions, raw, rewrite, show, sources}
 use Rattle.smap_arguments.specs.Arguments.{HasArguments, HasCommand, HasValue, HasValueIfGiven, NamedAsksFor, SubcommandAsksFor}
 use Rattle.smap_arguments.specs.Refusals.{IsNamedRefusal}
 use Rattle.smap_arguments.specs.Refusals.{SubcommandReports, ReportsOfBase, ReportsRefusal}
@@ -84,19 +84,20 @@ IsRaw name rows = (name ≡ codes "raw") × HasValue number rows (codes "LINE") 
 
 pub only_raw : (name : Text) (rows : List Row) → (name ≡ codes "lookup" → ⊥) → (name ≡ codes "positions" → ⊥) → (name ≡ codes "mappings" → ⊥)
     → (name ≡ codes "sources" → ⊥) → (name ≡ codes "rewrite" → ⊥) → (name ≡ codes "check" → ⊥)
-    → (name ≡ codes "show" → ⊥) → (name ≡ codes "compose" → ⊥) → (name ≡ codes "explain" → ⊥) → HasArguments (named name) rows → IsRaw name rows
-only_raw name rows no_lookup no_positions no_mappings no_sources no_rewrite no_check no_show no_compose no_explain has =
+    → (name ≡ codes "show" → ⊥) → (name ≡ codes "compose" → ⊥) → (name ≡ codes "fit" → ⊥) → (name ≡ codes "explain" → ⊥) → HasArguments (named name) rows → IsRaw name rows
+only_raw name rows no_lookup no_positions no_mappings no_sources no_rewrite no_check no_show no_compose no_fit no_explain has =
     go (bytes_eq (codes "raw") name) refl (subst (λ o. HasArguments o rows) past has)
   where
     past : named name ≡ find (λ c. bytes_eq c.name name) (raw.top ∷ [])
-    past = passed name lookup.top (positions.top ∷ mappings.top ∷ sources.top ∷ rewrite.top ∷ check.top ∷ show.top ∷ compose.top ∷ explain.top ∷ raw.top ∷ []) no_lookup
-        ∙ (passed name positions.top (mappings.top ∷ sources.top ∷ rewrite.top ∷ check.top ∷ show.top ∷ compose.top ∷ explain.top ∷ raw.top ∷ []) no_positions
-        ∙ (passed name mappings.top (sources.top ∷ rewrite.top ∷ check.top ∷ show.top ∷ compose.top ∷ explain.top ∷ raw.top ∷ []) no_mappings
-        ∙ (passed name sources.top (rewrite.top ∷ check.top ∷ show.top ∷ compose.top ∷ explain.top ∷ raw.top ∷ []) no_sources
-        ∙ (passed name rewrite.top (check.top ∷ show.top ∷ compose.top ∷ explain.top ∷ raw.top ∷ []) no_rewrite
-        ∙ (passed name check.top (show.top ∷ compose.top ∷ explain.top ∷ raw.top ∷ []) no_check
-        ∙ (passed name show.top (compose.top ∷ explain.top ∷ raw.top ∷ []) no_show
-        ∙ (passed name compose.top (explain.top ∷ raw.top ∷ []) no_compose ∙ passed name explain.top (raw.top ∷ []) no_explain)))))))
+    past = passed name lookup.top (positions.top ∷ mappings.top ∷ sources.top ∷ rewrite.top ∷ check.top ∷ show.top ∷ compose.top ∷ fit.top ∷ explain.top ∷ raw.top ∷ []) no_lookup
+        ∙ (passed name positions.top (mappings.top ∷ sources.top ∷ rewrite.top ∷ check.top ∷ show.top ∷ compose.top ∷ fit.top ∷ explain.top ∷ raw.top ∷ []) no_positions
+        ∙ (passed name mappings.top (sources.top ∷ rewrite.top ∷ check.top ∷ show.top ∷ compose.top ∷ fit.top ∷ explain.top ∷ raw.top ∷ []) no_mappings
+        ∙ (passed name sources.top (rewrite.top ∷ check.top ∷ show.top ∷ compose.top ∷ fit.top ∷ explain.top ∷ raw.top ∷ []) no_sources
+        ∙ (passed name rewrite.top (check.top ∷ show.top ∷ compose.top ∷ fit.top ∷ explain.top ∷ raw.top ∷ []) no_rewrite
+        ∙ (passed name check.top (show.top ∷ compose.top ∷ fit.top ∷ explain.top ∷ raw.top ∷ []) no_check
+        ∙ (passed name show.top (compose.top ∷ fit.top ∷ explain.top ∷ raw.top ∷ []) no_show
+        ∙ (passed name compose.top (fit.top ∷ explain.top ∷ raw.top ∷ []) no_compose
+        ∙ (passed name fit.top (explain.top ∷ raw.top ∷ []) no_fit ∙ passed name explain.top (raw.top ∷ []) no_explain))))))))
 
     go : (b : Bool) → bytes_eq (codes "raw") name ≡ b → HasArguments (cond b (Some raw.top) None) rows → IsRaw name rows
     go true is has = (sym ((bytes_eq-Decides (codes "raw") name).0 is), has.0 refl, has.2.0 refl, has.2.2.1)

@@ -1,5 +1,5 @@
 -- What the arguments of the command line ask for.
-use Rattle.std.specs.Prelude.{◌≡◌, ◌≢◌, ◌≤◌, ◌+◌, ◌++◌, ◌==◌, ◌||◌, ◌&&◌, ◌⊎◌, ◌∷◌, ℕ, Bool, false, true, codes, List, []}
+use Rattle.std.specs.Prelude.{◌≡◌, ◌≢◌, ◌≤◌, ◌+◌, ◌++◌, ◌%◌, ◌==◌, ◌||◌, ◌&&◌, ◌⊎◌, ◌∷◌, ℕ, Bool, false, true, codes, length, List, []}
 use Rattle.std.specs.Prelude.{IfSome, None, Ok, Option, Some, String, if◌then◌else◌, is_some, map, option_map, unwrap_or, ⊤}
 use Rattle.std.specs.List.{AllZip, list_any}
 use Rattle.std.specs.Option.{IsSome}
@@ -17,7 +17,7 @@ use Rattle.clap.specs.declared.builder.value_parser.ValueParser.{ValueParser}
 use Rattle.clap.specs.declared.builder.value_parser.ValueParser.TheVariants as parser
 use Rattle.smap_command.specs.declared.command.Command.{Command}
 use Rattle.smap_command.specs.declared.command.Command.TheVariants.{Raw, Check, Show, Lookup, Positions, Mappings, Sources, SourceContent, Rewrite}
-use Rattle.smap_command.specs.declared.command.Command.TheVariants.{Compose, ComposeAll, Explain}
+use Rattle.smap_command.specs.declared.command.Command.TheVariants.{Compose, ComposeAll, Fit, Explain}
 use Rattle.smap_command.specs.declared.options.FurtherOptions.{FurtherOptions}
 use Rattle.smap_command.specs.declared.options.WriteOptions.{WriteOptions}
 use Rattle.smap_arguments.specs.CommandLine.{named, smap}
@@ -35,6 +35,7 @@ HasPosition (SourceContent path source) = ⊤
 HasPosition (Rewrite maps base interval hide_ignored options) = ⊤
 HasPosition (Compose outer source inner base options) = ⊤
 HasPosition (ComposeAll outer inners list base options) = ⊤
+HasPosition (Fit paths form) = ⊤
 HasPosition (Explain code) = ⊤
 
 -- the same, and the command can be run
@@ -202,6 +203,7 @@ name_of (SourceContent path source) = codes "sources"
 name_of (Rewrite maps base interval hide_ignored options) = codes "rewrite"
 name_of (Compose outer source inner base options) = codes "compose"
 name_of (ComposeAll outer inners list base options) = codes "compose"
+name_of (Fit paths form) = codes "fit"
 name_of (Explain code) = codes "explain"
 
 -- what clap reads for the arguments of a command asks for it, with lines and columns counted from 1
@@ -235,6 +237,8 @@ RowsAskFor rows (Compose outer source inner base options) = GivesText rows (code
     × GivesInner rows source inner × GivesBase rows base × GivesOptions rows options
 RowsAskFor rows (ComposeAll outer inners list base options) = GivesText rows (codes "OUTER") (string_bytes outer)
     × GivesInners rows inners.items list × GivesBase rows base × GivesOptions rows options
+RowsAskFor rows (Fit paths form) = GivesTexts rows (codes "MAP GENERATED") (texts paths.items)
+    × (length paths.items % 2 ≡ 0) × GivesFlag rows (codes "json") (is_json form)
 RowsAskFor rows (Explain code) = GivesTextIfGiven rows (codes "CODE") code
 
 -- the same, where the arguments name the command so

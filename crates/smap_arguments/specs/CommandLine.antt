@@ -130,6 +130,9 @@ abbrev pub compose : App
 compose = with_rules (codes "compose") (text_rule (codes "OUTER") ∷ source_rule ∷ optional_rule (codes "INNER") ∷ pairs_rule
     ∷ list_rule (codes "inners") ∷ base_rule ∷ flag_rule (codes "prune") ∷ flag_rule (codes "no-content") ∷ [])
 
+abbrev pub fit : App
+fit = with_rules (codes "fit") (texts_rule true (codes "MAP GENERATED") ∷ flag_rule (codes "json") ∷ [])
+
 abbrev pub explain : App
 explain = with_rules (codes "explain") (optional_rule (codes "CODE") ∷ [])
 
@@ -140,7 +143,7 @@ raw = with_rules (codes "raw") (number_rule number (codes "LINE") ∷ number_rul
 abbrev pub smap : App
 smap = fold (λ above command. with_subcommand above command.top)
     (on_top (λ shape. record shape { subcommand_required = true; has_version = true }) (new_app (codes "smap")))
-    (lookup ∷ positions ∷ mappings ∷ sources ∷ rewrite ∷ check ∷ show ∷ compose ∷ explain ∷ raw ∷ [])
+    (lookup ∷ positions ∷ mappings ∷ sources ∷ rewrite ∷ check ∷ show ∷ compose ∷ fit ∷ explain ∷ raw ∷ [])
 
 -- clap's command is the one described, and no argument of it holds in subcommands too
 abbrev pub IsLocalCommand : App → ClapCommand → Type 0

@@ -1,5 +1,5 @@
 -- Why the arguments of the command line give no command.
-use Rattle.std.specs.Prelude.{◌≡◌, ◌≢◌, ◌++◌, ◌⊎◌, ◌∷◌, true, codes, List, [], Err, None, Option, Some, String, find, not, ⊤}
+use Rattle.std.specs.Prelude.{◌≡◌, ◌≢◌, ◌++◌, ◌%◌, ◌⊎◌, ◌∷◌, true, codes, length, List, [], Err, None, Option, Some, String, find, not, ⊤}
 use Rattle.std.specs.declared.alloc.Global.{Global}
 use Rattle.std.specs.Option.{IsSome}
 use Rattle.std.specs.String.{string_bytes}
@@ -13,7 +13,7 @@ use Rattle.clap.specs.Words.{Row, Text, first_of, one_of, subcommand_of}
 use Rattle.clap.specs.declared.error.kind.ErrorKind.{ErrorKind}
 use Rattle.clap.specs.declared.error.kind.ErrorKind.TheVariants.{DisplayHelp, DisplayVersion, OutOfMemory}
 use Rattle.smap_arguments.specs.CommandLine.{smap}
-use Rattle.smap_arguments.specs.Arguments.{GivesBase, GivesFlag, GivesOrder, GivesPairs, GivesText, HasMaps, HasNoInners, has_equals_sign, has_inner}
+use Rattle.smap_arguments.specs.Arguments.{GivesBase, GivesFlag, GivesOrder, GivesPairs, GivesText, GivesTexts, HasMaps, HasNoInners, has_equals_sign, has_inner}
 use Rattle.smap_arguments.specs.Arguments.{has_listing, words_of}
 use Rattle.smap_arguments.specs.declared.usage.Usage.{Usage}
 use Rattle.smap_arguments.specs.declared.usage.Usage.TheVariants.{Help, Words, Memory}
@@ -153,13 +153,23 @@ ReportsSortAlone rows text =
 abbrev pub ReportsSources : List Row → Text → Type 0
 ReportsSources rows text = ReportsContentWithMore rows text ⊎ ReportsBadOrder rows text ⊎ ReportsSortAlone rows text
 
+-- the last map has no generated file
+abbrev pub no_generated_line : Text
+no_generated_line = codes "usage: MAP without GENERATED" ++ 10 ∷ []
+
+-- it is reported that the words of `fit` are odd in number
+abbrev pub ReportsNoGenerated : List Row → Text → Type 0
+ReportsNoGenerated rows text =
+    (text ≡ no_generated_line) × ((words : List Text) × GivesTexts rows (codes "MAP GENERATED") words × (length words % 2 ≡ 1))
+
 -- the arguments are reported that clap takes, but the command of this name does not: its base or, where that is not refused,
--- what else `rewrite`, `compose` and `sources` refuse
+-- what else `rewrite`, `compose`, `sources` and `fit` refuse
 abbrev pub ReportsRefusal : (name : Text) → List Row → Text → Type 0
 ReportsRefusal name rows text = ReportsOfBase rows text
     ⊎ ((base : Option Parts) × (name ≡ codes "rewrite") × GivesBase rows base × ReportsRewrite rows text)
     ⊎ ((base : Option Parts) × (name ≡ codes "compose") × GivesBase rows base × ReportsCompose rows text)
     ⊎ ((base : Option Parts) × (name ≡ codes "sources") × GivesBase rows base × ReportsSources rows text)
+    ⊎ ((base : Option Parts) × (name ≡ codes "fit") × GivesBase rows base × ReportsNoGenerated rows text)
 
 -- where clap finds no fault, this alone may be reported, or memory ran out
 abbrev pub IsNamedRefusal : (Text → Type 0) → Usage → Type 0
@@ -173,7 +183,8 @@ SubcommandReports subcommand text =
     (name : Text) × (rows : List Row) × (subcommand ≡ Some (name, rows)) × ReportsRefusal name rows text
 
 -- clap finds a request for help or for the version, or another fault in the arguments; or it finds none, and what is reported is
--- that the base is no URL or too long, an argument no pair, that there are no maps, or that two arguments exclude each other;
+-- that the base is no URL or too long, an argument no pair, that there are no maps, that a map has no generated file, or
+-- that two arguments exclude each other;
 -- or memory ran out
 abbrev pub IsRefusalOf : List Text → Usage → Type 0
 IsRefusalOf arguments (Help text) = (kind : ErrorKind) × IsAmong kind (fault_of smap arguments) × IsRequest kind

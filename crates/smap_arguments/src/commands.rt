@@ -4,8 +4,9 @@ ghost use Rattle.clap.specs.Words.{found_of, rows_of, subcommand_rows_of};
 ghost use Rattle.smap_arguments.specs.CommandLine.{named};
 ghost use Rattle.smap_arguments.specs.Arguments.{GivesBase, HasArguments, HasCommand, IsInRange, NamedAsksFor};
 ghost use Rattle.smap_arguments.specs.Arguments.{SubcommandAsksFor, texts};
-ghost use Rattle.smap_arguments.specs.Refusals.{IsNamedRefusal, SubcommandReports, ReportsRefusal};
+ghost use Rattle.smap_arguments.specs.Refusals.{IsNamedRefusal, ReportsNoGenerated, SubcommandReports, ReportsRefusal};
 
+use crate::mistakes::NO_GENERATED;
 use crate::rewrite::rewrite_in;
 use crate::sources::sources_in;
 use crate::usage::Usage;
@@ -81,6 +82,7 @@ fn named_command(
             options: options_in(matches),
         }),
         "compose" => compose_in(alloc, matches, base),
+        "fit" => fit_in(alloc, matches),
         "explain" => Ok(Command::Explain {
             code: text_if_given(alloc, matches, "CODE")?,
         }),
@@ -120,6 +122,24 @@ fn check_in(
             form: form_in(matches),
             explain,
         },
+    })
+}
+
+// What `fit` is asked: its words are pairs.
+fn fit_in(alloc: Global, matches: &ArgMatches<'_>) -> Result<Command, Usage>
+    requires { HasArguments (named (codes "fit")) (rows_of (found_of matches.now)) }
+    ensures asked { IfOk result (NamedAsksFor (codes "fit") (rows_of (found_of matches.now))) }
+    ensures in_range { IfOk result IsInRange }
+    ensures refused { IfErr result (IsNamedRefusal
+        (ReportsNoGenerated (rows_of (found_of matches.now)))) }
+{
+    let words = texts_in(matches, "MAP GENERATED");
+    if words.len() % 2 == 1 {
+        return Err(Usage::Words(String::from_str(alloc, NO_GENERATED)?));
+    }
+    Ok(Command::Fit {
+        paths: copied_texts(alloc, words)?,
+        form: form_in(matches),
     })
 }
 

@@ -152,6 +152,21 @@ Examples:
   smap compose examples/preset-react.min.js.map 0 examples/preset-react.js.map > whole.js.map
   smap compose --inner preset-react.js=examples/preset-react.js.map examples/preset-react.min.js.map > all.map";
 
+pub const FIT_ABOUT: &str =
+    "Says of source map files whether they can be those of their generated files";
+
+pub const FIT_NOTES: &str = "\
+Answer: for each pair one line, in their order: `MAP: fits, M mappings`, or `MAP: does not fit GENERATED: P past
+the text, W inside a word, of M mappings`. A map that does not fit is that of another file, or the file was changed
+after it was made. With --json each line is a JSON object.
+
+A mapping that only goes on from the one before it, as far in its source as in the line, is not counted.
+
+A pair is let go before the next is read, and one whose map is refused or can't be read stops no other. The status is
+the greatest of all: 1 where a map does not fit.
+
+Example: smap fit examples/receipt.min.js.map examples/receipt.min.js";
+
 pub const EXPLAIN_ABOUT: &str = "Says what a code of a refusal means, and what to do about it";
 
 pub const EXPLAIN_NOTES: &str = "\
@@ -188,6 +203,8 @@ pub const ONE_LINE_HELP: &str = "Line of the generated file, from 1; without it 
 
 pub const GENERATED_HELP: &str =
     "Path of the generated file, to count how many of its bytes each source makes";
+
+pub const FIT_HELP: &str = "Path of a source map file, and of its generated file";
 
 pub const ORDER_HELP: &str = "Print those that make most first: `bytes`";
 

@@ -2,19 +2,19 @@
 ghost use Rattle.std.specs.Prelude.{◌≡◌, All, IfOk, codes, false, map};
 ghost use Rattle.clap.specs.Words.{app_of, rule_of};
 ghost use Rattle.smap_arguments.specs.CommandLine.{IsLocalArgument, IsLocalCommand, base_rule, bytes_rule, check, compose, content_rule, explain};
-ghost use Rattle.smap_arguments.specs.CommandLine.{flag_rule, interval_rule, list_rule, lookup, mappings, number, number_rule, optional_number_rule};
+ghost use Rattle.smap_arguments.specs.CommandLine.{fit, flag_rule, interval_rule, list_rule, lookup, mappings, number, number_rule, optional_number_rule};
 ghost use Rattle.smap_arguments.specs.CommandLine.{optional_rule, order_rule, pairs_rule, positions};
 ghost use Rattle.smap_arguments.specs.CommandLine.{raw, rewrite, show, smap, source_rule, sources, text_rule, texts_rule, with_rules};
 
 use crate::help::{
     AFTER_HELP, ANYWHERE_HELP, CACHE_HELP, CHECK_ABOUT, CHECK_NOTES, CODE_HELP, COLUMN_HELP,
-    COMPOSE_ABOUT, COMPOSE_NOTES, CONTENT_HELP, EXPLAIN_ABOUT, EXPLAIN_NOTES, GENERATED_HELP,
-    HIDE_HELP, INNER_HELP, INNER_LIST_HELP, INNER_PAIRS_HELP, INTERVAL_HELP, JSON_HELP, LIMIT_HELP,
-    LINE_HELP, LIST_HELP, LOOKUP_ABOUT, LOOKUP_NOTES, MAPPINGS_ABOUT, MAPPINGS_NOTES, NEAREST_HELP,
-    NO_CONTENT_HELP, ONE_LINE_HELP, ORDER_HELP, OUTER_HELP, PAIRS_HELP, PATH_HELP, PATHS_HELP,
-    POSITIONS_ABOUT, POSITIONS_NOTES, PRUNE_HELP, RAW_ABOUT, RAW_NOTES, REWRITE_ABOUT,
-    REWRITE_NOTES, SHOW_ABOUT, SHOW_NOTES, SOURCE_HELP, SOURCES_ABOUT, SOURCES_NOTES, STATUSES,
-    SUMMARY_HELP, WHY_HELP,
+    COMPOSE_ABOUT, COMPOSE_NOTES, CONTENT_HELP, EXPLAIN_ABOUT, EXPLAIN_NOTES, FIT_ABOUT, FIT_HELP,
+    FIT_NOTES, GENERATED_HELP, HIDE_HELP, INNER_HELP, INNER_LIST_HELP, INNER_PAIRS_HELP,
+    INTERVAL_HELP, JSON_HELP, LIMIT_HELP, LINE_HELP, LIST_HELP, LOOKUP_ABOUT, LOOKUP_NOTES,
+    MAPPINGS_ABOUT, MAPPINGS_NOTES, NEAREST_HELP, NO_CONTENT_HELP, ONE_LINE_HELP, ORDER_HELP,
+    OUTER_HELP, PAIRS_HELP, PATH_HELP, PATHS_HELP, POSITIONS_ABOUT, POSITIONS_NOTES, PRUNE_HELP,
+    RAW_ABOUT, RAW_NOTES, REWRITE_ABOUT, REWRITE_NOTES, SHOW_ABOUT, SHOW_NOTES, SOURCE_HELP,
+    SOURCES_ABOUT, SOURCES_NOTES, STATUSES, SUMMARY_HELP, WHY_HELP,
 };
 use clap::builder::ValueParser;
 use clap::{Arg, ArgAction, Command, value_parser};
@@ -41,6 +41,7 @@ pub fn command_line<'a>(alloc: Global) -> Result<Command<'a>, AllocError>
         .subcommand(check_command(alloc)?)?
         .subcommand(show_command(alloc)?)?
         .subcommand(compose_command(alloc)?)?
+        .subcommand(fit_command(alloc)?)?
         .subcommand(explain_command(alloc)?)?
         .subcommand(raw_command(alloc)?)
 }
@@ -162,6 +163,16 @@ fn compose_command<'a>(alloc: Global) -> Result<Command<'a>, AllocError>
         flag(alloc, "no-content", NO_CONTENT_HELP),
     ]?;
     described(alloc, "compose", COMPOSE_ABOUT, COMPOSE_NOTES, arguments)
+}
+
+fn fit_command<'a>(alloc: Global) -> Result<Command<'a>, AllocError>
+    ensures { IfOk result (IsLocalCommand fit) }
+{
+    let arguments = vec![in alloc;
+        texts(alloc, "MAP GENERATED", FIT_HELP, true),
+        flag(alloc, "json", JSON_HELP),
+    ]?;
+    described(alloc, "fit", FIT_ABOUT, FIT_NOTES, arguments)
 }
 
 fn explain_command<'a>(alloc: Global) -> Result<Command<'a>, AllocError>

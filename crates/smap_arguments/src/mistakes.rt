@@ -55,6 +55,9 @@ pub const BAD_ORDER: &str = "usage: --sort takes bytes alone\n";
 /// Standard error: `sources` has an order, and no generated file.
 pub const SORT_ALONE: &str = "usage: --sort without GENERATED\n";
 
+/// Standard error: the last map of `fit` has no generated file.
+pub const NO_GENERATED: &str = "usage: MAP without GENERATED\n";
+
 /// Standard error: an argument without `=`, which is to have this form.
 pub fn no_pair_line(alloc: Global, form: &str, argument: &str) -> Result<String, AllocError>
     ensures { IfOk result (λ text. string_bytes text ≡ no_pair_line form.now argument.now) }

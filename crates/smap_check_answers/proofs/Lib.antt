@@ -1,1 +1,1 @@
-mod CheckLaws
+mod FitLaws

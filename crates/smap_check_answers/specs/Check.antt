@@ -1,5 +1,5 @@
 -- What `check` prints: of one file, or of each of several, in their order.
-use Rattle.std.specs.Prelude.{◌≡◌, ℕ, ◌⊎◌, ◌++◌, ◌==◌, Bool, true, false, List, [], ◌∷◌, Option, Some, Ok, Err, codes, if◌then◌else◌, length, map, max, string_bytes, suc}
+use Rattle.std.specs.Prelude.{◌≡◌, ℕ, ◌⊎◌, ◌++◌, ◌==◌, Bool, true, false, List, ◌∷◌, Option, Some, Ok, Err, codes, if◌then◌else◌, length, map, string_bytes}
 use Rattle.smap_explain.specs.Explain.{IsExplained}
 use Rattle.smap_explain.specs.declared.explanation.Explanation.{Explanation}
 use Rattle.smap_io.specs.declared.transfer.ReadFailure.TheVariants.{Device}
@@ -12,11 +12,12 @@ use Rattle.smap_verdicts.specs.Keys.{explanation_text}
 use Rattle.smap_verdicts.specs.Refusal.{refusal_text, refusal_value}
 use Rattle.smap_verdicts.specs.declared.counts.MapCounts.{MapCounts}
 use Rattle.smap_replies.specs.Files.{MayRead}
+use Rattle.smap_replies.specs.InTurn.{ReportsEach}
 use Rattle.smap_check_answers.specs.Lines.{counts_line, map_counts_line}
 use Rattle.smap_replies.specs.Lines.{file_failed_line, map_refused_line}
 use Rattle.smap_replies.specs.Map.{IsLine, ReportsRead, refusal_result}
-use Rattle.smap_replies.specs.Outcome.{OrMemory, Report, failure, refusal, refused_answer}
-use Rattle.smap_replies.specs.Streams.{Ends, Sinks}
+use Rattle.smap_replies.specs.Outcome.{Report, failure, refusal, refused_answer}
+use Rattle.smap_replies.specs.Streams.{Sinks}
 use Rattle.smap_check_answers.specs.declared.check.FileForm.{FileForm}
 use Rattle.smap_check_answers.specs.declared.check.FileForm.TheVariants.{Counts, Named, Object}
 use Rattle.smap_command.specs.Options.{is_json}
@@ -94,18 +95,7 @@ paths_of path options = path ∷ map string_bytes options.others.items
 abbrev pub form_of : CheckOptions → FileForm
 form_of options = if is_json options.form then Object else (if length options.others.items == 0 then Counts else Named)
 
--- after a file whose report ended with a status: nothing more where standard output failed; else the other files, and the
--- status is the greater of this one and theirs
-abbrev pub ChecksOn : (first : ℕ) → (between : Sinks) → (rest : ℕ → Sinks → Type 0) → (status : ℕ) → (after : Sinks) → Type 0
-ChecksOn first between rest status after =
-    ((between.output.failed ≡ true) × (status ≡ first) × (after ≡ between))
-    ⊎ ((between.output.failed ≡ false) × ((others : ℕ) × rest others after × (status ≡ max first others)))
-
 -- the files at these paths, of which the first has this number, one after another
 abbrev pub ChecksAll : MayRead → Option Parts → (k : ℕ) → FileForm → (explain : Bool) → (number : ℕ) (paths : List (List ℕ)) → (status : ℕ)
     → (before after : Sinks) → Type 0
-ChecksAll Reads base k form explain number [] status before after = (status ≡ 0) × (after ≡ before)
-ChecksAll Reads base k form explain number (path ∷ paths) status before after =
-    (report : Report) × (first : ℕ) × (between : Sinks) × OrMemory (ChecksFile Reads base k form explain number path) report
-    × Ends report first before between
-    × ChecksOn first between (λ others after. ChecksAll Reads base k form explain (suc number) paths others between after) status after
+ChecksAll Reads base k form explain = ReportsEach (ChecksFile Reads base k form explain)

@@ -1,3 +1,4 @@
 pub mod Check
 pub mod Explain
 pub mod Lines
+pub mod Fit

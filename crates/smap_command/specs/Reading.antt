@@ -3,7 +3,7 @@ use Rattle.std.specs.Prelude.{ℕ, Option, None}
 use Rattle.smap_command.specs.Limits.{usual_interval}
 use Rattle.smap_command.specs.declared.command.Command.{Command}
 use Rattle.smap_command.specs.declared.command.Command.TheVariants.{Raw, Check, Show, Lookup, Positions, Mappings, Sources, SourceContent, Rewrite}
-use Rattle.smap_command.specs.declared.command.Command.TheVariants.{Compose, ComposeAll, Explain}
+use Rattle.smap_command.specs.declared.command.Command.TheVariants.{Compose, ComposeAll, Fit, Explain}
 use Rattle.url.specs.Parts.{Parts}
 
 -- the URL against which sources are resolved
@@ -19,6 +19,7 @@ base_of (SourceContent path source) = None
 base_of (Rewrite maps base interval hide_ignored options) = base
 base_of (Compose outer source inner base options) = base
 base_of (ComposeAll outer inners list base options) = base
+base_of (Fit paths form) = None
 base_of (Explain code) = None
 
 -- the interval at which checkpoints stand
@@ -34,4 +35,5 @@ interval_of (SourceContent path source) = usual_interval
 interval_of (Rewrite maps base interval hide_ignored options) = interval
 interval_of (Compose outer source inner base options) = usual_interval
 interval_of (ComposeAll outer inners list base options) = usual_interval
+interval_of (Fit paths form) = usual_interval
 interval_of (Explain code) = usual_interval

@@ -5,7 +5,7 @@ use Rattle.smap_command.specs.Options.{HasBytes}
 use Rattle.smap_command.specs.Reading.{interval_of}
 use Rattle.smap_command.specs.declared.command.Command.{Command}
 use Rattle.smap_command.specs.declared.command.Command.TheVariants.{Raw, Check, Show, Lookup, Positions, Mappings, Sources, SourceContent, Rewrite}
-use Rattle.smap_command.specs.declared.command.Command.TheVariants.{Compose, ComposeAll, Explain}
+use Rattle.smap_command.specs.declared.command.Command.TheVariants.{Compose, ComposeAll, Fit, Explain}
 
 -- the numbers of bytes are in their ranges
 abbrev pub IsWithinBytes : Command → Type 0
@@ -20,6 +20,7 @@ IsWithinBytes (SourceContent path source) = ⊤
 IsWithinBytes (Rewrite maps base interval hide_ignored options) = HasBytes options
 IsWithinBytes (Compose outer source inner base options) = ⊤
 IsWithinBytes (ComposeAll outer inners list base options) = ⊤
+IsWithinBytes (Fit paths form) = ⊤
 IsWithinBytes (Explain code) = ⊤
 
 -- a command that can be run: checkpoints may stand at its interval, and its numbers of bytes are in their ranges

@@ -105,6 +105,12 @@ pub enum Command {
         base: Option<Url>,
         options: WriteOptions,
     },
+    /// Reports of each map whether it can be that of its generated file: the paths are those of a map and of its generated
+    /// file, of another map and its generated file, and so on.
+    Fit {
+        paths: Vec<String>,
+        form: Form,
+    },
     /// Reports what a code of a refusal means, what usually causes it and what to do about it; without one, how all
     /// codes are called.
     Explain {
@@ -118,7 +124,10 @@ impl Command {
         ensures { option_copied result ≡ base_of self.now }
     {
         match self {
-            Command::Raw { .. } | Command::SourceContent { .. } | Command::Explain { .. } => None,
+            Command::Raw { .. }
+            | Command::SourceContent { .. }
+            | Command::Fit { .. }
+            | Command::Explain { .. } => None,
             Command::Check { base, .. }
             | Command::Show { base, .. }
             | Command::Lookup { base, .. }

@@ -1,3 +1,2 @@
 mod PositionsLaws
 mod RawLaws
-mod SourceListLaws

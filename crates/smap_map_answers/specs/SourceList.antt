@@ -1,15 +1,12 @@
 -- What `sources` prints of the sources of a map, and of the content of one.
-use Rattle.std.specs.Prelude.{◌≡◌, ℕ, Bool, List, [], ◌∷◌, Option, Some, None, MatchBool, codes, length, nat_lt, option_and_then, slice_get}
-use Rattle.std.specs.Str.{is_utf8}
-use Rattle.smap_codes.specs.declared.code.Code.TheVariants.{M1, NotUtf8}
-use Rattle.smap_record.specs.Limits.{most_file_bytes}
+use Rattle.std.specs.Prelude.{◌≡◌, ℕ, List, [], ◌∷◌, Option, Some, None, codes, option_and_then, slice_get}
 use Rattle.smap_record.specs.Record.{MapRecord}
 use Rattle.smap_record.specs.Sources.{StatedSource}
 use Rattle.smap_command.specs.Lines.{line_from}
 use Rattle.smap_positions.specs.Sources.{IsSourcesText}
 use Rattle.smap_positions.specs.declared.options.SourceOptions.{SourceOptions}
-use Rattle.smap_replies.specs.Files.{MayRead, OfFile}
-use Rattle.smap_replies.specs.Map.{refused_file}
+use Rattle.smap_replies.specs.Files.{MayRead}
+use Rattle.smap_replies.specs.Map.{OfText}
 use Rattle.smap_replies.specs.Outcome.{Report, answer, refusal}
 
 -- ---- the sources
@@ -20,17 +17,11 @@ pub record IsSourcesReported (options : SourceOptions) (generated : Option (List
   pub printed : IsSourcesText options stated generated text
   pub reported : report ≡ answer text
 
--- the bytes of the generated file at this path are more than a map file may have, or no UTF-8, and that is reported; or they
--- are the generated text
-abbrev pub ReportsGenerated : SourceOptions → (path : List ℕ) → MapRecord → (bytes : List ℕ) → Report → Type 0
-ReportsGenerated options path stated bytes report =
-    MatchBool (nat_lt most_file_bytes (length bytes)) (report ≡ refused_file path M1)
-    (MatchBool (is_utf8 bytes) (IsSourcesReported options (Some bytes) stated report) (report ≡ refused_file path NotUtf8))
-
 -- with the generated file at this path, where one is given, which is the second that is read
 abbrev pub ReportsSources : MayRead → SourceOptions → (generated : Option (List ℕ)) → MapRecord → Report → Type 0
 ReportsSources Reads options None stated report = IsSourcesReported options None stated report
-ReportsSources Reads options (Some path) stated report = OfFile Reads 1 path (ReportsGenerated options path stated) report
+ReportsSources Reads options (Some path) stated report =
+    OfText Reads 1 path (λ text. IsSourcesReported options (Some text) stated) report
 
 -- ---- a content
 

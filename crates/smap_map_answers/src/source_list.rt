@@ -2,13 +2,12 @@
 ghost use Rattle.std.specs.Prelude.{◌≡◌, option_and_then, option_copied, option_map, slice_get};
 ghost use Rattle.smap_replies.specs.Map.{IsResult, ReportsMap};
 ghost use Rattle.smap_replies.specs.Outcome.{OrMemory, report_of};
-ghost use Rattle.smap_map_answers.specs.SourceList.{IsSourcesReported, ReportsGenerated, ReportsSources, content_result};
+ghost use Rattle.smap_map_answers.specs.SourceList.{IsSourcesReported, ReportsSources, content_result};
 
 use crate::lines;
-use smap_codes::Code;
 use smap_positions::{SourceOptions, sources_text};
-use smap_record::{MOST_FILE_BYTES, MapFile};
-use smap_replies::{Failure, FileReader, MapReader, Reply, file_bytes, read_map, refused_file};
+use smap_record::MapFile;
+use smap_replies::{Failure, FileReader, MapReader, Reply, read_map, read_text};
 use std::alloc::Global;
 
 /// Reads the map that the file at this path is, and its generated file, where one is given, and prints the map's sources.
@@ -42,29 +41,9 @@ fn sources_of<F: FileReader>(
     match generated {
         None => reported_sources(alloc, map, None, options),
         Some(path) => {
-            let bytes = file_bytes(alloc, reader, 1, path)?;
-            sources_in(alloc, map, path, bytes, options)
+            let text = read_text(alloc, reader, 1, path)?;
+            reported_sources(alloc, map, Some(&text), options)
         }
-    }
-}
-
-// The sources of a map, with these bytes of the generated file at this path.
-fn sources_in(
-    alloc: Global,
-    map: &MapFile,
-    path: &str,
-    bytes: Vec<u8>,
-    options: SourceOptions,
-) -> Result<Reply, Failure>
-    ensures { OrMemory (ReportsGenerated options path.now map.now.stated
-        bytes.items) (report_of result) }
-{
-    if bytes.len() > MOST_FILE_BYTES {
-        return Err(refused_file(alloc, path, Code::M1));
-    }
-    match String::from_utf8(bytes) {
-        Ok(text) => reported_sources(alloc, map, Some(&text), options),
-        Err(_) => Err(refused_file(alloc, path, Code::NotUtf8)),
     }
 }
 

@@ -1,4 +1,6 @@
+pub mod InTurnLaws
 mod ListLaws
 pub mod NextLaws
 pub mod RunLaws
 mod ShownLaws
+pub mod TextLaws

@@ -1,6 +1,7 @@
 pub mod Arguments
 pub mod Base
 pub mod Files
+pub mod InTurn
 pub mod Lines
 pub mod Lists
 pub mod Map

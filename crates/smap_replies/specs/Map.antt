@@ -1,8 +1,11 @@
 -- What a command reports a map file: what the map states decides, or why the map is refused.
-use Rattle.std.specs.Prelude.{◌≡◌, ℕ, ◌⊎◌, List, Option, Result, Ok, Err, Some}
+use Rattle.std.specs.Prelude.{◌≡◌, ℕ, ◌≤◌, ◌⊎◌, true, List, Option, Result, Ok, Err, Some, MatchBool, length, nat_lt}
+use Rattle.std.specs.Str.{is_utf8}
 use Rattle.smap_codes.specs.Codes.{name_of}
 use Rattle.smap_codes.specs.declared.code.Code.{Code}
+use Rattle.smap_codes.specs.declared.code.Code.TheVariants.{M1, NotUtf8}
 use Rattle.smap_record.specs.Codes.{map_code}
+use Rattle.smap_record.specs.Limits.{most_file_bytes}
 use Rattle.smap_record.specs.Record.{MapRecord, record_of}
 use Rattle.smap_record.specs.declared.refusal.MapRefusal.{MapRefusal}
 use Rattle.smap_record.specs.declared.refusal.MapRefusal.TheVariants.{Url}
@@ -15,6 +18,30 @@ use Rattle.url.specs.Parts.{Parts}
 -- the file at this path is refused, and the name of this code says why
 abbrev pub refused_file : (path : List ℕ) → Code → Report
 refused_file path code = refusal (Some code) (map_refused_line path (name_of code))
+
+-- a text file of these bytes at a path is larger than a map file may be, or no UTF-8, and that is reported; or the text decides
+abbrev pub OfBytes : (path : List ℕ) → (List ℕ → Report → Type 0) → (bytes : List ℕ) → Report → Type 0
+OfBytes path Reports bytes report =
+    MatchBool (nat_lt most_file_bytes (length bytes)) (report ≡ refused_file path M1)
+    (MatchBool (is_utf8 bytes) (Reports bytes report) (report ≡ refused_file path NotUtf8))
+
+-- the same of what the file of this number and path gives
+abbrev pub OfText : MayRead → (number : ℕ) (path : List ℕ) → (List ℕ → Report → Type 0) → Report → Type 0
+OfText Reads number path Reports = OfFile Reads number path (OfBytes path Reports)
+
+-- the bytes are this text, which is not too large
+pub record IsShortText (bytes text : List ℕ) : Type 0 where
+  pub same : text ≡ bytes
+  pub short : length bytes ≤ most_file_bytes
+  pub utf8 : is_utf8 bytes ≡ true
+
+-- the file of this number and path gives this text
+abbrev pub IsText : MayRead → (number : ℕ) (path text : List ℕ) → Type 0
+IsText Reads number path text = (bytes : List ℕ) × Reads number path (Ok bytes) × IsShortText bytes text
+
+-- nothing is reported a text
+abbrev pub NeverText : List ℕ → Report → Type 0
+NeverText text report = ⊥
 
 -- the map of the file at this path is refused
 abbrev pub refusal_result : (path : List ℕ) → MapRefusal → Report

@@ -22,7 +22,7 @@ pub record Report : Type 0 where
 abbrev pub answer : List ℕ → Report
 answer text = record { status = 0; is_answer = true; text = text; code = None }
 
--- why a map is refused, where an answer says that
+-- that a map does not fit, or why it is refused, where an answer says that
 abbrev pub refused_answer : List ℕ → Report
 refused_answer text = record { status = 1; is_answer = true; text = text; code = None }
 

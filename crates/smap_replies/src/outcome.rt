@@ -24,8 +24,8 @@ pub enum Reply {
     Text(String),
     /// The bytes that were asked for, whole, with their last LF: a map, or what a map answers.
     Bytes(Vec<u8>),
-    /// Why a map is refused, where the answer was asked for in JSON: whole, with its last LF. Its status is 1, and that of
-    /// all others 0.
+    /// That a map does not fit its generated file, or why it is refused, where the answer was asked for in JSON: whole, with
+    /// its last LF. Its status is 1, and that of all others 0.
     Refused(String),
     /// The trace is rewritten, the positions are answered or the mappings are printed, and standard output has that already:
     /// nothing is added.

@@ -50,6 +50,7 @@ fn command_text(alloc: Global, command: &Command) -> Result<String, AllocError> 
             let code = code.as_deref().unwrap_or("all");
             format!(in alloc; "explain {code}")
         }
+        Command::Fit { paths, form } => fitting_text(alloc, paths, *form),
         Command::Lookup { .. } => lookup_text(alloc, command),
         Command::Positions { .. } => positions_text(alloc, command),
         Command::Mappings { .. } | Command::Sources { .. } | Command::SourceContent { .. } =>
@@ -135,6 +136,15 @@ fn checking_text(
     let mut text = format!(in alloc; "check all{base} every {interval}{json}{explain} [{path}]")?;
     for other in &options.others {
         text.push_str(&format!(in alloc; " [{other}]")?)?;
+    }
+    Ok(text)
+}
+
+fn fitting_text(alloc: Global, paths: &[String], form: Form) -> Result<String, AllocError> {
+    let json = form_text(form);
+    let mut text = format!(in alloc; "fit{json}")?;
+    for path in paths {
+        text.push_str(&format!(in alloc; " [{path}]")?)?;
     }
     Ok(text)
 }

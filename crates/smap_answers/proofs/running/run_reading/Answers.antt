@@ -49,6 +49,10 @@ returns g c = elim c.match-command.branch [
 pub returns-in-Check : goal.returns-in-Check
 returns-in-Check g c = rw c.in-Check.is (refl, (rw (c.deref.ensures, c.base.ensures, c.interval.ensures, c.in-Check.is) at c.answer_check.ensures))
 
+pub returns-in-Fit : goal.returns-in-Fit
+returns-in-Fit g c =
+    rw c.in-Fit.is (refl, (rw (c.deref-in-Fit.ensures.value, c.is_json-in-Fit.ensures, c.base.ensures, c.interval.ensures, c.in-Fit.is) at c.answer_fit.ensures))
+
 pub returns-in-Rewrite : goal.returns-in-Rewrite
 returns-in-Rewrite g c =
     rw c.in-Rewrite.is (rw (c.deref-in-Rewrite.ensures.value, c.base.ensures, c.interval.ensures, c.in-Rewrite.is) at c.answer_rewrite.ensures)
