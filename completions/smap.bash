@@ -17,7 +17,7 @@ _smap() {
     positions) options='--after --base --interval --json --help' ;;
     mappings) options='--base --json --help' ;;
     sources) options='--base --content --json --sort --help' ;;
-    rewrite) options='--anywhere --base --cache --hide-ignored --interval --limit --maps --summary --help' ;;
+    rewrite) options='--anywhere --base --cache --hide-ignored --interval --limit --maps --strip-ansi --summary --help' ;;
     check) options='--base --explain --interval --json --help' ;;
     show) options='--base --no-content --prune --help' ;;
     compose) options='--base --inner --inners --no-content --prune --help' ;;

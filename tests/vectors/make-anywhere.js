@@ -1,21 +1,24 @@
 #!/usr/bin/env node
 // Makes the rows of places anywhere in a text: what node 20 prints for errors of many kinds that
-// examples/receipt.min.js throws, each in a process of its own, and that text with its places rewritten.
+// examples/receipt.min.js throws, each in a process of its own, and that text with its places rewritten; and the same in
+// colours, which node puts into the URLs of packages.
 //
 //   node make-anywhere.js     writes its rows of smap_rows and prints the counts
 //
-// Nothing here is made from smap's own code or output: the places are those of a regular expression, and node's own
-// reader of source maps, the class SourceMap of node:module, looks them up.
+// Nothing here is made from smap's own code or output: the places are those of a regular expression, node's own
+// reader of source maps, the class SourceMap of node:module, looks them up, and node:util takes the colours out.
 'use strict';
 
 const fs = require('fs');
 const path = require('path');
 const { SourceMap } = require('module');
 const { spawnSync } = require('child_process');
-const { file, putFile, putRows, row } = require('./rows.js');
+const { stripVTControlCharacters } = require('util');
+const { file, putFile, putRows, row, words } = require('./rows.js');
 
 const ROOT = path.join(__dirname, '..', '..');
 const URL_OF = 'https://example.test/receipt.min.js';
+const URL_OF_PACKAGE = 'https://example.test/node_modules/receipt/receipt.min.js';
 const BUNDLE = path.join(ROOT, 'examples', 'receipt.min.js');
 
 function insist(holds, what) {
@@ -28,7 +31,7 @@ function insist(holds, what) {
 
 const RUN = `
   Promise.prototype.catch = function () { return this.then(undefined, (error) => setTimeout(() => seen(error), 1)); };
-  vm.runInThisContext(require('fs').readFileSync(process.env.BUNDLE, 'utf8'), { filename: '${URL_OF}' });
+  vm.runInThisContext(require('fs').readFileSync(process.env.BUNDLE, 'utf8'), { filename: process.env.FILENAME });
 `;
 const NAMED = `
   const { map } = Array.prototype;
@@ -61,11 +64,11 @@ const KINDS = [
   ['a line of a logger behind a time', "function seen({ stack }) { console.error('12:34:56.789 web-1  | ' + JSON.stringify(stack)); }"],
 ];
 
-function printed([kind, program, isWorker]) {
+function printed([kind, program, isWorker], url, colours) {
   const whole = program + RUN;
   const text = isWorker ? `new (require('worker_threads').Worker)(${JSON.stringify(`const vm = require('vm');${whole}`)}, { eval: true })` : whole;
-  const { stderr } = spawnSync(process.execPath, ['-e', text], { encoding: 'utf8', env: { ...process.env, BUNDLE, NO_COLOR: '1' } });
-  insist(stderr.includes(URL_OF), `${kind} prints no place: ${stderr}`);
+  const { stderr } = spawnSync(process.execPath, ['-e', text], { encoding: 'utf8', env: { PATH: process.env.PATH, BUNDLE, FILENAME: url, ...colours } });
+  insist(stripVTControlCharacters(stderr).includes(url), `${kind} prints no place: ${stderr}`);
   return stderr;
 }
 
@@ -75,18 +78,18 @@ function printed([kind, program, isWorker]) {
 
 const { sourcesContent, ...map } = JSON.parse(fs.readFileSync(`${BUNDLE}.map`, 'utf8'));
 const read = new SourceMap(map);
-const PLACE = new RegExp(`(?<![\\w\\-./\\\\%~+$:\\u0080-\\uffff])${URL_OF.replace(/[.]/g, '\\.')}:([1-9]\\d{0,9}):([1-9]\\d{0,9})(?!\\d)`, 'g');
+const placesOf = (url) => new RegExp(`(?<![\\w\\-./\\\\%~+$:\\u0080-\\uffff])${url.replace(/[.]/g, '\\.')}:([1-9]\\d{0,9}):([1-9]\\d{0,9})(?!\\d)`, 'g');
 
 const total = { lines: 0, places: 0, mapped: 0 };
 
-function rewritten(text) {
+function rewritten(text, url) {
   const summary = { lines: text.match(/[^\n]*\n|[^\n]+$/g).length, places: 0, mapped: 0 };
-  const written = text.replace(PLACE, (place, line, column) => {
+  const written = text.replace(placesOf(url), (place, line, column) => {
     summary.places += 1;
     const entry = read.findEntry(line - 1, column - 1);
     if (entry.generatedLine !== line - 1 || entry.originalSource === undefined) return place;
     summary.mapped += 1;
-    return `${new URL(entry.originalSource, URL_OF).href}:${entry.originalLine + 1}:${entry.originalColumn + 1}`;
+    return `${new URL(entry.originalSource, url).href}:${entry.originalLine + 1}:${entry.originalColumn + 1}`;
   });
   for (const key of Object.keys(total)) total[key] += summary[key];
   return [summary, text, written];
@@ -97,16 +100,28 @@ function rewritten(text) {
 // ---------------------------------------------------------------------------------------------
 
 const MAP = 'anywhere.map';
-const rows = KINDS.map((kind) => rewritten(printed(kind)));
+const PIECES = ['8192/0', '7/0', '1/0'];
+const rows = KINDS.map((kind) => rewritten(printed(kind, URL_OF, { NO_COLOR: '1' }), URL_OF));
+
+const coloured = KINDS.map((kind) => printed(kind, URL_OF_PACKAGE, { FORCE_COLOR: '1' })).filter((text) => text.includes('\x1b['));
 
 putFile(MAP, JSON.stringify(map));
 putRows(
   'What node prints',
   __filename,
   rows.flatMap(([{ lines, places, mapped }, text, written]) =>
-    ['8192/0', '7/0', '1/0'].map((device) =>
+    PIECES.map((device) =>
       row(['rewrite_places', device, device, 1000000, 64, text, URL_OF, file(MAP)], [`${lines} ${places} ${mapped} 0`, written]),
     ),
   ),
 );
-console.log(`${rows.length} texts, ${total.lines} lines, ${total.places} places, ${total.mapped} mapped`);
+putRows(
+  'What node prints in colours',
+  __filename,
+  coloured.flatMap((text) => {
+    const [, , written] = rewritten(stripVTControlCharacters(text), URL_OF_PACKAGE);
+    const command = words('rewrite', '--strip-ansi', '--anywhere', `${URL_OF_PACKAGE}=${MAP}`);
+    return PIECES.map((device) => row(['run_over', device, device, device, command, text], [0, written, '']));
+  }),
+);
+console.log(`${rows.length} texts, ${coloured.length} in colours, ${total.lines} lines, ${total.places} places, ${total.mapped} mapped`);

@@ -1,6 +1,8 @@
 -- What a run of the program does to its streams, and the status with which it ends.
-use Rattle.std.specs.Prelude.{◌≡◌, ℕ, None, map, option_map, string_bytes}
+use Rattle.std.specs.Prelude.{◌≡◌, ℕ, List, [], MatchBool, None, map, option_map, string_bytes}
 use Rattle.smap_command.specs.Limits.{usual_interval}
+use Rattle.smap_command.specs.Options.{is_json}
+use Rattle.smap_command.specs.Reading.{strips_ansi}
 pub use Rattle.smap_command.specs.Runnable.{IsRunnable}
 use Rattle.smap_check_answers.specs.Check.{ChecksAll, form_of, paths_of}
 use Rattle.smap_check_answers.specs.Explain.{ReportsCode}
@@ -20,12 +22,14 @@ use Rattle.smap_replies.specs.InTurn.{ReportsEach}
 use Rattle.smap_replies.specs.Map.{IsLine, IsResult, ReportsMap}
 use Rattle.smap_replies.specs.Runs.{ReportsAside, ReportsUnread, RunsOne}
 use Rattle.smap_replies.specs.Streams.{Streams}
+use Rattle.smap_sequences.specs.Sequences.{most_sequences}
+use Rattle.smap_sequences.specs.Source.{without_seen}
 use Rattle.smap_text_answers.specs.Rewrite.{RunsRewrite}
 use Rattle.smap_command.specs.declared.command.Command.{Command}
 use Rattle.smap_command.specs.declared.command.Command.TheVariants.{Raw, Check, Show, Lookup, Positions, Mappings, Sources, SourceContent, Rewrite}
 use Rattle.smap_command.specs.declared.command.Command.TheVariants.{Compose, ComposeAll, Fit, Explain}
 
--- a run of a command over files of which reading gives this, and the status with which it ends
+-- a run of a command over files of which reading gives this, and over an input as it is read; and the status with which it ends
 abbrev pub Runs : MayRead → Command → (status : ℕ) → (before after : Streams) → Type 0
 Runs Reads (Raw line column interval) = RunsOne (RawReports line column)
 Runs Reads (Check path base interval options) = λ status before after. (after.input ≡ before.input)
@@ -47,3 +51,14 @@ Runs Reads (ComposeAll outer inners list base options) =
 Runs Reads (Fit paths form) = λ status before after. (after.input ≡ before.input)
     × ReportsEach (FitsPair Reads None usual_interval (is_json form)) 0 (pairs_of (map string_bytes paths.items)) status before.sinks after.sinks
 Runs Reads (Explain code) = RunsOne (ReportsAside (ReportsCode (option_map string_bytes code)))
+
+-- the streams, with an input without its control sequences, where `held` came of it and was not read, and `most` are still left out
+abbrev pub without_input : (held : List ℕ) → (most : ℕ) → Streams → Streams
+without_input held most streams = record streams { input = without_seen held most streams.input }
+
+-- a run over an input of which the control sequences are left out, where the command asks for that
+abbrev pub RunsOver : MayRead → Command → (status : ℕ) → (before after : Streams) → Type 0
+RunsOver Reads command status before after =
+    MatchBool (strips_ansi command)
+    ((held : List ℕ) × (most : ℕ) × Runs Reads command status (without_input [] most_sequences before) (without_input held most after))
+    (Runs Reads command status before after)

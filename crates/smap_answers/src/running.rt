@@ -1,7 +1,8 @@
 //! Running a command over its files and streams.
 ghost use Rattle.std.specs.Prelude.{◌≡◌, false, None, Option};
 ghost use Rattle.smap_replies.specs.Files.{gives_loaded};
-ghost use Rattle.smap_answers.specs.Run.{Runs};
+ghost use Rattle.smap_answers.specs.Run.{Runs, RunsOver};
+ghost use Rattle.smap_command.specs.Reading.{strips_ansi};
 ghost use Rattle.smap_command.specs.Runnable.{IsRunnable};
 ghost use Rattle.smap_replies.specs.Streams.{streams_seen};
 
@@ -16,11 +17,13 @@ use smap_map_answers::{
 };
 use smap_positions::{AnswerOptions, Direction, MappingsOptions, SourceOptions};
 use smap_replies::{FileReader, Loaded, LoadedFiles, MapReader, report};
+use smap_sequences::WithoutSequences;
 use smap_text_answers::{TextRequest, answer_rewrite};
 use std::alloc::Global;
 
 /// Runs a command over files in memory, of which the caller gives one for each path of the command, in their order; one of
-/// another path counts as a file that can't be read. Otherwise the same as `run_reading`.
+/// another path counts as a file that can't be read. The command leaves no control sequences out of its input. Otherwise
+/// the same as `run_reading`.
 pub fn run<R: ByteSource, W: ByteSink, E: ByteSink>(
     alloc: Global,
     command: &Command,
@@ -30,6 +33,7 @@ pub fn run<R: ByteSource, W: ByteSink, E: ByteSink>(
     errors: &mut E,
 ) -> u8
     requires command { IsRunnable command.now }
+    requires as_it_is { strips_ansi command.now ≡ false }
     requires input_works { (R.seen input.old).failed ≡ false }
     requires output_works { (W.seen output.old).failed ≡ false }
     requires errors_work { (E.seen errors.old).failed ≡ false }
@@ -38,7 +42,7 @@ pub fn run<R: ByteSource, W: ByteSink, E: ByteSink>(
         (streams_seen (R.seen input.new) (W.seen output.new) (E.seen errors.new) first) }
 {
     let mut first = None;
-    run_reading(
+    run_over(
         alloc,
         &LoadedFiles(files),
         command,
@@ -49,12 +53,40 @@ pub fn run<R: ByteSource, W: ByteSink, E: ByteSink>(
     )
 }
 
-/// Runs a command over the files that it names, and gives the exit status. Of several files each is let go once its map
-/// is read; one that can't be read is reported before any refusal, and the first of them ends the run; but `Check` reports
-/// each file by itself, and `Fit` each pair, and goes on to the next, up to a failure of standard output. The code of the first refusal that is
-/// reported on standard error is put into `first`, where that has none. The caller gives a command at whose
+/// Runs a command over the files that it names, and gives the exit status and the input again. Of several files each is let go
+/// once its map is read; one that can't be read is reported before any refusal, and the first of them ends the run; but `Check`
+/// reports each file by itself, and `Fit` each pair, and goes on to the next, up to a failure of standard output. The code of the first refusal that
+/// is reported on standard error is put into `first`, where that has none. Where the command asks for it, the control sequences
+/// of a terminal are left out of the input before anything else looks at it. The caller gives a command at whose
 /// interval checkpoints may stand and whose numbers of bytes are in their ranges, and devices that have not failed.
 pub fn run_reading<F: FileReader, R: ByteSource, W: ByteSink, E: ByteSink>(
+    alloc: Global,
+    reader: &F,
+    command: &Command,
+    mut input: R,
+    output: &mut W,
+    errors: &mut E,
+    first: &mut Option<Code>,
+) -> (u8, R)
+    requires command { IsRunnable command.now }
+    requires input_works { (R.seen input).failed ≡ false }
+    requires output_works { (W.seen output.old).failed ≡ false }
+    requires errors_work { (E.seen errors.old).failed ≡ false }
+    ensures { RunsOver (F.gives reader.now) command.now result.0
+        (streams_seen (R.seen input) (W.seen output.old) (E.seen errors.old) first.old)
+        (streams_seen (R.seen result.1) (W.seen output.new) (E.seen errors.new) first.new) }
+{
+    if !command.strips_ansi() {
+        let status = run_over(alloc, reader, command, &mut input, output, errors, first);
+        return (status, input);
+    }
+    let mut text = WithoutSequences::new(input);
+    let status = run_over(alloc, reader, command, &mut text, output, errors, first);
+    (status, text.into_inner())
+}
+
+// Runs a command over an input as it is read.
+fn run_over<F: FileReader, R: ByteSource, W: ByteSink, E: ByteSink>(
     alloc: Global,
     reader: &F,
     command: &Command,

@@ -148,10 +148,11 @@ at_argument id = cond (bytes_eq id (codes "SOURCE") || bytes_eq id (codes "INDEX
     (cond (bytes_eq id (codes "json")) parser.Bool
     (cond (bytes_eq id (codes "explain")) parser.Bool
     (cond (bytes_eq id (codes "summary")) parser.Bool
+    (cond (bytes_eq id (codes "strip-ansi")) parser.Bool
     (cond (bytes_eq id (codes "hide-ignored")) parser.Bool
     (cond (bytes_eq id (codes "prune")) parser.Bool
     (cond (bytes_eq id (codes "no-content")) parser.Bool
-    (cond (bytes_eq id (codes "LINE") || bytes_eq id (codes "COLUMN")) number parser.String))))))))))))
+    (cond (bytes_eq id (codes "LINE") || bytes_eq id (codes "COLUMN")) number parser.String)))))))))))))
 
 base_plain : (i : ℕ) → IsPlain at_argument (with_index i (filled base_rule))
 base_plain i = option at_argument i (codes "URL") (codes "base")
@@ -237,7 +238,7 @@ rewrite_plain = (
           flag_plain 2 (codes "hide-ignored") refl,
           (
             flag_plain 2 (codes "anywhere") refl,
-            (cache_plain 2, (limit_plain 2, (flag_plain 2 (codes "summary") refl, (help_plain, tt)))),
+            (cache_plain 2, (limit_plain 2, (flag_plain 2 (codes "summary") refl, (flag_plain 2 (codes "strip-ansi") refl, (help_plain, tt))))),
           ),
         ),
       ),
@@ -366,7 +367,7 @@ command_asked arguments none =
 
 -- ---- what `parse` cites
 
-smap_is_simple : (is_simple_and_free smap ≡ true) × (is_simple smap ≡ true)
+pub smap_is_simple : (is_simple_and_free smap ≡ true) × (is_simple smap ≡ true)
 unfolding clap_on_literals
 smap_is_simple = (refl, refl)
 

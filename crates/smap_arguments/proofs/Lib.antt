@@ -7,3 +7,4 @@ mod Rows
 mod Stops
 mod Texts
 mod Asked
+mod SpreadLaws

@@ -146,7 +146,7 @@ bytes_given rows name = option_map (λ text. digits_value 10 (without_leading_pl
 abbrev pub GivesFurther : List Row → FurtherOptions → Type 0
 GivesFurther rows options = GivesList rows options.list × GivesFlag rows (codes "anywhere") options.anywhere
     × (options.cache_bytes ≡ bytes_given rows (codes "cache")) × (options.limit_bytes ≡ bytes_given rows (codes "limit"))
-    × GivesFlag rows (codes "summary") options.summary
+    × GivesFlag rows (codes "summary") options.summary × GivesFlag rows (codes "strip-ansi") options.strip_ansi
 
 -- ---- the arguments of `show` and `compose`
 

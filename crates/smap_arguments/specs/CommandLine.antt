@@ -117,7 +117,7 @@ sources = with_rules (codes "sources") (text_rule (codes "MAP") ∷ optional_rul
 abbrev pub rewrite : App
 rewrite = with_rules (codes "rewrite") (texts_rule false (codes "URL=FILE") ∷ list_rule (codes "maps") ∷ base_rule ∷ interval_rule
     ∷ flag_rule (codes "hide-ignored") ∷ flag_rule (codes "anywhere") ∷ bytes_rule 0 (codes "cache") ∷ bytes_rule 1 (codes "limit")
-    ∷ flag_rule (codes "summary") ∷ [])
+    ∷ flag_rule (codes "summary") ∷ flag_rule (codes "strip-ansi") ∷ [])
 
 abbrev pub check : App
 check = with_rules (codes "check") (texts_rule true (codes "PATH") ∷ base_rule ∷ interval_rule ∷ flag_rule (codes "json")

@@ -1,3 +1,4 @@
 pub mod CommandLine
 pub mod Arguments
 pub mod Refusals
+pub mod Spread

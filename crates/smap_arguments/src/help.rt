@@ -20,6 +20,8 @@ Answers:
 The last mapping at the position or before it answers or, with --after, the first at it or after it.
 With --explain the answer is followed by which mappings stand nearest before and after the position.
 
+LINE and COLUMN may be one word, LINE:COLUMN.
+
 Where the map holds the text of the source, its line follows, and a caret under the position.
 
 With --json the answer is one JSON object, on one line.
@@ -260,5 +262,7 @@ output is the same";
 
 pub const LIMIT_HELP: &str =
     "Refuse a text of more bytes than this, 1 to 9223372036854775807, else 1073741824";
+
+pub const STRIP_HELP: &str = "Leave colours and other control sequences of a terminal out of the text";
 
 pub const SUMMARY_HELP: &str = "Print counts on standard error at the end";

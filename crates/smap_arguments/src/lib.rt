@@ -14,6 +14,7 @@ mod pairs;
 mod parsing;
 mod rewrite;
 mod sources;
+mod spread;
 mod usage;
 mod values;
 mod written;

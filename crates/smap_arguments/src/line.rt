@@ -14,7 +14,7 @@ use crate::help::{
     MAPPINGS_ABOUT, MAPPINGS_NOTES, NEAREST_HELP, NO_CONTENT_HELP, ONE_LINE_HELP, ORDER_HELP,
     OUTER_HELP, PAIRS_HELP, PATH_HELP, PATHS_HELP, POSITIONS_ABOUT, POSITIONS_NOTES, PRUNE_HELP,
     RAW_ABOUT, RAW_NOTES, REWRITE_ABOUT, REWRITE_NOTES, SHOW_ABOUT, SHOW_NOTES, SOURCE_HELP,
-    SOURCES_ABOUT, SOURCES_NOTES, STATUSES, SUMMARY_HELP, WHY_HELP,
+    SOURCES_ABOUT, SOURCES_NOTES, STATUSES, STRIP_HELP, SUMMARY_HELP, WHY_HELP,
 };
 use clap::builder::ValueParser;
 use clap::{Arg, ArgAction, Command, value_parser};
@@ -120,6 +120,7 @@ fn rewrite_command<'a>(alloc: Global) -> Result<Command<'a>, AllocError>
         bytes(alloc, "cache", CACHE_HELP, 0),
         bytes(alloc, "limit", LIMIT_HELP, 1),
         flag(alloc, "summary", SUMMARY_HELP),
+        flag(alloc, "strip-ansi", STRIP_HELP),
     ]?;
     described(alloc, "rewrite", REWRITE_ABOUT, REWRITE_NOTES, arguments)
 }

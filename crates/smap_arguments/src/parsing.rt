@@ -3,24 +3,27 @@ ghost use Rattle.std.specs.Prelude.{IfErr, IfOk};
 ghost use Rattle.clap.specs.Words.{kind_of};
 ghost use Rattle.smap_arguments.specs.Arguments.{IsInRange, ArgumentsAskFor, texts};
 ghost use Rattle.smap_arguments.specs.Refusals.{IsRefusalOf, IsUsageOf};
+ghost use Rattle.smap_arguments.specs.Spread.{read_arguments};
 
 use crate::commands::command_in;
 use crate::line::command_line;
+use crate::spread::read_arguments;
 use crate::usage::Usage;
 use clap::Error;
 use clap::error::ErrorKind;
 use smap_command::Command;
 use std::alloc::Global;
 
-/// The command that the arguments ask for, where the first argument is the program's name. An `Err` has the
-/// text for the user, as clap writes it.
+/// The command that the arguments ask for, where the first argument is the program's name and a position of `lookup` may be one
+/// word. An `Err` has the text for the user, as clap writes it.
 pub fn parse(alloc: Global, arguments: Vec<String>) -> Result<Command, Usage>
-    ensures asked { IfOk result (ArgumentsAskFor (texts arguments.items)) }
+    ensures asked { IfOk result (ArgumentsAskFor (read_arguments (texts arguments.items))) }
     ensures in_range { IfOk result IsInRange }
-    ensures refused { IfErr result (IsRefusalOf (texts arguments.items)) }
+    ensures refused { IfErr result (IsRefusalOf (read_arguments (texts arguments.items))) }
 {
+    let words = read_arguments(alloc, arguments)?;
     let smap = command_line(alloc)?;
-    match smap.try_get_matches_from(arguments.as_slice()) {
+    match smap.try_get_matches_from(words.as_slice()) {
         Ok(matches) => command_in(alloc, &matches),
         Err(error) => Err(usage_of(alloc, &error)),
     }

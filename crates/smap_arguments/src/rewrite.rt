@@ -52,6 +52,7 @@ fn further_in(alloc: Global, matches: &ArgMatches<'_>) -> Result<FurtherOptions,
     ensures in_range { IfOk result HasBytes }
 {
     Ok(FurtherOptions {
+        strip_ansi: flag_in(matches, "strip-ansi"),
         list: text_if_given(alloc, matches, "LIST")?,
         anywhere: flag_in(matches, "anywhere"),
         cache_bytes: bytes_in(matches, "cache", 0),

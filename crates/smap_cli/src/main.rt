@@ -18,22 +18,24 @@ use std::process::ExitCode;
 use usage::outcome_of;
 
 fn main(rt: HostRuntime) -> ExitCode {
-    let mut input = FromStd::new(rt.stdin());
     let mut output = FromStd::new(rt.stdout());
     let errors = rt.stderr();
     let is_terminal = errors.is_terminal();
     let mut errors = FromStd::new(errors);
     let mut first = None;
     let status = match command_of(&rt) {
-        Ok(command) => run_reading(
-            rt.alloc(),
-            &rt,
-            &command,
-            &mut input,
-            &mut output,
-            &mut errors,
-            &mut first,
-        ),
+        Ok(command) => {
+            let (status, _) = run_reading(
+                rt.alloc(),
+                &rt,
+                &command,
+                FromStd::new(rt.stdin()),
+                &mut output,
+                &mut errors,
+                &mut first,
+            );
+            status
+        }
         Err(outcome) => report(&outcome, &mut output, &mut errors, &mut first),
     };
     if let Some(code) = first

@@ -15,7 +15,7 @@ is_json Json = true
 abbrev pub leaves_out : WriteOptions → Bool
 leaves_out options = options.prune || options.no_content
 
--- one of the further options is asked for
+-- one of the further options is asked for, that sequences are left out aside
 abbrev pub are_further : FurtherOptions → Bool
 are_further options =
     is_some options.list || (options.anywhere || (is_some options.cache_bytes || (is_some options.limit_bytes || options.summary)))

@@ -1,6 +1,6 @@
 //! What the program is asked to do.
 ghost use Rattle.std.specs.Prelude.{◌≡◌, option_copied};
-ghost use Rattle.smap_command.specs.Reading.{base_of, interval_of};
+ghost use Rattle.smap_command.specs.Reading.{base_of, interval_of, strips_ansi};
 
 use crate::limits::USUAL_INTERVAL;
 use crate::options::{CheckOptions, Form, FurtherOptions, LookupOptions, WriteOptions};
@@ -151,6 +151,16 @@ impl Command {
             | Command::Positions { interval, .. }
             | Command::Rewrite { interval, .. } => *interval,
             _ => USUAL_INTERVAL,
+        }
+    }
+
+    /// Whether the control sequences of a terminal are left out of standard input.
+    pub fn strips_ansi(&self) -> bool
+        ensures { result ≡ strips_ansi self.now }
+    {
+        match self {
+            Command::Rewrite { options, .. } => options.strip_ansi,
+            _ => false,
         }
     }
 }

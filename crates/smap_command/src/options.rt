@@ -82,9 +82,11 @@ impl WriteOptions {
     }
 }
 
-/// How a text is rewritten over maps that are read only when it names them.
+/// How a text is rewritten. With one of them, the first aside, it is over maps that are read only when it names them.
 #[derive(Drop)]
 pub struct FurtherOptions {
+    /// Whether the control sequences of a terminal are left out of the text before anything else is looked at.
+    pub strip_ansi: bool,
     /// The path of a file with more pairs, on a line each.
     pub list: Option<String>,
     /// Whether places are rewritten wherever they stand in the text, which excludes that lines are dropped.
@@ -101,6 +103,7 @@ pub struct FurtherOptions {
 impl FurtherOptions {
     /// None of them.
     pub const NONE: FurtherOptions = FurtherOptions {
+        strip_ansi: false,
         list: None,
         anywhere: false,
         cache_bytes: None,
@@ -108,7 +111,7 @@ impl FurtherOptions {
         summary: false,
     };
 
-    /// Whether one of them is asked for.
+    /// Whether one of them is asked for, the first aside.
     pub fn are_given(&self) -> bool
         ensures { result ≡ are_further self.now }
     {

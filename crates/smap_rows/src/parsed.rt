@@ -205,8 +205,9 @@ fn rewriting_text(
         return String::from_str(alloc, "another command");
     };
     let (base, hiding) = (base_text(base), flag_text(*hide_ignored, " hiding"));
+    let stripped = flag_text(options.strip_ansi, " stripped");
     if !options.are_given() && !maps.iter().any(|(_, path)| path.ends_with("/")) {
-        let text = format!(in alloc; "rewrite{base} every {interval}{hiding}")?;
+        let text = format!(in alloc; "rewrite{base} every {interval}{hiding}{stripped}")?;
         return with_pairs(alloc, text, None, maps);
     }
     let (anywhere, summary) = (
@@ -216,7 +217,7 @@ fn rewriting_text(
     let cache_bytes = options.cache_bytes.unwrap_or(USUAL_CACHE_BYTES);
     let limit_bytes = options.limit_bytes.unwrap_or(USUAL_LIMIT_BYTES);
     let text = format!(in alloc;
-        "from{base} every {interval} cache {cache_bytes} limit {limit_bytes}{hiding}{anywhere}{summary}"
+        "from{base} every {interval} cache {cache_bytes} limit {limit_bytes}{hiding}{stripped}{anywhere}{summary}"
     )?;
     with_pairs(alloc, text, options.list.as_deref(), maps)
 }

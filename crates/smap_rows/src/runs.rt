@@ -13,16 +13,16 @@ use smap_io::{MemorySink, MemorySource};
 
 /// A command line, standard input, and files: the status, and what stands on standard output and on standard error.
 pub fn over_sound(row: &Row<'_>, answer: &mut Answer) -> Result<(), RowFault> {
-    let mut input = sound_source(row, 2)?;
+    let input = sound_source(row, 2)?;
     let (mut output, mut errors) = (sound_sink(row)?, sound_sink(row)?);
-    run(row, answer, 1, &mut input, &mut output, &mut errors)
+    run(row, answer, 1, input, &mut output, &mut errors)
 }
 
 /// The same behind how standard input, standard output and standard error move their bytes.
 pub fn over(row: &Row<'_>, answer: &mut Answer) -> Result<(), RowFault> {
-    let mut input = source(row, 1, 5)?;
+    let input = source(row, 1, 5)?;
     let (mut output, mut errors) = (sink(row, 2)?, sink(row, 3)?);
-    run(row, answer, 4, &mut input, &mut output, &mut errors)
+    run(row, answer, 4, input, &mut output, &mut errors)
 }
 
 // The command line stands in this field, standard input in the next, and the files behind that.
@@ -30,11 +30,11 @@ fn run(
     row: &Row<'_>,
     answer: &mut Answer,
     first: usize,
-    input: &mut MemorySource,
+    input: MemorySource,
     output: &mut MemorySink,
     errors: &mut MemorySink,
 ) -> Result<(), RowFault>
-    requires input_works { input.old.failed ≡ false }
+    requires input_works { input.failed ≡ false }
     requires output_works { output.old.failed ≡ false }
     requires errors_work { errors.old.failed ≡ false }
 {
@@ -47,25 +47,28 @@ fn run(
 fn status_of(
     row: &Row<'_>,
     first: usize,
-    input: &mut MemorySource,
+    input: MemorySource,
     output: &mut MemorySink,
     errors: &mut MemorySink,
 ) -> Result<u8, RowFault>
-    requires input_works { input.old.failed ≡ false }
+    requires input_works { input.failed ≡ false }
     requires output_works { output.old.failed ≡ false }
     requires errors_work { errors.old.failed ≡ false }
 {
     let files = RowFiles::new(row, first.saturating_add(2))?;
     match parse(row.alloc(), row.words(first)?) {
-        Ok(command) => Ok(run_reading(
-            row.alloc(),
-            &files,
-            &command,
-            input,
-            output,
-            errors,
-            &mut None,
-        )),
+        Ok(command) => {
+            let (status, _) = run_reading(
+                row.alloc(),
+                &files,
+                &command,
+                input,
+                output,
+                errors,
+                &mut None,
+            );
+            Ok(status)
+        }
         Err(usage) => Ok(report(&outcome_of(usage), output, errors, &mut None)),
     }
 }

@@ -69,18 +69,18 @@ fn nothing_waits_while_more_is_awaited(rt: HostRuntime) -> Result<(), Fail> {
         return Err(Fail::new("no command"));
     };
     let (written, late) = (Cell::new(0), Cell::new(0));
-    let mut input = FromStd::new(Asked {
+    let input = FromStd::new(Asked {
         written: &written,
         asked: 0,
         late: &late,
     });
     let mut output = FromStd::new(Counted { written: &written });
     let mut errors = MemorySink::new(Vec::with_capacity(alloc, MOST_TAKEN)?, 1, 0);
-    let status = run_reading(
+    let (status, _) = run_reading(
         alloc,
         &HeldFiles(&files),
         &command,
-        &mut input,
+        input,
         &mut output,
         &mut errors,
         &mut None,

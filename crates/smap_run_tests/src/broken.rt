@@ -107,11 +107,11 @@ pub fn left_broken(
         Ok(command) => command,
         Err(text) => return Ok(text),
     };
-    let status = run_reading(
+    let (status, _) = run_reading(
         alloc,
         &HeldFiles(files),
         &command,
-        &mut FromStd::new(&mut reader),
+        FromStd::new(&mut reader),
         &mut FromStd::new(&mut writer),
         &mut errors,
         &mut None,

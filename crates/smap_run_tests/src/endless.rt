@@ -63,11 +63,11 @@ fn assert_left<R: io::Read + Drop>(
         return Err(Fail::new("no command"));
     };
     let mut errors = MemorySink::new(Vec::with_capacity(alloc, MOST_TAKEN)?, 1, 0);
-    let status = run_reading(
+    let (status, _) = run_reading(
         alloc,
         &HeldFiles(FILES),
         &command,
-        &mut FromStd::new(reader),
+        FromStd::new(reader),
         &mut FromStd::new(Taking(most)),
         &mut errors,
         &mut None,

@@ -108,14 +108,14 @@ pub fn run_over<F: FileReader>(
         Vec::with_capacity(alloc, MOST_TAKEN)?,
         Vec::with_capacity(alloc, MOST_TAKEN)?,
     );
-    let mut input = MemorySource::new(input.to_vec(alloc)?, reads.0.max(1), reads.1);
+    let input = MemorySource::new(input.to_vec(alloc)?, reads.0.max(1), reads.1);
     let mut output = MemorySink::new(room, writes.0.max(1), writes.1);
     let mut errors = MemorySink::new(more, reports.0.max(1), reports.1);
-    let status = run_reading(
+    let (status, _) = run_reading(
         alloc,
         files,
         command,
-        &mut input,
+        input,
         &mut output,
         &mut errors,
         &mut None,

@@ -1,7 +1,7 @@
 use Rattle.std.proofs.Common.{refl}
 use Rattle.smap_replies.proofs.RunLaws.{runs_one}
-use Rattle.smap_answers.proofs.running.run_reading.Goals.{in-Raw, in-Show, in-Lookup, in-Positions, in-Mappings, in-Sources, in-SourceContent, in-Compose, in-ComposeAll, in-Explain}
-use Rattle.smap_answers.proofs.running.run_reading.Goals as goal
+use Rattle.smap_answers.proofs.running.run_over.Goals.{in-Raw, in-Show, in-Lookup, in-Positions, in-Mappings, in-Sources, in-SourceContent, in-Compose, in-ComposeAll, in-Explain}
+use Rattle.smap_answers.proofs.running.run_over.Goals as goal
 
 pub returns : goal.returns
 returns g c = elim c.match-command.branch [

@@ -1,0 +1,83 @@
+-- A position that is one word.
+use Rattle.std.proofs.Common.{◌≡◌, ◌∙◌, ◌≢◌, ◌<◌, ◌+◌, ℕ, zero, suc, Bool, true, false, List, [], ◌∷◌, ◌++◌, length, map, drop, Option, Some, None, refl, sym, ap, subst, arith}
+use Rattle.std.proofs.Common.{◌≤◌, add-one, append-nil, append_assoc, drop-cons, get_or, inl, inr, map-append}
+use Rattle.std.proofs.lemmas.List.{drop_all}
+use Rattle.std.specs.Prelude.{String, string_bytes}
+use Rattle.clap.specs.Faults.{fault_of, is_simple_and_free}
+use Rattle.clap.specs.Kinds.{HasKind, IsAmong, Kinds}
+use Rattle.clap.specs.Simple.{App}
+use Rattle.clap.specs.Values.{kind_of}
+use Rattle.clap.specs.Words.{Text}
+use Rattle.clap.specs.declared.error.Error.{Error}
+use Rattle.clap.specs.declared.error.kind.ErrorKind.{ErrorKind}
+use Rattle.clap.specs.declared.error.kind.ErrorKind.TheVariants.{OutOfMemory}
+use Rattle.smap_arguments.specs.Arguments.{texts}
+use Rattle.smap_arguments.specs.CommandLine.{smap}
+use Rattle.smap_arguments.specs.Spread.{IsPushed, is_faultless, position_of, spread_at, spread_behind, spread_words}
+use Rattle.smap_arguments.proofs.Asked.{smap_is_simple}
+
+-- ---- whether clap finds a fault
+
+faulty : (kinds : Kinds) (kind : ErrorKind) → IsAmong kind kinds → is_faultless kinds ≡ false
+faulty [] kind among = absurd among
+faulty (other ∷ kinds) kind among = refl
+
+pub fault_found : (a : App) (arguments : List Text) (e : Error) → a ≡ smap → (is_simple_and_free a ≡ true → HasKind (fault_of a arguments) e)
+    → (kind_of e ≡ OutOfMemory → ⊥) → is_faultless (fault_of smap arguments) ≡ false
+fault_found a arguments e is_smap fails other =
+    of_kind (subst (λ b. is_simple_and_free b ≡ true → HasKind (fault_of b arguments) e) is_smap fails smap_is_simple.0)
+  where
+    of_kind : HasKind (fault_of smap arguments) e → is_faultless (fault_of smap arguments) ≡ false
+    of_kind (inl memory) = absurd (other memory)
+    of_kind (inr among) = faulty (fault_of smap arguments) (kind_of e) among
+
+-- ---- a word that is pushed
+
+module _ {A : Type 0} (old : List (String A)) (word : String A) where
+  pub texts_pushed : texts (old ++ word ∷ []) ≡ texts old ++ string_bytes word ∷ []
+  texts_pushed = map-append (λ text. string_bytes text) old (word ∷ [])
+
+-- as it is
+pub pushed_as_is : (old new : List Text) (word : Text) → new ≡ old ++ word ∷ [] → IsPushed old new word true true
+pushed_as_is old new word is words = ap (λ l. l ++ words) is ∙ append_assoc old (word ∷ []) words
+
+module _ (old new : List Text) (word : Text) where
+  spread_one : (found : Option (Text × Text)) → position_of word ≡ found → (words : List Text)
+      → spread_words (word ∷ words) ≡ spread_at found word words (spread_words words)
+  unfolding spread_words
+  spread_one found is words = ap (λ p. spread_at p word words (spread_words words)) is
+
+  pub pushed_no_position : position_of word ≡ None → new ≡ old ++ word ∷ [] → IsPushed old new word false false
+  pushed_no_position none is words =
+      ap (λ l. l ++ spread_words words) is ∙ (append_assoc old (word ∷ []) (spread_words words) ∙ ap (λ l. old ++ l) (sym (spread_one None none words)))
+
+  pub pushed_position : (line column : Text) → position_of word ≡ Some (line, column) → new ≡ (old ++ line ∷ []) ++ column ∷ []
+      → IsPushed old new word false true
+  pushed_position line column found is words =
+      ap (λ l. l ++ words) is
+      ∙ (append_assoc (old ++ line ∷ []) (column ∷ []) words
+      ∙ (append_assoc old (line ∷ []) (column ∷ words) ∙ ap (λ l. old ++ l) (sym (spread_one (Some (line, column)) found words))))
+
+-- ---- the words, one by one
+
+-- the words so far are all, as far as the first i were passed
+abbrev pub ArePassed : (all : List Text) → (is_spread : Bool) → (i : ℕ) → (program : Text) (words : List Text) → Type 0
+ArePassed all is_spread i program words = all ++ spread_behind is_spread (drop i words) ≡ program ∷ spread_words words
+
+pub passed_on : (all new : List Text) (was_spread is_spread : Bool) (i : ℕ) (program : Text) (words : List Text) → i < length words
+    → ArePassed all was_spread i program words → IsPushed all new (get_or words i []) was_spread is_spread
+    → ArePassed new is_spread (i + 1) program words
+passed_on all new was_spread is_spread i program words within is pushed =
+    let next : drop i words ≡ get_or words i [] ∷ drop (i + 1) words =
+        drop-cons words i [] within ∙ ap (λ n. get_or words i [] ∷ drop n words) (sym (add-one i)) in
+    pushed (drop (i + 1) words) ∙ (ap (λ l. all ++ spread_behind was_spread l) (sym next) ∙ is)
+
+pub passed_all : (all : List Text) (is_spread : Bool) (i : ℕ) (program : Text) (words : List Text) → length words ≤ i
+    → ArePassed all is_spread i program words → all ≡ program ∷ spread_words words
+passed_all all is_spread i program words past is =
+    sym (append-nil all) ∙ (ap (λ l. all ++ l) (sym (nothing is_spread)) ∙ (ap (λ l. all ++ spread_behind is_spread l) (sym (drop_all i words past)) ∙ is))
+  where
+    nothing : (b : Bool) → spread_behind b [] ≡ []
+    unfolding spread_words
+    nothing true = refl
+    nothing false = refl

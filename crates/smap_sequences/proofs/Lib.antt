@@ -1,0 +1,4 @@
+pub mod Examples
+pub mod FrontLaws
+pub mod KeptLaws
+pub mod SeenLaws

@@ -1,0 +1,3 @@
+pub mod Sequences
+pub mod Source
+pub mod Private
