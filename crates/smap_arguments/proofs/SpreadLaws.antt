@@ -37,6 +37,10 @@ module _ {A : Type 0} (old : List (String A)) (word : String A) where
   pub texts_pushed : texts (old ++ word ∷ []) ≡ texts old ++ string_bytes word ∷ []
   texts_pushed = map-append (λ text. string_bytes text) old (word ∷ [])
 
+pub texts_with : {A : Type 0} (old new : List (String A)) (word : String A) (text : Text) → new ≡ old ++ word ∷ [] → string_bytes word ≡ text
+    → texts new ≡ texts old ++ text ∷ []
+texts_with old new word text is same = ap texts is ∙ (texts_pushed old word ∙ ap (λ w. texts old ++ w ∷ []) same)
+
 -- as it is
 pub pushed_as_is : (old new : List Text) (word : Text) → new ≡ old ++ word ∷ [] → IsPushed old new word true true
 pushed_as_is old new word is words = ap (λ l. l ++ words) is ∙ append_assoc old (word ∷ []) words
@@ -74,10 +78,10 @@ passed_on all new was_spread is_spread i program words within is pushed =
 
 pub passed_all : (all : List Text) (is_spread : Bool) (i : ℕ) (program : Text) (words : List Text) → length words ≤ i
     → ArePassed all is_spread i program words → all ≡ program ∷ spread_words words
+unfolding spread_words
 passed_all all is_spread i program words past is =
     sym (append-nil all) ∙ (ap (λ l. all ++ l) (sym (nothing is_spread)) ∙ (ap (λ l. all ++ spread_behind is_spread l) (sym (drop_all i words past)) ∙ is))
   where
     nothing : (b : Bool) → spread_behind b [] ≡ []
-    unfolding spread_words
     nothing true = refl
     nothing false = refl
