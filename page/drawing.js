@@ -72,7 +72,7 @@ function drawLit(context, lit) {
       context.fillStyle = colourOf(rank, isChosen ? colours.lit : colours.lit * 0.7);
       context.fillRect(left, y + 1, right - left, LINE_HEIGHT - 2);
     }
-    context.strokeStyle = rank >= 0 ? colourOf(rank, 1) : colours.quiet;
+    context.strokeStyle = isChosen ? colours.text : rank >= 0 ? colourOf(rank, 1) : colours.quiet;
     context.lineWidth = isChosen ? 2 : 1.25;
     context.strokeRect(left, y + 1, right - left, LINE_HEIGHT - 2);
   }
