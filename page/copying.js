@@ -16,22 +16,24 @@ function copy(text, note) {
   report();
 }
 
+// What is copied is seen.
+const canCopy = () => state.asked && !elementOf('texts').hidden;
 const chosenPlace = () => `${elementOf('asked').textContent} ${elementOf('answer').textContent}`;
 
 function copyPlace() {
-  if (state.asked) copy(chosenPlace(), 'copied the place');
+  if (canCopy()) copy(chosenPlace(), 'copied the place');
 }
 
 function copyLine(name) {
   const { caret, text } = panes[name];
-  if (!state.asked || !caret || !text || caret.line >= text.lines.count) return;
+  if (!canCopy() || !caret || !text || caret.line >= text.lines.count) return;
   const { starts, ends } = text.lines;
   copy(text.text.slice(starts[caret.line], ends[caret.line]), `copied line ${caret.line + 1}`);
 }
 
 function listenToCopying() {
   document.addEventListener('copy', (event) => {
-    const isOwn = event.target instanceof HTMLInputElement || !state.asked || elementOf('texts').hidden || String(getSelection());
+    const isOwn = event.target instanceof HTMLInputElement || !canCopy() || String(getSelection());
     if (wanted === null && isOwn) return;
     event.clipboardData.setData('text/plain', wanted ?? chosenPlace());
     event.preventDefault();

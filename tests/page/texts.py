@@ -312,9 +312,9 @@ def try_keys(browser: browsers.Browser, page: Page, checks: Checks) -> None:
             browser.click(x, y)
         checks.insist(f"what {key or at} copies", browser.run("return window.copied"), wanted)
         checks.insist(f"what is said of {key or at}", said(browser, "#note"), note)
-    browser.press("Escape")
     browser.run("window.copied = null")
-    for key in "cl":
+    browser.run("document.activeElement.blur()")
+    for key in ("a", "c", "l", "t", "Escape", "c", "l"):
         browser.press(key)
     checks.insist("what is copied where nothing is chosen", browser.run("return window.copied"), None)
     checks.insist("whether there is a button for it", browser.run("return document.getElementById('copy-place').hidden"), True)
