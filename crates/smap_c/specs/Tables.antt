@@ -4,7 +4,8 @@ use Rattle.smap_record.specs.MapFile.{Map}
 use Rattle.smap_record.specs.Record.{MapRecord}
 use Rattle.smap_codes.specs.Codes.{number_of}
 use Rattle.smap_trace.specs.Codes.{table_code}
-use Rattle.smap_trace.specs.Table.{IsWith, url_refusal}
+use Rattle.smap_by_text.specs.ByText.{IsWith}
+use Rattle.smap_trace.specs.Table.{url_refusal}
 use Rattle.smap_trace.specs.declared.refusal.TableRefusal.{TableRefusal}
 
 abbrev pub Maps : Type 0

@@ -11,7 +11,8 @@ use Rattle.smap_codes.specs.declared.code.Code.TheVariants.{A2, C4}
 use Rattle.smap_command.specs.Limits.{usual_interval}
 use Rattle.smap_command.specs.declared.options.WriteOptions.{WriteOptions}
 use Rattle.smap_compose.specs.Composition.{all_composed}
-use Rattle.smap_locations.specs.Named.{IsWith, Named, path_under}
+use Rattle.smap_by_text.specs.ByText.{IsWith, value_under}
+use Rattle.smap_locations.specs.Named.{Named}
 use Rattle.smap_record.specs.Record.{MapRecord, record_of}
 use Rattle.smap_record.specs.Sources.{StatedSource}
 use Rattle.smap_record.specs.Written.{text_of_source}
@@ -47,7 +48,7 @@ OrRefused (Ok it) Goes result = Goes it result
 abbrev pub NamesPair : List StatedSource → (twice : Report) → (old : Named) → (name path : List ℕ) → Result Named Report → Type 0
 NamesPair sources twice old name path result =
     (result ≡ Err out_of_memory)
-    ⊎ MatchBool (is_some (path_under name old)) (result ≡ Err twice)
+    ⊎ MatchBool (is_some (value_under name old)) (result ≡ Err twice)
     (MatchBool (list_any (is_called name) sources) ((new : Named) × IsWith old name path new × (result ≡ Ok new))
     (result ≡ Err (refusal (Some C4) (no_source_named_line name))))
 
@@ -109,7 +110,7 @@ with_name name (Some path) = Some (name, path)
 
 -- the name and the path of a source's map, where it has one
 abbrev pub pair_of : Named → StatedSource → Option (List ℕ × List ℕ)
-pair_of named source = option_and_then (λ name. with_name name (path_under name named)) (text_of_source source)
+pair_of named source = option_and_then (λ name. with_name name (value_under name named)) (text_of_source source)
 
 -- what the map of a source states, where it has one
 abbrev pub ReadsSource : MayRead → Option (List ℕ × List ℕ) → Result (Option MapRecord) Report → Type 0

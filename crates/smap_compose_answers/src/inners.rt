@@ -13,7 +13,7 @@ ghost use Rattle.smap_compose_answers.specs.Private.OuterMap.{IsOuter};
 ghost use Rattle.smap_compose_answers.specs.Private.Inners.{IsNamed, IsUnnamed, inner_reported, inners_reported, map_reported, pair_seen};
 ghost use Rattle.smap_replies.specs.Lists.{list_refusal};
 ghost use Rattle.smap_replies.specs.Arguments.{argument_of, argument_text};
-ghost use Rattle.smap_locations.specs.Named.{path_under};
+ghost use Rattle.smap_by_text.specs.ByText.{value_under};
 ghost use Rattle.smap_record.specs.Sources.{source_of};
 ghost use Rattle.smap_locations.specs.ListLine.{line_entry};
 
@@ -273,7 +273,7 @@ fn pair_of<'a>(named: &'a NamedPaths, source: &'a SourceEntry) -> Option<(&'a st
 
 // This name and the path under it, where there is one.
 fn pair_under<'a>(named: &'a NamedPaths, name: &'a str) -> Option<(&'a str, &'a str)>
-    ensures { pair_seen result ≡ with_name name.now (path_under name.now named.now) }
+    ensures { pair_seen result ≡ with_name name.now (value_under name.now named.now) }
 {
     match named.path_under(name.as_bytes()) {
         Some(path) => Some((name, path.as_str())),

@@ -1,2 +1,1 @@
-mod NamedLaws
 mod PathLaws

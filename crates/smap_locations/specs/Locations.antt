@@ -2,7 +2,8 @@
 -- fragment; else in the folder of the longest prefix of the latter.
 use Rattle.std.specs.Prelude.{ℕ, zero, suc, List, Option, Some, None, is_some, length, take, drop, if◌then◌else◌}
 use Rattle.smap_locations.specs.ListLine.{is_folder}
-use Rattle.smap_locations.specs.Named.{Named, path_under, twice}
+use Rattle.smap_by_text.specs.ByText.{value_under}
+use Rattle.smap_locations.specs.Named.{Named, twice}
 use Rattle.smap_locations.specs.Paths.{map_path, without_query}
 use Rattle.smap_locations.specs.declared.refusal.LocationRefusal.{LocationRefusal}
 use Rattle.smap_locations.specs.declared.refusal.LocationRefusal.TheVariants.{NoFolder}
@@ -20,7 +21,7 @@ folder_path url bytes (Some folder) other = map_path folder (drop bytes url)
 -- what the folder of its longest prefix of at most so many bytes has for a URL
 abbrev pub path_within : Named → (url : List ℕ) → (bytes : ℕ) → Option (List ℕ)
 path_within folders url zero = None
-path_within folders url (suc bytes) = folder_path url (suc bytes) (path_under (take (suc bytes) url) folders) (path_within folders url bytes)
+path_within folders url (suc bytes) = folder_path url (suc bytes) (value_under (take (suc bytes) url) folders) (path_within folders url bytes)
 
 -- what the folder of its longest prefix has
 abbrev pub path_in_folders : Named → (url : List ℕ) → Option (List ℕ)
@@ -33,12 +34,12 @@ or_else None other = other
 -- the path of a URL's map, where it has one
 abbrev pub path_for : LocationsSeen → (url : List ℕ) → Option (List ℕ)
 path_for locations url =
-    or_else (path_under url locations.files)
-    (or_else (path_under (without_query url) locations.files) (path_in_folders locations.folders (without_query url)))
+    or_else (value_under url locations.files)
+    (or_else (value_under (without_query url) locations.files) (path_in_folders locations.folders (without_query url)))
 
 -- the text that stands for a URL where maps are remembered
 abbrev pub key_for : LocationsSeen → (url : List ℕ) → List ℕ
-key_for locations url = if is_some (path_under url locations.files) then url else without_query url
+key_for locations url = if is_some (value_under url locations.files) then url else without_query url
 
 -- ---- what is added
 

@@ -2,7 +2,8 @@
 ghost use Rattle.std.specs.Prelude.{◌≡◌, [], is_some, string_bytes, option_map, MatchOption};
 ghost use Rattle.std.specs.Prelude.{OnErr, OnOk, IfErr, IfOk, IsErrAnd, length, map};
 ghost use Rattle.smap_locations.specs.Locations.{key_for, path_for, path_in_folders, prefix_refusal};
-ghost use Rattle.smap_locations.specs.Named.{IsWith, path_under, twice};
+ghost use Rattle.smap_by_text.specs.ByText.{IsWith, value_under};
+ghost use Rattle.smap_locations.specs.Named.{twice};
 ghost use Rattle.smap_locations.specs.declared.refusal.LocationRefusal.TheVariants.{Memory};
 
 use crate::list_line::is_folder;
@@ -60,14 +61,14 @@ impl Locations {
 
     /// Whether a file is named for a URL.
     pub fn has_file(&self, url: &[u8]) -> bool
-        ensures { result ≡ is_some (path_under url.now self.now.files) }
+        ensures { result ≡ is_some (value_under url.now self.now.files) }
     {
         self.files.path_under(url).is_some()
     }
 
     /// Whether a folder is named for a prefix.
     pub fn has_folder(&self, prefix: &[u8]) -> bool
-        ensures { result ≡ is_some (path_under prefix.now self.now.folders) }
+        ensures { result ≡ is_some (value_under prefix.now self.now.folders) }
     {
         is_folder(prefix) && self.folders.path_under(prefix).is_some()
     }

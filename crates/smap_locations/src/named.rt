@@ -1,26 +1,29 @@
 //! Paths that are named for texts.
 ghost use Rattle.std.specs.Prelude.{◌≡◌, [], string_bytes, option_map, MatchOption};
 ghost use Rattle.std.specs.Prelude.{OnErr, OnOk, IfErr, IfOk, IsErrAnd, Some, length, map};
-ghost use Rattle.smap_locations.specs.Named.{IsWith, path_under, twice};
+ghost use Rattle.smap_by_text.specs.ByText.{IsWith, value_under};
+ghost use Rattle.smap_locations.specs.Named.{twice};
 ghost use Rattle.smap_locations.specs.declared.refusal.LocationRefusal.TheVariants.{Memory};
 
 use crate::refusal::LocationRefusal;
+use smap_by_text::ByText;
 use std::alloc::{AllocError, Global};
-use std::collections::BTreeMap;
 use std::marker::Model;
 
 /// Paths, each under a text: a URL, a prefix of URLs, or another name. No two have the same.
 #[derive(Drop)]
 pub struct NamedPaths {
-    paths: BTreeMap<Vec<u8>, String>,
+    paths: ByText<String>,
 }
 
 impl Model for NamedPaths {
-    ghost use Rattle.std.specs.Prelude.{ℕ, List, map, string_bytes};
+    ghost use Rattle.std.specs.Prelude.{string_bytes};
+    ghost use Rattle.smap_by_text.specs.ByText.{all_seen};
+    ghost use Rattle.smap_locations.specs.Named.{Named};
 
-    ghost Value = { List (List ℕ × List ℕ) };
+    ghost Value = { Named };
 
-    ghost view = { λ named. map (λ e. (e.0.items, string_bytes e.1)) named.paths.entries };
+    ghost view = { λ named. all_seen string_bytes named.paths };
 }
 
 impl NamedPaths {
@@ -29,7 +32,7 @@ impl NamedPaths {
         ensures { result ≡ [] }
     {
         NamedPaths {
-            paths: BTreeMap::new(alloc),
+            paths: ByText::new(alloc),
         }
     }
 
@@ -44,15 +47,15 @@ impl NamedPaths {
         if self.path_under(url.as_bytes()).is_some() {
             return Err(LocationRefusal::Twice);
         }
-        match self.paths.insert(url.into_bytes(), path) {
-            Ok(_) => Ok(()),
+        match self.paths.add(url.into_bytes(), path) {
+            Ok(()) => Ok(()),
             Err(_) => Err(LocationRefusal::Memory),
         }
     }
 
     /// The path under a name, where there is one. The call takes no memory.
     pub fn path_under(&self, url: &[u8]) -> Option<&String>
-        ensures { option_map (λ path. string_bytes path.now) result ≡ path_under url.now self.now }
+        ensures { option_map (λ path. string_bytes path.now) result ≡ value_under url.now self.now }
     {
         self.paths.get(url)
     }
@@ -61,6 +64,6 @@ impl NamedPaths {
     pub fn lengths(&self, alloc: Global) -> Result<Vec<usize>, AllocError>
         ensures { IfOk result (λ lengths. lengths.items ≡ map (λ pair. length pair.0) self.now) }
     {
-        self.paths.keys().map(|url| url.len()).collect(alloc)
+        self.paths.lengths(alloc)
     }
 }

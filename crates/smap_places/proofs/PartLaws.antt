@@ -5,7 +5,7 @@ use Rattle.std.specs.Prelude.{slice_range, unwrap_or}
 use Rattle.std.proofs.Math.Seq.{drop-length, take-add}
 use Rattle.std.proofs.lemmas.List.{drop-drop, drop_more, take-append-drop, take_rest}
 use Rattle.std.proofs.lemmas.Bool.{false_from_ne_true}
-use Rattle.smap_trace.specs.Table.{record_for}
+use Rattle.smap_by_text.specs.ByText.{value_under}
 use Rattle.smap_places.proofs.PlaceLaws.{none_known, not_begun}
 use Rattle.smap_record.specs.Record.{MapRecord}
 use Rattle.smap_places.specs.Places.{Part, PlaceUrl, begun_at, found, other, parts_by, parts_from, parts_of, place_at}
@@ -114,7 +114,7 @@ text_replaced stated front text new place is = ap (λ o. front ++ unwrap_or o te
 -- ---- a text without URLs
 
 pub without_urls : (table : List (List ℕ × MapRecord)) (text : List ℕ)
-    → ((url before after : List ℕ) → is_some (record_for url table) ≡ true → text ≢ before ++ url ++ after) → placed_text text table ≡ text
+    → ((url before after : List ℕ) → is_some (value_under url table) ≡ true → text ≢ before ++ url ++ after) → placed_text text table ≡ text
 unfolding placed_text
 without_urls table text none =
     let unknown : (start : ℕ) → place_at table (drop start text) ≡ None = λ start. none_known table (drop start text) (λ bytes.

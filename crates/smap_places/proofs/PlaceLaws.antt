@@ -7,7 +7,7 @@ use Rattle.std.proofs.lemmas.Slice.Eq.{bytes_eq-Decides}
 use Rattle.std.proofs.lemmas.List.{drop_all, drop-drop, drop_more, get_or-drop, length-take-le, take_all}
 use Rattle.smap_lines.specs.Lines.{has_line_end}
 use Rattle.smap_record.specs.Record.{MapRecord}
-use Rattle.smap_trace.specs.Table.{record_for}
+use Rattle.smap_by_text.specs.ByText.{value_under}
 use Rattle.smap_places.specs.Private.Finder.{Covers, is_among}
 use Rattle.smap_places.specs.PlaceSeen.{IsNext, place_seen}
 use Rattle.smap_places.specs.declared.place.FoundPlace.{FoundPlace}
@@ -43,20 +43,20 @@ placed_unknown : (url : List ℕ) (bytes : ℕ) (stated : Option MapRecord) (num
 placed_unknown url bytes None numbers none = refl
 placed_unknown url bytes (Some stated) numbers none = cc
 
-unknown_url : (url : List ℕ) (table : List (List ℕ × MapRecord)) → is_some (record_for url table) ≡ false → is_some (record_of_place url table) ≡ false
-unknown_url url table none = cond_both (has_line_end url) None (record_for url table) (λ o. is_some o ≡ false) (λ _. refl) (λ _. none)
+unknown_url : (url : List ℕ) (table : List (List ℕ × MapRecord)) → is_some (value_under url table) ≡ false → is_some (record_of_place url table) ≡ false
+unknown_url url table none = cond_both (has_line_end url) None (value_under url table) (λ o. is_some o ≡ false) (λ _. refl) (λ _. none)
 
 module _ (table : List (List ℕ × MapRecord)) (text : List ℕ) where
   pub without_numbers : (bytes : ℕ) → numbers_after (drop bytes text) ≡ None → place_with table text bytes ≡ None
   without_numbers bytes none = ap (placed (take bytes text) bytes (record_of_place (take bytes text) table)) none ∙ placed_none (take bytes text) bytes _
 
-  pub without_url : (bytes : ℕ) → is_some (record_for (take bytes text) table) ≡ false → place_with table text bytes ≡ None
+  pub without_url : (bytes : ℕ) → is_some (value_under (take bytes text) table) ≡ false → place_with table text bytes ≡ None
   without_url bytes none = placed_unknown (take bytes text) bytes _ _ (unknown_url (take bytes text) table none)
 
   -- no URL holds an LF
   pub with_line_end : (bytes : ℕ) → has_line_end (take bytes text) ≡ true → place_with table text bytes ≡ None
   with_line_end bytes has =
-      placed_unknown (take bytes text) bytes _ _ (ap is_some (cond-true (has_line_end (take bytes text)) None (record_for (take bytes text) table) has))
+      placed_unknown (take bytes text) bytes _ _ (ap is_some (cond-true (has_line_end (take bytes text)) None (value_under (take bytes text) table) has))
 
   pub past_end : (bytes : ℕ) → length text ≤ bytes → place_with table text bytes ≡ None
   past_end bytes past = without_numbers bytes (ap numbers_after (drop_all bytes text past) ∙ no_numbers)
@@ -238,14 +238,14 @@ head_or x n xs (inr among) = ap (λ b. (x == n) || b) among ∙ or_true (x == n)
     or_true true = refl
     or_true false = refl
 
-pub url_among : (table : List (List ℕ × MapRecord)) (url : List ℕ) → is_some (record_for url table) ≡ true
+pub url_among : (table : List (List ℕ × MapRecord)) (url : List ℕ) → is_some (value_under url table) ≡ true
     → is_among (map (λ pair. length pair.0) table) (length url) ≡ true
 url_among [] url some = cc
 url_among ((there, stated) ∷ pairs) url some = go (bytes_eq url there) refl (url_among pairs url) some
   where
     go : (same : Bool) → bytes_eq url there ≡ same
-        → (is_some (record_for url pairs) ≡ true → is_among (map (λ pair. length pair.0) pairs) (length url) ≡ true)
-        → is_some (cond same (Some stated) (record_for url pairs)) ≡ true → is_among (length there ∷ map (λ pair. length pair.0) pairs) (length url) ≡ true
+        → (is_some (value_under url pairs) ≡ true → is_among (map (λ pair. length pair.0) pairs) (length url) ≡ true)
+        → is_some (cond same (Some stated) (value_under url pairs)) ≡ true → is_among (length there ∷ map (λ pair. length pair.0) pairs) (length url) ≡ true
     go true same more some = head_or (length there) (length url) _ (inl (ap length (sym ((bytes_eq-Decides url there).0 same))))
     go false other more some = head_or (length there) (length url) _ (inr (more some))
 
@@ -323,7 +323,7 @@ module _ (table : List (List ℕ × MapRecord)) (text : List ℕ) where
       go bytes greater false other = other_length table text lengths greatest covers bytes other
 
 -- where no front of a text is a URL of the table, no place begins it
-pub none_known : (table : List (List ℕ × MapRecord)) (text : List ℕ) → ((bytes : ℕ) → is_some (record_for (take bytes text) table) ≡ false)
+pub none_known : (table : List (List ℕ × MapRecord)) (text : List ℕ) → ((bytes : ℕ) → is_some (value_under (take bytes text) table) ≡ false)
     → place_at table text ≡ None
 unfolding place_at
 none_known table text none = go (length text)

@@ -9,8 +9,8 @@ use Rattle.std.proofs.lemmas.Slice.Eq.{bytes_eq-Decides}
 use Rattle.std.proofs.Math.Bool.{or-true}
 use Rattle.std.specs.Str.{bytes_eq}
 use Rattle.smap_lines.specs.Lines.{has_line_end}
-use Rattle.smap_locations.specs.Named.{Named, path_under}
-use Rattle.smap_trace.specs.Table.{record_for}
+use Rattle.smap_by_text.specs.ByText.{value_under}
+use Rattle.smap_locations.specs.Named.{Named}
 use Rattle.smap_places.specs.Candidates.{candidate_at, greatest, has_named, has_prefix, named_bytes, place_of, place_of_bytes, prefix_bytes, run_bytes}
 use Rattle.smap_places.specs.Candidates.{run_length, url_bytes, with_run}
 use Rattle.smap_places.specs.Places.{PlaceUrl, begun_at, numbers_after}
@@ -392,13 +392,13 @@ among_either one other n (inl here) = list_any-append (λ x. x == n) one other �
 among_either one other n (inr there) = list_any-append (λ x. x == n) one other ∙ ap (λ b. is_among one n || b) there ∙ or-true (is_among one n)
 
 -- the length of a text with a path is among those of all
-pub path_among : (named : Named) (text : List ℕ) → is_some (path_under text named) ≡ true → is_among (map (λ pair. length pair.0) named) (length text) ≡ true
+pub path_among : (named : Named) (text : List ℕ) → is_some (value_under text named) ≡ true → is_among (map (λ pair. length pair.0) named) (length text) ≡ true
 path_among [] text some = cc
 path_among ((there, path) ∷ named) text some = go (bytes_eq text there) refl (path_among named text) some
   where
     go : (same : Bool) → bytes_eq text there ≡ same
-        → (is_some (path_under text named) ≡ true → is_among (map (λ pair. length pair.0) named) (length text) ≡ true)
-        → is_some (cond same (Some path) (path_under text named)) ≡ true → is_among (length there ∷ map (λ pair. length pair.0) named) (length text) ≡ true
+        → (is_some (value_under text named) ≡ true → is_among (map (λ pair. length pair.0) named) (length text) ≡ true)
+        → is_some (cond same (Some path) (value_under text named)) ≡ true → is_among (length there ∷ map (λ pair. length pair.0) named) (length text) ≡ true
     go true same more some = head_or (length there) (length text) _ (inl (ap length (sym ((bytes_eq-Decides text there).0 same))))
     go false other more some = head_or (length there) (length text) _ (inr (more some))
 
@@ -407,9 +407,9 @@ pub named_among : (maps : MapsSeen) (all : List ℕ) → all ≡ map (λ pair. l
 named_among maps all is url on =
     ap (λ l. is_among l (length url)) is
     ∙ among_either (map (λ pair. length pair.0) maps.table) (map (λ pair. length pair.0) maps.locations.files) (length url)
-    (go (either (is_some (record_for url maps.table)) (is_some (path_under url maps.locations.files)) on))
+    (go (either (is_some (value_under url maps.table)) (is_some (value_under url maps.locations.files)) on))
   where
-    go : (is_some (record_for url maps.table) ≡ true) ⊎ (is_some (path_under url maps.locations.files) ≡ true)
+    go : (is_some (value_under url maps.table) ≡ true) ⊎ (is_some (value_under url maps.locations.files) ≡ true)
         → (is_among (map (λ pair. length pair.0) maps.table) (length url) ≡ true)
         ⊎ (is_among (map (λ pair. length pair.0) maps.locations.files) (length url) ≡ true)
     go (inl map_is) = inl (url_among maps.table url map_is)

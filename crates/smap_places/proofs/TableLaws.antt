@@ -4,7 +4,7 @@ use Rattle.std.specs.Prelude.{⊤}
 use Rattle.smap_lines.specs.Editing.{DevicesSeen}
 use Rattle.smap_lines.specs.declared.fault.LineFault.{LineFault}
 use Rattle.smap_record.specs.Record.{MapRecord}
-use Rattle.smap_trace.specs.Table.{record_for}
+use Rattle.smap_by_text.specs.ByText.{value_under}
 use Rattle.smap_trace.specs.declared.maps.TableMaps.{TableMaps}
 use Rattle.smap_trace.specs.declared.outcome.Summary.{Summary}
 use Rattle.smap_places.specs.Places.{Part, found, other, parts_of, place_at}
@@ -18,7 +18,7 @@ module _ (table : List (List ℕ × MapRecord)) where
   TableFinds maps url after = after ≡ maps
 
   abbrev table_found : TableMaps → (url : List ℕ) → Option MapRecord
-  table_found maps url = record_for url maps.0.now
+  table_found maps url = value_under url maps.0.now
 
   -- those stay
   abbrev IsOver : TableMaps → Type 0
@@ -27,7 +27,7 @@ module _ (table : List (List ℕ × MapRecord)) where
   finds_table : (old new : TableMaps) (url : List ℕ) → TableFinds old url new → IsOver old → (table_found new url ≡ maps_of table url) × IsOver new
   finds_table old new url finds is =
       let same : new.0.now ≡ table = ap (λ (m : TableMaps). m.0.now) finds ∙ is in
-      (ap (record_for url) same, same)
+      (ap (value_under url) same, same)
 
   pub rewrites_table : (most_bytes : ℕ) (before after : DevicesSeen) (old new : TableMaps) (summary : Summary) → old.0.now ≡ table →
       RewritesPlacesOver TableFinds table_found (place_at table) most_bytes before after old new summary → RewritesPlaces before after table most_bytes summary
@@ -38,17 +38,17 @@ module _ (table : List (List ℕ × MapRecord)) where
 
   -- ---- what they may become
 
-  part_may : (part : Part) (text : List ℕ) → MayBe (λ url stated. stated ≡ record_for url table) part text → text ≡ part_text (maps_of table) part
+  part_may : (part : Part) (text : List ℕ) → MayBe (λ url stated. stated ≡ value_under url table) part text → text ≡ part_text (maps_of table) part
   part_may (other byte) text may = may
   part_may (found place bytes) text may = may.2 ∙ ap (λ stated. unwrap_or (replacement stated place) bytes) may.1
 
-  parts_may : (parts : List Part) (text : List ℕ) → MayBecome (λ url stated. stated ≡ record_for url table) parts text
+  parts_may : (parts : List Part) (text : List ℕ) → MayBecome (λ url stated. stated ≡ value_under url table) parts text
       → text ≡ parts_text (maps_of table) parts
   parts_may [] text may = may
   parts_may (part ∷ parts) text may = may.4 ∙ (λ i. part_may part may.0 may.2 i ++ parts_may parts may.1 may.3 i)
 
   pub front_table : (most_bytes : ℕ) (before after : DevicesSeen) (fault : LineFault) →
-      RewritesPlacesFrontOver (λ url stated. stated ≡ record_for url table) (place_at table) most_bytes before after fault
+      RewritesPlacesFrontOver (λ url stated. stated ≡ value_under url table) (place_at table) most_bytes before after fault
       → RewritesPlacesFront before after table most_bytes fault
   unfolding placed_text
   front_table most_bytes before after fault is = record {

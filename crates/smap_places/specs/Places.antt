@@ -9,7 +9,7 @@ use Rattle.std.specs.List.{list_any, prefix_len}
 use Rattle.smap_record.specs.Record.{MapRecord}
 use Rattle.smap_lines.specs.Lines.{has_line_end}
 use Rattle.smap_lines.specs.Numbers.{decimal_number}
-use Rattle.smap_trace.specs.Table.{record_for}
+use Rattle.smap_by_text.specs.ByText.{value_under}
 
 -- ---- the numbers of a place
 
@@ -52,7 +52,7 @@ placed url bytes (Some stated) (Some (line, column, size)) =
 
 -- the record of a place's URL, which holds no LF
 abbrev pub record_of_place : (url : List ℕ) → List (List ℕ × MapRecord) → Option MapRecord
-record_of_place url table = if has_line_end url then None else record_for url table
+record_of_place url table = if has_line_end url then None else value_under url table
 
 -- the one whose URL is this many bytes
 abbrev pub place_with : List (List ℕ × MapRecord) → (text : List ℕ) → (bytes : ℕ) → Option PlaceUrl

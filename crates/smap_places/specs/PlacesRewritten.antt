@@ -4,7 +4,7 @@ use Rattle.std.specs.Prelude.{ℕ, ◌==◌, ◌||◌, Bool, false, List, [], �
 use Rattle.std.specs.List.{flat_map, list_any}
 use Rattle.smap_lines.specs.Lines.{Line, end_in, lines_with_ends}
 use Rattle.smap_record.specs.Record.{MapRecord}
-use Rattle.smap_trace.specs.Table.{record_for}
+use Rattle.smap_by_text.specs.ByText.{value_under}
 use Rattle.smap_trace.specs.Rewritten.{Counts, SourceLocation, location_text, original_at}
 use Rattle.smap_places.specs.Places.{Part, PlaceUrl, found, other, parts_of, place_at}
 
@@ -50,7 +50,7 @@ parts_text maps parts = flat_map (part_text maps) parts
 
 -- the maps of a table
 abbrev pub maps_of : List (List ℕ × MapRecord) → (url : List ℕ) → Option MapRecord
-maps_of table url = record_for url table
+maps_of table url = value_under url table
 
 -- a text, with what stands in its places' stead
 unfoldable pub placed_text : List ℕ → List (List ℕ × MapRecord) → List ℕ

@@ -1,9 +1,8 @@
 -- Which place begins a text over a table of maps, and over the files and the folders that maps are in.
 use Rattle.std.specs.Prelude.{ℕ, ◌||◌, Bool, List, Option, is_some}
 use Rattle.smap_locations.specs.Locations.{LocationsSeen}
-use Rattle.smap_locations.specs.Named.{path_under}
+use Rattle.smap_by_text.specs.ByText.{value_under}
 use Rattle.smap_record.specs.Record.{MapRecord}
-use Rattle.smap_trace.specs.Table.{record_for}
 use Rattle.smap_places.specs.Candidates.{candidate_at}
 use Rattle.smap_places.specs.Places.{PlaceUrl}
 
@@ -14,11 +13,11 @@ pub record MapsSeen : Type 0 where
 
 -- the table has a map under a URL, or a file is named for it
 abbrev pub is_named : MapsSeen → (url : List ℕ) → Bool
-is_named maps url = is_some (record_for url maps.table) || is_some (path_under url maps.locations.files)
+is_named maps url = is_some (value_under url maps.table) || is_some (value_under url maps.locations.files)
 
 -- a folder is named for a text
 abbrev pub is_prefix : MapsSeen → (text : List ℕ) → Bool
-is_prefix maps text = is_some (path_under text maps.locations.folders)
+is_prefix maps text = is_some (value_under text maps.locations.folders)
 
 -- the place that begins a text
 abbrev pub stored_place_at : MapsSeen → (text : List ℕ) → Option PlaceUrl

@@ -6,7 +6,7 @@ ghost use Rattle.smap_record.specs.Record.{MapRecord};
 ghost use Rattle.smap_places.specs.Places.{numbers_after};
 ghost use Rattle.smap_places.specs.PlacesRewritten.{placed_line, placed_text};
 ghost use Rattle.smap_places.specs.Printed.{IsNumbers};
-ghost use Rattle.smap_trace.specs.Table.{record_for};
+ghost use Rattle.smap_by_text.specs.ByText.{value_under};
 
 use smap_lines::laws::numbers_are_read_as_printed;
 
@@ -26,7 +26,7 @@ pub fn text_is_rewritten_line_by_line()
 /// A text in which no URL of the table occurs stays.
 pub fn text_without_urls_stays()
     ensures { (table : List (List ℕ × MapRecord)) (text : List ℕ) →
-        ((url before after : List ℕ) → is_some (record_for url table) ≡ true → text ≢ before ++ url ++ after) →
+        ((url before after : List ℕ) → is_some (value_under url table) ≡ true → text ≢ before ++ url ++ after) →
         placed_text text table ≡ text }
 {}
 

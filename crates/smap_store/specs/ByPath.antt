@@ -4,8 +4,8 @@ use Rattle.std.specs.Prelude.{◌≡◌, ℕ, List, Option, Some, None}
 use Rattle.smap_locations.specs.Locations.{LocationsSeen, key_for, path_for}
 use Rattle.smap_record.specs.Record.{MapRecord}
 use Rattle.smap_trace.specs.MapsOf.{MapsByUrl}
-use Rattle.smap_trace.specs.Table.{record_for}
-use Rattle.smap_store.specs.Cache.{Kept, kept_under}
+use Rattle.smap_by_text.specs.ByText.{value_under}
+use Rattle.smap_store.specs.Cache.{Kept}
 use Rattle.smap_store.specs.Stored.{StoredSeen, or_map}
 
 -- ---- the maps of files
@@ -21,13 +21,13 @@ by_path load url (Some path) = load url path
 
 -- the map of each URL: that of the table, where it has one, and else that of its file
 abbrev pub stored_maps : MapsByPath → (words : List (List ℕ × MapRecord)) (locations : LocationsSeen) → MapsByUrl
-stored_maps load words locations url = or_map (record_for url words) (by_path load (key_for locations url) (path_for locations url))
+stored_maps load words locations url = or_map (value_under url words) (by_path load (key_for locations url) (path_for locations url))
 
 -- the store is over this table and these files, and what is remembered under each text is what its file gives
 pub record IsRight {L : Type 0} (load : MapsByPath) (table : List (List ℕ × MapRecord)) (places : LocationsSeen) (maps : StoredSeen L) : Type 0 where
   pub words : maps.words ≡ table
   pub locations : maps.locations ≡ places
-  pub kept : (key : List ℕ) (one : Kept) → kept_under key maps.cache.kept ≡ Some one → one.found ≡ by_path load key (path_for places key)
+  pub kept : (key : List ℕ) (one : Kept) → value_under key maps.cache.kept ≡ Some one → one.found ≡ by_path load key (path_for places key)
 
 -- ---- what may go wrong
 

@@ -1,9 +1,9 @@
 -- What is remembered of the URLs that were asked for (this project's own): the map of each, or that it has none, while the
 -- bytes that this counts for are within a bound, or where there is no other.
-use Rattle.std.specs.Prelude.{◌≡◌, ◌⊎◌, ℕ, ◌+◌, ◌-◌, ◌^◌, ◌==◌, ◌||◌, Bool, true, min, nat_le, List, [], ◌∷◌, ◌++◌, Option, Some, None}
-use Rattle.std.specs.Prelude.{MatchBool, if◌then◌else◌, length, map, option_map}
+use Rattle.std.specs.Prelude.{◌≡◌, ◌⊎◌, ℕ, ◌+◌, ◌-◌, ◌^◌, ◌==◌, ◌||◌, Bool, true, min, nat_le, List, [], ◌∷◌, Option, Some, None}
+use Rattle.std.specs.Prelude.{MatchBool, length, option_map}
 use Rattle.std.specs.List.{sum_by}
-use Rattle.std.specs.Str.{bytes_eq}
+use Rattle.smap_by_text.specs.ByText.{IsWith, all_seen}
 use Rattle.smap_record.specs.Record.{MapRecord}
 use Rattle.smap_store.specs.declared.cache.KeptMap.{KeptMap}
 use Rattle.smap_store.specs.declared.cache.MapCache.TheInside.{Inside}
@@ -26,11 +26,6 @@ pub record CacheSeen : Type 0 where
   pub missing : ℕ
   pub shortages : ℕ
 
--- what is remembered under a URL, where something is
-abbrev pub kept_under : (url : List ℕ) → KeptMaps → Option Kept
-kept_under url [] = None
-kept_under url ((there, one) ∷ kept) = if bytes_eq url there then Some one else kept_under url kept
-
 -- how many bytes it counts for: those of its file, those of its URL, and 128 more
 abbrev pub entry_bytes : List ℕ × Kept → ℕ
 entry_bytes (url, one) = one.file_bytes + length url + 128
@@ -41,13 +36,6 @@ bytes_of kept = sum_by entry_bytes kept
 -- the bytes are within the bound, or one stands alone
 abbrev pub is_bounded : (most : ℕ) → KeptMaps → Bool
 is_bounded most kept = nat_le (bytes_of kept) most || length kept == 1
-
--- one more, among those that there were, which stay in their order
-pub record IsWith (old : KeptMaps) (url : List ℕ) (one : Kept) (new : KeptMaps) : Type 0 where
-  pub before : KeptMaps
-  pub after : KeptMaps
-  pub old_is : old ≡ before ++ after
-  pub new_is : new ≡ before ++ (url, one) ∷ after
 
 -- one more is remembered: beside the others, where that is within the bound, and else alone
 abbrev pub Keeps : (most : ℕ) (old : KeptMaps) (url : List ℕ) → Kept → (new : KeptMaps) → Type 0
@@ -84,7 +72,7 @@ abbrev pub kept_seen : KeptMap → Kept
 kept_seen kept = record { found = option_map (λ map. map.stated) kept.map; file_bytes = kept.file_bytes }
 
 abbrev pub kept_in : Inside → KeptMaps
-kept_in inside = map (λ e. (e.0.items, kept_seen e.1)) inside.kept.entries
+kept_in inside = all_seen kept_seen inside.kept
 
 abbrev pub cache_seen : Inside → CacheSeen
 cache_seen inside = record {

@@ -3,9 +3,9 @@ use Rattle.std.specs.Prelude.{◌≡◌, ◌⊎◌, ℕ, ◌+◌, ◌||◌, fals
 use Rattle.std.specs.Prelude.{MatchBool, MatchResult, if◌then◌else◌, length}
 use Rattle.smap_locations.specs.ListLine.{entry_of, is_folder, is_passed_over}
 use Rattle.smap_locations.specs.Locations.{LocationsSeen}
-use Rattle.smap_locations.specs.Named.{IsWith, path_under}
+use Rattle.smap_by_text.specs.ByText.{IsWith, value_under}
 use Rattle.smap_record.specs.Record.{MapRecord}
-use Rattle.smap_trace.specs.Table.{is_bad_url, record_for}
+use Rattle.smap_trace.specs.Table.{is_bad_url}
 use Rattle.smap_locations.specs.declared.refusal.ListFault.{ListFault}
 use Rattle.smap_locations.specs.declared.refusal.ListFault.TheVariants.{NoTab, NoFolder, BadUrl, Twice, Memory}
 use Rattle.smap_locations.specs.declared.refusal.ListRefusal.{ListRefusal}
@@ -15,14 +15,14 @@ use Rattle.smap_locations.specs.declared.refusal.ListRefusal.{ListRefusal}
 abbrev pub file_fault : List (List ℕ × MapRecord) → LocationsSeen → (url : List ℕ) → Option ListFault
 file_fault words locations url =
     if is_bad_url url then Some BadUrl
-    else if is_some (record_for url words) || is_some (path_under url locations.files) then Some Twice
+    else if is_some (value_under url words) || is_some (value_under url locations.files) then Some Twice
     else None
 
 abbrev pub folder_fault : LocationsSeen → (prefix : List ℕ) → Option ListFault
 folder_fault locations prefix =
     if not (is_folder prefix) then Some NoFolder
     else if is_bad_url prefix then Some BadUrl
-    else if is_some (path_under prefix locations.folders) then Some Twice
+    else if is_some (value_under prefix locations.folders) then Some Twice
     else None
 
 abbrev pub entry_fault : List (List ℕ × MapRecord) → LocationsSeen → Option (List ℕ × List ℕ) → Option ListFault

@@ -4,8 +4,8 @@ use Rattle.std.specs.Prelude.{◌≡◌, ◌⊎◌, ℕ, List, Option, Some, Non
 use Rattle.std.specs.Option.{IsSomeAnd}
 use Rattle.smap_locations.specs.Locations.{LocationsSeen, key_for, path_for}
 use Rattle.smap_record.specs.Record.{MapRecord}
-use Rattle.smap_trace.specs.Table.{record_for}
-use Rattle.smap_store.specs.Cache.{CacheSeen, Kept, Remembers, kept_under, short}
+use Rattle.smap_by_text.specs.ByText.{value_under}
+use Rattle.smap_store.specs.Cache.{CacheSeen, Kept, Remembers, short}
 
 -- the map that is remembered, where one is
 abbrev pub map_in : Option Kept → Option MapRecord
@@ -59,17 +59,17 @@ module _ {L : Type 0} where
 
   -- what is remembered under this text is used, or it is asked for
   abbrev pub Recalls : LoadsStep L → (old : StoredSeen L) (url : List ℕ) (new : StoredSeen L) → Type 0
-  Recalls Loads old url new = MatchOption (kept_under url old.cache.kept) (Asks Loads old url new) (λ one. Untouched old new)
+  Recalls Loads old url new = MatchOption (value_under url old.cache.kept) (Asks Loads old url new) (λ one. Untouched old new)
 
   -- what is found under a URL: what the table has, and else what is remembered
   abbrev pub found_in : StoredSeen L → (url : List ℕ) → Option MapRecord
-  found_in maps url = or_map (record_for url maps.words) (map_in (kept_under (key_for maps.locations url) maps.cache.kept))
+  found_in maps url = or_map (value_under url maps.words) (map_in (value_under (key_for maps.locations url) maps.cache.kept))
 
   -- how the maps stand after the map of a URL was looked for
   pub record FindsIn (Loads : LoadsStep L) (old : StoredSeen L) (url : List ℕ) (new : StoredSeen L) : Type 0 where
     pub words : new.words ≡ old.words
     pub locations : new.locations ≡ old.locations
-    pub steps : MatchOption (record_for url old.words) (Recalls Loads old (key_for old.locations url) new) (λ stated. Untouched old new)
+    pub steps : MatchOption (value_under url old.words) (Recalls Loads old (key_for old.locations url) new) (λ stated. Untouched old new)
 
   -- what may come for a URL of this path: none, where it has no path, or else where there is not enough memory
   abbrev pub MayCome : LoadsMay L → (loader : L) (url : List ℕ) (path : Option (List ℕ)) → (found : Option MapRecord) → Type 0
@@ -80,6 +80,6 @@ module _ {L : Type 0} where
   abbrev pub GivesIn : LoadsMay L → StoredSeen L → (url : List ℕ) → (found : Option MapRecord) → Type 0
   GivesIn MayLoad maps url found =
       let key = key_for maps.locations url in
-      MatchOption (record_for url maps.words)
-      (IsSomeAnd (kept_under key maps.cache.kept) (λ one. found ≡ one.found) ⊎ MayCome MayLoad maps.loader key (path_for maps.locations url) found)
+      MatchOption (value_under url maps.words)
+      (IsSomeAnd (value_under key maps.cache.kept) (λ one. found ≡ one.found) ⊎ MayCome MayLoad maps.loader key (path_for maps.locations url) found)
       (λ stated. found ≡ Some stated)

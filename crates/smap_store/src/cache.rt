@@ -1,12 +1,13 @@
 //! What is kept of the maps that were read.
 ghost use Rattle.std.specs.Prelude.{◌≡◌, ◌+◌, ◌≤◌, [], None, SomeIff, OnErr, OnOk, is_some, min, option_map, true};
-ghost use Rattle.smap_store.specs.Cache.{Keeps, Remembers, bytes_of, counted, is_bounded, kept_of, kept_seen, kept_under, short};
+ghost use Rattle.smap_by_text.specs.ByText.{value_under};
+ghost use Rattle.smap_store.specs.Cache.{Keeps, Remembers, bytes_of, counted, is_bounded, kept_of, kept_seen, short};
 ghost use Rattle.smap_store.specs.Loaded.{loaded_seen};
 
 use crate::loader::LoadedMap;
+use smap_by_text::ByText;
 use smap_record::MapFile;
 use std::alloc::{AllocError, Global};
-use std::collections::BTreeMap;
 use std::marker::Model;
 
 /// What is remembered of the URLs that were asked for: the map of each, or that it has none. What is remembered counts for
@@ -14,7 +15,7 @@ use std::marker::Model;
 /// pass the bound, all that is kept is dropped.
 #[derive(Drop)]
 pub struct MapCache {
-    kept: BTreeMap<Vec<u8>, KeptMap>,
+    kept: ByText<KeptMap>,
     bytes: u64,
     most: u64,
     read: u64,
@@ -54,7 +55,7 @@ impl MapCache {
         ensures { result ≡ record { kept = []; most = most; read = 0; missing = 0; shortages = 0 } }
     {
         MapCache {
-            kept: BTreeMap::new(alloc),
+            kept: ByText::new(alloc),
             bytes: 0,
             most,
             read: 0,
@@ -94,14 +95,14 @@ impl MapCache {
 
     // Whether something is remembered of a URL.
     pub(crate) fn remembers(&self, url: &[u8]) -> bool
-        ensures { result ≡ is_some (kept_under url.now self.now.kept) }
+        ensures { result ≡ is_some (value_under url.now self.now.kept) }
     {
         self.recall(url).is_some()
     }
 
     // What is remembered of a URL, where something is.
     pub(crate) fn recall(&self, url: &[u8]) -> Option<&KeptMap>
-        ensures { option_map (λ one. kept_seen one.now) result ≡ kept_under url.now self.now.kept }
+        ensures { option_map (λ one. kept_seen one.now) result ≡ value_under url.now self.now.kept }
     {
         self.kept.get(url)
     }
@@ -115,7 +116,7 @@ impl MapCache {
 
     // Counts what came for a URL that is not remembered, and remembers it where there is memory for it.
     pub(crate) fn remember(&mut self, alloc: Global, url: Vec<u8>, loaded: Option<LoadedMap>)
-        requires { kept_under url.items self.old.kept ≡ None }
+        requires { value_under url.items self.old.kept ≡ None }
         ensures { Remembers self.old url.items (option_map loaded_seen loaded) self.new }
     {
         let kept = self.count(loaded);
@@ -149,20 +150,20 @@ impl MapCache {
 
     // Keeps what a URL has, beside the others or alone. Where memory runs out, nothing is changed.
     fn keep(&mut self, alloc: Global, url: Vec<u8>, kept: KeptMap) -> Result<(), AllocError>
-        requires { kept_under url.items self.old.kept ≡ None }
+        requires { value_under url.items self.old.kept ≡ None }
         ensures kept { OnOk result
             (Keeps self.old.most self.old.kept url.items (kept_seen kept) self.new.kept) }
         ensures others { self.new ≡ record self.old { kept = self.new.kept } }
         ensures memory { OnErr result (self.new ≡ self.old) }
     {
         if let Some(bytes) = sum_within(self.bytes, kept.file_bytes, url.len(), self.most) {
-            self.kept.insert(url, kept)?;
+            self.kept.add(url, kept)?;
             self.bytes = bytes;
             return Ok(());
         }
         let bytes = sum_within(0, kept.file_bytes, url.len(), self.most).unwrap_or(self.most);
-        let mut alone = BTreeMap::new(alloc);
-        alone.insert(url, kept)?;
+        let mut alone = ByText::new(alloc);
+        alone.add(url, kept)?;
         self.kept = alone;
         self.bytes = bytes;
         Ok(())

@@ -1,6 +1,6 @@
 //! Maps that are read when they are named.
 ghost use Rattle.std.specs.Prelude.{◌≡◌, None};
-ghost use Rattle.smap_store.specs.Cache.{kept_under};
+ghost use Rattle.smap_by_text.specs.ByText.{value_under};
 ghost use Rattle.smap_store.specs.Stored.{Asks};
 ghost use Rattle.smap_store.specs.StoredMaps.{IsSameStore, stored_seen};
 
@@ -26,7 +26,7 @@ pub struct StoredMaps<'s, 'c, L: MapLoader> {
 impl<L: MapLoader> StoredMaps<'_, '_, L> {
     // Asks for the map of a URL that is not remembered, and remembers what came.
     fn ask(&mut self, url: &[u8])
-        requires { kept_under url.now self.old.cache.now.kept ≡ None }
+        requires { value_under url.now self.old.cache.now.kept ≡ None }
         ensures steps { Asks L.Loads (stored_seen self.old) url.now (stored_seen self.new) }
         ensures same { IsSameStore self.old self.new }
     {

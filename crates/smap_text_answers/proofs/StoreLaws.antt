@@ -9,12 +9,12 @@ use Rattle.smap_locations.specs.Locations.{key_for, path_for}
 use Rattle.smap_places.specs.Places.{PlaceUrl}
 use Rattle.smap_places.specs.Laws.PlacesSeen.{places_front_seen, places_seen}
 use Rattle.smap_record.specs.Record.{MapRecord}
-use Rattle.smap_store.specs.Cache.{Kept, kept_under}
+use Rattle.smap_by_text.specs.ByText.{value_under}
+use Rattle.smap_store.specs.Cache.{Kept}
 use Rattle.smap_store.specs.Laws.Seen.{finds_seen, gives_seen, see_store}
 use Rattle.smap_store.specs.Stored.{Asks, Comes, FindsIn, GivesIn, LoadsMay, LoadsStep, Recalls, StoredSeen, Untouched, found_in}
 use Rattle.smap_trace.specs.Rewriting.{Looked}
 use Rattle.smap_trace.specs.Laws.Seen.{front_seen, looked_seen, rewrites_seen}
-use Rattle.smap_trace.specs.Table.{record_for}
 use Rattle.smap_trace.specs.declared.outcome.RewriteCounts.{RewriteCounts}
 use Rattle.smap_replies.specs.Files.{MayRead}
 use Rattle.smap_text_answers.specs.Loader.{IsSameLoader, LoaderSeen, Loads, MayLoad, loader_seen}
@@ -61,11 +61,11 @@ module _ {F E : Type 0} (gives : F → MayRead) (seen : E → SinkSeen) where
 
   same_step : (old new : StoredSeen (FileLoader F E)) (url : List ℕ) (words : Option MapRecord)
       → MatchOption words (Recalls Steps old url new) (λ _. Untouched old new) → IsSameLoader old.loader new.loader
-  same_step old new url None recalls = same_recalled old new url (kept_under url old.cache.kept) recalls
+  same_step old new url None recalls = same_recalled old new url (value_under url old.cache.kept) recalls
   same_step old new url (Some stated) same = same_of old.loader new.loader same.loader
 
   same_found : (old new : StoredSeen (FileLoader F E)) (url : List ℕ) → FindsIn Steps old url new → IsSameLoader old.loader new.loader
-  same_found old new url finds = same_step old new (key_for old.locations url) (record_for url old.words) finds.steps
+  same_found old new url finds = same_step old new (key_for old.locations url) (value_under url old.words) finds.steps
 
   -- ---- what a run shows of it
 

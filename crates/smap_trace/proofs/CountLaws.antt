@@ -18,7 +18,7 @@ use Rattle.smap_trace.specs.Rewriting.{BecomesFrame, Rewrites, RewritesFront, Re
 use Rattle.smap_trace.specs.Rewriting.{staying_in}
 use Rattle.smap_trace.specs.Rewritten.{Fate, MayMeet, fate, fate_at, fate_of, hidden}
 use Rattle.smap_trace.specs.Rewritten.{line_after, no_frame, original_in, replaced, rewritten_line, stays}
-use Rattle.smap_trace.specs.Table.{record_for}
+use Rattle.smap_by_text.specs.ByText.{value_under}
 use Rattle.smap_trace.specs.declared.maps.TableMaps.{TableMaps}
 use Rattle.smap_trace.specs.declared.outcome.RewriteCounts.{RewriteCounts}
 
@@ -64,16 +64,16 @@ module _ (table : List (List ℕ × MapRecord)) (hide : Bool) where
   TableFinds maps url after = after ≡ maps
 
   abbrev table_found : TableMaps → (url : List ℕ) → Option MapRecord
-  table_found maps url = record_for url maps.0.now
+  table_found maps url = value_under url maps.0.now
 
   -- those stay
   abbrev IsOver : TableMaps → Type 0
   IsOver maps = maps.0.now ≡ table
 
-  finds_table : (old new : TableMaps) (url : List ℕ) → TableFinds old url new → IsOver old → (table_found new url ≡ record_for url table) × IsOver new
+  finds_table : (old new : TableMaps) (url : List ℕ) → TableFinds old url new → IsOver old → (table_found new url ≡ value_under url table) × IsOver new
   finds_table old new url finds is =
       let same : new.0.now ≡ table = ap (λ m. m.0.now) finds ∙ is in
-      (ap (record_for url) same, same)
+      (ap (value_under url) same, same)
 
   pub rewrites_one : (before after : DevicesSeen) (old new : TableMaps) (counts : RewriteCounts) → old.0.now ≡ table →
       RewritesOver TableFinds table_found hide most_text_bytes before after old new counts → Rewrites before after table hide counts.summary
@@ -83,18 +83,18 @@ module _ (table : List (List ℕ × MapRecord)) (hide : Bool) where
       (λ old new url finds good is. finds_table old new url finds is) hide most_text_bytes before after old new counts all tt is)
 
   -- where it fails too
-  may_is : (parts : Option FrameParts) (met : Fate) → MayMeet (λ url stated. stated ≡ record_for url table) hide parts met → met ≡ fate_of hide table parts
+  may_is : (parts : Option FrameParts) (met : Fate) → MayMeet (λ url stated. stated ≡ value_under url table) hide parts met → met ≡ fate_of hide table parts
   may_is None met may = may
   may_is (Some parts) met may = may.2 ∙ ap (λ found. fate_at hide parts (original_in parts found)) may.1
 
-  becomes_one : (line : Line) (text : List ℕ) → BecomesFrame (λ url stated. stated ≡ record_for url table) hide line text
+  becomes_one : (line : Line) (text : List ℕ) → BecomesFrame (λ url stated. stated ≡ value_under url table) hide line text
       → text ≡ rewritten_line table hide line
   unfolding fate
   becomes_one line text may = may.2 ∙ ap (line_after line) (may_is (frame_of line.bytes) may.0 may.1)
 
   pub front_one : (before after : DevicesSeen) (fault : LineFault) →
-      RewritesFrontOver (λ url stated. stated ≡ record_for url table) hide most_text_bytes before after fault → RewritesFront before after table hide fault
+      RewritesFrontOver (λ url stated. stated ≡ value_under url table) hide most_text_bytes before after fault → RewritesFront before after table hide fault
   front_one before after fault is =
       edits_front_one (rewritten_line table hide) most_text_bytes before after fault
-      (edits_front_wider (BecomesFrame (λ url stated. stated ≡ record_for url table) hide) (Only (rewritten_line table hide)) becomes_one most_text_bytes
+      (edits_front_wider (BecomesFrame (λ url stated. stated ≡ value_under url table) hide) (Only (rewritten_line table hide)) becomes_one most_text_bytes
       before after fault is)

@@ -2,6 +2,5 @@ pub mod CutLaws
 pub mod FrameSteps
 pub mod NumberLaws
 pub mod FrameLaws
-pub mod TableLaws
 pub mod CountLaws
 pub mod Examples

@@ -14,7 +14,7 @@ use Rattle.smap_record.specs.Sources.{StatedSource}
 use Rattle.smap_record.specs.Written.{is_ignored_where, text_of_source}
 use Rattle.smap_trace.specs.Frame.{FrameParts}
 use Rattle.smap_trace.specs.FrameOf.{frame_of}
-use Rattle.smap_trace.specs.Table.{record_for}
+use Rattle.smap_by_text.specs.ByText.{value_under}
 
 -- ---- a source
 
@@ -55,7 +55,7 @@ original_in parts found = option_and_then (λ stated. original_at stated parts.l
 
 -- the same over a table
 abbrev pub original_of : FrameParts → List (List ℕ × MapRecord) → Option SourceLocation
-original_of parts table = original_in parts (record_for parts.url table)
+original_of parts table = original_in parts (value_under parts.url table)
 
 -- a location in a source of this name, as it is printed
 abbrev pub location_text : (name : List ℕ) (line column : ℕ) → List ℕ

@@ -1,16 +1,11 @@
 -- The maps of a trace, each under the URL that its frames name.
-use Rattle.std.specs.Prelude.{◌≡◌, ℕ, ◌==◌, ◌||◌, Bool, List, [], ◌∷◌, ◌++◌, Option, Some, None, is_some, codes, length, if◌then◌else◌}
+use Rattle.std.specs.Prelude.{ℕ, ◌==◌, ◌||◌, Bool, List, Option, Some, None, is_some, codes, length, if◌then◌else◌}
 use Rattle.std.specs.Bool.{nat_eq}
 use Rattle.std.specs.List.{list_any, starts_with}
-use Rattle.std.specs.Str.{bytes_eq}
+use Rattle.smap_by_text.specs.ByText.{value_under}
 use Rattle.smap_record.specs.Record.{MapRecord}
 use Rattle.smap_trace.specs.declared.refusal.TableRefusal.{TableRefusal}
 use Rattle.smap_trace.specs.declared.refusal.TableRefusal.TheVariants.{BadUrl, Twice}
-
--- the record under a URL, where there is one
-abbrev pub record_for : (url : List ℕ) → List (List ℕ × MapRecord) → Option MapRecord
-record_for url [] = None
-record_for url ((there, stated) ∷ pairs) = if bytes_eq url there then Some stated else record_for url pairs
 
 -- no table takes such a URL: it is empty, holds LF or CR, or begins with `async ` or `eval at `
 unfoldable pub is_bad_url : List ℕ → Bool
@@ -20,11 +15,4 @@ is_bad_url url =
 
 -- why a URL is not added to a table, memory aside
 abbrev pub url_refusal : List (List ℕ × MapRecord) → (url : List ℕ) → Option TableRefusal
-url_refusal pairs url = if is_bad_url url then Some BadUrl else if is_some (record_for url pairs) then Some Twice else None
-
--- a table with one more pair, among those that it had, which stay in their order
-pub record IsWith (old : List (List ℕ × MapRecord)) (url : List ℕ) (stated : MapRecord) (new : List (List ℕ × MapRecord)) : Type 0 where
-  pub before : List (List ℕ × MapRecord)
-  pub after : List (List ℕ × MapRecord)
-  pub old_is : old ≡ before ++ after
-  pub new_is : new ≡ before ++ (url, stated) ∷ after
+url_refusal pairs url = if is_bad_url url then Some BadUrl else if is_some (value_under url pairs) then Some Twice else None

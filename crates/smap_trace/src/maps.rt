@@ -42,14 +42,14 @@ pub struct TableMaps<'t>(pub &'t Table);
 
 impl Maps for TableMaps<'_> {
     ghost use Rattle.std.specs.Prelude.{◌≡◌, refl};
-    ghost use Rattle.smap_trace.specs.Table.{record_for};
+    ghost use Rattle.smap_by_text.specs.ByText.{value_under};
     ghost use Rattle.smap_trace.specs.Laws.Maps.{table_given, table_same};
 
-    ghost Gives = { λ maps url stated. stated ≡ record_for url maps.0.now };
+    ghost Gives = { λ maps url stated. stated ≡ value_under url maps.0.now };
 
     ghost Finds = { λ maps url after. after ≡ maps };
 
-    ghost found = { λ maps url. record_for url maps.0.now };
+    ghost found = { λ maps url. value_under url maps.0.now };
 
     fn find(&mut self, _url: &[u8]) {}
 
@@ -57,7 +57,7 @@ impl Maps for TableMaps<'_> {
         self.0.map_for(url)
     }
 
-    ghost some = { λ maps url. (record_for url maps.0.now, refl) };
+    ghost some = { λ maps url. (value_under url maps.0.now, refl) };
 
     ghost given = { table_given };
 

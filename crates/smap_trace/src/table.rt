@@ -1,28 +1,30 @@
 //! The maps of a trace.
 ghost use Rattle.std.specs.Prelude.{◌≡◌, [], string_bytes, option_map, MatchOption, OnOk, OnErr, IfErr, IfOk, IsErrAnd, length, map};
 ghost use Rattle.std.specs.Str.{IsUtf8};
-ghost use Rattle.smap_trace.specs.Table.{IsWith, is_bad_url, record_for, url_refusal};
+ghost use Rattle.smap_by_text.specs.ByText.{IsWith, value_under};
+ghost use Rattle.smap_trace.specs.Table.{is_bad_url, url_refusal};
 ghost use Rattle.smap_trace.specs.declared.refusal.TableRefusal.TheVariants.{Memory};
 
 use crate::refusal::TableRefusal;
+use smap_by_text::ByText;
 use smap_record::MapFile;
 use std::alloc::{AllocError, AllocFailed, Global};
-use std::collections::BTreeMap;
 use std::marker::Model;
 
 /// The maps of a trace, each under the URL that its frames name.
 #[derive(Drop)]
 pub struct Table {
-    maps: BTreeMap<Vec<u8>, MapFile>,
+    maps: ByText<MapFile>,
 }
 
 impl Model for Table {
-    ghost use Rattle.std.specs.Prelude.{ℕ, List, map};
+    ghost use Rattle.std.specs.Prelude.{ℕ, List};
+    ghost use Rattle.smap_by_text.specs.ByText.{all_seen};
     ghost use Rattle.smap_record.specs.Record.{MapRecord};
 
     ghost Value = { List (List ℕ × MapRecord) };
 
-    ghost view = { λ t. map (λ e. (e.0.items, e.1.stated)) t.maps.entries };
+    ghost view = { λ table. all_seen (λ map. map.stated) table.maps };
 }
 
 impl Table {
@@ -31,7 +33,7 @@ impl Table {
         ensures { result ≡ [] }
     {
         Table {
-            maps: BTreeMap::new(alloc),
+            maps: ByText::new(alloc),
         }
     }
 
@@ -50,8 +52,8 @@ impl Table {
         if self.map_for(url.as_str().as_bytes()).is_some() {
             return Err((TableRefusal::Twice, url, map));
         }
-        match self.maps.insert(url.into_bytes(), map) {
-            Ok(_) => Ok(()),
+        match self.maps.add(url.into_bytes(), map) {
+            Ok(()) => Ok(()),
             Err(AllocFailed { value: (url, map) }) => Err((TableRefusal::Memory, text(url), map)),
         }
     }
@@ -60,19 +62,19 @@ impl Table {
     pub fn count(&self) -> usize
         ensures { result ≡ length self.now }
     {
-        self.maps.len()
+        self.maps.count()
     }
 
     /// How many bytes the URLs have, one after another in the table's order.
     pub fn url_lengths(&self, alloc: Global) -> Result<Vec<usize>, AllocError>
         ensures { IfOk result (λ lengths. lengths.items ≡ map (λ pair. length pair.0) self.now) }
     {
-        self.maps.keys().map(|url| url.len()).collect(alloc)
+        self.maps.lengths(alloc)
     }
 
     /// The map under a URL, where there is one.
     pub fn map_for(&self, url: &[u8]) -> Option<&MapFile>
-        ensures { option_map (λ map. map.now.stated) result ≡ record_for url.now self.now }
+        ensures { option_map (λ map. map.now.stated) result ≡ value_under url.now self.now }
     {
         self.maps.get(url)
     }

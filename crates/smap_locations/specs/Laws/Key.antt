@@ -3,7 +3,7 @@ use Rattle.std.specs.Prelude.{◌≡◌, ℕ, ◌+◌, Bool, true, false, List, 
 use Rattle.std.specs.List.{prefix_len}
 use Rattle.std.proofs.Common.{arith, refl, subst, suc, sym, ap, ◌∙◌}
 use Rattle.smap_locations.specs.Locations.{LocationsSeen, key_for, or_else, path_for, path_in_folders}
-use Rattle.smap_locations.specs.Named.{path_under}
+use Rattle.smap_by_text.specs.ByText.{value_under}
 use Rattle.smap_locations.specs.Paths.{is_before_query, without_query}
 
 module _ (p : ℕ → Bool) where
@@ -31,13 +31,13 @@ either_twice None other = refl
 either_twice (Some path) other = refl
 
 pub path_of_key : (locations : LocationsSeen) (url : List ℕ) → path_for locations (key_for locations url) ≡ path_for locations url
-path_of_key locations url = go (path_under url locations.files) refl
+path_of_key locations url = go (value_under url locations.files) refl
   where
-    go : (found : Option (List ℕ)) → path_under url locations.files ≡ found
+    go : (found : Option (List ℕ)) → value_under url locations.files ≡ found
         → path_for locations (if is_some found then url else without_query url) ≡ path_for locations url
     go (Some path) is = refl
     go None is =
-        let under = path_under (without_query url) locations.files in
+        let under = value_under (without_query url) locations.files in
         let rest = path_in_folders locations.folders (without_query url) in
-        ap (λ text. or_else under (or_else (path_under text locations.files) (path_in_folders locations.folders text))) (cut_twice is_before_query url)
+        ap (λ text. or_else under (or_else (value_under text locations.files) (path_in_folders locations.folders text))) (cut_twice is_before_query url)
         ∙ either_twice under rest ∙ ap (λ found. or_else found (or_else under rest)) (sym is)

@@ -5,10 +5,11 @@ use Rattle.std.proofs.Common.{ap, arith, inl, inr, refl, subst, sym, ◌∙◌}
 use Rattle.smap_locations.specs.Laws.Key.{path_of_key}
 use Rattle.smap_locations.specs.Locations.{LocationsSeen, key_for, path_for}
 use Rattle.smap_record.specs.Record.{MapRecord}
-use Rattle.smap_trace.specs.Table.{record_for}
+use Rattle.smap_by_text.specs.ByText.{value_under}
+use Rattle.smap_by_text.specs.Laws.ByText.{IsOf}
 use Rattle.smap_store.specs.ByPath.{IsGood, IsRight, MapsByPath, by_path, stored_maps}
-use Rattle.smap_store.specs.Cache.{CacheSeen, Keeps, Kept, Remembers, counted, kept_of, kept_under, one_more}
-use Rattle.smap_store.specs.Laws.Kept.{IsOf, other_remembered, own_remembered}
+use Rattle.smap_store.specs.Cache.{CacheSeen, Keeps, Kept, Remembers, counted, kept_of, one_more}
+use Rattle.smap_store.specs.Laws.Kept.{other_remembered, own_remembered}
 use Rattle.smap_store.specs.Loaded.{record_in}
 use Rattle.smap_store.specs.Stored.{Asks, Comes, FindsIn, LoadsStep, Recalls, StoredSeen, Untouched, found_in, map_in, or_map}
 
@@ -17,7 +18,7 @@ pub right_start : {L : Type 0} (load : MapsByPath) (maps : StoredSeen L) → map
 right_start load maps empty = record {
   words = refl;
   locations = refl;
-  kept = λ key one is. let none : None ≡ Some one = ap (kept_under key) (sym empty) ∙ is in cc;
+  kept = λ key one is. let none : None ≡ Some one = ap (value_under key) (sym empty) ∙ is in cc;
 }
 
 -- ---- what is found
@@ -67,27 +68,27 @@ module _ {L : Type 0} (Loads : LoadsStep L) (Good : L → Type 0) (load : MapsBy
 
   steps_good : (old new : StoredSeen L) (key : List ℕ) (words : Option MapRecord)
       → MatchOption words (Recalls Loads old key new) (λ stated. Untouched old new) → IsGood Good new → IsGood Good old
-  steps_good old new key None recalls good = recalls_good old new key (kept_under key old.cache.kept) recalls good
+  steps_good old new key None recalls good = recalls_good old new key (value_under key old.cache.kept) recalls good
   steps_good old new key (Some stated) same good = untouched_good old new same good
 
   pub good_before : (old new : StoredSeen L) (url : List ℕ) → FindsIn Loads old url new → IsGood Good new → IsGood Good old
-  good_before old new url finds good = steps_good old new (key_for old.locations url) (record_for url old.words) finds.steps good
+  good_before old new url finds good = steps_good old new (key_for old.locations url) (value_under url old.words) finds.steps good
 
   -- ---- what is found is the map of the file, and what is remembered stays right
 
   module _ (words : List (List ℕ × MapRecord)) (locations : LocationsSeen) where
     -- what is remembered under each text is what its file gives
     abbrev AllKept : StoredSeen L → Type 0
-    AllKept maps = (key : List ℕ) (one : Kept) → kept_under key maps.cache.kept ≡ Some one → one.found ≡ by_path load key (path_for locations key)
+    AllKept maps = (key : List ℕ) (one : Kept) → value_under key maps.cache.kept ≡ Some one → one.found ≡ by_path load key (path_for locations key)
 
     -- it is under this one
     abbrev FindsKept : (key : List ℕ) → StoredSeen L → Type 0
-    FindsKept key maps = map_in (kept_under key maps.cache.kept) ≡ by_path load key (path_for locations key)
+    FindsKept key maps = map_in (value_under key maps.cache.kept) ≡ by_path load key (path_for locations key)
 
     untouched_kept : (old new : StoredSeen L) → Untouched old new → AllKept old → AllKept new
-    untouched_kept old new same kept key one is = kept key one (ap (λ c. kept_under key c.kept) (sym same.cache) ∙ is)
+    untouched_kept old new same kept key one is = kept key one (ap (λ c. value_under key c.kept) (sym same.cache) ∙ is)
 
-    asked_kept : (old new : StoredSeen L) (key : List ℕ) → kept_under key old.cache.kept ≡ None → Asks Loads old key new → IsGood Good new
+    asked_kept : (old new : StoredSeen L) (key : List ℕ) → value_under key old.cache.kept ≡ None → Asks Loads old key new → IsGood Good new
         → old.locations ≡ locations → AllKept old → FindsKept key new × AllKept new
     asked_kept old new key absent (inr is) good same kept = absurd (short_is_some old.cache.shortages (sym (ap (λ c. c.shortages) is.cache) ∙ good.1))
     asked_kept old new key absent (inl asked) good same kept =
@@ -101,25 +102,25 @@ module _ {L : Type 0} (Loads : LoadsStep L) (Good : L → Type 0) (load : MapsBy
         )
       where
         other_right : (one : Kept) → one.found ≡ by_path load key (path_for locations key) → (other : List ℕ) (it : Kept)
-            → IsOf other key one it (kept_under other old.cache.kept) → it.found ≡ by_path load other (path_for locations other)
+            → IsOf other key one it (value_under other old.cache.kept) → it.found ≡ by_path load other (path_for locations other)
         other_right one right other it (inr was) = kept other it was
         other_right one right other it (inl now) =
             ap (λ k. k.found) now.1 ∙ right ∙ ap (λ k. by_path load k (path_for locations k)) (sym now.0)
 
-    recalled_kept : (old new : StoredSeen L) (key : List ℕ) (one : Option Kept) → kept_under key old.cache.kept ≡ one
+    recalled_kept : (old new : StoredSeen L) (key : List ℕ) (one : Option Kept) → value_under key old.cache.kept ≡ one
         → MatchOption one (Asks Loads old key new) (λ one. Untouched old new) → IsGood Good new → old.locations ≡ locations → AllKept old
         → FindsKept key new × AllKept new
     recalled_kept old new key None absent asks good same kept = asked_kept old new key absent asks good same kept
     recalled_kept old new key (Some one) is untouched good same kept = (
-      ap (λ c. map_in (kept_under key c.kept)) untouched.cache ∙ ap map_in is ∙ kept key one is,
+      ap (λ c. map_in (value_under key c.kept)) untouched.cache ∙ ap map_in is ∙ kept key one is,
       untouched_kept old new untouched kept,
     )
 
     -- where the table has a map, that is found, and else that of the file
     found_right : (old new : StoredSeen L) (key : List ℕ) (stated : Option MapRecord)
         → MatchOption stated (Recalls Loads old key new) (λ stated. Untouched old new) → IsGood Good new → old.locations ≡ locations → AllKept old
-        → (or_map stated (map_in (kept_under key new.cache.kept)) ≡ or_map stated (by_path load key (path_for locations key))) × AllKept new
-    found_right old new key None recalls good same kept = recalled_kept old new key (kept_under key old.cache.kept) refl recalls good same kept
+        → (or_map stated (map_in (value_under key new.cache.kept)) ≡ or_map stated (by_path load key (path_for locations key))) × AllKept new
+    found_right old new key None recalls good same kept = recalled_kept old new key (value_under key old.cache.kept) refl recalls good same kept
     found_right old new key (Some stated) untouched good same kept = (refl, untouched_kept old new untouched kept)
 
     pub right_after : (old new : StoredSeen L) (url : List ℕ) → FindsIn Loads old url new → IsGood Good new → IsRight load words locations old
@@ -127,13 +128,13 @@ module _ {L : Type 0} (Loads : LoadsStep L) (Good : L → Type 0) (load : MapsBy
     right_after old new url finds good right =
         let key = key_for locations url in
         let P : List (List ℕ × MapRecord) × LocationsSeen → Type 0 = λ (w, l).
-        MatchOption (record_for url w) (Recalls Loads old (key_for l url) new) (λ stated. Untouched old new) in
+        MatchOption (value_under url w) (Recalls Loads old (key_for l url) new) (λ stated. Untouched old new) in
         let both : ◌≡◌ {A = List (List ℕ × MapRecord) × LocationsSeen} (old.words, old.locations) (words, locations) =
         λ i. (right.words i, right.locations i) in
-        let all = found_right old new key (record_for url words) (subst P both finds.steps) good right.locations right.kept in
+        let all = found_right old new key (value_under url words) (subst P both finds.steps) good right.locations right.kept in
         let new_words : new.words ≡ words = finds.words ∙ right.words in
         let new_locations : new.locations ≡ locations = finds.locations ∙ right.locations in (
-          (λ i. or_map (record_for url (new_words i)) (map_in (kept_under (key_for (new_locations i) url) new.cache.kept)))
-              ∙ all.0 ∙ ap (λ path. or_map (record_for url words) (by_path load key path)) (path_of_key locations url),
+          (λ i. or_map (value_under url (new_words i)) (map_in (value_under (key_for (new_locations i) url) new.cache.kept)))
+              ∙ all.0 ∙ ap (λ path. or_map (value_under url words) (by_path load key path)) (path_of_key locations url),
           record { words = new_words; locations = new_locations; kept = all.1 },
         )

@@ -4,8 +4,8 @@ use Rattle.std.specs.Option.{IsSomeAnd}
 use Rattle.std.proofs.Common.{ap, inl, inr}
 use Rattle.smap_locations.specs.Locations.{key_for, path_for}
 use Rattle.smap_record.specs.Record.{MapRecord}
-use Rattle.smap_trace.specs.Table.{record_for}
-use Rattle.smap_store.specs.Cache.{Kept, kept_under}
+use Rattle.smap_by_text.specs.ByText.{value_under}
+use Rattle.smap_store.specs.Cache.{Kept}
 use Rattle.smap_store.specs.Stored.{Asks, Comes, FindsIn, GivesIn, LoadsMay, LoadsStep, MayCome, Recalls, StoredSeen, Untouched}
 
 module _ {L N : Type 0} (see : L → N) where
@@ -40,14 +40,14 @@ module _ {L N : Type 0} (see : L → N) where
 
     steps_seen : (old new : StoredSeen L) (loads : StepSeen old.loader new.loader) (url : List ℕ) (words : Option MapRecord) → MatchOption words (Recalls Loads old url new) (λ _. Untouched old new)
         → MatchOption words (Recalls Seen (see_store old) url (see_store new)) (λ _. Untouched (see_store old) (see_store new))
-    steps_seen old new loads url None recalls = recalls_seen old new loads url (kept_under url old.cache.kept) recalls
+    steps_seen old new loads url None recalls = recalls_seen old new loads url (value_under url old.cache.kept) recalls
     steps_seen old new loads url (Some stated) same = untouched_seen old new same
 
     pub finds_seen : (old new : StoredSeen L) (loads : StepSeen old.loader new.loader) (url : List ℕ) → FindsIn Loads old url new → FindsIn Seen (see_store old) url (see_store new)
     finds_seen old new loads url is = record {
       words = is.words;
       locations = is.locations;
-      steps = steps_seen old new loads (key_for old.locations url) (record_for url old.words) is.steps;
+      steps = steps_seen old new loads (key_for old.locations url) (value_under url old.words) is.steps;
     }
 
   module _ (MayLoad : LoadsMay L) (MaySeen : LoadsMay N) (maps : StoredSeen L)
@@ -60,7 +60,7 @@ module _ {L N : Type 0} (see : L → N) where
 
     abbrev ByCache : {K : Type 0} → LoadsMay K → (loader : K) → (url key : List ℕ) → (found : Option MapRecord) → Type 0
     ByCache May loader url key found =
-        IsSomeAnd (kept_under key maps.cache.kept) (λ one. found ≡ one.found) ⊎ MayCome May loader key (path_for maps.locations url) found
+        IsSomeAnd (value_under key maps.cache.kept) (λ one. found ≡ one.found) ⊎ MayCome May loader key (path_for maps.locations url) found
 
     by_cache_seen : (url key : List ℕ) (found : Option MapRecord) → ByCache MayLoad maps.loader url key found → ByCache MaySeen (see maps.loader) url key found
     by_cache_seen url key found (inl is) = inl is
@@ -73,4 +73,4 @@ module _ {L N : Type 0} (see : L → N) where
     gives_for url found (Some stated) is = is
 
     pub gives_seen : (url : List ℕ) (found : Option MapRecord) → GivesIn MayLoad maps url found → GivesIn MaySeen (see_store maps) url found
-    gives_seen url found is = gives_for url found (record_for url maps.words) is
+    gives_seen url found is = gives_for url found (value_under url maps.words) is

@@ -5,9 +5,10 @@ use Rattle.std.proofs.Common.{refl, sym, ap, subst, ◌∙◌, inl, inr}
 use Rattle.smap_locations.specs.Laws.Key.{path_of_key}
 use Rattle.smap_locations.specs.Locations.{LocationsSeen, key_for, path_for}
 use Rattle.smap_record.specs.Record.{MapRecord}
-use Rattle.smap_trace.specs.Table.{record_for}
-use Rattle.smap_store.specs.Cache.{CacheSeen, Keeps, Kept, Remembers, counted, kept_of, kept_under}
-use Rattle.smap_store.specs.Laws.Kept.{IsOf, other_remembered, own_remembered}
+use Rattle.smap_by_text.specs.ByText.{value_under}
+use Rattle.smap_by_text.specs.Laws.ByText.{IsOf}
+use Rattle.smap_store.specs.Cache.{CacheSeen, Keeps, Kept, Remembers, counted, kept_of}
+use Rattle.smap_store.specs.Laws.Kept.{other_remembered, own_remembered}
 use Rattle.smap_store.specs.Loaded.{record_in}
 use Rattle.smap_store.specs.Stored.{Asks, Comes, FindsIn, GivesIn, LoadsMay, LoadsStep, MayCome, Recalls, StoredSeen, Untouched, found_in, map_in, or_map}
 
@@ -27,7 +28,7 @@ module _ {L : Type 0} (Loads : LoadsStep L) where
 
   -- this came for a URL that was not remembered, and it is remembered, where there was memory for it
   record Came (old : StoredSeen L) (url : List ℕ) (new : StoredSeen L) : Type 0 where
-    absent : kept_under url old.cache.kept ≡ None
+    absent : value_under url old.cache.kept ≡ None
     came : Option (MapRecord × ℕ)
     comes : Comes Loads old.loader url (path_for old.locations url) came new.loader
     kept : Keeps old.cache.most old.cache.kept url (kept_of came) new.cache.kept ⊎ (new.cache.kept ≡ old.cache.kept)
@@ -41,7 +42,7 @@ module _ {L : Type 0} (Loads : LoadsStep L) where
   kept_after old url came new (inl kept) = inl kept.0
   kept_after old url came new (inr is) = inr (ap (λ cache. cache.kept) is ∙ counted_kept old came)
 
-  recalled : (old : StoredSeen L) (url : List ℕ) (new : StoredSeen L) (one : Option Kept) → kept_under url old.cache.kept ≡ one
+  recalled : (old : StoredSeen L) (url : List ℕ) (new : StoredSeen L) (one : Option Kept) → value_under url old.cache.kept ≡ one
       → MatchOption one (Asks Loads old url new) (λ one. Untouched old new) → Moves old url new
   recalled old url new (Some one) is same = inl (record { kept = ap (λ cache. cache.kept) same.cache; loader = same.loader })
   recalled old url new None is (inr same) = inl (record { kept = ap (λ cache. cache.kept) same.cache; loader = same.loader })
@@ -51,7 +52,7 @@ module _ {L : Type 0} (Loads : LoadsStep L) where
   moved : (old : StoredSeen L) (url : List ℕ) (new : StoredSeen L) (words : Option MapRecord)
       → MatchOption words (Recalls Loads old url new) (λ stated. Untouched old new) → Moves old url new
   moved old url new (Some stated) same = inl (record { kept = ap (λ cache. cache.kept) same.cache; loader = same.loader })
-  moved old url new None recalls = recalled old url new (kept_under url old.cache.kept) refl recalls
+  moved old url new None recalls = recalled old url new (value_under url old.cache.kept) refl recalls
 
 module _ {L : Type 0} (MayLoad : LoadsMay L) where
   none_may : (loader : L) (url : List ℕ) (path : Option (List ℕ)) (found : Option MapRecord) → found ≡ None → MayCome MayLoad loader url path found
@@ -59,13 +60,13 @@ module _ {L : Type 0} (MayLoad : LoadsMay L) where
   none_may loader url (Some path) found is = inl is
 
   some_for : (maps : StoredSeen L) (url : List ℕ) (path : Option (List ℕ)) (words : Option MapRecord) → (found : Option MapRecord) ×
-      MatchOption words (IsSomeAnd (kept_under (key_for maps.locations url) maps.cache.kept) (λ one. found ≡ one.found)
+      MatchOption words (IsSomeAnd (value_under (key_for maps.locations url) maps.cache.kept) (λ one. found ≡ one.found)
       ⊎ MayCome MayLoad maps.loader (key_for maps.locations url) path found) (λ stated. found ≡ Some stated)
   some_for maps url path None = (None, inr (none_may maps.loader (key_for maps.locations url) path None refl))
   some_for maps url path (Some stated) = (Some stated, refl)
 
   pub some_in : (maps : StoredSeen L) (url : List ℕ) → (found : Option MapRecord) × GivesIn MayLoad maps url found
-  some_in maps url = some_for maps url (path_for maps.locations url) (record_for url maps.words)
+  some_in maps url = some_for maps url (path_for maps.locations url) (value_under url maps.words)
 
   module _ (Loads : LoadsStep L)
       (given : (loader after : L) (url path : List ℕ) (came : Option (MapRecord × ℕ)) → Loads loader url path came after
@@ -80,16 +81,16 @@ module _ {L : Type 0} (MayLoad : LoadsMay L) where
 
     -- what a URL has by what is remembered of it, or by what may come
     abbrev ByCache : (maps : StoredSeen L) (key : List ℕ) (path : Option (List ℕ)) (found : Option MapRecord) → Type 0
-    ByCache maps key path found = IsSomeAnd (kept_under key maps.cache.kept) (λ one. found ≡ one.found) ⊎ MayCome MayLoad maps.loader key path found
+    ByCache maps key path found = IsSomeAnd (value_under key maps.cache.kept) (λ one. found ≡ one.found) ⊎ MayCome MayLoad maps.loader key path found
 
     by_kept : (maps : StoredSeen L) (key : List ℕ) (path : Option (List ℕ)) (found : Option MapRecord) (one : Option Kept)
-        → kept_under key maps.cache.kept ≡ one → found ≡ map_in one → ByCache maps key path found
+        → value_under key maps.cache.kept ≡ one → found ≡ map_in one → ByCache maps key path found
     by_kept maps key path found None is finds = inr (none_may maps.loader key path found finds)
     by_kept maps key path found (Some one) is finds =
         let P : Option Kept → Type 0 = λ one. IsSomeAnd one (λ one. found ≡ one.found) in
         inl (subst P (sym is) finds)
 
-    came_found : (old new : StoredSeen L) (key : List ℕ) (found : Option MapRecord) → Came Loads old key new → found ≡ map_in (kept_under key new.cache.kept)
+    came_found : (old new : StoredSeen L) (key : List ℕ) (found : Option MapRecord) → Came Loads old key new → found ≡ map_in (value_under key new.cache.kept)
         → MayCome MayLoad old.loader key (path_for old.locations key) found
     came_found old new key found is finds = go is.kept
       where
@@ -99,29 +100,29 @@ module _ {L : Type 0} (MayLoad : LoadsMay L) where
             came_may old.loader new.loader key (path_for old.locations key) is.came found is.comes
             (finds ∙ ap map_in (own_remembered old.cache.kept key (kept_of is.came) new.cache.kept old.cache.most keeps is.absent) ∙ found_of is.came)
         go (inr same) =
-            none_may old.loader key (path_for old.locations key) found (finds ∙ ap (λ kept. map_in (kept_under key kept)) same ∙ ap map_in is.absent)
+            none_may old.loader key (path_for old.locations key) found (finds ∙ ap (λ kept. map_in (value_under key kept)) same ∙ ap map_in is.absent)
 
     found_by : (old new : StoredSeen L) (url : List ℕ) (found : Option MapRecord) → Moves Loads old (key_for old.locations url) new
-        → found ≡ map_in (kept_under (key_for old.locations url) new.cache.kept) → ByCache old (key_for old.locations url) (path_for old.locations url) found
+        → found ≡ map_in (value_under (key_for old.locations url) new.cache.kept) → ByCache old (key_for old.locations url) (path_for old.locations url) found
     found_by old new url found (inl same) finds =
-        by_kept old (key_for old.locations url) (path_for old.locations url) found (kept_under (key_for old.locations url) old.cache.kept) refl
-        (finds ∙ ap (λ kept. map_in (kept_under (key_for old.locations url) kept)) same.kept)
+        by_kept old (key_for old.locations url) (path_for old.locations url) found (value_under (key_for old.locations url) old.cache.kept) refl
+        (finds ∙ ap (λ kept. map_in (value_under (key_for old.locations url) kept)) same.kept)
     found_by old new url found (inr came) finds =
         let P : Option (List ℕ) → Type 0 = λ path. MayCome MayLoad old.loader (key_for old.locations url) path found in
         inr (subst P (path_of_key old.locations url) (came_found old new (key_for old.locations url) found came finds))
 
     given_for : (old new : StoredSeen L) (url : List ℕ) (found : Option MapRecord) (words : Option MapRecord)
-        → Moves Loads old (key_for old.locations url) new → found ≡ or_map words (map_in (kept_under (key_for old.locations url) new.cache.kept))
+        → Moves Loads old (key_for old.locations url) new → found ≡ or_map words (map_in (value_under (key_for old.locations url) new.cache.kept))
         → MatchOption words (ByCache old (key_for old.locations url) (path_for old.locations url) found) (λ stated. found ≡ Some stated)
     given_for old new url found None moves finds = found_by old new url found moves finds
     given_for old new url found (Some stated) moves finds = finds
 
     pub given_in : (old new : StoredSeen L) (url : List ℕ) → FindsIn Loads old url new → GivesIn MayLoad old url (found_in new url)
     given_in old new url finds =
-        let is : found_in new url ≡ or_map (record_for url old.words) (map_in (kept_under (key_for old.locations url) new.cache.kept)) =
-        λ i. or_map (record_for url (finds.words i)) (map_in (kept_under (key_for (finds.locations i) url) new.cache.kept)) in
-        given_for old new url (found_in new url) (record_for url old.words)
-        (moved Loads old (key_for old.locations url) new (record_for url old.words) finds.steps) is
+        let is : found_in new url ≡ or_map (value_under url old.words) (map_in (value_under (key_for old.locations url) new.cache.kept)) =
+        λ i. or_map (value_under url (finds.words i)) (map_in (value_under (key_for (finds.locations i) url) new.cache.kept)) in
+        given_for old new url (found_in new url) (value_under url old.words)
+        (moved Loads old (key_for old.locations url) new (value_under url old.words) finds.steps) is
 
     module _ (same : (loader after : L) (url path other other_path : List ℕ) (came : Option (MapRecord × ℕ)) (more : Option MapRecord)
         → Loads loader url path came after → MayLoad after other other_path more → MayLoad loader other other_path more) where
@@ -148,12 +149,12 @@ module _ {L : Type 0} (MayLoad : LoadsMay L) where
       comes_before old new key other (Some path) more moves (inr may) = inr (loads_before old new key other path more moves may)
 
       kept_before : (old new : StoredSeen L) (key other : List ℕ) (more : Option MapRecord) (it : Kept) → Moves Loads old key new
-          → kept_under other new.cache.kept ≡ Some it → more ≡ it.found → ByCache old other (path_for old.locations other) more
+          → value_under other new.cache.kept ≡ Some it → more ≡ it.found → ByCache old other (path_for old.locations other) more
       kept_before old new key other more it (inl same) has is =
-          by_kept old other (path_for old.locations other) more (Some it) (ap (kept_under other) (sym same.kept) ∙ has) is
+          by_kept old other (path_for old.locations other) more (Some it) (ap (value_under other) (sym same.kept) ∙ has) is
       kept_before old new key other more it (inr one) has is = go one.kept
         where
-          of : IsOf other key (kept_of one.came) it (kept_under other old.cache.kept) → ByCache old other (path_for old.locations other) more
+          of : IsOf other key (kept_of one.came) it (value_under other old.cache.kept) → ByCache old other (path_for old.locations other) more
           of (inr was) = by_kept old other (path_for old.locations other) more (Some it) was is
           of (inl now) =
               let P : List ℕ → Type 0 = λ key. MayCome MayLoad old.loader key (path_for old.locations key) more in
@@ -163,10 +164,10 @@ module _ {L : Type 0} (MayLoad : LoadsMay L) where
           go : Keeps old.cache.most old.cache.kept key (kept_of one.came) new.cache.kept ⊎ (new.cache.kept ≡ old.cache.kept)
               → ByCache old other (path_for old.locations other) more
           go (inl keeps) = of (other_remembered old.cache.kept key (kept_of one.came) new.cache.kept old.cache.most keeps other it has)
-          go (inr same) = by_kept old other (path_for old.locations other) more (Some it) (ap (kept_under other) (sym same) ∙ has) is
+          go (inr same) = by_kept old other (path_for old.locations other) more (Some it) (ap (value_under other) (sym same) ∙ has) is
 
       cache_before : (old new : StoredSeen L) (key other : List ℕ) (more : Option MapRecord) (it : Option Kept) → Moves Loads old key new
-          → kept_under other new.cache.kept ≡ it → IsSomeAnd it (λ one. more ≡ one.found) → ByCache old other (path_for old.locations other) more
+          → value_under other new.cache.kept ≡ it → IsSomeAnd it (λ one. more ≡ one.found) → ByCache old other (path_for old.locations other) more
       cache_before old new key other more None moves has is = absurd is
       cache_before old new key other more (Some it) moves has is = kept_before old new key other more it moves has is
 
@@ -178,7 +179,7 @@ module _ {L : Type 0} (MayLoad : LoadsMay L) where
       by_cache_before old new key url more moves (inl is) =
           let P : Option (List ℕ) → Type 0 = λ path. ByCache old (key_for old.locations url) path more in
           subst P (path_of_key old.locations url)
-          (cache_before old new key (key_for old.locations url) more (kept_under (key_for old.locations url) new.cache.kept) moves refl is)
+          (cache_before old new key (key_for old.locations url) more (value_under (key_for old.locations url) new.cache.kept) moves refl is)
 
       gives_before : (old new : StoredSeen L) (key url : List ℕ) (more : Option MapRecord) (words : Option MapRecord) → Moves Loads old key new
           → MatchOption words (ByCache new (key_for old.locations url) (path_for old.locations url) more) (λ stated. more ≡ Some stated)
@@ -190,7 +191,7 @@ module _ {L : Type 0} (MayLoad : LoadsMay L) where
           → GivesIn MayLoad new other more → GivesIn MayLoad old other more
       same_in old new url other more finds gives =
           let P : List (List ℕ × MapRecord) × LocationsSeen → Type 0 = λ (words, locations).
-          MatchOption (record_for other words) (ByCache new (key_for locations other) (path_for locations other) more) (λ stated. more ≡ Some stated) in
+          MatchOption (value_under other words) (ByCache new (key_for locations other) (path_for locations other) more) (λ stated. more ≡ Some stated) in
           let both : _ ≡ _ = λ i. (finds.words i, finds.locations i) in
-          gives_before old new (key_for old.locations url) other more (record_for other old.words)
-          (moved Loads old (key_for old.locations url) new (record_for url old.words) finds.steps) (subst P both gives)
+          gives_before old new (key_for old.locations url) other more (value_under other old.words)
+          (moved Loads old (key_for old.locations url) new (value_under url old.words) finds.steps) (subst P both gives)

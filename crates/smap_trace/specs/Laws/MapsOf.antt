@@ -19,14 +19,14 @@ use Rattle.smap_trace.specs.MapsOf.{MapsByUrl, RewritesBy, counts_by, fate_by, i
 use Rattle.smap_trace.specs.Rewriting.{Rewrites, RewritesOver, TraceNow, TraceStep, hidden_in, mapped_in, staying_in, trace_start}
 use Rattle.smap_trace.specs.Rewritten.{Fate, FateStep, SourceLocation, counts_of, fate, fate_at, fate_of, hidden, is_frame_line, is_hidden}
 use Rattle.smap_trace.specs.Rewritten.{is_mapped, line_after, named_fate, no_frame, original_in, replaced, rewritten, rewritten_line, stays}
-use Rattle.smap_trace.specs.Table.{record_for}
+use Rattle.smap_by_text.specs.ByText.{value_under}
 use Rattle.smap_trace.specs.declared.outcome.RewriteCounts.{RewriteCounts}
 
 -- ---- over the maps of a table
 
 module _ (table : List (List ℕ × MapRecord)) (hide : Bool) where
   abbrev pub in_table : MapsByUrl
-  in_table url = record_for url table
+  in_table url = value_under url table
 
   fate_table : (parts : Option FrameParts) → fate_by in_table hide parts ≡ fate_of hide table parts
   fate_table None = refl

@@ -1,6 +1,6 @@
 use Rattle.std.proofs.Common.{◌≡◌, refl}
 use Rattle.std.proofs.lemmas.Result.{IfOk-weaker, MatchResult-weaker}
-use Rattle.smap_trace.specs.Table.{record_for}
+use Rattle.smap_by_text.specs.ByText.{value_under}
 use Rattle.smap_places.specs.Places.{place_at}
 use Rattle.smap_places.specs.Laws.PlacesSeen.{front_of_none}
 use Rattle.smap_places.proofs.TableLaws.{front_table, rewrites_table}
@@ -9,7 +9,7 @@ use Rattle.smap_places.proofs.rewriting.rewrite_places.Goals as goal
 pub returns-in_default-clause-front : goal.returns-in_default-clause-front
 returns-in_default-clause-front g c =
     front_table c.args.table.now c.args.most_bytes _ _ _
-    (front_of_none (λ url stated. stated ≡ record_for url c.args.table.now) (place_at c.args.table.now)
+    (front_of_none (λ url stated. stated ≡ value_under url c.args.table.now) (place_at c.args.table.now)
     c.args.most_bytes _)
 
 pub returns-clause-rewrites : goal.returns-clause-rewrites

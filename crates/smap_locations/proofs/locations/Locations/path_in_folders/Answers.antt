@@ -1,7 +1,7 @@
 use Rattle.std.proofs.Common.{◌≡◌, Some, None, string_bytes, option_map, suc, take, ap, sym, arith, ◌∙◌, ◌-◌}
 use Rattle.std.proofs.lemmas.Result.{IfOk-weaker}
 use Rattle.smap_locations.specs.Locations.{path_in_folders, path_within}
-use Rattle.smap_locations.specs.Named.{path_under}
+use Rattle.smap_by_text.specs.ByText.{value_under}
 use Rattle.smap_locations.specs.Paths.{map_path}
 use Rattle.smap_locations.proofs.PathLaws.{folder_here, no_folder, none_here}
 use Rattle.smap_locations.proofs.locations.Locations.path_in_folders.Goals as goal
@@ -14,8 +14,8 @@ returns-in-Some c =
     let url = c.args.url.now in
     let end = c.loop-end.end in
     let one : end ≡ suc (end - 1) = omega (arith, c.loop-end-test.true) in
-    let some : path_under (take end url) folders ≡ Some (string_bytes c.in-Some.folder.now) =
-    ap (λ text. path_under text folders) (sym c.split_at.ensures.front) ∙ sym c.path_under.ensures
+    let some : value_under (take end url) folders ≡ Some (string_bytes c.in-Some.folder.now) =
+    ap (λ text. value_under text folders) (sym c.split_at.ensures.front) ∙ sym c.path_under.ensures
     ∙ ap (option_map (λ path. string_bytes path.now)) c.in-Some.is in
     IfOk-weaker c.map_path.result _ _
     (λ path is. is ∙ ap (λ f. map_path f c.split_at.result.1.now) c.deref.ensures ∙ ap (map_path (string_bytes c.in-Some.folder.now)) c.split_at.ensures.back
@@ -29,10 +29,10 @@ loop-end-preserved c =
     let url = c.args.url.now in
     let end = c.loop-end.end in
     let one : end ≡ suc (end - 1) = omega (arith, c.loop-end-test.true) in
-    let on : path_under c.split_at.result.0.now folders ≡ None
+    let on : value_under c.split_at.result.0.now folders ≡ None
     → path_in_folders c.args.self.now.folders url ≡ path_within c.args.self.now.folders url (end - 1) =
     λ none. c.loop-end.invariant.later ∙ ap (λ f. path_within f url end) (sym same)
-    ∙ none_here folders url (end - 1) end one (ap (λ text. path_under text folders) (sym c.split_at.ensures.front) ∙ none)
+    ∙ none_here folders url (end - 1) end one (ap (λ text. value_under text folders) (sym c.split_at.ensures.front) ∙ none)
     ∙ ap (λ f. path_within f url (end - 1)) same in
     record {
       within = omega (arith, c.loop-end.invariant.within);

@@ -1,15 +1,8 @@
-use Rattle.std.proofs.Common.{ap, length, map, rules, string_bytes, tests, ◌∙◌}
-use Rattle.std.proofs.lemmas.Iterator.{YieldsList-from_map, items_from_collect}
-use Rattle.std.proofs.lemmas.Iterator.Consumers.{YieldsList-at, YieldsList-from_rest}
+use Rattle.std.proofs.Common.{string_bytes, ◌∙◌}
 use Rattle.std.proofs.lemmas.Result.{IfOk-weaker}
-use Rattle.smap_locations.proofs.NamedLaws.{same_lengths}
+use Rattle.smap_by_text.specs.Laws.ByText.{lengths_seen}
 use Rattle.smap_locations.proofs.named.NamedPaths.lengths.Goals as goal
 
 pub returns : goal.returns
 returns c =
-    IfOk-weaker c.collect.result _ _
-    (λ lengths is. is ∙ same_lengths (λ k. k.items) string_bytes c.self.inside.paths.entries ∙ ap (λ t. map (λ pair. length pair.0) t) c.self.view_is)
-    (items_from_collect c.collect.result c.collect.ensures.ran
-    (YieldsList-from_map _ (λ url. length url.items)
-    (YieldsList-at c.map.ensures.source (YieldsList-from_rest (map (λ e. e.0) c.self.inside.paths.entries) c.keys.ensures.rest))
-    c.map.ensures.closure (λ x r q k. search (rules, tests))))
+    IfOk-weaker c.lengths.result _ _ (λ lengths is. is ∙ lengths_seen string_bytes c.self.inside.paths c.args.self.now c.self.view_is) c.lengths.ensures

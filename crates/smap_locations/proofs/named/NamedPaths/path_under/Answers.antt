@@ -1,9 +1,6 @@
-use Rattle.std.proofs.Common.{ap, string_bytes, ◌∙◌}
-use Rattle.smap_locations.specs.Named.{path_under}
-use Rattle.smap_locations.proofs.NamedLaws.{copied, looked_up}
+use Rattle.std.proofs.Common.{string_bytes}
+use Rattle.smap_by_text.specs.Laws.ByText.{found_seen}
 use Rattle.smap_locations.proofs.named.NamedPaths.path_under.Goals as goal
 
 pub returns : goal.returns
-returns c =
-    copied (λ path. path.now) string_bytes c.get.result _ c.get.ensures.value
-    ∙ looked_up (λ k. k.items) string_bytes c.args.url.now c.self.inside.paths.entries ∙ ap (path_under c.args.url.now) c.self.view_is
+returns c = found_seen string_bytes c.self.inside.paths c.args.self.now c.self.view_is (λ path. path.now) c.get.result c.args.url.now c.get.ensures

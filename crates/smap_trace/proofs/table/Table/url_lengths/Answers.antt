@@ -1,15 +1,8 @@
-use Rattle.std.proofs.Common.{ap, length, map, rules, tests, ◌∙◌}
-use Rattle.std.proofs.lemmas.Iterator.{YieldsList-from_map, items_from_collect}
-use Rattle.std.proofs.lemmas.Iterator.Consumers.{YieldsList-at, YieldsList-from_rest}
+use Rattle.std.proofs.Common.{◌∙◌}
 use Rattle.std.proofs.lemmas.Result.{IfOk-weaker}
-use Rattle.smap_trace.proofs.TableLaws.{same_lengths}
+use Rattle.smap_by_text.specs.Laws.ByText.{lengths_seen}
 use Rattle.smap_trace.proofs.table.Table.url_lengths.Goals as goal
 
 pub returns : goal.returns
 returns c =
-    IfOk-weaker c.collect.result _ _
-    (λ lengths is. is ∙ same_lengths (λ k. k.items) (λ map. map.stated) c.self.inside.maps.entries ∙ ap (λ t. map (λ pair. length pair.0) t) c.self.view_is)
-    (items_from_collect c.collect.result c.collect.ensures.ran
-    (YieldsList-from_map _ (λ url. length url.items)
-    (YieldsList-at c.map.ensures.source (YieldsList-from_rest (map (λ e. e.0) c.self.inside.maps.entries) c.keys.ensures.rest))
-    c.map.ensures.closure (λ x r q k. search (rules, tests))))
+    IfOk-weaker c.lengths.result _ _ (λ lengths is. is ∙ lengths_seen (λ map. map.stated) c.self.inside.maps c.args.self.now c.self.view_is) c.lengths.ensures
