@@ -171,7 +171,6 @@ const TAKING = [
   { call: 'stores url_lengths', answer: '[22]', memory: 'memory' },
   { call: 'stores prefix_lengths', answer: '[19]', memory: 'memory' },
   { call: 'stores PlaceFinder::new', answer: 'made', memory: 'memory' },
-  { call: 'stores StoredPlaceFinder::new', answer: 'made', memory: 'memory' },
   {
     call: 'stores rewrite_over',
     answer: 'rewritten|    at f (a.ts:1:2)|0 0',

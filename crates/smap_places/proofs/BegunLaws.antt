@@ -1,6 +1,7 @@
 -- Where no place begins in a line, and which is the next, whatever says which place begins a text.
-use Rattle.std.proofs.Common.{◌≡◌, ◌+◌, ◌<◌, ◌≤◌, inl, inr, ℕ, Bool, true, false, cond, List, length, drop, Option, Some, None, refl, ap, ◌∙◌, arith}
+use Rattle.std.proofs.Common.{◌≡◌, ◌+◌, ◌<◌, ◌≤◌, inl, inr, ℕ, Bool, true, false, cond, List, [], length, drop, Option, Some, None, refl, ap, ◌∙◌, arith}
 use Rattle.std.proofs.lemmas.Bool.{cases_lt, cond-true, cond-false}
+use Rattle.std.proofs.lemmas.List.{drop_all}
 use Rattle.smap_places.specs.PlaceSeen.{IsNext, place_seen}
 use Rattle.smap_places.specs.Places.{PlaceUrl, begun_at, may_begin}
 use Rattle.smap_places.specs.declared.place.FoundPlace.{FoundPlace}
@@ -21,6 +22,9 @@ module _ (begins : List ℕ → Option PlaceUrl) (line : List ℕ) where
   pub begun : (start : ℕ) → may_begin line start ≡ true → begun_at begins line start ≡ begins (drop start line)
   unfolding begun_at
   begun start on = cond-true (may_begin line start) _ None on
+
+  pub none_past : begins [] ≡ None → (i : ℕ) → length line ≤ i → begun_at begins line i ≡ None
+  none_past empty i past = not_begun i (ap begins (drop_all i line past) ∙ empty)
 
   -- none begins before one byte, and none from there on: below a third one
   pub none_joined : (from start low high : ℕ) → ((i : ℕ) → from ≤ i → i < start → i < high → begun_at begins line i ≡ None)

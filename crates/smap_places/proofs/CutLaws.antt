@@ -7,78 +7,14 @@ use Rattle.std.proofs.lemmas.Grind.{flat_map-append}
 use Rattle.std.proofs.lemmas.List.{drop-append-le, drop_all, reverse-append, take-append-le}
 use Rattle.smap_lines.specs.Lines.{IsWholeLines}
 use Rattle.smap_record.specs.Record.{MapRecord}
-use Rattle.smap_places.specs.Places.{Part, PlaceUrl, begins_colour, begun_at, found, is_escape, is_parameter, is_word, longest_within, may_begin, may_follow}
-use Rattle.smap_places.specs.Places.{number_after, numbers_after, or_else, other, parts_by, parts_from, parts_of, place_at, place_with, placed, record_of_place}
-use Rattle.smap_places.specs.Places.{with_column, with_line}
+use Rattle.smap_places.specs.PlaceAt.{table_alone, table_place_at}
+use Rattle.smap_places.specs.Places.{Part, PlaceUrl, begins_colour, begun_at, found, is_escape, is_parameter, is_word, may_begin, may_follow, other}
+use Rattle.smap_places.specs.Places.{parts_by, parts_from, parts_of}
 use Rattle.smap_places.specs.PlacesRewritten.{maps_of, part_text, parts_text, placed_text}
 use Rattle.smap_places.specs.PlacesNear.{EndsAtLines}
-use Rattle.smap_places.proofs.NearLaws.{place_line}
-use Rattle.smap_places.proofs.NumberReach.{number_size}
+use Rattle.smap_places.proofs.FinderLaws.{ends_at_lines}
 
 -- ---- a place has no more bytes than the text that it begins
-
-no_numbers : numbers_after [] ≡ None
-unfolding numbers_after
-no_numbers = refl
-
-abbrev pub size_or : Option PlaceUrl → ℕ
-size_or None = 0
-size_or (Some place) = place.size
-
-abbrev pub third : Option (ℕ × ℕ × ℕ) → ℕ
-third None = 0
-third (Some (line, column, size)) = size
-
-column_size : (line first size : ℕ) (rest : List ℕ) (o : Option (ℕ × ℕ)) (numbers : ℕ × ℕ × ℕ) → number_after rest ≡ o
-    → with_column line first o ≡ Some numbers → third (Some numbers) ≤ first + length rest
-column_size line first size rest None numbers from is = cc
-column_size line first size rest (Some (n, bytes)) numbers from is =
-    let sized = number_size rest n bytes from in let both : first + bytes ≡ third (Some numbers) = ap third is in omega (arith, sized.1, both)
-
-line_size : (text : List ℕ) (o : Option (ℕ × ℕ)) (numbers : ℕ × ℕ × ℕ) → number_after text ≡ o → with_line text o ≡ Some numbers
-    → third (Some numbers) ≤ length text
-line_size text None numbers from is = cc
-line_size text (Some (n, bytes)) numbers from is =
-    let sized = number_size text n bytes from in
-    let most = column_size n bytes 0 (drop bytes text) (number_after (drop bytes text)) numbers refl is in
-    omega (arith, most, sized.1, length-drop bytes text)
-
-pub numbers_size : (text : List ℕ) (numbers : ℕ × ℕ × ℕ) → numbers_after text ≡ Some numbers → third (Some numbers) ≤ length text
-unfolding numbers_after
-numbers_size text numbers is = line_size text (number_after text) numbers refl is
-
-placed_size : (url : List ℕ) (bytes : ℕ) (stated : Option MapRecord) (o : Option (ℕ × ℕ × ℕ)) (place : PlaceUrl) (most : ℕ) →
-    ((numbers : ℕ × ℕ × ℕ) → o ≡ Some numbers → bytes + third (Some numbers) ≤ most) → placed url bytes stated o ≡ Some place → place.size ≤ most
-placed_size url bytes None o place most few is = cc
-placed_size url bytes (Some stated) None place most few is = cc
-placed_size url bytes (Some stated) (Some (line, column, size)) place most few is =
-    let both : bytes + size ≡ place.size = ap (λ o. size_or o) is in
-    let within : bytes + size ≤ most = few (line, column, size) refl in omega (arith, both, within)
-
-with_size : (table : List (List ℕ × MapRecord)) (text : List ℕ) (bytes : ℕ) (place : PlaceUrl) → place_with table text bytes ≡ Some place
-    → place.size ≤ length text
-with_size table text bytes place is =
-    placed_size (take bytes text) bytes (record_of_place (take bytes text) table) (numbers_after (drop bytes text)) place (length text)
-    (λ numbers some. elim (cases_lt bytes (length text)) [
-      | inl inside ↦ omega (arith, inside, numbers_size (drop bytes text) numbers some, length-drop bytes text)
-      | inr past ↦ absurd (cc (ap numbers_after (drop_all bytes text past), no_numbers, some))
-    ]) is
-
-one_of : (first second : Option PlaceUrl) (place : PlaceUrl) (most : ℕ) → (first ≡ Some place → place.size ≤ most)
-    → (second ≡ Some place → place.size ≤ most) → or_else first second ≡ Some place → place.size ≤ most
-one_of (Some longest) second place most one two is = one is
-one_of None second place most one two is = two is
-
-longest_size : (table : List (List ℕ × MapRecord)) (text : List ℕ) (n : ℕ) (place : PlaceUrl) → longest_within table text n ≡ Some place
-    → place.size ≤ length text
-longest_size table text zero place is = cc
-longest_size table text (suc n) place is =
-    one_of (place_with table text (suc n)) (longest_within table text n) place (length text) (with_size table text (suc n) place)
-    (longest_size table text n place) is
-
-at_size : (table : List (List ℕ × MapRecord)) (text : List ℕ) (place : PlaceUrl) → place_at table text ≡ Some place → place.size ≤ length text
-unfolding place_at
-at_size table text place is = longest_size table text (length text) place is
 
 if_so : (t : Bool) (o : Option PlaceUrl) (place : PlaceUrl) → cond t o None ≡ Some place → o ≡ Some place
 if_so true o place is = is
@@ -208,13 +144,6 @@ module _ (begins : List ℕ → Option PlaceUrl) (ends : EndsAtLines begins) (li
 
 -- ---- the law
 
-no_place : (table : List (List ℕ × MapRecord)) → place_at table [] ≡ None
-unfolding place_at
-no_place table = refl
-
-pub table_ends : (table : List (List ℕ × MapRecord)) → EndsAtLines (place_at table)
-table_ends table = record { empty = no_place table; sized = at_size table; line = place_line table }
-
 pub no_parts : (begins : List ℕ → Option PlaceUrl) → parts_of begins [] ≡ []
 unfolding parts_of
 no_parts begins = refl
@@ -223,8 +152,8 @@ module _ (table : List (List ℕ × MapRecord)) where
   pub text_cut : (line rest : List ℕ) → placed_text (line ++ 10 ∷ rest) table ≡ placed_text line table ++ 10 ∷ placed_text rest table
   unfolding placed_text
   text_cut line rest =
-      ap (parts_text (maps_of table)) (parts_cut (place_at table) (table_ends table) line rest)
-      ∙ flat_map-append (part_text (maps_of table)) (parts_of (place_at table) line) (other 10 ∷ parts_of (place_at table) rest)
+      ap (parts_text (maps_of table)) (parts_cut (table_place_at table) (ends_at_lines (table_alone table)) line rest)
+      ∙ flat_map-append (part_text (maps_of table)) (parts_of (table_place_at table) line) (other 10 ∷ parts_of (table_place_at table) rest)
 
   pub none_placed : placed_text [] table ≡ []
   unfolding placed_text parts_of

@@ -1,10 +1,10 @@
 -- The greatest number that passes a test, and how it is found among numbers.
-use Rattle.std.proofs.Common.{◌≡◌, ◌+◌, ◌<◌, ◌≤◌, ◌⊎◌, inl, inr, ℕ, zero, suc, Bool, true, false, cond, List, get_or, length, take, refl, sym, ap, ◌∙◌, arith}
-use Rattle.std.proofs.lemmas.Bool.{cases_lt, cond-false, cond-true, false_from_ne_true}
+use Rattle.std.proofs.Common.{◌≡◌, ◌==◌, ◌||◌, ◌+◌, ◌<◌, ◌≤◌, ◌⊎◌, inl, inr, ℕ, zero, suc, Bool, true, false, cond, List, [], ◌∷◌, get_or, length, take}
+use Rattle.std.proofs.Common.{refl, sym, ap, ◌∙◌, arith}
+use Rattle.std.proofs.lemmas.Bool.{cases_lt, cond-false, cond-true, eq-eqb, eqb-true, false_from_ne_true}
 use Rattle.std.proofs.lemmas.List.{take_all}
 use Rattle.smap_places.specs.Candidates.{greatest}
 use Rattle.smap_places.specs.Private.Finder.{is_among}
-use Rattle.smap_places.proofs.PlaceLaws.{among_more}
 
 module _ (test : ℕ → Bool) where
   pub greatest_within : (n : ℕ) → greatest test n ≤ n
@@ -50,6 +50,37 @@ greatest_same one other m (suc more) same none =
     let next : m + suc more ≡ suc (m + more) = omega arith in
     ap (greatest one) next ∙ cond-false (one (suc (m + more))) (suc (m + more)) (greatest one (m + more)) (none (suc (m + more)) (omega arith))
     ∙ greatest_same one other m more same none
+
+-- ---- a number among others
+
+pub head_or : (x n : ℕ) (xs : List ℕ) → (x ≡ n) ⊎ (is_among xs n ≡ true) → is_among (x ∷ xs) n ≡ true
+head_or x n xs (inl same) = ap (λ b. b || is_among xs n) (eq-eqb x n same)
+head_or x n xs (inr among) = ap (λ b. (x == n) || b) among ∙ or_true (x == n)
+  where
+    or_true : (b : Bool) → (b || true) ≡ true
+    or_true true = refl
+    or_true false = refl
+
+among_next : (numbers : List ℕ) (i n : ℕ) → i < length numbers → is_among (take (suc i) numbers) n ≡ true
+    → (is_among (take i numbers) n ≡ true) ⊎ (get_or numbers i 0 ≡ n)
+among_next [] i n inside among = absurd (omega (arith, inside))
+among_next (x ∷ numbers) zero n inside among = go (x == n) refl among
+  where
+    go : (same : Bool) → (x == n) ≡ same → (same || false) ≡ true → (is_among [] n ≡ true) ⊎ (x ≡ n)
+    go true same is = inr (eqb-true x n same)
+    go false other is = cc
+among_next (x ∷ numbers) (suc i) n inside among = go (x == n) (λ is. among_next numbers i n (omega (arith, inside)) is) among
+  where
+    go : (same : Bool) → (is_among (take (suc i) numbers) n ≡ true → (is_among (take i numbers) n ≡ true) ⊎ (get_or numbers i 0 ≡ n))
+        → (same || is_among (take (suc i) numbers) n) ≡ true → ((same || is_among (take i numbers) n) ≡ true) ⊎ (get_or numbers i 0 ≡ n)
+    go true more is = inl refl
+    go false more is = more is
+
+pub among_more : (numbers : List ℕ) (i n : ℕ) → i < length numbers → is_among (take (i + 1) numbers) n ≡ true
+    → (is_among (take i numbers) n ≡ true) ⊎ (get_or numbers i 0 ≡ n)
+among_more numbers i n inside among =
+    let one : suc i ≡ i + 1 = omega arith in
+    among_next numbers i n inside (ap (λ k. is_among (take k numbers) n) one ∙ among)
 
 -- ---- one after another is tested
 

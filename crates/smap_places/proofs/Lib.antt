@@ -3,9 +3,9 @@ pub mod CandidateExamples
 pub mod LineEndLaws
 pub mod ColourLaws
 pub mod BegunLaws
-pub mod PlaceLaws
 pub mod PrintedLaws
 pub mod NumberReach
+pub mod NumberLaws
 pub mod RunLaws
 pub mod GreatestLaws
 pub mod NearLaws
@@ -13,8 +13,8 @@ pub mod CountLaws
 pub mod PartLaws
 pub mod PartStepLaws
 pub mod PassageLaws
+pub mod FinderLaws
 pub mod CutLaws
-pub mod StoredLaws
 pub mod ThroughLaws
 pub mod RewritingLaws
 pub mod TableLaws

@@ -6,9 +6,11 @@ use Rattle.std.proofs.Math.Seq.{drop-length, take-add}
 use Rattle.std.proofs.lemmas.List.{drop-drop, drop_more, take-append-drop, take_rest}
 use Rattle.std.proofs.lemmas.Bool.{false_from_ne_true}
 use Rattle.smap_by_text.specs.ByText.{value_under}
-use Rattle.smap_places.proofs.PlaceLaws.{none_known, not_begun}
+use Rattle.smap_places.proofs.BegunLaws.{not_begun}
+use Rattle.smap_places.proofs.FinderLaws.{none_known}
 use Rattle.smap_record.specs.Record.{MapRecord}
-use Rattle.smap_places.specs.Places.{Part, PlaceUrl, begun_at, found, other, parts_by, parts_from, parts_of, place_at}
+use Rattle.smap_places.specs.PlaceAt.{table_place_at}
+use Rattle.smap_places.specs.Places.{Part, PlaceUrl, begun_at, found, other, parts_by, parts_from, parts_of}
 use Rattle.smap_places.specs.PlaceSeen.{NoNext}
 use Rattle.smap_places.specs.PlacesRewritten.{maps_of, parts_text, placed_text, replacement}
 use Rattle.smap_places.specs.Private.PlaceRewriter.{parts_at}
@@ -117,9 +119,9 @@ pub without_urls : (table : List (List ℕ × MapRecord)) (text : List ℕ)
     → ((url before after : List ℕ) → is_some (value_under url table) ≡ true → text ≢ before ++ url ++ after) → placed_text text table ≡ text
 unfolding placed_text
 without_urls table text none =
-    let unknown : (start : ℕ) → place_at table (drop start text) ≡ None = λ start. none_known table (drop start text) (λ bytes.
+    let unknown : (start : ℕ) → table_place_at table (drop start text) ≡ None = λ start. none_known table (drop start text) (λ bytes.
     false_from_ne_true _ (λ some. none (take bytes (drop start text)) (take start text) (drop bytes (drop start text)) some
     (sym (take-append-drop start text) ∙ ap (λ rest. take start text ++ rest) (sym (take-append-drop bytes (drop start text)))
     ∙ sym (append_assoc (take start text) (take bytes (drop start text)) (drop bytes (drop start text)))))) in
-    ap (parts_text (maps_of table)) (from_start (place_at table) text)
-    ∙ last_text (place_at table) (maps_of table) text 0 (omega arith) (λ start _. not_begun table text start (unknown start))
+    ap (parts_text (maps_of table)) (from_start (table_place_at table) text)
+    ∙ last_text (table_place_at table) (maps_of table) text 0 (omega arith) (λ start _. not_begun (table_place_at table) text start (unknown start))

@@ -105,9 +105,9 @@ module _ (begins : List ℕ → Option PlaceUrl) (window : List ℕ) (high : ℕ
 
 -- ---- what was put so far
 
-module _ {S M W : Type 0} (begins : List ℕ → Option PlaceUrl) (Finds : M → (url : List ℕ) → M → Type 0) (under : M → (url : List ℕ) → Option MapRecord)
-    (seen : W → SinkSeen) (old : PlaceRewriter S M) (before : LineOutput W) (window : List ℕ) (from high : ℕ) where
-  pub record IsDone (new : PlaceRewriter S M) (after : LineOutput W) (to : ℕ) : Type 0 where
+module _ {M W : Type 0} (begins : List ℕ → Option PlaceUrl) (Finds : M → (url : List ℕ) → M → Type 0) (under : M → (url : List ℕ) → Option MapRecord)
+    (seen : W → SinkSeen) (old : PlaceRewriter M) (before : LineOutput W) (window : List ℕ) (from high : ℕ) where
+  pub record IsDone (new : PlaceRewriter M) (after : LineOutput W) (to : ℕ) : Type 0 where
     pub parts : List Part
     pub text : List ℕ
     pub passed : IsPassed begins window from high to parts
@@ -134,7 +134,7 @@ module _ {S M W : Type 0} (begins : List ℕ → Option PlaceUrl) (Finds : M →
   place_text to place stated =
       slice_range window to place.start ++ unwrap_or (replacement stated (place_seen place)) (slice_range window place.start place.end)
 
-  module _ (now : PlaceRewriter S M) (mid : LineOutput W) (to : ℕ) (is : IsDone now mid to) where
+  module _ (now : PlaceRewriter M) (mid : LineOutput W) (to : ℕ) (is : IsDone now mid to) where
     pub done_looked : Looked Finds old.maps.now now.maps.now
     done_looked = steps_looked Finds under (places_now old []) (places_now now is.text) is.parts is.steps
 
@@ -176,7 +176,7 @@ module _ {S M W : Type 0} (begins : List ℕ → Option PlaceUrl) (Finds : M →
             passed_then begins window high from to place.end is.parts more is.passed (passed_place begins window high to place next below)
 
         -- it was put
-        pub done_place : (new : PlaceRewriter S M) → Puts seen mid after (place_text to place stated) → maps ≡ new.maps.now → IsSameRewriter now new →
+        pub done_place : (new : PlaceRewriter M) → Puts seen mid after (place_text to place stated) → maps ≡ new.maps.now → IsSameRewriter now new →
             new.places ≡ now.places + 1 → new.mapped ≡ now.mapped + cond (is_some (replacement stated (place_seen place))) 1 0 → IsDone new after place.end
         done_place new put maps_are same places mapped =
             let text : List ℕ = is.text ++ place_text to place stated in

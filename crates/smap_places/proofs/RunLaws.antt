@@ -5,7 +5,7 @@ use Rattle.std.proofs.lemmas.List.{drop_more}
 use Rattle.smap_places.specs.Candidates.{is_url_byte, run_further, run_length}
 use Rattle.smap_places.specs.Places.{numbers_after}
 use Rattle.smap_places.proofs.NumberReach.{numbers_line, numbers_reach}
-use Rattle.smap_places.proofs.PlaceLaws.{no_numbers}
+use Rattle.smap_places.proofs.NumberLaws.{no_numbers}
 
 -- so many bytes more
 abbrev pub run_on : (more : ℕ) → Option ℕ → Option ℕ

@@ -7,7 +7,8 @@ use Rattle.smap_record.specs.Record.{MapRecord}
 use Rattle.smap_by_text.specs.ByText.{value_under}
 use Rattle.smap_trace.specs.declared.maps.TableMaps.{TableMaps}
 use Rattle.smap_trace.specs.declared.outcome.Summary.{Summary}
-use Rattle.smap_places.specs.Places.{Part, found, other, parts_of, place_at}
+use Rattle.smap_places.specs.PlaceAt.{table_place_at}
+use Rattle.smap_places.specs.Places.{Part, found, other, parts_of}
 use Rattle.smap_places.specs.Laws.PlacesBy.{places_by, places_by_table}
 use Rattle.smap_places.specs.PlacesOver.{MayBe, MayBecome, RewritesPlacesFrontOver, RewritesPlacesOver}
 use Rattle.smap_places.specs.PlacesRewriting.{RewritesPlaces, RewritesPlacesFront}
@@ -30,11 +31,11 @@ module _ (table : List (List ℕ × MapRecord)) where
       (ap (value_under url) same, same)
 
   pub rewrites_table : (most_bytes : ℕ) (before after : DevicesSeen) (old new : TableMaps) (summary : Summary) → old.0.now ≡ table →
-      RewritesPlacesOver TableFinds table_found (place_at table) most_bytes before after old new summary → RewritesPlaces before after table most_bytes summary
+      RewritesPlacesOver TableFinds table_found (table_place_at table) most_bytes before after old new summary → RewritesPlaces before after table most_bytes summary
   rewrites_table most_bytes before after old new summary is all =
       places_by_table table most_bytes before after summary
       (places_by TableFinds table_found (maps_of table) (λ maps. ⊤) IsOver (λ old new url finds good. tt)
-      (λ old new url finds good is. finds_table old new url finds is) (place_at table) most_bytes before after old new summary all tt is)
+      (λ old new url finds good is. finds_table old new url finds is) (table_place_at table) most_bytes before after old new summary all tt is)
 
   -- ---- what they may become
 
@@ -48,7 +49,7 @@ module _ (table : List (List ℕ × MapRecord)) where
   parts_may (part ∷ parts) text may = may.4 ∙ (λ i. part_may part may.0 may.2 i ++ parts_may parts may.1 may.3 i)
 
   pub front_table : (most_bytes : ℕ) (before after : DevicesSeen) (fault : LineFault) →
-      RewritesPlacesFrontOver (λ url stated. stated ≡ value_under url table) (place_at table) most_bytes before after fault
+      RewritesPlacesFrontOver (λ url stated. stated ≡ value_under url table) (table_place_at table) most_bytes before after fault
       → RewritesPlacesFront before after table most_bytes fault
   unfolding placed_text
   front_table most_bytes before after fault is = record {
@@ -57,9 +58,9 @@ module _ (table : List (List ℕ × MapRecord)) where
     later = is.later;
     read = is.read;
     taken = is.taken;
-    front = sym (parts_may (parts_of (place_at table) is.bytes) (is.written ++ is.later) is.front);
+    front = sym (parts_may (parts_of (table_place_at table) is.bytes) (is.written ++ is.later) is.front);
     many = is.many;
     whole = λ failed first rest cut whole.
         let some = is.whole failed first rest cut whole in
-        (some.1, some.3 ∙ ap (λ l. l ++ some.1) (parts_may (parts_of (place_at table) first) some.0 some.2));
+        (some.1, some.3 ∙ ap (λ l. l ++ some.1) (parts_may (parts_of (table_place_at table) first) some.0 some.2));
   }

@@ -4,7 +4,7 @@ pub mod PlaceSeen
 pub mod PlacesNear
 pub mod PlacesOver
 pub mod Candidates
-pub mod StoredPlaces
+pub mod PlaceAt
 pub mod PlacesRewritten
 pub mod PlacesRewriting
 pub mod PlacesBy

@@ -1,15 +1,11 @@
--- The places in a text, anywhere in it (this project's own): a URL of a table, `:`, a line, `:` and a column, in decimal
--- without leading zeros, from 1 to 2147483648, and no digit after them. No place begins after a byte of a word, but after
--- one that ends a colour of a terminal. Places are taken from the left; of those that begin at one byte, the one with the
--- longest URL; the next is sought after it.
-use Rattle.std.specs.Prelude.{ℕ, zero, suc, ◌+◌, ◌-◌, ◌==◌, ◌||◌, ◌&&◌, Bool, true, false, not, nat_le, List, [], ◌∷◌, Option, Some, None, codes, length, take}
+-- The places in a text, anywhere in it (this project's own): a URL, `:`, a line, `:` and a column, in decimal without leading
+-- zeros, from 1 to 2147483648, and no digit after them. No place begins after a byte of a word, but after one that ends a
+-- colour of a terminal. Places are taken from the left, and the next is sought after one.
+use Rattle.std.specs.Prelude.{ℕ, zero, suc, ◌+◌, ◌-◌, ◌==◌, ◌||◌, ◌&&◌, Bool, true, false, not, nat_le, List, [], ◌∷◌, Option, Some, None, codes, take}
 use Rattle.std.specs.Prelude.{drop, reverse, if◌then◌else◌, option_map}
 use Rattle.std.specs.Char.{is_ascii_digit, is_ascii_alphanumeric}
 use Rattle.std.specs.List.{list_any, prefix_len}
-use Rattle.smap_record.specs.Record.{MapRecord}
-use Rattle.smap_lines.specs.Lines.{has_line_end}
 use Rattle.smap_lines.specs.Numbers.{decimal_number}
-use Rattle.smap_by_text.specs.ByText.{value_under}
 
 -- ---- the numbers of a place
 
@@ -34,42 +30,12 @@ with_line text (Some (line, size)) = with_column line size (number_after (drop s
 unfoldable pub numbers_after : List ℕ → Option (ℕ × ℕ × ℕ)
 numbers_after text = with_line text (number_after text)
 
--- ---- a place at the beginning of a text
-
 -- a place: its URL, its line and its column, which count from 1, and how many bytes it is
 pub record PlaceUrl : Type 0 where
   pub url : List ℕ
   pub line : ℕ
   pub column : ℕ
   pub size : ℕ
-
--- the place with this URL of so many bytes, where the table has it and numbers stand after it
-abbrev pub placed : (url : List ℕ) → (bytes : ℕ) → Option MapRecord → (numbers : Option (ℕ × ℕ × ℕ)) → Option PlaceUrl
-placed url bytes None numbers = None
-placed url bytes (Some stated) None = None
-placed url bytes (Some stated) (Some (line, column, size)) =
-    Some (record { url = url; line = line; column = column; size = bytes + size })
-
--- the record of a place's URL, which holds no LF
-abbrev pub record_of_place : (url : List ℕ) → List (List ℕ × MapRecord) → Option MapRecord
-record_of_place url table = if has_line_end url then None else value_under url table
-
--- the one whose URL is this many bytes
-abbrev pub place_with : List (List ℕ × MapRecord) → (text : List ℕ) → (bytes : ℕ) → Option PlaceUrl
-place_with table text bytes = placed (take bytes text) bytes (record_of_place (take bytes text) table) (numbers_after (drop bytes text))
-
-abbrev pub or_else : Option PlaceUrl → Option PlaceUrl → Option PlaceUrl
-or_else (Some place) other = Some place
-or_else None other = other
-
--- the one with the longest URL of at most so many bytes
-abbrev pub longest_within : List (List ℕ × MapRecord) → (text : List ℕ) → (bytes : ℕ) → Option PlaceUrl
-longest_within table text zero = None
-longest_within table text (suc bytes) = or_else (place_with table text (suc bytes)) (longest_within table text bytes)
-
--- the one with the longest URL
-unfoldable pub place_at : List (List ℕ × MapRecord) → (text : List ℕ) → Option PlaceUrl
-place_at table text = longest_within table text (length text)
 
 -- ---- where a place may begin
 

@@ -6,7 +6,8 @@ use Rattle.smap_lines.specs.Lines.{Line, end_in, lines_with_ends}
 use Rattle.smap_record.specs.Record.{MapRecord}
 use Rattle.smap_by_text.specs.ByText.{value_under}
 use Rattle.smap_trace.specs.Rewritten.{Counts, SourceLocation, location_text, original_at}
-use Rattle.smap_places.specs.Places.{Part, PlaceUrl, found, other, parts_of, place_at}
+use Rattle.smap_places.specs.PlaceAt.{table_place_at}
+use Rattle.smap_places.specs.Places.{Part, PlaceUrl, found, other, parts_of}
 
 -- ---- a place
 
@@ -54,7 +55,7 @@ maps_of table url = value_under url table
 
 -- a text, with what stands in its places' stead
 unfoldable pub placed_text : List ℕ → List (List ℕ × MapRecord) → List ℕ
-placed_text text table = parts_text (maps_of table) (parts_of (place_at table) text)
+placed_text text table = parts_text (maps_of table) (parts_of (table_place_at table) text)
 
 -- a line by itself
 abbrev pub placed_line : List (List ℕ × MapRecord) → Line → List ℕ
@@ -75,7 +76,7 @@ is_replaced maps (found place text) = is_some (replacement (maps place.url) plac
 unfoldable pub place_counts : List ℕ → List (List ℕ × MapRecord) → Counts
 place_counts text table = record {
   lines = length (lines_with_ends text);
-  frames = length (filter is_place (parts_of (place_at table) text));
-  mapped = length (filter (is_replaced (maps_of table)) (parts_of (place_at table) text));
+  frames = length (filter is_place (parts_of (table_place_at table) text));
+  mapped = length (filter (is_replaced (maps_of table)) (parts_of (table_place_at table) text));
   hidden = 0;
 }

@@ -2,5 +2,4 @@ pub mod Finder
 pub mod LineEnds
 pub mod Passage
 pub mod PlaceRewriter
-pub mod StoredPlaces
 pub mod Window

@@ -21,12 +21,8 @@ mod place_rewriter;
 mod replacement;
 mod rewriting;
 mod runs;
-mod seeker;
-mod stored_finder;
 mod window;
 
 pub use finder::PlaceFinder;
 pub use place::FoundPlace;
 pub use rewriting::{rewrite_places, rewrite_places_over};
-pub use seeker::UrlSeeker;
-pub use stored_finder::StoredPlaceFinder;

@@ -3,14 +3,15 @@ ghost use Rattle.std.specs.Prelude.{◌≡◌, ◌<◌, ◌≤◌, ◌+◌, ◌^
 ghost use Rattle.std.specs.Prelude.{OnErr, OnOk};
 ghost use Rattle.std.specs.List.{concat};
 ghost use Rattle.smap_lines.specs.LineOutput.{IsPut, IsSameOutput};
+ghost use Rattle.smap_places.specs.PlaceAt.{place_at};
 ghost use Rattle.smap_places.specs.PlaceSeen.{place_seen};
 ghost use Rattle.smap_places.specs.PlacesRewritten.{replacement};
 ghost use Rattle.smap_places.specs.Private.PlaceRewriter.{FailsToWrite, IsSameRewriter, Writes};
 ghost use Rattle.smap_trace.specs.Rewriting.{Looked};
 
+use crate::finder::PlaceFinder;
 use crate::place::FoundPlace;
 use crate::replacement::find_replacement;
-use crate::seeker::UrlSeeker;
 use itoa::Buffer;
 use smap_io::{ByteSink, DeviceFault};
 use smap_lines::LineOutput;
@@ -20,15 +21,15 @@ use std::alloc::Global;
 
 /// Rewrites the places of a text, and counts them and those that are replaced.
 #[derive(Drop)]
-pub struct PlaceRewriter<'s, 'm, S: UrlSeeker, M: Maps> {
+pub struct PlaceRewriter<'f, 't, 'm, M: Maps> {
     pub alloc: Global,
-    pub seeker: &'s S,
+    pub finder: &'f PlaceFinder<'t>,
     pub maps: &'m mut M,
     pub places: u64,
     pub mapped: u64,
 }
 
-impl<S: UrlSeeker, M: Maps> PlaceRewriter<'_, '_, S, M> {
+impl<M: Maps> PlaceRewriter<'_, '_, '_, M> {
     /// Writes what becomes of a window from byte `from` on: of the places that begin before byte `high`, which the caller
     /// knows to be decided, and of the bytes before it that belong to none. The map of each place's URL is looked for when
     /// the place is met. The result is the byte after all these: `high`, or the end of a place that begins before it.
@@ -47,19 +48,19 @@ impl<S: UrlSeeker, M: Maps> PlaceRewriter<'_, '_, S, M> {
         ensures same { IsSameOutput output.old output.new }
         ensures same_maps { IsSameRewriter self.old self.new }
         ensures looked { Looked M.Finds self.old.maps.now self.new.maps.now }
-        ensures writes { IfOk result (λ to. Writes (S.begins self.old.seeker.now) M.Finds M.found
+        ensures writes { IfOk result (λ to. Writes (place_at self.old.finder.now) M.Finds M.found
             W.seen self.old self.new output.old output.new window.now from high to) }
         ensures far { IfOk result (λ to. high ≤ to) }
         ensures none { OnOk result (output.new.gathered.now ≡ []) }
         ensures no_failure { OnOk result
             ((W.seen output.new.sink.now).failed ≡ (W.seen output.old.sink.now).failed) }
 
-        ensures front { OnErr result (FailsToWrite (S.begins self.old.seeker.now)
+        ensures front { OnErr result (FailsToWrite (place_at self.old.finder.now)
             (M.Gives self.old.maps.now) W.seen output.old output.new window.now from high) }
         ensures failure { OnErr result ((W.seen output.new.sink.now).failed ≡ true) }
     {
         let mut to = from;
-        while let Some(place) = self.seeker.next_before(window, to, high) {
+        while let Some(place) = self.finder.next_before(window, to, high) {
             self.maps.find(place.url);
             let map = self.maps.map_for(place.url);
             let is_mapped = put_place(self.alloc, map, window, to, &place, output)?;

@@ -2,6 +2,7 @@
 ghost use Rattle.std.specs.Prelude.{◌≡◌, ◌<◌, ◌+◌, ◌^◌, false, IfErr, IfOk, IfSome};
 ghost use Rattle.smap_lines.specs.Editing.{devices_seen, is_read_fault, is_write_fault};
 ghost use Rattle.smap_lines.specs.declared.fault.LineFault.TheVariants.{Memory};
+ghost use Rattle.smap_places.specs.PlaceAt.{place_at};
 ghost use Rattle.smap_places.specs.PlacesNear.{DecidedWithin, EndsAtLines};
 ghost use Rattle.smap_places.specs.PlacesOver.{RewritesPlacesFrontOver, RewritesPlacesOver};
 ghost use Rattle.smap_places.specs.PlacesRewriting.{RewritesPlaces, RewritesPlacesFront};
@@ -10,10 +11,10 @@ ghost use Rattle.smap_trace.specs.Rewriting.{Looked};
 use crate::finder::PlaceFinder;
 use crate::line_ends::{count_ends, decided_end, has_open_line};
 use crate::place_rewriter::PlaceRewriter;
-use crate::seeker::UrlSeeker;
 use crate::window::Window;
 use smap_io::{ByteSink, ByteSource};
 use smap_lines::{Gathered, LineOutput};
+use smap_locations::Locations;
 use smap_trace::{Maps, RewriteFault, Summary, Table, TableMaps};
 use std::alloc::Global;
 
@@ -53,33 +54,34 @@ pub fn rewrite_places<R: ByteSource, W: ByteSink>(
     ensures memory_input { IfErr result (λ fault. fault ≡ Memory → input.new ≡ input.old) }
     ensures memory_output { IfErr result (λ fault. fault ≡ Memory → output.new ≡ output.old) }
 {
-    let Ok(finder) = PlaceFinder::new(alloc, table) else {
+    let locations = Locations::new(alloc);
+    let Ok(finder) = PlaceFinder::new(alloc, table, &locations) else {
         return Err(RewriteFault::Memory);
     };
     let mut maps = TableMaps(table);
     rewrite_places_over(alloc, input, output, &finder, &mut maps, most_bytes)
 }
 
-/// The same over the places that a seeker finds, and over maps that are looked for when a place names their URL: each
+/// The same over the places of a finder, and over maps that are looked for when a place names their URL: each
 /// place is replaced by what its URL's map has for it then. Of a line's beginning all but fewer bytes than decide which
 /// place begins at one was written before more is read. The caller gives devices that have not failed. The output is not
 /// flushed.
-pub fn rewrite_places_over<R: ByteSource, W: ByteSink, S: UrlSeeker, M: Maps>(
+pub fn rewrite_places_over<R: ByteSource, W: ByteSink, M: Maps>(
     alloc: Global,
     input: &mut R,
     output: &mut W,
-    seeker: &S,
+    finder: &PlaceFinder<'_>,
     maps: &mut M,
     most_bytes: u64,
 ) -> Result<Summary, RewriteFault>
     requires input_works { (R.seen input.old).failed ≡ false }
     requires output_works { (W.seen output.old).failed ≡ false }
     requires most_bytes { most_bytes < 2 ^ 63 }
-    ensures rewrites { IfOk result (RewritesPlacesOver M.Finds M.found (S.begins seeker.now)
+    ensures rewrites { IfOk result (RewritesPlacesOver M.Finds M.found (place_at finder.now)
         most_bytes (devices_seen (R.seen input.old) (W.seen output.old))
         (devices_seen (R.seen input.new) (W.seen output.new)) maps.old maps.new) }
     ensures front { IfErr result (RewritesPlacesFrontOver (M.Gives maps.old)
-        (S.begins seeker.now) most_bytes (devices_seen (R.seen input.old) (W.seen output.old))
+        (place_at finder.now) most_bytes (devices_seen (R.seen input.old) (W.seen output.old))
         (devices_seen (R.seen input.new) (W.seen output.new))) }
     ensures looked { Looked M.Finds maps.old maps.new }
     ensures input_failure { (R.seen input.new).failed ≡ is_read_fault result }
@@ -88,7 +90,7 @@ pub fn rewrite_places_over<R: ByteSource, W: ByteSink, S: UrlSeeker, M: Maps>(
     ensures memory_output { IfErr result (λ fault. fault ≡ Memory → output.new ≡ output.old) }
     ensures memory_maps { IfErr result (λ fault. fault ≡ Memory → maps.new ≡ maps.old) }
 {
-    let Some((reach, size)) = room_of(seeker) else {
+    let Some((reach, size)) = room_of(finder) else {
         return Err(RewriteFault::Memory);
     };
     let (Ok(mut window), Ok(mut gathered)) = (Window::new(alloc, size), Gathered::new(alloc)) else {
@@ -96,7 +98,7 @@ pub fn rewrite_places_over<R: ByteSource, W: ByteSink, S: UrlSeeker, M: Maps>(
     };
     let mut rewriter = PlaceRewriter {
         alloc,
-        seeker,
+        finder,
         maps,
         places: 0,
         mapped: 0,
@@ -147,13 +149,13 @@ pub fn rewrite_places_over<R: ByteSource, W: ByteSink, S: UrlSeeker, M: Maps>(
 
 // How many bytes decide which place begins at one, and how many the window has room for: these, those before it that decide
 // whether it may begin, and those that are read.
-fn room_of<S: UrlSeeker>(seeker: &S) -> Option<(usize, usize)>
-    ensures ends { EndsAtLines (S.begins seeker.now) }
-    ensures reach { IfSome result (λ rooms. DecidedWithin (S.begins seeker.now) rooms.0) }
+fn room_of(finder: &PlaceFinder<'_>) -> Option<(usize, usize)>
+    ensures ends { EndsAtLines (place_at finder.now) }
+    ensures reach { IfSome result (λ rooms. DecidedWithin (place_at finder.now) rooms.0) }
     ensures some { IfSome result (λ rooms. 0 < rooms.0) }
     ensures size { IfSome result (λ rooms. rooms.0 + 35 < rooms.1) }
 {
-    let reach = seeker.reach()?;
+    let reach = finder.reach()?;
     let size = reach.checked_add(KNOWN_BYTES + READ_BYTES)?;
     Some((reach, size))
 }

@@ -2,7 +2,7 @@
 ghost use Rattle.std.specs.Prelude.{◌≡◌, ◌<◌, ◌≤◌, ℕ, IfSome, None, drop, length};
 ghost use Rattle.smap_places.specs.Candidates.{is_url_byte, run_length};
 ghost use Rattle.smap_places.specs.Places.{numbers_after};
-ghost use Rattle.smap_places.specs.Private.StoredPlaces.{IsBarred};
+ghost use Rattle.smap_places.specs.Private.Finder.{IsBarred};
 
 use crate::numbers::numbers_after;
 

@@ -1,4 +1,5 @@
 //! Places anywhere in a line, one after another.
+use smap_locations::Locations;
 use smap_places::PlaceFinder;
 use smap_record::MapFile;
 use smap_trace::Table;
@@ -22,7 +23,8 @@ fn table_of_two(alloc: Global) -> Result<Table, Fail> {
 #[test]
 fn the_next_place_is_found(rt: HostRuntime) -> Result<(), Fail> {
     let table = table_of_two(rt.alloc())?;
-    let finder = PlaceFinder::new(rt.alloc(), &table)?;
+    let locations = Locations::new(rt.alloc());
+    let finder = PlaceFinder::new(rt.alloc(), &table, &locations)?;
     let line = b"at /u:3:14, /x /u:5:9";
     let first = finder.next(line, 0).ok_or("there is no first place")?;
     assert_eq!(rt;

@@ -13,7 +13,7 @@ use Rattle.smap_lines.specs.declared.fault.LineFault.TheVariants as fault
 use Rattle.smap_places.specs.Places.{PlaceUrl}
 use Rattle.smap_places.specs.PlacesBy.{RewritesPlacesBy}
 use Rattle.smap_places.specs.PlacesOver.{RewritesPlacesFrontOver, RewritesPlacesOver}
-use Rattle.smap_places.specs.StoredPlaces.{stored_place_at}
+use Rattle.smap_places.specs.PlaceAt.{place_at}
 use Rattle.smap_record.specs.Record.{MapRecord}
 use Rattle.smap_store.specs.ByPath.{stored_maps}
 use Rattle.smap_store.specs.Cache.{CacheSeen}
@@ -72,7 +72,7 @@ store_start sources cache_bytes errors code = record {
 
 -- which place begins a text over them
 abbrev pub places_of : MapSources → (text : List ℕ) → Option PlaceUrl
-places_of sources = stored_place_at (record { table = sources.words; locations = sources.locations })
+places_of sources = place_at (record { table = sources.words; locations = sources.locations })
 
 -- ---- a text over a store
 

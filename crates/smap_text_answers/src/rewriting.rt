@@ -13,7 +13,7 @@ use crate::loader::FileLoader;
 use crate::sources::{MapSources, sources_of};
 use smap_codes::Code;
 use smap_io::{ByteSink, ByteSource};
-use smap_places::{StoredPlaceFinder, rewrite_places_over};
+use smap_places::{PlaceFinder, rewrite_places_over};
 use smap_replies::{
     DONE, FAILED, Failure, FileReader, MapReader, NO_MEMORY, Reply, print_error, report,
 };
@@ -255,7 +255,7 @@ fn rewrite_stored_places<L: MapLoader, R: ByteSource, W: ByteSink>(
     ensures memory_output { IfErr result (λ fault. fault ≡ Memory → output.new ≡ output.old) }
 {
     let MapSources { words, locations } = asked.sources;
-    let Ok(seeker) = StoredPlaceFinder::new(asked.alloc, words, locations) else {
+    let Ok(finder) = PlaceFinder::new(asked.alloc, words, locations) else {
         return Err(RewriteFault::Memory);
     };
     let mut stored = StoredMaps {
@@ -266,7 +266,7 @@ fn rewrite_stored_places<L: MapLoader, R: ByteSource, W: ByteSink>(
         loader,
     };
     let most = asked.options.most;
-    match rewrite_places_over(asked.alloc, input, output, &seeker, &mut stored, most) {
+    match rewrite_places_over(asked.alloc, input, output, &finder, &mut stored, most) {
         Ok(summary) => Ok(RewriteCounts { summary, long: 0 }),
         Err(fault) => Err(fault),
     }

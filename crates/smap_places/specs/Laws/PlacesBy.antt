@@ -9,7 +9,8 @@ use Rattle.smap_lines.specs.Editing.{DevicesSeen}
 use Rattle.smap_lines.specs.Lines.{lines_with_ends}
 use Rattle.smap_record.specs.Record.{MapRecord}
 use Rattle.smap_trace.specs.declared.outcome.Summary.{Summary}
-use Rattle.smap_places.specs.Places.{Part, PlaceUrl, found, other, parts_of, place_at}
+use Rattle.smap_places.specs.PlaceAt.{table_place_at}
+use Rattle.smap_places.specs.Places.{Part, PlaceUrl, found, other, parts_of}
 use Rattle.smap_places.specs.PlacesBy.{RewritesPlacesBy}
 use Rattle.smap_places.specs.PlacesOver.{PartStep, PlacesNow, RewritesPlacesOver, places_start}
 use Rattle.smap_places.specs.PlacesRewriting.{RewritesPlaces}
@@ -18,7 +19,7 @@ use Rattle.smap_places.specs.PlacesRewritten.{is_place, is_replaced, maps_of, pa
 -- ---- over the maps of a table
 
 pub places_by_table : (table : List (List ℕ × MapRecord)) (most_bytes : ℕ) (before after : DevicesSeen) (summary : Summary)
-    → RewritesPlacesBy (maps_of table) (place_at table) most_bytes before after summary → RewritesPlaces before after table most_bytes summary
+    → RewritesPlacesBy (maps_of table) (table_place_at table) most_bytes before after summary → RewritesPlaces before after table most_bytes summary
 unfolding place_counts placed_text
 places_by_table table most_bytes before after summary is = record {
   bytes = is.bytes;

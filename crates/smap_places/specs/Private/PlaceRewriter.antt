@@ -26,16 +26,16 @@ pub record IsPassed (begins : List ℕ → Option PlaceUrl) (window : List ℕ) 
       ≡ parts ++ parts_at begins (before ++ (window ++ later)) (length before + to)
 
 -- the maps, what became of some parts, and what was counted
-abbrev pub places_now : {S M : Type 0} → PlaceRewriter S M → (text : List ℕ) → PlacesNow M
+abbrev pub places_now : {M : Type 0} → PlaceRewriter M → (text : List ℕ) → PlacesNow M
 places_now rewriter text = record { maps = rewriter.maps.now; text = text; places = rewriter.places; mapped = rewriter.mapped }
 
--- it stays over the same seeker and the same maps
-abbrev pub IsSameRewriter : {S M : Type 0} → (old new : PlaceRewriter S M) → Type 0
-IsSameRewriter old new = (new.seeker ≡ old.seeker) × (new.maps.ghost_name ≡ old.maps.ghost_name)
+-- it stays over the same finder and the same maps
+abbrev pub IsSameRewriter : {M : Type 0} → (old new : PlaceRewriter M) → Type 0
+IsSameRewriter old new = (new.finder ≡ old.finder) × (new.maps.ghost_name ≡ old.maps.ghost_name)
 
 -- what became of these parts, one after another, was written behind what waited, and they were counted
-pub record Writes {S M W : Type 0} (begins : List ℕ → Option PlaceUrl) (Finds : M → (url : List ℕ) → M → Type 0)
-    (under : M → (url : List ℕ) → Option MapRecord) (seen : W → SinkSeen) (old new : PlaceRewriter S M) (before after : LineOutput W) (window : List ℕ)
+pub record Writes {M W : Type 0} (begins : List ℕ → Option PlaceUrl) (Finds : M → (url : List ℕ) → M → Type 0)
+    (under : M → (url : List ℕ) → Option MapRecord) (seen : W → SinkSeen) (old new : PlaceRewriter M) (before after : LineOutput W) (window : List ℕ)
     (from high to : ℕ) : Type 0 where
   pub parts : List Part
   pub text : List ℕ

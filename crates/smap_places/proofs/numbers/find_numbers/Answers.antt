@@ -1,7 +1,7 @@
 use Rattle.std.proofs.Common.{ap, arith, length-drop, sym, ◌∙◌}
 use Rattle.std.proofs.lemmas.List.{take_rest}
 use Rattle.smap_places.specs.Places.{numbers_after}
-use Rattle.smap_places.proofs.PlaceLaws.{none_further, none_left, none_of, none_to}
+use Rattle.smap_places.proofs.NumberLaws.{none_further, none_left, none_of, none_to}
 use Rattle.smap_places.proofs.numbers.find_numbers.Goals as goal
 
 pub returns-then-is_some-clause-first : goal.returns-then-is_some-clause-first

@@ -1,5 +1,6 @@
 use Rattle.std.proofs.Common.{◌≡◌, ◌-◌, ℕ, List, [], ◌++◌, ap, arith, cond, count_by, drop, length, refl, rules, subst, take, ◌∙◌, length-drop}
 use Rattle.smap_trace.specs.Laws.Looked.{looked_both}
+use Rattle.smap_places.specs.PlaceAt.{place_at}
 use Rattle.smap_places.specs.Laws.PlacesSeen.{front_of_none}
 use Rattle.smap_places.specs.Private.PlaceRewriter.{IsPassed}
 use Rattle.smap_places.specs.Private.Window.{WindowState}
@@ -18,7 +19,7 @@ returns-in_default-2-clause-front g c = front_of_none (g.M.Maps.Gives c.args.map
 
 pub loop-count-init : goal.loop-count-init
 loop-count-init g c = rw c.in-Ok-Ok.ensures (record {
-  read = ([], gives_none _, refl, through_start (g.S.UrlSeeker.begins c.args.seeker.now) g.M.Maps.Finds g.M.Maps.found c.args.maps.now _, refl);
+  read = ([], gives_none _, refl, through_start (place_at c.args.finder.now) g.M.Maps.Finds g.M.Maps.found c.args.maps.now _, refl);
   over = refl;
   same = refl;
   size = refl;
@@ -34,7 +35,7 @@ loop-count-init g c = rw c.in-Ok-Ok.ensures (record {
 pub returns-in_default-read-clause-front : goal.returns-in_default-read-clause-front
 returns-in_default-read-clause-front g c =
     let read = c.loop-count.invariant.read in
-    read_fails (g.S.UrlSeeker.begins c.args.seeker.now) g.M.Maps.Finds g.M.Maps.found c.args.maps.now c.args.most_bytes _ _ read.0 _ _ _ _ _ _ read.3
+    read_fails (place_at c.args.finder.now) g.M.Maps.Finds g.M.Maps.found c.args.maps.now c.args.most_bytes _ _ read.0 _ _ _ _ _ _ read.3
     (rw c.in_default-read.ensures.keeps read.1) g.M.Maps.Gives g.met.M.Maps.some g.met.M.Maps.given g.met.M.Maps.same refl
     (omega (arith, read.2, c.loop-count.invariant.fits)) c.in-Some.ensures.ends c.loop-count.invariant.whole
 
@@ -42,7 +43,7 @@ pub returns-in_default-read-clause-looked : goal.returns-in_default-read-clause-
 returns-in_default-read-clause-looked g c =
     let read = c.loop-count.invariant.read in
     let maps : c.maps-1.given.0 ≡ c.loop-count.rewriter.maps.now = search rules in
-    rw maps (maps_looked (g.S.UrlSeeker.begins c.args.seeker.now) g.M.Maps.Finds g.M.Maps.found c.args.maps.now _ read.0 _ _ _ _ _ _ read.3)
+    rw maps (maps_looked (place_at c.args.finder.now) g.M.Maps.Finds g.M.Maps.found c.args.maps.now _ read.0 _ _ _ _ _ _ read.3)
 
 pub returns-then-count-most_bytes-clause-front : goal.returns-then-count-most_bytes-clause-front
 returns-then-count-most_bytes-clause-front g c =
@@ -50,11 +51,11 @@ returns-then-count-most_bytes-clause-front g c =
     let more = c.in-Ok.ensures.gives in
     let now : List ℕ = c.read.new.self.bytes in
     let window : c.read.new.self.bytes ≡ c.loop-count.window.bytes ++ more.more = ap (λ (s : WindowState). s.bytes) more.is in
-    let is = through_more (g.S.UrlSeeker.begins c.args.seeker.now) g.M.Maps.Finds g.M.Maps.found c.args.maps.now _ read.0 c.loop-count.window.bytes
+    let is = through_more (place_at c.args.finder.now) g.M.Maps.Finds g.M.Maps.found c.args.maps.now _ read.0 c.loop-count.window.bytes
     more.more c.read.new.self.bytes _ _ _ _ _ window read.3 in
     let longer = long_more read.0 c.loop-count.window.bytes more.more now window in
     let gives = gives_more _ _ _ read.0 c.loop-count.window.bytes more.more now window read.1 more.given in
-    too_much (g.S.UrlSeeker.begins c.args.seeker.now) g.M.Maps.Finds g.M.Maps.found c.args.maps.now c.args.most_bytes _ _ read.0 _ _ _ _ _ _ is
+    too_much (place_at c.args.finder.now) g.M.Maps.Finds g.M.Maps.found c.args.maps.now c.args.most_bytes _ _ read.0 _ _ _ _ _ _ is
     gives g.M.Maps.Gives g.met.M.Maps.some g.met.M.Maps.given g.met.M.Maps.same refl
     (omega (arith, longer, more.counted, read.2, c.loop-count.invariant.fits, c.if-count-most_bytes.true))
 
@@ -62,7 +63,7 @@ pub returns-then-count-most_bytes-clause-looked : goal.returns-then-count-most_b
 returns-then-count-most_bytes-clause-looked g c =
     let read = c.loop-count.invariant.read in
     let maps : c.maps-then-count-most_bytes-1.given.0 ≡ c.loop-count.rewriter.maps.now = search rules in
-    rw maps (maps_looked (g.S.UrlSeeker.begins c.args.seeker.now) g.M.Maps.Finds g.M.Maps.found c.args.maps.now _ read.0 _ _ _ _ _ _ read.3)
+    rw maps (maps_looked (place_at c.args.finder.now) g.M.Maps.Finds g.M.Maps.found c.args.maps.now _ read.0 _ _ _ _ _ _ read.3)
 
 pub returns-in_default-write_places-clause-front : goal.returns-in_default-write_places-clause-front
 returns-in_default-write_places-clause-front g c =
@@ -70,21 +71,21 @@ returns-in_default-write_places-clause-front g c =
     let more = c.in-Ok.ensures.gives in
     let now : List ℕ = c.read.new.self.bytes in
     let window : c.read.new.self.bytes ≡ c.loop-count.window.bytes ++ more.more = ap (λ (s : WindowState). s.bytes) more.is in
-    let is = through_more (g.S.UrlSeeker.begins c.args.seeker.now) g.M.Maps.Finds g.M.Maps.found c.args.maps.now _ read.0 c.loop-count.window.bytes
+    let is = through_more (place_at c.args.finder.now) g.M.Maps.Finds g.M.Maps.found c.args.maps.now _ read.0 c.loop-count.window.bytes
     more.more c.read.new.self.bytes _ _ _ _ _ window read.3 in
     let longer = long_more read.0 c.loop-count.window.bytes more.more now window in
     let gives = gives_more _ _ _ read.0 c.loop-count.window.bytes more.more now window read.1 more.given in
     let decided = rw c.bytes-bytes.ensures at c.decided_end-high.ensures in
     let fails = rw c.bytes-bytes.ensures at c.in_default-write_places.ensures.front in
     let passed =
-    subst (λ s. IsPassed (g.S.UrlSeeker.begins s) now c.loop-count.from c.decided_end-high.result fails.to fails.parts) c.loop-count.invariant.over
+    subst (λ s. IsPassed (place_at s) now c.loop-count.from c.decided_end-high.result fails.to fails.parts) c.loop-count.invariant.over
     fails.passed in
     let sink : c.output-1.given.0 ≡ c.write_places.new.output.sink.now = search rules in
-    rw sink (write_fails (g.S.UrlSeeker.begins c.args.seeker.now) g.M.Maps.Finds g.M.Maps.found c.args.maps.now c.args.most_bytes _ _ read.0 _ _ _ _ _ _ is
+    rw sink (write_fails (place_at c.args.finder.now) g.M.Maps.Finds g.M.Maps.found c.args.maps.now c.args.most_bytes _ _ read.0 _ _ _ _ _ _ is
     gives g.M.Maps.Gives g.met.M.Maps.some g.met.M.Maps.given g.met.M.Maps.same
     c.decided_end-high.result fails.to fails.parts fails.text _
     (omega (arith, longer, more.counted, read.2, c.loop-count.invariant.fits, c.if-count-most_bytes.false)) passed fails.may
-    (through_shows (g.S.UrlSeeker.begins c.args.seeker.now) g.M.Maps.Finds g.M.Maps.found c.args.maps.now _ read.0 _ is c.in-Some.reach
+    (through_shows (place_at c.args.finder.now) g.M.Maps.Finds g.M.Maps.found c.args.maps.now _ read.0 _ is c.in-Some.reach
     c.decided_end-high.result c.in-Some.ensures.ends c.in-Some.ensures.reach decided.within decided.decided [])
     c.loop-count.invariant.none fails.front)
 
@@ -93,7 +94,7 @@ pub returns-in_default-write_places-clause-looked :
 returns-in_default-write_places-clause-looked g c =
     let read = c.loop-count.invariant.read in
     let maps : c.maps-in_default-write_places-1.given.0 ≡ c.write_places.new.self.maps.now = search rules in
-    rw maps (looked_both g.M.Maps.Finds _ _ _ (maps_looked (g.S.UrlSeeker.begins c.args.seeker.now) g.M.Maps.Finds g.M.Maps.found c.args.maps.now _
+    rw maps (looked_both g.M.Maps.Finds _ _ _ (maps_looked (place_at c.args.finder.now) g.M.Maps.Finds g.M.Maps.found c.args.maps.now _
     read.0 _ _ _ _ _ _ read.3)
     c.in_default-write_places.ensures.looked)
 
@@ -103,7 +104,7 @@ loop-count-preserved g c =
     let more = c.in-Ok.ensures.gives in
     let now : List ℕ = c.read.new.self.bytes in
     let window : c.read.new.self.bytes ≡ c.loop-count.window.bytes ++ more.more = ap (λ (s : WindowState). s.bytes) more.is in
-    let is = through_more (g.S.UrlSeeker.begins c.args.seeker.now) g.M.Maps.Finds g.M.Maps.found c.args.maps.now _ read.0 c.loop-count.window.bytes
+    let is = through_more (place_at c.args.finder.now) g.M.Maps.Finds g.M.Maps.found c.args.maps.now _ read.0 c.loop-count.window.bytes
     more.more c.read.new.self.bytes _ _ _ _ _ window read.3 in
     let longer = long_more read.0 c.loop-count.window.bytes more.more now window in
     let gives = gives_more _ _ _ read.0 c.loop-count.window.bytes more.more now window read.1 more.given in
@@ -111,15 +112,15 @@ loop-count-preserved g c =
     let writes = rw c.bytes-bytes.ensures at c.in-Ok-write_places.ensures.writes in
     let to : ℕ = c.in-Ok-write_places.to in
     let passed =
-    subst (λ s. IsPassed (g.S.UrlSeeker.begins s) now c.loop-count.from c.decided_end-high.result to writes.parts) c.loop-count.invariant.over
+    subst (λ s. IsPassed (place_at s) now c.loop-count.from c.decided_end-high.result to writes.parts) c.loop-count.invariant.over
     writes.passed in
     let took = rw c.loop-count.invariant.none at writes.taken in
     let cut : ℕ = c.saturating_sub-cut.result in
-    let through = through_cut (g.S.UrlSeeker.begins c.args.seeker.now) g.M.Maps.Finds g.M.Maps.found c.args.maps.now _ read.0 _
-    (through_written (g.S.UrlSeeker.begins c.args.seeker.now) g.M.Maps.Finds g.M.Maps.found c.args.maps.now _ read.0 _ is c.decided_end-high.result
+    let through = through_cut (place_at c.args.finder.now) g.M.Maps.Finds g.M.Maps.found c.args.maps.now _ read.0 _
+    (through_written (place_at c.args.finder.now) g.M.Maps.Finds g.M.Maps.found c.args.maps.now _ read.0 _ is c.decided_end-high.result
     to writes.parts
     passed c.write_places.new.self.maps.now c.write_places.new.self.places c.write_places.new.self.mapped _ writes.text writes.steps took
-    (through_shows (g.S.UrlSeeker.begins c.args.seeker.now) g.M.Maps.Finds g.M.Maps.found c.args.maps.now _ read.0 _ is c.in-Some.reach
+    (through_shows (place_at c.args.finder.now) g.M.Maps.Finds g.M.Maps.found c.args.maps.now _ read.0 _ is c.in-Some.reach
     c.decided_end-high.result c.in-Some.ensures.ends c.in-Some.ensures.reach decided.within decided.decided)
     writes.few_places writes.few_mapped) cut c.saturating_sub-cut.ensures in
     let same = cut_text read.0 now cut in
@@ -157,20 +158,20 @@ returns-in_default-write_places-2-clause-front g c =
     let more = c.in-Ok.ensures.gives in
     let now : List ℕ = c.read.new.self.bytes in
     let window : c.read.new.self.bytes ≡ c.loop-count.window.bytes ++ more.more = ap (λ (s : WindowState). s.bytes) more.is in
-    let is = through_more (g.S.UrlSeeker.begins c.args.seeker.now) g.M.Maps.Finds g.M.Maps.found c.args.maps.now _ read.0 c.loop-count.window.bytes
+    let is = through_more (place_at c.args.finder.now) g.M.Maps.Finds g.M.Maps.found c.args.maps.now _ read.0 c.loop-count.window.bytes
     more.more c.read.new.self.bytes _ _ _ _ _ window read.3 in
     let longer = long_more read.0 c.loop-count.window.bytes more.more now window in
     let gives = gives_more _ _ _ read.0 c.loop-count.window.bytes more.more now window read.1 more.given in
     let fails = rw c.bytes-bytes-2.ensures at c.in_default-write_places-2.ensures.front in
     let passed =
-    subst (λ s. IsPassed (g.S.UrlSeeker.begins s) now c.loop-count.from (length now) fails.to fails.parts) c.loop-count.invariant.over
+    subst (λ s. IsPassed (place_at s) now c.loop-count.from (length now) fails.to fails.parts) c.loop-count.invariant.over
     fails.passed in
     let sink : c.output-2-1.given.0 ≡ c.write_places-2.new.output.sink.now = search rules in
-    rw sink (write_fails (g.S.UrlSeeker.begins c.args.seeker.now) g.M.Maps.Finds g.M.Maps.found c.args.maps.now c.args.most_bytes _ _ read.0 _ _ _ _ _ _ is
+    rw sink (write_fails (place_at c.args.finder.now) g.M.Maps.Finds g.M.Maps.found c.args.maps.now c.args.most_bytes _ _ read.0 _ _ _ _ _ _ is
     gives g.M.Maps.Gives g.met.M.Maps.some g.met.M.Maps.given g.met.M.Maps.same
     (length now) fails.to fails.parts fails.text _
     (omega (arith, longer, more.counted, c.if-count-eq0.true, read.2, c.loop-count.invariant.fits)) passed fails.may
-    (through_shows_all (g.S.UrlSeeker.begins c.args.seeker.now) g.M.Maps.Finds g.M.Maps.found c.args.maps.now _ read.0 _ is)
+    (through_shows_all (place_at c.args.finder.now) g.M.Maps.Finds g.M.Maps.found c.args.maps.now _ read.0 _ is)
     c.loop-count.invariant.none fails.front)
 
 pub returns-in_default-write_places-2-clause-looked :
@@ -178,7 +179,7 @@ pub returns-in_default-write_places-2-clause-looked :
 returns-in_default-write_places-2-clause-looked g c =
     let read = c.loop-count.invariant.read in
     let maps : c.maps-in_default-write_places-2-1.given.0 ≡ c.write_places-2.new.self.maps.now = search rules in
-    rw maps (looked_both g.M.Maps.Finds _ _ _ (maps_looked (g.S.UrlSeeker.begins c.args.seeker.now) g.M.Maps.Finds g.M.Maps.found c.args.maps.now _
+    rw maps (looked_both g.M.Maps.Finds _ _ _ (maps_looked (place_at c.args.finder.now) g.M.Maps.Finds g.M.Maps.found c.args.maps.now _
     read.0 _ _ _ _ _ _ read.3)
     c.in_default-write_places-2.ensures.looked)
 
@@ -188,20 +189,20 @@ returns-clause-rewrites g c =
     let more = c.in-Ok.ensures.gives in
     let now : List ℕ = c.read.new.self.bytes in
     let window : c.read.new.self.bytes ≡ c.loop-count.window.bytes ++ more.more = ap (λ (s : WindowState). s.bytes) more.is in
-    let is = through_more (g.S.UrlSeeker.begins c.args.seeker.now) g.M.Maps.Finds g.M.Maps.found c.args.maps.now _ read.0 c.loop-count.window.bytes
+    let is = through_more (place_at c.args.finder.now) g.M.Maps.Finds g.M.Maps.found c.args.maps.now _ read.0 c.loop-count.window.bytes
     more.more c.read.new.self.bytes _ _ _ _ _ window read.3 in
     let longer = long_more read.0 c.loop-count.window.bytes more.more now window in
     let gives = gives_more _ _ _ read.0 c.loop-count.window.bytes more.more now window read.1 more.given in
     let writes = rw c.bytes-bytes-2.ensures at c.in-Ok-write_places-2.ensures.writes in
     let to : ℕ = c.in-Ok-write_places-2.field-0 in
     let passed =
-    subst (λ s. IsPassed (g.S.UrlSeeker.begins s) now c.loop-count.from (length now) to writes.parts) c.loop-count.invariant.over
+    subst (λ s. IsPassed (place_at s) now c.loop-count.from (length now) to writes.parts) c.loop-count.invariant.over
     writes.passed in
     let far = rw c.bytes-bytes-2.ensures at c.in-Ok-write_places-2.ensures.far in
     let last = c.from.ensures ∙ byte_is c.has_open_line.result ∙ ap {B = ℕ} (λ b. cond b 1 0) (rw c.bytes-bytes-2.ensures at c.has_open_line.ensures) in
     let sink : c.output-2-1.given.0 ≡ c.write_places-2.new.output.sink.now = search rules in
     let maps : c.maps-2-1.given.0 ≡ c.write_places-2.new.self.maps.now = search rules in
-    rw (sink, maps) (rewrites (g.S.UrlSeeker.begins c.args.seeker.now) g.M.Maps.Finds g.M.Maps.found c.args.maps.now c.args.most_bytes _ _ read.0 _ _
+    rw (sink, maps) (rewrites (place_at c.args.finder.now) g.M.Maps.Finds g.M.Maps.found c.args.maps.now c.args.most_bytes _ _ read.0 _ _
     _ _ _ _ is gives
     to writes.parts writes.text _ _ _ c.loop-count.ends c.from.result passed writes.steps c.loop-count.invariant.none writes.taken far
     (c.in-Ok.ensures.ends c.if-count-eq0.true) (omega (arith, longer, more.counted, c.if-count-eq0.true, read.2, c.loop-count.invariant.fits))
@@ -212,6 +213,6 @@ pub returns-clause-looked : goal.returns-clause-looked
 returns-clause-looked g c =
     let read = c.loop-count.invariant.read in
     let maps : c.maps-2-1.given.0 ≡ c.write_places-2.new.self.maps.now = search rules in
-    rw maps (looked_both g.M.Maps.Finds _ _ _ (maps_looked (g.S.UrlSeeker.begins c.args.seeker.now) g.M.Maps.Finds g.M.Maps.found c.args.maps.now _
+    rw maps (looked_both g.M.Maps.Finds _ _ _ (maps_looked (place_at c.args.finder.now) g.M.Maps.Finds g.M.Maps.found c.args.maps.now _
     read.0 _ _ _ _ _ _ read.3)
     c.in-Ok-write_places-2.ensures.looked)

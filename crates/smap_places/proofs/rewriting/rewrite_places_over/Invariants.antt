@@ -1,6 +1,7 @@
 use Rattle.std.proofs.Common.{◌≡◌, ◌+◌, ◌-◌, ◌<◌, ◌≤◌, ℕ, List, [], ◌++◌, count_by, drop, false, length}
 use Rattle.smap_io.specs.Device.{Gives}
 use Rattle.smap_lines.specs.Lines.{has_line_end}
+use Rattle.smap_places.specs.PlaceAt.{place_at}
 use Rattle.smap_places.specs.Private.Passage.{IsThrough}
 use Rattle.smap_places.proofs.CountLaws.{is_end}
 use Rattle.smap_places.proofs.rewriting.rewrite_places_over.Given as goal
@@ -10,7 +11,7 @@ abbrev pub invariant-loop-count : goal.invariant-loop-count
 invariant-loop-count g l = record {
   read : (front : List ℕ) × Gives (g.R.ByteSource.seen l.initial.input).left (g.R.ByteSource.seen l.input).left (front ++ l.window.bytes)
       × (length (front ++ l.window.bytes) ≡ l.total)
-      × IsThrough (g.S.UrlSeeker.begins l.seeker) g.M.Maps.Finds g.M.Maps.found l.initial.rewriter.maps.now
+      × IsThrough (place_at l.finder) g.M.Maps.Finds g.M.Maps.found l.initial.rewriter.maps.now
       (g.W.ByteSink.seen l.initial.output).taken front (record {
         window = l.window.bytes;
         from = l.from;
@@ -20,7 +21,7 @@ invariant-loop-count g l = record {
         taken = (g.W.ByteSink.seen l.output).taken;
       })
       × (l.ends ≡ count_by is_end (front ++ l.window.bytes));
-  over : l.rewriter.seeker.now ≡ l.seeker;
+  over : l.rewriter.finder.now ≡ l.finder;
   same : l.rewriter.maps.ghost_name ≡ l.initial.rewriter.maps.ghost_name;
   size : l.window.size ≡ l.size;
   near : l.from ≤ 35;

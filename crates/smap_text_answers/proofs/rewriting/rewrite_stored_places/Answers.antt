@@ -2,7 +2,7 @@ use Rattle.std.proofs.Common.{◌≡◌, ap, refl, rules, subst, sym}
 use Rattle.smap_lines.specs.Editing.{devices_seen}
 use Rattle.smap_places.specs.PlacesOver.{RewritesPlacesOver}
 use Rattle.smap_places.specs.Laws.PlacesSeen.{front_of_none, places_seen}
-use Rattle.smap_places.specs.StoredPlaces.{MapsSeen, stored_place_at}
+use Rattle.smap_places.specs.PlaceAt.{MapsSeen, place_at}
 use Rattle.smap_store.specs.Stored.{FindsIn, GivesIn, StoredSeen, found_in}
 use Rattle.smap_store.specs.StoredMaps.{IsSameStore, same_store_on, same_store_self, stored_seen}
 use Rattle.smap_trace.specs.Rewriting.{Looked}
@@ -63,7 +63,7 @@ returns-in-Ok-rewrite_places_over-clause-rewrites g c =
     } in
     let before = devices_seen (g.R.ByteSource.seen c.args.input.now) (g.W.ByteSink.seen c.args.output.now) in
     let after = devices_seen (g.R.ByteSource.seen c.rewrite_places_over.new.input) (g.W.ByteSink.seen c.rewrite_places_over.new.output) in
-    let begins = λ (maps : MapsSeen). stored_place_at maps in
+    let begins = λ (maps : MapsSeen). place_at maps in
     let summary = c.in-Ok-rewrite_places_over.summary in
     let seen = places_seen _ (λ m. found_in (stored_seen m)) (FindsIn g.L.MapLoader.Loads) found_in stored_seen (IsSameStore _)
     (λ old new url is finds. (finds.0, same_store_on _ old new is finds.1)) (λ m url. refl) _ c.args.asked.now.options.most before after

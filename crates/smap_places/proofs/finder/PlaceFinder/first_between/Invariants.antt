@@ -1,5 +1,6 @@
 use Rattle.std.proofs.Common.{◌≡◌, ◌<◌, ◌≤◌, ℕ, None}
-use Rattle.smap_places.specs.Places.{begun_at, place_at}
+use Rattle.smap_places.specs.Places.{begun_at}
+use Rattle.smap_places.specs.PlaceAt.{place_at}
 use Rattle.smap_places.proofs.finder.PlaceFinder.first_between.Given as goal
 
 abbrev pub invariant-loop-start : goal.invariant-loop-start

@@ -1,9 +1,17 @@
-use Rattle.std.proofs.Common.{arith, ◌∙◌}
-use Rattle.smap_places.proofs.PlaceLaws.{covers_all}
+use Rattle.std.proofs.Common.{◌≡◌, ◌++◌, ap, length, map, rules, ◌∙◌}
+use Rattle.smap_places.specs.Private.Finder.{is_among}
+use Rattle.smap_places.specs.PlaceAt.{MapsSeen}
+use Rattle.smap_places.proofs.FinderLaws.{named_among, text_among}
 use Rattle.smap_places.proofs.finder.PlaceFinder.new.Goals as goal
 
 pub invariant_of-result : goal.invariant_of-result
 invariant_of-result c =
-    covers_all c.args.table.now c.deref-bytes-items.result.now c.loop-bytes.lengths.items c.loop-bytes.longest c.loop-bytes.bytes-index
-    (c.deref-bytes-items.ensures.value ∙ c.in_ok-all.ensures) (omega (arith, c.loop-bytes-test.false))
-    c.loop-bytes.invariant.among c.loop-bytes.invariant.most
+    let maps : MapsSeen = record { table = c.args.table.now; locations = c.args.locations.now } in
+    let all : c.deref-2.result.now ≡ map (λ pair. length pair.0) maps.table ++ map (λ pair. length pair.0) maps.locations.files = search rules in
+    let folders : c.deref-3.result.now ≡ map (λ pair. length pair.0) maps.locations.folders = search rules in
+    record {
+      named = λ text on. c.in_ok-named.ensures (length text) (named_among maps c.deref-2.result.now all text on);
+      prefixes = λ text on. c.in_ok-prefixes.ensures (length text)
+          (ap (λ l. is_among l (length text)) folders ∙ text_among maps.locations.folders text on);
+      longest = c.longest_url-longest.ensures;
+    }

@@ -3,6 +3,7 @@ use Rattle.std.proofs.lemmas.Result.{err_from_is_err_and}
 use Rattle.smap_lines.specs.LineOutput.{FailsToPut, Puts}
 use Rattle.smap_record.specs.Record.{MapRecord}
 use Rattle.smap_trace.specs.Laws.Looked.{looked_both, looked_one}
+use Rattle.smap_places.specs.PlaceAt.{place_at}
 use Rattle.smap_places.specs.PlaceSeen.{IsNext, NoneBetween, place_seen}
 use Rattle.smap_places.specs.PlacesRewritten.{replacement}
 use Rattle.smap_places.proofs.CountLaws.{byte_is}
@@ -12,35 +13,35 @@ use Rattle.smap_places.proofs.place_rewriter.PlaceRewriter.write_places.Goals as
 pub loop-place-init : goal.loop-place-init
 loop-place-init g c = record {
   within = omega arith;
-  done = done_none (g.S.UrlSeeker.begins c.args.self.now.seeker.now) g.M.Maps.Finds g.M.Maps.found g.W.ByteSink.seen c.args.self.now c.args.output.now
+  done = done_none (place_at c.args.self.now.finder.now) g.M.Maps.Finds g.M.Maps.found g.W.ByteSink.seen c.args.self.now c.args.output.now
       c.args.window.now c.args.from c.args.high (omega arith);
 }
 
 pub returns-in_err-is_mapped-clause-looked : goal.returns-in_err-is_mapped-clause-looked
 returns-in_err-is_mapped-clause-looked g c =
     looked_both g.M.Maps.Finds _ _ _
-    (done_looked (g.S.UrlSeeker.begins c.args.self.now.seeker.now) g.M.Maps.Finds g.M.Maps.found g.W.ByteSink.seen c.args.self.now c.args.output.now
+    (done_looked (place_at c.args.self.now.finder.now) g.M.Maps.Finds g.M.Maps.found g.W.ByteSink.seen c.args.self.now c.args.output.now
     c.args.window.now c.args.from c.args.high c.loop-place.self c.loop-place.output c.loop-place.to c.loop-place.invariant.done)
     (looked_one g.M.Maps.Finds _ _ _ c.find.ensures)
 
 pub returns-in_err-is_mapped-clause-front : goal.returns-in_err-is_mapped-clause-front
 returns-in_err-is_mapped-clause-front g c =
     let is = c.loop-place.invariant.done in
-    let next = subst (λ s. IsNext (g.S.UrlSeeker.begins s.now) c.args.window.now c.loop-place.to c.in-Some.place) is.same.0 c.in-Some.ensures.0 in
+    let next = subst (λ s. IsNext (place_at s.now) c.args.window.now c.loop-place.to c.in-Some.place) is.same.0 c.in-Some.ensures.0 in
     let put = subst (λ (stated : Option MapRecord). FailsToPut g.W.ByteSink.seen c.loop-place.output c.put_place.new.output
-    (place_text (g.S.UrlSeeker.begins c.args.self.now.seeker.now) g.M.Maps.Finds g.M.Maps.found g.W.ByteSink.seen c.args.self.now c.args.output.now
+    (place_text (place_at c.args.self.now.finder.now) g.M.Maps.Finds g.M.Maps.found g.W.ByteSink.seen c.args.self.now c.args.output.now
     c.args.window.now c.args.from c.args.high c.loop-place.to c.in-Some.place stated)) c.map_for-map.ensures c.in_err-is_mapped.ensures.put in
     let p = err_from_is_err_and c.from_residual.result c.from_residual.ensures.1 in
-    rw p.1 (place_fails (g.S.UrlSeeker.begins c.args.self.now.seeker.now) g.M.Maps.Finds g.M.Maps.found g.W.ByteSink.seen c.args.self.now c.args.output.now
+    rw p.1 (place_fails (place_at c.args.self.now.finder.now) g.M.Maps.Finds g.M.Maps.found g.W.ByteSink.seen c.args.self.now c.args.output.now
     c.args.window.now c.args.from c.args.high c.loop-place.self c.loop-place.output c.loop-place.to is c.in-Some.place c.find.new.self c.find.ensures
     next c.in-Some.ensures.1 c.put_place.new.output g.M.Maps.Gives g.met.M.Maps.same g.met.M.Maps.given put)
 
 pub loop-place-preserved : goal.loop-place-preserved
 loop-place-preserved g c =
     let is = c.loop-place.invariant.done in
-    let next = subst (λ s. IsNext (g.S.UrlSeeker.begins s.now) c.args.window.now c.loop-place.to c.in-Some.place) is.same.0 c.in-Some.ensures.0 in
+    let next = subst (λ s. IsNext (place_at s.now) c.args.window.now c.loop-place.to c.in-Some.place) is.same.0 c.in-Some.ensures.0 in
     let put = subst (λ (stated : Option MapRecord). Puts g.W.ByteSink.seen c.loop-place.output c.put_place.new.output
-    (place_text (g.S.UrlSeeker.begins c.args.self.now.seeker.now) g.M.Maps.Finds g.M.Maps.found g.W.ByteSink.seen c.args.self.now c.args.output.now
+    (place_text (place_at c.args.self.now.finder.now) g.M.Maps.Finds g.M.Maps.found g.W.ByteSink.seen c.args.self.now c.args.output.now
     c.args.window.now c.args.from c.args.high c.loop-place.to c.in-Some.place stated)) c.map_for-map.ensures c.in_ok-is_mapped.ensures.put in
     let one : ◌≡◌ {A = ℕ} c.from.result (cond (is_some (replacement (g.M.Maps.found c.find.new.self c.in-Some.place.url.now)
     (place_seen c.in-Some.place))) 1 0) =
@@ -49,32 +50,32 @@ loop-place-preserved g c =
     ∙ ap (λ (stated : Option MapRecord). is_some (replacement stated (place_seen c.in-Some.place))) c.map_for-map.ensures) in
     record {
       within = next.within;
-      done = done_place (g.S.UrlSeeker.begins c.args.self.now.seeker.now) g.M.Maps.Finds g.M.Maps.found g.W.ByteSink.seen c.args.self.now c.args.output.now
+      done = done_place (place_at c.args.self.now.finder.now) g.M.Maps.Finds g.M.Maps.found g.W.ByteSink.seen c.args.self.now c.args.output.now
           c.args.window.now c.args.from c.args.high c.loop-place.self c.loop-place.output c.loop-place.to is c.in-Some.place c.find.new.self c.find.ensures
           next c.in-Some.ensures.1 c.put_place.new.output _ put refl (refl, refl) refl (ap (λ n. c.loop-place.self.mapped + n) one);
     }
 
 pub returns-in_err-put-clause-looked : goal.returns-in_err-put-clause-looked
 returns-in_err-put-clause-looked g c =
-    done_looked (g.S.UrlSeeker.begins c.args.self.now.seeker.now) g.M.Maps.Finds g.M.Maps.found g.W.ByteSink.seen c.args.self.now c.args.output.now
+    done_looked (place_at c.args.self.now.finder.now) g.M.Maps.Finds g.M.Maps.found g.W.ByteSink.seen c.args.self.now c.args.output.now
     c.args.window.now c.args.from c.args.high c.loop-place.self c.loop-place.output c.loop-place.to c.loop-place.invariant.done
 
 pub returns-in_err-write-clause-looked : goal.returns-in_err-write-clause-looked
 returns-in_err-write-clause-looked g c =
-    done_looked (g.S.UrlSeeker.begins c.args.self.now.seeker.now) g.M.Maps.Finds g.M.Maps.found g.W.ByteSink.seen c.args.self.now c.args.output.now
+    done_looked (place_at c.args.self.now.finder.now) g.M.Maps.Finds g.M.Maps.found g.W.ByteSink.seen c.args.self.now c.args.output.now
     c.args.window.now c.args.from c.args.high c.loop-place.self c.loop-place.output c.loop-place.to c.loop-place.invariant.done
 
 pub returns-clause-looked : goal.returns-clause-looked
 returns-clause-looked g c =
-    done_looked (g.S.UrlSeeker.begins c.args.self.now.seeker.now) g.M.Maps.Finds g.M.Maps.found g.W.ByteSink.seen c.args.self.now c.args.output.now
+    done_looked (place_at c.args.self.now.finder.now) g.M.Maps.Finds g.M.Maps.found g.W.ByteSink.seen c.args.self.now c.args.output.now
     c.args.window.now c.args.from c.args.high c.loop-place.self c.loop-place.output c.loop-place.to c.loop-place.invariant.done
 
 pub returns-in_err-put-clause-front : goal.returns-in_err-put-clause-front
 returns-in_err-put-clause-front g c =
     let is = c.loop-place.invariant.done in
-    let none = subst (λ s. NoneBetween (g.S.UrlSeeker.begins s.now) c.args.window.now c.loop-place.to c.args.high) is.same.0 c.in_default.ensures in
+    let none = subst (λ s. NoneBetween (place_at s.now) c.args.window.now c.loop-place.to c.args.high) is.same.0 c.in_default.ensures in
     let p = err_from_is_err_and c.from_residual-in_err-put.result c.from_residual-in_err-put.ensures.1 in
-    rw p.1 (bytes_fail (g.S.UrlSeeker.begins c.args.self.now.seeker.now) g.M.Maps.Finds g.M.Maps.found g.W.ByteSink.seen c.args.self.now c.args.output.now
+    rw p.1 (bytes_fail (place_at c.args.self.now.finder.now) g.M.Maps.Finds g.M.Maps.found g.W.ByteSink.seen c.args.self.now c.args.output.now
     c.args.window.now c.args.from c.args.high c.loop-place.self c.loop-place.output c.loop-place.to is c.max-end.result c.max-end.ensures
     (omega (arith, c.max-end.ensures, c.requires.high, c.loop-place.invariant.within)) none c.put.new.self
     g.M.Maps.Gives g.met.M.Maps.same g.met.M.Maps.given c.in_err-put.ensures)
@@ -82,21 +83,21 @@ returns-in_err-put-clause-front g c =
 pub returns-in_err-write-clause-front : goal.returns-in_err-write-clause-front
 returns-in_err-write-clause-front g c =
     let is = c.loop-place.invariant.done in
-    let none = subst (λ s. NoneBetween (g.S.UrlSeeker.begins s.now) c.args.window.now c.loop-place.to c.args.high) is.same.0 c.in_default.ensures in
+    let none = subst (λ s. NoneBetween (place_at s.now) c.args.window.now c.loop-place.to c.args.high) is.same.0 c.in_default.ensures in
     let p = err_from_is_err_and c.from_residual-in_err-write.result c.from_residual-in_err-write.ensures.1 in
-    let done = done_bytes (g.S.UrlSeeker.begins c.args.self.now.seeker.now) g.M.Maps.Finds g.M.Maps.found g.W.ByteSink.seen c.args.self.now c.args.output.now
+    let done = done_bytes (place_at c.args.self.now.finder.now) g.M.Maps.Finds g.M.Maps.found g.W.ByteSink.seen c.args.self.now c.args.output.now
     c.args.window.now c.args.from c.args.high c.loop-place.self c.loop-place.output c.loop-place.to is c.max-end.result c.max-end.ensures
     (omega (arith, c.max-end.ensures, c.requires.high, c.loop-place.invariant.within)) none c.put.new.self c.in_ok-put.ensures in
-    rw p.1 (written_fails (g.S.UrlSeeker.begins c.args.self.now.seeker.now) g.M.Maps.Finds g.M.Maps.found g.W.ByteSink.seen c.args.self.now c.args.output.now
+    rw p.1 (written_fails (place_at c.args.self.now.finder.now) g.M.Maps.Finds g.M.Maps.found g.W.ByteSink.seen c.args.self.now c.args.output.now
     c.args.window.now c.args.from c.args.high c.loop-place.self c.put.new.self c.max-end.result done
     g.M.Maps.Gives g.met.M.Maps.same g.met.M.Maps.given c.write.new.self c.in_err-write.ensures.front)
 
 pub returns-clause-writes : goal.returns-clause-writes
 returns-clause-writes g c =
     let is = c.loop-place.invariant.done in
-    let none = subst (λ s. NoneBetween (g.S.UrlSeeker.begins s.now) c.args.window.now c.loop-place.to c.args.high) is.same.0 c.in_default.ensures in
-    let done = done_bytes (g.S.UrlSeeker.begins c.args.self.now.seeker.now) g.M.Maps.Finds g.M.Maps.found g.W.ByteSink.seen c.args.self.now c.args.output.now
+    let none = subst (λ s. NoneBetween (place_at s.now) c.args.window.now c.loop-place.to c.args.high) is.same.0 c.in_default.ensures in
+    let done = done_bytes (place_at c.args.self.now.finder.now) g.M.Maps.Finds g.M.Maps.found g.W.ByteSink.seen c.args.self.now c.args.output.now
     c.args.window.now c.args.from c.args.high c.loop-place.self c.loop-place.output c.loop-place.to is c.max-end.result c.max-end.ensures
     (omega (arith, c.max-end.ensures, c.requires.high, c.loop-place.invariant.within)) none c.put.new.self c.in_ok-put.ensures in
-    done_written (g.S.UrlSeeker.begins c.args.self.now.seeker.now) g.M.Maps.Finds g.M.Maps.found g.W.ByteSink.seen c.args.self.now c.args.output.now
+    done_written (place_at c.args.self.now.finder.now) g.M.Maps.Finds g.M.Maps.found g.W.ByteSink.seen c.args.self.now c.args.output.now
     c.args.window.now c.args.from c.args.high c.loop-place.self c.put.new.self c.max-end.result done c.write.new.self c.in_ok-write.ensures.written

@@ -1,4 +1,5 @@
 use Rattle.std.proofs.Common.{◌-◌, ◌≤◌, length}
+use Rattle.smap_places.specs.PlaceAt.{place_at}
 use Rattle.smap_places.proofs.PassageLaws.{IsDone}
 use Rattle.smap_places.proofs.place_rewriter.PlaceRewriter.write_places.Given as goal
 
@@ -6,7 +7,7 @@ use Rattle.smap_places.proofs.place_rewriter.PlaceRewriter.write_places.Given as
 abbrev pub invariant-loop-place : goal.invariant-loop-place
 invariant-loop-place g l = record {
   within : l.to ≤ length l.window;
-  done : IsDone (g.S.UrlSeeker.begins l.initial.self.seeker.now) g.M.Maps.Finds g.M.Maps.found g.W.ByteSink.seen l.initial.self l.initial.output l.window
+  done : IsDone (place_at l.initial.self.finder.now) g.M.Maps.Finds g.M.Maps.found g.W.ByteSink.seen l.initial.self l.initial.output l.window
       l.from l.high l.self l.output l.to;
 }
 

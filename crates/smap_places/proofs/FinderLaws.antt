@@ -10,21 +10,19 @@ use Rattle.std.proofs.Math.Bool.{or-true}
 use Rattle.std.specs.Str.{bytes_eq}
 use Rattle.smap_lines.specs.Lines.{has_line_end}
 use Rattle.smap_by_text.specs.ByText.{value_under}
-use Rattle.smap_locations.specs.Named.{Named}
+use Rattle.smap_record.specs.Record.{MapRecord}
 use Rattle.smap_places.specs.Candidates.{candidate_at, greatest, has_named, has_prefix, named_bytes, place_of, place_of_bytes, prefix_bytes, run_bytes}
 use Rattle.smap_places.specs.Candidates.{run_length, url_bytes, with_run}
 use Rattle.smap_places.specs.Places.{PlaceUrl, begun_at, numbers_after}
 use Rattle.smap_places.specs.PlacesNear.{DecidedWithin, EndsAtLines}
-use Rattle.smap_places.specs.Private.Finder.{is_among}
-use Rattle.smap_places.specs.Private.StoredPlaces.{HasLengths, IsBarred, IsLongest, IsOpen, KnowsLengths}
-use Rattle.smap_places.specs.StoredPlaces.{MapsSeen, is_named, is_prefix, stored_place_at}
+use Rattle.smap_places.specs.PlaceAt.{MapsSeen, is_named, is_prefix, place_at, table_alone, table_place_at}
+use Rattle.smap_places.specs.Private.Finder.{HasLengths, IsBarred, IsLongest, IsOpen, KnowsLengths, is_among}
 use Rattle.smap_places.specs.declared.lengths.Lengths.{Lengths}
 use Rattle.smap_places.proofs.BegunLaws.{not_begun}
-use Rattle.smap_places.proofs.CutLaws.{numbers_size, size_or}
-use Rattle.smap_places.proofs.GreatestLaws.{greatest_passes, greatest_same, greatest_within}
+use Rattle.smap_places.proofs.GreatestLaws.{greatest_passes, greatest_same, greatest_within, head_or}
 use Rattle.smap_places.proofs.LineEndLaws.{end_within}
 use Rattle.smap_places.proofs.NumberReach.{numbers_line, numbers_reach}
-use Rattle.smap_places.proofs.PlaceLaws.{head_or, no_numbers, url_among}
+use Rattle.smap_places.proofs.NumberLaws.{no_numbers, numbers_size}
 use Rattle.smap_places.proofs.RunLaws.{run_line, run_reach, run_within}
 
 -- ---- both tests
@@ -200,6 +198,10 @@ place_none : (text : List ℕ) (n : ℕ) → (1 ≤ n → numbers_after (drop n 
 place_none text zero none = refl
 place_none text (suc n) none = ap (place_of (take (suc n) text) (suc n)) (none (omega arith))
 
+abbrev size_or : Option PlaceUrl → ℕ
+size_or None = 0
+size_or (Some place) = place.size
+
 place_size : (text : List ℕ) (n : ℕ) (place : PlaceUrl) → place_of_bytes text n ≡ Some place → place.size ≤ length text
 place_size text zero place is = cc
 place_size text (suc n) place is = go (numbers_after (drop (suc n) text)) refl is
@@ -310,41 +312,41 @@ abbrev or_zero : Option ℕ → ℕ
 or_zero None = 0
 or_zero (Some n) = n
 
-pub stored_ends : (maps : MapsSeen) → EndsAtLines (stored_place_at maps)
-stored_ends maps = candidate_ends (is_named maps) (is_prefix maps)
+pub ends_at_lines : (maps : MapsSeen) → EndsAtLines (place_at maps)
+ends_at_lines maps = candidate_ends (is_named maps) (is_prefix maps)
 
 -- none begins where no numbers stand after
-pub stored_none_after : (maps : MapsSeen) (line : List ℕ) (start : ℕ) → ((i : ℕ) → start + 1 ≤ i → numbers_after (drop i line) ≡ None)
-    → (i : ℕ) → start ≤ i → begun_at (stored_place_at maps) line i ≡ None
-stored_none_after maps line start none i least =
-    not_begun (stored_place_at maps) line i
+pub none_behind : (maps : MapsSeen) (line : List ℕ) (start : ℕ) → ((i : ℕ) → start + 1 ≤ i → numbers_after (drop i line) ≡ None)
+    → (i : ℕ) → start ≤ i → begun_at (place_at maps) line i ≡ None
+none_behind maps line start none i least =
+    not_begun (place_at maps) line i
     (none_at_all (is_named maps) (is_prefix maps) (drop i line)
     (λ bytes some. ap numbers_after (drop-drop bytes i line) ∙ none (i + bytes) (omega (arith, least, some))))
 
 module _ (maps : MapsSeen) (urls folders : Lengths) (longest : Option ℕ) (known : KnowsLengths urls folders longest maps) where
-  pub stored_reach : (bytes : ℕ) (reach : Option ℕ) → longest ≡ Some bytes → IfSome reach (λ n. n ≡ bytes + 23)
-      → IfSome reach (DecidedWithin (stored_place_at maps))
-  stored_reach bytes reach some is = go longest known.longest some reach is
+  pub decided_reach : (bytes : ℕ) (reach : Option ℕ) → longest ≡ Some bytes → IfSome reach (λ n. n ≡ bytes + 23)
+      → IfSome reach (DecidedWithin (place_at maps))
+  decided_reach bytes reach some is = go longest known.longest some reach is
     where
       go : (most : Option ℕ) → IfSome most (IsLongest urls.greatest folders.greatest) → most ≡ Some bytes → (reach : Option ℕ)
-          → IfSome reach (λ n. n ≡ bytes + 23) → IfSome reach (DecidedWithin (stored_place_at maps))
+          → IfSome reach (λ n. n ≡ bytes + 23) → IfSome reach (DecidedWithin (place_at maps))
       go most few some None is = tt
       go None few some (Some n) is = cc
       go (Some most) few some (Some n) is =
           let same : most + 23 ≡ n = ap (λ o. or_zero o + 23) some ∙ sym is in
-          let P : ℕ → Type 0 = λ reach. DecidedWithin (stored_place_at maps) reach in
+          let P : ℕ → Type 0 = λ reach. DecidedWithin (place_at maps) reach in
           subst P same (candidate_reach (is_named maps) (is_prefix maps) urls folders known.named known.prefixes most few)
 
   -- none begins too far before the numbers
-  pub stored_none_between : (line : List ℕ) (start numbers low : ℕ) → ((i : ℕ) → start + 1 ≤ i → i < numbers → numbers_after (drop i line) ≡ None)
-      → (start < low → IsSomeAnd longest (λ bytes. low + bytes ≤ numbers)) → (i : ℕ) → start ≤ i → i < low → begun_at (stored_place_at maps) line i ≡ None
-  stored_none_between line start numbers low none near i least below = go longest known.longest (near (omega (arith, least, below)))
+  pub none_between : (line : List ℕ) (start numbers low : ℕ) → ((i : ℕ) → start + 1 ≤ i → i < numbers → numbers_after (drop i line) ≡ None)
+      → (start < low → IsSomeAnd longest (λ bytes. low + bytes ≤ numbers)) → (i : ℕ) → start ≤ i → i < low → begun_at (place_at maps) line i ≡ None
+  none_between line start numbers low none near i least below = go longest known.longest (near (omega (arith, least, below)))
     where
       go : (most : Option ℕ) → IfSome most (IsLongest urls.greatest folders.greatest) → IsSomeAnd most (λ bytes. low + bytes ≤ numbers)
-          → begun_at (stored_place_at maps) line i ≡ None
+          → begun_at (place_at maps) line i ≡ None
       go None few far = absurd far
       go (Some most) few far =
-          not_begun (stored_place_at maps) line i
+          not_begun (place_at maps) line i
           (none_near (is_named maps) (is_prefix maps) urls folders known.named known.prefixes most few (drop i line)
           (λ bytes some within. ap numbers_after (drop-drop bytes i line) ∙ none (i + bytes) (omega (arith, least, some)) (omega (arith, below, within, far))))
 
@@ -376,9 +378,9 @@ module _ (maps : MapsSeen) (line : List ℕ) (near first numbers barred : ℕ)
         ap numbers_after (drop-drop named_there i line) ∙ none (i + named_there) (omega (arith, least, some)) (omega (arith, short, all))
   ]
 
-  pub stored_none_open : begun_at (stored_place_at maps) line i ≡ None
-  stored_none_open =
-      not_begun (stored_place_at maps) line i
+  pub none_open : begun_at (place_at maps) line i ≡ None
+  none_open =
+      not_begun (place_at maps) line i
       (no_candidate (is_named maps) (is_prefix maps) (drop i line) (run_none (drop i line) prefix_there no_run) none_after)
 
 -- ---- the lengths are known
@@ -391,14 +393,15 @@ among_either : (one other : List ℕ) (n : ℕ) → (is_among one n ≡ true) �
 among_either one other n (inl here) = list_any-append (λ x. x == n) one other ∙ ap (λ b. b || is_among other n) here
 among_either one other n (inr there) = list_any-append (λ x. x == n) one other ∙ ap (λ b. is_among one n || b) there ∙ or-true (is_among one n)
 
--- the length of a text with a path is among those of all
-pub path_among : (named : Named) (text : List ℕ) → is_some (value_under text named) ≡ true → is_among (map (λ pair. length pair.0) named) (length text) ≡ true
-path_among [] text some = cc
-path_among ((there, path) ∷ named) text some = go (bytes_eq text there) refl (path_among named text) some
+-- the length of a text that has a value is among those of all
+pub text_among : {T : Type 0} (pairs : List (List ℕ × T)) (text : List ℕ) → is_some (value_under text pairs) ≡ true
+    → is_among (map (λ pair. length pair.0) pairs) (length text) ≡ true
+text_among [] text some = cc
+text_among ((there, value) ∷ pairs) text some = go (bytes_eq text there) refl (text_among pairs text) some
   where
     go : (same : Bool) → bytes_eq text there ≡ same
-        → (is_some (value_under text named) ≡ true → is_among (map (λ pair. length pair.0) named) (length text) ≡ true)
-        → is_some (cond same (Some path) (value_under text named)) ≡ true → is_among (length there ∷ map (λ pair. length pair.0) named) (length text) ≡ true
+        → (is_some (value_under text pairs) ≡ true → is_among (map (λ pair. length pair.0) pairs) (length text) ≡ true)
+        → is_some (cond same (Some value) (value_under text pairs)) ≡ true → is_among (length there ∷ map (λ pair. length pair.0) pairs) (length text) ≡ true
     go true same more some = head_or (length there) (length text) _ (inl (ap length (sym ((bytes_eq-Decides text there).0 same))))
     go false other more some = head_or (length there) (length text) _ (inr (more some))
 
@@ -412,5 +415,29 @@ named_among maps all is url on =
     go : (is_some (value_under url maps.table) ≡ true) ⊎ (is_some (value_under url maps.locations.files) ≡ true)
         → (is_among (map (λ pair. length pair.0) maps.table) (length url) ≡ true)
         ⊎ (is_among (map (λ pair. length pair.0) maps.locations.files) (length url) ≡ true)
-    go (inl map_is) = inl (url_among maps.table url map_is)
-    go (inr file) = inr (path_among maps.locations.files url file)
+    go (inl map_is) = inl (text_among maps.table url map_is)
+    go (inr file) = inr (text_among maps.locations.files url file)
+
+-- ---- over a table alone
+
+module _ (table : List (List ℕ × MapRecord)) (text : List ℕ) where
+  abbrev named : List ℕ → Bool
+  named = is_named (table_alone table)
+
+  abbrev prefixes : List ℕ → Bool
+  prefixes = is_prefix (table_alone table)
+
+  no_folder : 1 ≤ prefix_bytes prefixes text → run_length 2048 (drop (prefix_bytes prefixes text) text) ≡ None
+  no_folder some = elim (greatest_passes (has_prefix prefixes text) (length text)) [
+    | inl zero_is ↦ absurd (omega (arith, zero_is, some))
+    | inr on ↦ absurd (cc (prefix_on prefixes text (prefix_bytes prefixes text) on))
+  ]
+
+  -- where no front of a text is a URL of the table, no place begins it
+  pub none_known : ((bytes : ℕ) → is_some (value_under (take bytes text) table) ≡ false) → table_place_at table text ≡ None
+  none_known none =
+      no_candidate named prefixes text (run_none text (prefix_bytes prefixes text) no_folder)
+      (λ some. elim (greatest_passes (has_named named text) (length text)) [
+        | inl zero_is ↦ absurd (omega (arith, zero_is, some))
+        | inr on ↦ absurd (cc (ap (λ b. b || false) (none (named_bytes named text)), named_on named text (named_bytes named text) on))
+      ])

@@ -1,8 +1,8 @@
 use Rattle.std.proofs.Common.{◌≡◌, ◌≤◌, ◌⊎◌, true, length}
 use Rattle.smap_places.specs.Candidates.{has_prefix}
-use Rattle.smap_places.specs.StoredPlaces.{is_prefix}
+use Rattle.smap_places.specs.PlaceAt.{is_prefix}
 use Rattle.smap_places.proofs.GreatestLaws.{NoneGreater}
-use Rattle.smap_places.proofs.stored_finder.StoredPlaceFinder.prefix_bytes.Given as goal
+use Rattle.smap_places.proofs.finder.PlaceFinder.prefix_bytes.Given as goal
 
 -- it is the greatest so far that passes
 abbrev pub invariant-loop-bytes : goal.invariant-loop-bytes

@@ -1,11 +1,10 @@
 use Rattle.std.proofs.Common.{ap, arith, length, subst, sym, ◌∙◌}
 use Rattle.smap_places.specs.Candidates.{has_prefix}
-use Rattle.smap_places.specs.Private.Finder.{is_among}
-use Rattle.smap_places.specs.Private.StoredPlaces.{KnowsLengths}
-use Rattle.smap_places.specs.StoredPlaces.{is_prefix}
+use Rattle.smap_places.specs.Private.Finder.{KnowsLengths, is_among}
+use Rattle.smap_places.specs.PlaceAt.{is_prefix}
 use Rattle.smap_places.proofs.GreatestLaws.{greatest_found}
-use Rattle.smap_places.proofs.StoredLaws.{length_among, prefix_on}
-use Rattle.smap_places.proofs.stored_finder.StoredPlaceFinder.prefix_bytes.Goals as goal
+use Rattle.smap_places.proofs.FinderLaws.{length_among, prefix_on}
+use Rattle.smap_places.proofs.finder.PlaceFinder.prefix_bytes.Goals as goal
 
 pub returns-clause-prefix : goal.returns-clause-prefix
 returns-clause-prefix c =

@@ -1,5 +1,5 @@
 -- Which place begins a text over a table of maps, and over the files and the folders that maps are in.
-use Rattle.std.specs.Prelude.{ℕ, ◌||◌, Bool, List, Option, is_some}
+use Rattle.std.specs.Prelude.{ℕ, ◌||◌, Bool, List, [], Option, is_some}
 use Rattle.smap_locations.specs.Locations.{LocationsSeen}
 use Rattle.smap_by_text.specs.ByText.{value_under}
 use Rattle.smap_record.specs.Record.{MapRecord}
@@ -20,5 +20,12 @@ abbrev pub is_prefix : MapsSeen → (text : List ℕ) → Bool
 is_prefix maps text = is_some (value_under text maps.locations.folders)
 
 -- the place that begins a text
-abbrev pub stored_place_at : MapsSeen → (text : List ℕ) → Option PlaceUrl
-stored_place_at maps = candidate_at (is_named maps) (is_prefix maps)
+abbrev pub place_at : MapsSeen → (text : List ℕ) → Option PlaceUrl
+place_at maps = candidate_at (is_named maps) (is_prefix maps)
+
+-- over a table alone: the place with its longest URL
+abbrev pub table_alone : List (List ℕ × MapRecord) → MapsSeen
+table_alone table = record { table = table; locations = record { files = []; folders = [] } }
+
+abbrev pub table_place_at : List (List ℕ × MapRecord) → (text : List ℕ) → Option PlaceUrl
+table_place_at table = place_at (table_alone table)

@@ -1,29 +1,29 @@
 use Rattle.std.proofs.Common.{◌<◌, arith, refl, subst}
-use Rattle.smap_places.specs.Private.StoredPlaces.{KnowsLengths}
-use Rattle.smap_places.specs.StoredPlaces.{stored_place_at}
+use Rattle.smap_places.specs.Private.Finder.{KnowsLengths}
+use Rattle.smap_places.specs.PlaceAt.{place_at}
 use Rattle.smap_places.proofs.BegunLaws.{next_from, none_joined}
-use Rattle.smap_places.proofs.StoredLaws.{stored_none_after, stored_none_between, stored_none_open}
-use Rattle.smap_places.proofs.stored_finder.StoredPlaceFinderUrlSeeker.next_before.Goals as goal
+use Rattle.smap_places.proofs.FinderLaws.{none_behind, none_between, none_open}
+use Rattle.smap_places.proofs.finder.PlaceFinder.next_before.Goals as goal
 
 pub returns-in_err-numbers : goal.returns-in_err-numbers
 returns-in_err-numbers c =
-    let begins = stored_place_at c.args.self.now in
+    let begins = place_at c.args.self.now in
     rw c.from_residual.ensures (λ i least below. none_joined begins c.args.text.now c.args.from c.loop-start.start c.args.high c.args.high
     c.loop-start.invariant.none
-    (λ i late _ _. stored_none_after c.args.self.now c.args.text.now c.loop-start.start (c.in_err-numbers.ensures.none refl) i late) i least below below)
+    (λ i late _ _. none_behind c.args.self.now c.args.text.now c.loop-start.start (c.in_err-numbers.ensures.none refl) i late) i least below below)
 
 pub returns-in-Some : goal.returns-in-Some
 returns-in-Some c =
-    let begins = stored_place_at c.args.self.now in
+    let begins = place_at c.args.self.now in
     let known = subst (λ m. KnowsLengths c.self.inside.named c.self.inside.prefixes c.self.inside.longest m) c.self.view_is c.self.invariant in
     let near = c.first_start-near.result in
     let low = c.first_open-low.result in
     let none_near = none_joined begins c.args.text.now c.args.from c.loop-start.start near c.args.high c.loop-start.invariant.none
-    (λ i late below _. stored_none_between c.args.self.now c.self.inside.named c.self.inside.prefixes c.self.inside.longest known c.args.text.now
+    (λ i late below _. none_between c.args.self.now c.self.inside.named c.self.inside.prefixes c.self.inside.longest known c.args.text.now
     c.loop-start.start c.in_ok-numbers.numbers near c.in_ok-numbers.ensures.first c.first_start-near.ensures.near i late below) in
     let none = none_joined begins c.args.text.now c.args.from near low c.args.high none_near
-    (λ i late below _. stored_none_open c.args.self.now c.args.text.now near low c.in_ok-numbers.numbers c.barred_end-barred.result
-    (λ j after before. c.in_ok-numbers.ensures.first j (omega (arith, after, c.first_start-near.ensures.after)) before) c.barred_end-barred.ensures
+    (λ i late below _. none_open c.args.self.now c.args.text.now near low c.in_ok-numbers.numbers c.barred-barred.result
+    (λ j after before. c.in_ok-numbers.ensures.first j (omega (arith, after, c.first_start-near.ensures.after)) before) c.barred-barred.ensures
     c.first_open-low.ensures.open i late below) in
     let high : c.in-Some.place.start < c.args.high = omega (arith, c.in-Some.ensures.1, c.min.ensures) in (
       next_from begins c.args.text.now c.args.from low c.in-Some.place (omega (arith, c.loop-start.invariant.low, c.first_start-near.ensures.after, c.first_open-low.ensures.after))
@@ -33,16 +33,16 @@ returns-in-Some c =
 
 pub loop-start-preserved : goal.loop-start-preserved
 loop-start-preserved c =
-    let begins = stored_place_at c.args.self.now in
+    let begins = place_at c.args.self.now in
     let known = subst (λ m. KnowsLengths c.self.inside.named c.self.inside.prefixes c.self.inside.longest m) c.self.view_is c.self.invariant in
     let near = c.first_start-near.result in
     let low = c.first_open-low.result in
     let none_near = none_joined begins c.args.text.now c.args.from c.loop-start.start near c.args.high c.loop-start.invariant.none
-    (λ i late below _. stored_none_between c.args.self.now c.self.inside.named c.self.inside.prefixes c.self.inside.longest known c.args.text.now
+    (λ i late below _. none_between c.args.self.now c.self.inside.named c.self.inside.prefixes c.self.inside.longest known c.args.text.now
     c.loop-start.start c.in_ok-numbers.numbers near c.in_ok-numbers.ensures.first c.first_start-near.ensures.near i late below) in
     let none = none_joined begins c.args.text.now c.args.from near low c.args.high none_near
-    (λ i late below _. stored_none_open c.args.self.now c.args.text.now near low c.in_ok-numbers.numbers c.barred_end-barred.result
-    (λ j after before. c.in_ok-numbers.ensures.first j (omega (arith, after, c.first_start-near.ensures.after)) before) c.barred_end-barred.ensures
+    (λ i late below _. none_open c.args.self.now c.args.text.now near low c.in_ok-numbers.numbers c.barred-barred.result
+    (λ j after before. c.in_ok-numbers.ensures.first j (omega (arith, after, c.first_start-near.ensures.after)) before) c.barred-barred.ensures
     c.first_open-low.ensures.open i late below) in
     record {
       low = omega (arith, c.loop-start.invariant.low, c.in_ok-numbers.ensures.low);

@@ -1,9 +1,9 @@
 use Rattle.std.proofs.Common.{ap, arith, sym, ◌∙◌}
 use Rattle.smap_places.specs.Candidates.{run_bytes}
-use Rattle.smap_places.proofs.StoredLaws.{run_none}
-use Rattle.smap_places.proofs.stored_finder.StoredPlaceFinder.bytes_in_folder.Goals as goal
-use Rattle.smap_places.proofs.stored_finder.StoredPlaceFinder.bytes_in_folder.Goals.{then-prefix-eq0-via-then-prefix-eq0}
-use Rattle.smap_places.proofs.stored_finder.StoredPlaceFinder.bytes_in_folder.Goals.{then-prefix-eq0-via-else-prefix-eq0+then-prefix-barred}
+use Rattle.smap_places.proofs.FinderLaws.{run_none}
+use Rattle.smap_places.proofs.finder.PlaceFinder.bytes_in_folder.Goals as goal
+use Rattle.smap_places.proofs.finder.PlaceFinder.bytes_in_folder.Goals.{then-prefix-eq0-via-then-prefix-eq0}
+use Rattle.smap_places.proofs.finder.PlaceFinder.bytes_in_folder.Goals.{then-prefix-eq0-via-else-prefix-eq0+then-prefix-barred}
 
 pub returns-then-prefix-eq0-clause-run : goal.returns-then-prefix-eq0-clause-run
 returns-then-prefix-eq0-clause-run c =
