@@ -3,3 +3,4 @@ pub mod Paths
 pub mod Locations
 pub mod ListLine
 pub mod Laws
+pub mod InFolder

@@ -7,6 +7,7 @@
 //! ```
 #![tactic(auto)]
 
+pub mod laws;
 mod list_line;
 mod locations;
 mod named;
