@@ -200,9 +200,11 @@ def try_field(browser: browsers.Browser, page: Page, checks: Checks) -> None:
 
 
 PASTE = """
+    const [data, dataType] = [arguments[0], 'text/plain'];
     const clipboardData = new DataTransfer();
-    clipboardData.setData('text/plain', arguments[0]);
-    const paste = new ClipboardEvent('paste', { clipboardData, bubbles: true, cancelable: true });
+    clipboardData.setData(dataType, data);
+    // Firefox takes the text by itself.
+    const paste = new ClipboardEvent('paste', { clipboardData, data, dataType, bubbles: true, cancelable: true });
     return document.getElementById('place').dispatchEvent(paste);
 """
 FRAMES = """
