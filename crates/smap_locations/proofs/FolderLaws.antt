@@ -9,7 +9,8 @@ use Rattle.std.proofs.lemmas.List.Elements.{All-contains}
 use Rattle.std.proofs.lemmas.List.Sums.{AllPass-from_list_all}
 use Rattle.smap_locations.specs.InFolder.{IsInFolder, pieces}
 use Rattle.smap_locations.specs.Locations.{folder_path, path_in_folders, path_within}
-use Rattle.smap_locations.specs.Named.{Named, path_under}
+use Rattle.smap_by_text.specs.ByText.{value_under}
+use Rattle.smap_locations.specs.Named.{Named}
 use Rattle.smap_locations.specs.Paths.{is_plain, is_plain_byte, is_plain_piece, map_path}
 
 -- ---- the path
@@ -27,9 +28,9 @@ no_dots piece plain is =
 -- ---- the folder
 
 module _ (folders : Named) (url path : List ℕ) where
-  in_one : (bytes : ℕ) (folder : List ℕ) → bytes ≤ length url → path_under (take bytes url) folders ≡ Some folder
+  in_one : (bytes : ℕ) (folder : List ℕ) → bytes ≤ length url → value_under (take bytes url) folders ≡ Some folder
       → map_path folder (drop bytes url) ≡ Some path
-      → ((longer : ℕ) → bytes < longer → longer ≤ length url → path_under (take longer url) folders ≡ None) → IsInFolder folders url path
+      → ((longer : ℕ) → bytes < longer → longer ≤ length url → value_under (take longer url) folders ≡ None) → IsInFolder folders url path
   in_one bytes folder few there made none =
       let rest = drop bytes url in
       let given = where_plain (is_utf8 rest && is_plain rest) (folder ++ (rest ++ codes ".map")) path made in
@@ -48,21 +49,21 @@ module _ (folders : Named) (url path : List ℕ) where
       }
 
   in_folders : (bytes : ℕ) → bytes ≤ length url → path_within folders url bytes ≡ Some path
-      → ((longer : ℕ) → bytes < longer → longer ≤ length url → path_under (take longer url) folders ≡ None) → IsInFolder folders url path
+      → ((longer : ℕ) → bytes < longer → longer ≤ length url → value_under (take longer url) folders ≡ None) → IsInFolder folders url path
   in_folders zero few made none = cc
-  in_folders (suc bytes) few made none = go (path_under (take (suc bytes) url) folders) refl made (in_folders bytes (omega arith))
+  in_folders (suc bytes) few made none = go (value_under (take (suc bytes) url) folders) refl made (in_folders bytes (omega arith))
     where
-      next : path_under (take (suc bytes) url) folders ≡ None → (longer : ℕ) → bytes < longer → longer ≤ length url
-          → (b : Bool) → ltb (suc bytes) longer ≡ b → path_under (take longer url) folders ≡ None
+      next : value_under (take (suc bytes) url) folders ≡ None → (longer : ℕ) → bytes < longer → longer ≤ length url
+          → (b : Bool) → ltb (suc bytes) longer ≡ b → value_under (take longer url) folders ≡ None
       next there longer more within true above = none longer (ltb-true (suc bytes) longer above) within
       next there longer more within false below =
           let same : suc bytes ≡ longer = omega (arith, ltb-false (suc bytes) longer below, more) in
-          subst (λ n. path_under (take n url) folders ≡ None) same there
+          subst (λ n. value_under (take n url) folders ≡ None) same there
 
-      go : (found : Option (List ℕ)) → path_under (take (suc bytes) url) folders ≡ found
+      go : (found : Option (List ℕ)) → value_under (take (suc bytes) url) folders ≡ found
           → folder_path url (suc bytes) found (path_within folders url bytes) ≡ Some path
           → (path_within folders url bytes ≡ Some path
-          → ((longer : ℕ) → bytes < longer → longer ≤ length url → path_under (take longer url) folders ≡ None) → IsInFolder folders url path)
+          → ((longer : ℕ) → bytes < longer → longer ≤ length url → value_under (take longer url) folders ≡ None) → IsInFolder folders url path)
           → IsInFolder folders url path
       go (Some folder) there given below = in_one (suc bytes) folder few there given none
       go None there given below =

@@ -1,7 +1,8 @@
 -- Where the file of a URL is that is found in a folder.
 use Rattle.std.specs.Prelude.{◌≡◌, ◌≢◌, ℕ, ◌==◌, ◌<◌, ◌≤◌, List, ◌++◌, Some, None, codes, length, take}
 use Rattle.std.specs.List.{Contains, slice_split}
-use Rattle.smap_locations.specs.Named.{Named, path_under}
+use Rattle.smap_by_text.specs.ByText.{value_under}
+use Rattle.smap_locations.specs.Named.{Named}
 
 -- the pieces of a path, which stand between `/`
 abbrev pub pieces : List ℕ → List (List ℕ)
@@ -14,7 +15,7 @@ pub record IsInFolder (folders : Named) (url path : List ℕ) : Type 0 where
   pub rest : List ℕ
   pub folder : List ℕ
   pub cut : url ≡ prefix ++ rest
-  pub named : path_under prefix folders ≡ Some folder
-  pub longest : (bytes : ℕ) → length prefix < bytes → bytes ≤ length url → path_under (take bytes url) folders ≡ None
+  pub named : value_under prefix folders ≡ Some folder
+  pub longest : (bytes : ℕ) → length prefix < bytes → bytes ≤ length url → value_under (take bytes url) folders ≡ None
   pub inside : path ≡ folder ++ (rest ++ codes ".map")
   pub stays : (piece : List ℕ) → Contains (pieces rest) piece → piece ≢ codes ".."
