@@ -1,5 +1,5 @@
 -- What reporting several things comes to, one by one.
-use Rattle.std.proofs.Common.{◌≡◌, ℕ, ◌+◌, ◌≤◌, Bool, true, false, List, [], ◌∷◌, length, max, add-one, refl, sym}
+use Rattle.std.proofs.Common.{◌≡◌, ℕ, ◌+◌, true, false, List, [], ◌∷◌, max, add-one, refl, sym}
 use Rattle.std.proofs.Common.{subst, inl, inr, arith}
 use Rattle.smap_replies.specs.InTurn.{ReportsEach}
 use Rattle.smap_replies.specs.Outcome.{OrMemory, Report}
