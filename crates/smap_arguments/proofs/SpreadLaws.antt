@@ -1,7 +1,7 @@
 -- A position that is one word.
-use Rattle.std.proofs.Common.{◌≡◌, ◌∙◌, ◌≢◌, ◌<◌, ◌+◌, ℕ, zero, suc, Bool, true, false, List, [], ◌∷◌, ◌++◌, length, map, drop, Option, Some, None, refl, sym, ap, subst, arith}
-use Rattle.std.proofs.Common.{◌≤◌, add-one, append-nil, append_assoc, drop-cons, get_or, inl, inr, map-append}
-use Rattle.std.proofs.lemmas.List.{drop_all}
+use Rattle.std.proofs.Common.{◌≡◌, ◌∙◌, ◌<◌, ◌+◌, ℕ, Bool, true, false, List, [], ◌∷◌, ◌++◌, length, drop, Option, Some, None, refl, sym, ap, subst}
+use Rattle.std.proofs.Common.{◌≤◌, add-one, append-nil, append_assoc, drop-cons, get_or, inl, inr}
+use Rattle.std.proofs.lemmas.List.{drop_all, get_or-map, length-map, map-append}
 use Rattle.std.specs.Prelude.{String, string_bytes}
 use Rattle.clap.specs.Faults.{fault_of, is_simple_and_free}
 use Rattle.clap.specs.Kinds.{HasKind, IsAmong, Kinds}
@@ -68,13 +68,23 @@ module _ (old new : List Text) (word : Text) where
 abbrev pub ArePassed : (all : List Text) → (is_spread : Bool) → (i : ℕ) → (program : Text) (words : List Text) → Type 0
 ArePassed all is_spread i program words = all ++ spread_behind is_spread (drop i words) ≡ program ∷ spread_words words
 
-pub passed_on : (all new : List Text) (was_spread is_spread : Bool) (i : ℕ) (program : Text) (words : List Text) → i < length words
+passed_on : (all new : List Text) (was_spread is_spread : Bool) (i : ℕ) (program : Text) (words : List Text) → i < length words
     → ArePassed all was_spread i program words → IsPushed all new (get_or words i []) was_spread is_spread
     → ArePassed new is_spread (i + 1) program words
 passed_on all new was_spread is_spread i program words within is pushed =
     let next : drop i words ≡ get_or words i [] ∷ drop (i + 1) words =
-        drop-cons words i [] within ∙ ap (λ n. get_or words i [] ∷ drop n words) (sym (add-one i)) in
+    drop-cons words i [] within ∙ ap (λ n. get_or words i [] ∷ drop n words) (sym (add-one i)) in
     pushed (drop (i + 1) words) ∙ (ap (λ l. all ++ spread_behind was_spread l) (sym next) ∙ is)
+
+pub word_passed : {A : Type 0} (all new : List Text) (was_spread is_spread : Bool) (i : ℕ) (program : Text) (words : List (String A)) (word : String A)
+    (text : Text) → i < length words → word ≡ get_or words i word → text ≡ string_bytes word
+    → ArePassed all was_spread i program (texts words) → IsPushed all new text was_spread is_spread
+    → ArePassed new is_spread (i + 1) program (texts words)
+word_passed all new was_spread is_spread i program words word text within here same is pushed =
+    let at : text ≡ get_or (texts words) i [] =
+    same ∙ (ap (λ w. string_bytes w) here ∙ sym (get_or-map (λ w. string_bytes w) words i word [] within)) in
+    passed_on all new was_spread is_spread i program (texts words) (rw length-map within) is
+    (subst (λ w. IsPushed all new w was_spread is_spread) at pushed)
 
 pub passed_all : (all : List Text) (is_spread : Bool) (i : ℕ) (program : Text) (words : List Text) → length words ≤ i
     → ArePassed all is_spread i program words → all ≡ program ∷ spread_words words

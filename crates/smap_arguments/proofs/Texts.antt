@@ -6,7 +6,7 @@ use Rattle.std.specs.Prelude.{option_and_then, option_map, slice_get}
 use Rattle.std.specs.Str.{bytes_eq}
 use Rattle.clap.specs.Values.{read_as}
 use Rattle.clap.specs.Walk.{row_text}
-use Rattle.clap.specs.Words.{Row, Text, all_of, one_of}
+use Rattle.clap.specs.Words.{Row, Text, all_of}
 use Rattle.clap.specs.declared.builder.value_parser.Reading.{Reading}
 use Rattle.clap.specs.declared.builder.value_parser.ValueParser.TheVariants as parser
 use Rattle.smap_arguments.specs.Arguments.{GivesText, HasValue}

@@ -263,6 +263,7 @@ output is the same";
 pub const LIMIT_HELP: &str =
     "Refuse a text of more bytes than this, 1 to 9223372036854775807, else 1073741824";
 
-pub const STRIP_HELP: &str = "Leave colours and other control sequences of a terminal out of the text";
+pub const STRIP_HELP: &str =
+    "Leave colours and other control sequences of a terminal out of the text";
 
 pub const SUMMARY_HELP: &str = "Print counts on standard error at the end";

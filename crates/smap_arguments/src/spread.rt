@@ -55,11 +55,7 @@ fn spread(alloc: Global, arguments: &[String]) -> Result<Vec<String>, AllocError
 }
 
 // The words behind the program's name, the first that is a position as two.
-fn spread_behind(
-    alloc: Global,
-    program: &str,
-    words: &[String],
-) -> Result<Vec<String>, AllocError>
+fn spread_behind(alloc: Global, program: &str, words: &[String]) -> Result<Vec<String>, AllocError>
     ensures { IfOk result (λ all. texts all.items ≡ program.now ∷ spread_words (texts words.now)) }
 {
     let mut all = Vec::new(alloc);

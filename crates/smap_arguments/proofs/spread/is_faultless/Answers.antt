@@ -1,4 +1,4 @@
-use Rattle.std.proofs.Common.{◌≡◌, ◌∙◌, ap, sym}
+use Rattle.std.proofs.Common.{◌∙◌, ap, sym}
 use Rattle.smap_arguments.specs.Arguments.{texts}
 use Rattle.smap_arguments.specs.Spread.{is_faultless}
 use Rattle.smap_arguments.proofs.Asked.{parsed_smap}
