@@ -1,5 +1,5 @@
 -- What `positions` prints, by what answering them came to.
-use Rattle.std.proofs.Common.{◌≡◌, ℕ, false, List, [], Err, refl, sym, ◌∙◌, append-nil, arith}
+use Rattle.std.proofs.Common.{◌≡◌, false, [], Err, refl, sym, ◌∙◌, append-nil, arith}
 use Rattle.smap_io.specs.Device.{SinkSeen, SourceSeen}
 use Rattle.smap_lines.specs.Edited.{edited}
 use Rattle.smap_lines.specs.Editing.{DevicesSeen, EditsFront, devices_seen}

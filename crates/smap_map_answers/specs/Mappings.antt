@@ -1,5 +1,5 @@
 -- What `mappings` prints.
-use Rattle.std.specs.Prelude.{◌≡◌, ℕ, ◌⊎◌, Bool, true, List, Option, Result, Ok, Err, []}
+use Rattle.std.specs.Prelude.{◌≡◌, ℕ, ◌⊎◌, true, List, Option, Result, Ok, Err, []}
 use Rattle.smap_io.specs.Device.{SinkSeen, Takes, TakesFront}
 use Rattle.smap_lines.specs.Editing.{is_write_fault}
 use Rattle.smap_lines.specs.declared.fault.LineFault.{LineFault}
