@@ -14,7 +14,7 @@ module _ {W : Type 0} (of : W → List ℕ) (items : List W) (n : ℕ) where
       ap pairs_of (first ∙ ap (λ l. of a ∷ l) second) ∙ ap (λ k. (of a, of b) ∷ pairs_of (map of (drop k items))) further
 
   pub no_pair : length items ≤ 2 * n + 1 → pairs_of (map of (drop (2 * n) items)) ≡ []
-  no_pair short = at_most_one (map of (drop (2 * n) items)) (omega (arith, length-map of (drop (2 * n) items), length-drop (2 * n) items))
+  no_pair short = at_most_one (map of (drop (2 * n) items)) (omega (arith, length-map (drop (2 * n) items) of, length-drop (2 * n) items))
     where
       at_most_one : (paths : List (List ℕ)) → length paths ≤ 1 → pairs_of paths ≡ []
       at_most_one [] few = refl

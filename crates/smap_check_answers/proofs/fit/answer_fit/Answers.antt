@@ -1,4 +1,4 @@
-use Rattle.std.proofs.Common.{arith, sym, ◌∙◌, ◌+◌, string_bytes}
+use Rattle.std.proofs.Common.{arith, sym, ◌∙◌, string_bytes}
 use Rattle.std.specs.Prelude.{option_copied}
 use Rattle.smap_replies.specs.Streams.{sinks_seen}
 use Rattle.smap_replies.proofs.InTurnLaws.{all_reported, goes_on, stops}
@@ -18,7 +18,7 @@ loop-number-preserved g c =
       works,
       goes_on (FitsPair (g.F.FileReader.gives c.args.maps.now.files.now) (option_copied c.args.maps.now.base) c.args.maps.now.interval c.args.json)
           0 _ _ _ _ c.loop-number.number c.loop-number.status c.report.result before now between _ is c.loop-number.invariant.1
-          (rw (c.deref.ensures, c.deref-2.ensures) at c.fitted_pair-outcome.ensures) c.report.ensures works,
+          (rw (c.deref.ensures, c.deref-in-loop-number.ensures) at c.fitted_pair-outcome.ensures) c.report.ensures works,
     )
 
 pub returns-after-loop-number : goal.returns-after-loop-number
@@ -39,4 +39,4 @@ returns-then-failed g c =
     let between = sinks_seen (g.W.ByteSink.seen c.report.new.output) (g.E.ByteSink.seen c.report.new.errors) c.report.new.first in
     rw c.max-status.ensures (stops (FitsPair (g.F.FileReader.gives c.args.maps.now.files.now) (option_copied c.args.maps.now.base) c.args.maps.now.interval c.args.json)
     0 _ _ _ _ c.loop-number.number c.loop-number.status c.report.result before now between _ is c.loop-number.invariant.1
-    (rw (c.deref.ensures, c.deref-2.ensures) at c.fitted_pair-outcome.ensures) c.report.ensures failed)
+    (rw (c.deref.ensures, c.deref-in-loop-number.ensures) at c.fitted_pair-outcome.ensures) c.report.ensures failed)
