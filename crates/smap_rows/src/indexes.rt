@@ -6,7 +6,6 @@ use crate::row::{Row, number_in};
 use crate::texts::{packed, put_held};
 use smap_index::{Index, Part};
 use smap_mappings::Meter;
-use std::alloc::Global;
 
 /// The two look-ups.
 #[derive(Clone, Copy)]
@@ -46,32 +45,20 @@ pub fn look_up(row: &Row<'_>, answer: &mut Answer, way: Direction) -> Result<(),
     let mut text = String::new(row.alloc());
     let mut are_few = true;
     for position in row.field(3)?.split(' ') {
+        let (line, column) = position_in(position)?;
         let mut meter = Meter::new(row.alloc());
-        push_found(row.alloc(), &mut text, &index, position, way, &mut meter)?;
+        let found = match way {
+            Direction::Before => index.look_up(line, column, &mut meter),
+            Direction::After => index.look_up_from(line, column, &mut meter),
+        };
         are_few = are_few && is_few(&meter, index.checkpoints(), interval);
+        if !text.is_empty() {
+            text.push(' ')?;
+        }
+        text.push_str(&answer_text(row.alloc(), &found)?)?;
     }
     answer.put_text(&text)?;
     answer.put_text(if are_few { "few" } else { "many" })
-}
-
-// Puts what answers at a position behind other answers.
-fn push_found(
-    alloc: Global,
-    text: &mut String,
-    index: &Index,
-    position: &str,
-    way: Direction,
-    meter: &mut Meter,
-) -> Result<(), RowFault> {
-    let (line, column) = position_in(position)?;
-    let found = match way {
-        Direction::Before => index.look_up(line, column, meter),
-        Direction::After => index.look_up_from(line, column, meter),
-    };
-    if !text.is_empty() {
-        text.push(' ')?;
-    }
-    Ok(text.push_str(&answer_text(alloc, &found)?)?)
 }
 
 fn position_in(text: &str) -> Result<(u32, u32), RowFault> {
