@@ -18,12 +18,12 @@ returns g c =
     let run = c.run_over-status-2 in
     let text = run.new.input in
     let before : source_seen seen c.new-text.result ≡ without_seen [] most_sequences (seen c.args.input) =
-        λ i. without_seen (c.new-text.ensures.none i) (c.new-text.ensures.all i) (seen (c.new-text.ensures.over i)) in
+    λ i. without_seen (c.new-text.ensures.none i) (c.new-text.ensures.all i) (seen (c.new-text.ensures.over i)) in
     let after : source_seen seen text ≡ without_seen text.held text.most (seen c.into_inner.result) =
-        λ i. without_seen text.held text.most (seen (sym c.into_inner.ensures i)) in
+    λ i. without_seen text.held text.most (seen (sym c.into_inner.ensures i)) in
     let runs = λ (old new : SourceSeen). Runs (g.F.FileReader.gives c.args.reader.now) c.args.command.now run.result
-        (streams_seen old (g.W.ByteSink.seen c.args.output.now) (g.E.ByteSink.seen c.args.errors.now) c.args.first.now)
-        (streams_seen new (g.W.ByteSink.seen run.new.output) (g.E.ByteSink.seen run.new.errors) run.new.first) in
+    (streams_seen old (g.W.ByteSink.seen c.args.output.now) (g.E.ByteSink.seen c.args.errors.now) c.args.first.now)
+    (streams_seen new (g.W.ByteSink.seen run.new.output) (g.E.ByteSink.seen run.new.errors) run.new.first) in
     in_case (strips_ansi c.args.command.now) _ _ (sym c.strips_ansi.ensures ∙ c.if-not-strips_ansi.false) (
       text.held,
       text.most,
