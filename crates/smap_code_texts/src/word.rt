@@ -26,7 +26,8 @@ fn called_among(word: &str, among: &[Code]) -> Option<Code>
 
 // The first of these codes whose label this is.
 fn labelled_among<'a>(word: &str, among: &'a [Code]) -> Option<&'a Code>
-    ensures { option_copied result ≡ find (λ code. same_letters word.now (label_of code)) among.now }
+    ensures { option_copied result
+        ≡ find (λ code. same_letters word.now (label_of code)) among.now }
 {
     among.iter().find(|code| is_labelled(word, code))
 }

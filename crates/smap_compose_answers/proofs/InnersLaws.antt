@@ -1,7 +1,6 @@
 -- What the words, the list and the sources of inner maps come to, one after another.
-use Rattle.std.proofs.Common.{◌≡◌, ℕ, zero, suc, ◌+◌, ◌<◌, ◌⊎◌, List, [], ◌∷◌, ◌++◌, add-one, arith, drop, drop-cons, get_or, length, refl, sym, ap, subst, ◌∙◌, inl, inr}
-use Rattle.std.specs.Result.{is_err, is_ok}
-use Rattle.std.specs.Prelude.{if◌then◌else◌, slice_get, false, Option, Some, Result, Ok, Err, option_map}
+use Rattle.std.proofs.Common.{◌≡◌, ℕ, ◌+◌, ◌⊎◌, List, [], ◌∷◌, ◌++◌, refl, sym, subst, inl, inr}
+use Rattle.std.specs.Prelude.{Option, Result, Ok, Err, option_map}
 use Rattle.std.proofs.lemmas.List.{map-append}
 use Rattle.smap_locations.specs.Named.{Named}
 use Rattle.smap_record.specs.MapFile.{Map}
@@ -64,17 +63,6 @@ module _ (Reads : MayRead) (named : Named) (sources rest : List StatedSource) (s
 pub one_stated : (inners : List (Option Map)) (inner : Option Map)
     → inners_stated (inners ++ inner ∷ []) ≡ inners_stated inners ++ option_map (λ (read : Map). read.stated) inner ∷ []
 one_stated inners inner = map-append (option_map (λ (read : Map). read.stated)) inners (inner ∷ [])
-
--- ---- places of lists
-
-pub line_at : (all : List (List ℕ)) (n : ℕ) (line : List ℕ) → n < length all → line ≡ get_or all n line → drop n all ≡ line ∷ drop (n + 1) all
-line_at all n line inside is = rw (add-one) (drop-cons all n line inside ∙ ap (λ first. first ∷ drop (suc n) all) (sym is))
-
--- what is left of a call that did not fail
-pub on_done : {E X : Type 0} (result : Result (Unit {0}) E) (made done failed : List X) → is_err result ≡ false
-    → made ≡ (if is_ok result then done else failed) → made ≡ done
-on_done (Ok it) made done failed works is = is
-on_done (Err error) made done failed works is = absurd (cc)
 
 -- ---- all of it
 

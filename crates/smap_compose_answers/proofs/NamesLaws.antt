@@ -8,6 +8,8 @@ use Rattle.std.specs.Option.{option_map_or}
 use Rattle.std.specs.Ordering.{nat_cmp}
 use Rattle.std.specs.Prelude.{cond, is_some, option_and_then, slice_get}
 use Rattle.std.specs.Str.{bytes_eq}
+use Rattle.std.proofs.Math.Bool.{or-false, or_assoc}
+use Rattle.std.proofs.Math.Seq.{drop-nil}
 use Rattle.std.proofs.lemmas.Cmp.{nat_list_eq_equiv}
 use Rattle.std.proofs.lemmas.List.{drop_all}
 use Rattle.std.proofs.lemmas.Map.Text.{btree_map_updates_str}
@@ -33,19 +35,11 @@ name_added names more name updates text =
     ap is_some (btree_map_updates_str name.now names more (Some tt) updates text)
     ∙ found (bytes_eq name.now text) (bytes_eq text name.now) _ (nat_list_eq_equiv.symm name.now text)
 
-pub none_added : (b : Bool) → b ≡ (b || false)
-none_added true = refl
-none_added false = refl
-
 -- ---- source after source
-
-drop_none : {X : Type 0} (i : ℕ) → drop {A = X} i [] ≡ []
-drop_none zero = refl
-drop_none (suc i) = refl
 
 any_next : {X : Type 0} (p : X → Bool) (xs : List X) (i : ℕ)
     → list_any p (drop i xs) ≡ (option_map_or p (slice_get xs i) false || list_any p (drop (i + 1) xs))
-any_next p [] i = ap (list_any p) (drop_none i ∙ sym (drop_none (i + 1)))
+any_next p [] i = ap (list_any p) (drop-nil i ∙ sym (drop-nil (i + 1)))
 any_next p (x ∷ xs) zero = refl
 any_next p (x ∷ xs) (suc i) =
     let one : suc i + 1 ≡ suc (i + 1) = omega arith in
@@ -55,10 +49,6 @@ called : (text : List ℕ) (source : Option StatedSource)
     → option_map_or (is_called text) source false ≡ option_map_or (bytes_eq text) (option_and_then text_of_source source) false
 called text None = refl
 called text (Some source) = refl
-
-either_side : (a b c : Bool) → ((a || b) || c) ≡ (a || (b || c))
-either_side true b c = refl
-either_side false b c = refl
 
 -- the names so far, and the sources that are left
 abbrev pub AreSome : List StatedSource → Names → (i : ℕ) → Type 0
@@ -74,11 +64,11 @@ one_further sources names more i name is added are text =
     let here : option_map_or (bytes_eq text) name false ≡ option_map_or (is_called text) (slice_get sources i) false =
     ap (λ name. option_map_or (bytes_eq text) name false) is ∙ sym (called text (slice_get sources i)) in
     ap (λ b. b || rest) (added text ∙ ap (λ b. is_among names text || b) here)
-    ∙ either_side (is_among names text) (option_map_or (is_called text) (slice_get sources i) false) rest
+    ∙ or_assoc (is_among names text) (option_map_or (is_called text) (slice_get sources i) false) rest
     ∙ ap (λ b. is_among names text || b) (sym (any_next (is_called text) sources i))
     ∙ are text
 
 -- all sources are gone over
 pub all_gathered : (sources : List StatedSource) (names : Names) (i : ℕ) → length sources ≤ i → AreSome sources names i → AreNamesOf sources names
 all_gathered sources names i past are text =
-    none_added (is_among names text) ∙ ap (λ left. is_among names text || list_any (is_called text) left) (sym (drop_all i sources past)) ∙ are text
+    sym (or-false (is_among names text)) ∙ ap (λ left. is_among names text || list_any (is_called text) left) (sym (drop_all i sources past)) ∙ are text

@@ -43,14 +43,17 @@ abbrev pub OrRefused : {A B : Type 0} → Result A Report → (A → Result B Re
 OrRefused (Err reported) Goes result = result ≡ Err reported
 OrRefused (Ok it) Goes result = Goes it result
 
--- a path goes under a name that has none yet and that a source of the outer map has, unless memory runs out. What is said of
--- the second path of a name depends on where it stands
+-- a path goes under a name that has none yet, where a source of the outer map has that name
+abbrev pub NamesFirst : List StatedSource → (old : Named) → (name path : List ℕ) → Result Named Report → Type 0
+NamesFirst sources old name path result =
+    MatchBool (list_any (is_called name) sources) ((new : Named) × IsWith old name path new × (result ≡ Ok new))
+    (result ≡ Err (refusal (Some C4) (no_source_named_line name)))
+
+-- the same of any name, unless memory runs out. What is said of the second path of a name depends on where it stands
 abbrev pub NamesPair : List StatedSource → (twice : Report) → (old : Named) → (name path : List ℕ) → Result Named Report → Type 0
 NamesPair sources twice old name path result =
     (result ≡ Err out_of_memory)
-    ⊎ MatchBool (is_some (value_under name old)) (result ≡ Err twice)
-    (MatchBool (list_any (is_called name) sources) ((new : Named) × IsWith old name path new × (result ≡ Ok new))
-    (result ≡ Err (refusal (Some C4) (no_source_named_line name))))
+    ⊎ MatchBool (is_some (value_under name old)) (result ≡ Err twice) (NamesFirst sources old name path result)
 
 -- the words of the command line, one after another, up to the first that is refused
 abbrev pub NamesWords : List StatedSource → List (List ℕ × List ℕ) → (old : Named) → Result Named Report → Type 0

@@ -101,6 +101,6 @@ pub fn reported(alloc: Global, made: Result<Reply, ComposeRefusal>) -> Result<Re
     match made {
         Ok(reply) => Ok(reply),
         Err(ComposeRefusal::Memory) => Err(Failure::Memory),
-        Err(refusal) => Err(refused_by(alloc, refusal.code())),
+        Err(refusal) => Err(refused_by(alloc, refusal.code())?),
     }
 }

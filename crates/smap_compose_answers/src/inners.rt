@@ -1,16 +1,14 @@
 //! The files of inner maps, each under the name of a source of the outer map.
-ghost use Rattle.std.specs.Prelude.{◌≡◌, ◌⊎◌, [], false, length, map, option_copied, slice_get, Err, Some, IfErr, IfOk};
-ghost use Rattle.std.specs.List.{list_any};
-ghost use Rattle.std.specs.Option.{option_map_or};
+ghost use Rattle.std.specs.Prelude.{◌≡◌, ◌⊎◌, [], false, is_some, length, map, option_copied, slice_get, Err, Some, IfOk};
 ghost use Rattle.std.specs.Str.Lines.{lines};
-ghost use Rattle.smap_compose_answers.specs.ComposeAll.{NamesBytes, NamesEntry, NamesInners, NamesLines, NamesList, NamesPair, NamesWords};
-ghost use Rattle.smap_compose_answers.specs.ComposeAll.{ReadsInner, ReadsInners, ReadsSource, is_called, pair_of, with_name};
+ghost use Rattle.smap_compose_answers.specs.ComposeAll.{NamesBytes, NamesEntry, NamesFirst, NamesInners, NamesLines, NamesList, NamesPair, NamesWords};
+ghost use Rattle.smap_compose_answers.specs.ComposeAll.{ReadsInner, ReadsInners, ReadsSource, pair_of, with_name};
 ghost use Rattle.smap_codes.specs.Codes.{text_of};
 ghost use Rattle.smap_codes.specs.declared.code.Code.TheVariants.{A2};
 ghost use Rattle.smap_replies.specs.Lines.{argument_refused_line};
-ghost use Rattle.smap_replies.specs.Outcome.{OrMemory, failure_report, misuse, out_of_memory, or_reported};
+ghost use Rattle.smap_replies.specs.Outcome.{failure_report, misuse, out_of_memory, or_reported};
 ghost use Rattle.smap_compose_answers.specs.Private.OuterMap.{IsOuter};
-ghost use Rattle.smap_compose_answers.specs.Private.Inners.{IsNamed, IsUnnamed, inner_reported, inners_reported, map_reported, pair_seen};
+ghost use Rattle.smap_compose_answers.specs.Private.Inners.{inner_reported, inners_reported, map_reported, pair_seen};
 ghost use Rattle.smap_replies.specs.Lists.{list_refusal};
 ghost use Rattle.smap_replies.specs.Arguments.{argument_of, argument_text};
 ghost use Rattle.smap_by_text.specs.ByText.{value_under};
@@ -24,21 +22,10 @@ use smap_command::USUAL_INTERVAL;
 use smap_locations::{ListFault, ListRefusal, NamedPaths, entry_of_line};
 use smap_record::{MapFile, SourceEntry};
 use smap_replies::{
-    Failure, FileReader, MapReader, file_bytes, list_text, read_map_at, refused_argument,
-    refused_list,
+    Failure, FileReader, MapReader, file_bytes, read_map_at, refused_argument, refused_list,
+    text_of,
 };
-use std::alloc::Global;
-
-// Why a path does not go under a name.
-#[derive(Clone, Copy)]
-pub enum PairFault {
-    // The name has one already.
-    Twice,
-    // No source of the outer map has it.
-    NoSource,
-    // Memory ran out.
-    Memory,
-}
+use std::alloc::{AllocError, Global};
 
 /// The paths that the words and the lines of the list at a path name, each under the name of a source of the outer map,
 /// which has so many. The list is the file of number 1.
@@ -90,15 +77,10 @@ fn with_word(
         (misuse (argument_refused_line (argument_text name.now path.now) (text_of A2))) named
         name.now path.now (or_reported result) }
 {
-    match with_pair(alloc, outer, named, name, path) {
-        Ok(named) => Ok(named),
-        Err(PairFault::Twice) => Err(refused_argument(alloc, Code::A2.text(), name, path)),
-        Err(PairFault::NoSource) => {
-            let line = lines::no_source_named_line(alloc, name)?;
-            Err(Failure::refusal(Code::C4, line))
-        }
-        Err(PairFault::Memory) => Err(Failure::Memory),
+    if named.path_under(name.as_bytes()).is_some() {
+        return Err(refused_argument(alloc, Code::A2.text(), name, path)?);
     }
+    with_path(alloc, outer, named, name, path)
 }
 
 // The paths with those that a list names.
@@ -114,7 +96,7 @@ fn named_list<F: FileReader>(
         (Some list.now) named (or_reported result) }
 {
     let bytes = file_bytes(alloc, reader, 1, list)?;
-    named_bytes(alloc, outer, named, list, &bytes)
+    named_bytes(alloc, outer, named, list, bytes)
 }
 
 // The paths with those that a list of these bytes names.
@@ -123,14 +105,14 @@ fn named_bytes(
     outer: &OuterMap<'_>,
     named: NamedPaths,
     list: &str,
-    bytes: &[u8],
+    bytes: Vec<u8>,
 ) -> Result<NamedPaths, Failure>
     requires { IsOuter outer.now }
-    ensures { NamesBytes outer.now.map.now.stated.sources list.now bytes.now named
+    ensures { NamesBytes outer.now.map.now.stated.sources list.now bytes.items named
         (or_reported result) }
 {
-    let text = list_text(alloc, list, bytes)?;
-    named_lines(alloc, outer, named, list, text)
+    let text = text_of(alloc, list, bytes)?;
+    named_lines(alloc, outer, named, list, &text)
 }
 
 // The paths with those that the lines of a list name.
@@ -168,53 +150,51 @@ fn with_line(
         (line_entry line.now) named (or_reported result) }
 {
     match entry_of_line(line) {
-        Ok(Some((name, path))) => match with_pair(alloc, outer, named, name, path) {
-            Ok(named) => Ok(named),
-            Err(PairFault::Twice) => Err(refused_line(alloc, list, number, ListFault::Twice)),
-            Err(PairFault::NoSource) => {
-                let line = lines::no_source_named_line(alloc, name)?;
-                Err(Failure::refusal(Code::C4, line))
-            }
-            Err(PairFault::Memory) => Err(Failure::Memory),
-        },
+        Ok(Some((name, _))) if named.path_under(name.as_bytes()).is_some() => {
+            Err(refused_line(alloc, list, number, ListFault::Twice)?)
+        }
+        Ok(Some((name, path))) => with_path(alloc, outer, named, name, path),
         Ok(None) => Ok(named),
-        Err(fault) => Err(refused_line(alloc, list, number, fault)),
+        Err(fault) => Err(refused_line(alloc, list, number, fault)?),
     }
 }
 
 // Why a line of a list is refused.
-fn refused_line(alloc: Global, list: &str, line: u64, fault: ListFault) -> Failure
-    ensures { OrMemory (λ report. report
-        ≡ list_refusal list.now (record { line = line; fault = fault })) (failure_report result) }
+fn refused_line(
+    alloc: Global,
+    list: &str,
+    line: u64,
+    fault: ListFault,
+) -> Result<Failure, AllocError>
+    ensures { IfOk result (λ failure. failure_report failure
+        ≡ list_refusal list.now (record { line = line; fault = fault })) }
 {
     refused_list(alloc, list, ListRefusal { line, fault })
 }
 
-// The paths with one more under a name, which a source of the outer map has.
-fn with_pair(
+// The paths with one more under a name that has none yet, where a source of the outer map has that name.
+fn with_path(
     alloc: Global,
     outer: &OuterMap<'_>,
     named: NamedPaths,
     name: &str,
     path: &str,
-) -> Result<NamedPaths, PairFault>
-    requires { IsOuter outer.now }
-    ensures named { IfOk result (IsNamed outer.now.map.now.stated.sources named name.now path.now) }
-    ensures unnamed { IfErr result (IsUnnamed outer.now.map.now.stated.sources named name.now) }
+) -> Result<NamedPaths, Failure>
+    requires outer_is_whole { IsOuter outer.now }
+    requires is_first { is_some (value_under name.now named) ≡ false }
+    ensures { (or_reported result ≡ Err out_of_memory)
+        ⊎ NamesFirst outer.now.map.now.stated.sources named name.now path.now (or_reported result) }
 {
-    if named.path_under(name.as_bytes()).is_some() {
-        return Err(PairFault::Twice);
-    }
     if !outer.has_source_called(name) {
-        return Err(PairFault::NoSource);
+        let line = lines::no_source_named_line(alloc, name)?;
+        return Err(Failure::refusal(Code::C4, line));
     }
-    let (Ok(name), Ok(path)) = (String::from_str(alloc, name), String::from_str(alloc, path)) else {
-        return Err(PairFault::Memory);
-    };
+    let name = String::from_str(alloc, name)?;
+    let path = String::from_str(alloc, path)?;
     let mut more = named;
     match more.add(name, path) {
         Ok(()) => Ok(more),
-        Err(_) => Err(PairFault::Memory),
+        Err(_) => Err(Failure::Memory),
     }
 }
 
@@ -238,9 +218,7 @@ pub fn read_inners<F: FileReader>(
             continue;
         };
         let inner = read_source(alloc, reader, named, source)?;
-        if inners.push(inner).is_err() {
-            return Err(Failure::Memory);
-        }
+        inners.push(inner)?;
     }
     Ok(inners)
 }
@@ -256,10 +234,7 @@ fn read_source<F: FileReader>(
         (inner_reported result) }
 {
     match pair_of(named, source) {
-        Some((name, path)) => match read_inner(alloc, reader, name, path) {
-            Ok(map) => Ok(Some(map)),
-            Err(failure) => Err(failure),
-        },
+        Some((name, path)) => Ok(Some(read_inner(alloc, reader, name, path)?)),
         None => Ok(None),
     }
 }
@@ -275,10 +250,8 @@ fn pair_of<'a>(named: &'a NamedPaths, source: &'a SourceEntry) -> Option<(&'a st
 fn pair_under<'a>(named: &'a NamedPaths, name: &'a str) -> Option<(&'a str, &'a str)>
     ensures { pair_seen result ≡ with_name name.now (value_under name.now named.now) }
 {
-    match named.path_under(name.as_bytes()) {
-        Some(path) => Some((name, path.as_str())),
-        None => None,
-    }
+    let path = named.path_under(name.as_bytes())?;
+    Some((name, path.as_str()))
 }
 
 // The map that the file at this path is, of a source of this name.

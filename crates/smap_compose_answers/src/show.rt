@@ -48,7 +48,7 @@ fn written_map(alloc: Global, map: &MapFile) -> Result<Reply, Failure>
 {
     match map.write(alloc) {
         Ok(bytes) => Ok(Reply::Bytes(line_of(bytes)?)),
-        Err(WriteRefusal::TextTooLong) => Err(refused_by(alloc, Code::O1)),
+        Err(WriteRefusal::TextTooLong) => Err(refused_by(alloc, Code::O1)?),
         Err(WriteRefusal::Memory) => Err(Failure::Memory),
     }
 }
@@ -59,7 +59,7 @@ fn left_map(alloc: Global, map: MapFile, options: WriteOptions) -> Result<Reply,
 {
     match line_left(alloc, map, options) {
         Ok(reply) => Ok(reply),
-        Err(ComposeRefusal::TooLarge) => Err(refused_by(alloc, Code::O1)),
+        Err(ComposeRefusal::TooLarge) => Err(refused_by(alloc, Code::O1)?),
         Err(_) => Err(Failure::Memory),
     }
 }

@@ -3,5 +3,5 @@ pub mod Lookup
 pub mod Mappings
 pub mod Positions
 pub mod Raw
-pub mod SourceList
+pub mod Sources
 pub mod Private

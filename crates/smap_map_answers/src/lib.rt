@@ -13,10 +13,10 @@ mod lookup;
 mod mappings;
 mod positions;
 mod raw;
-mod source_list;
+mod sources;
 
 pub use lookup::{LookUp, answer_lookup};
 pub use mappings::answer_mappings;
 pub use positions::answer_positions;
 pub use raw::answer_raw;
-pub use source_list::{answer_content, answer_sources};
+pub use sources::{answer_content, answer_sources};

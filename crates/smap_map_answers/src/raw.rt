@@ -84,11 +84,11 @@ fn answer_text(
         (report_of result) }
 {
     if bytes.len() > MOST_BYTES {
-        return Err(refused_by(alloc, Code::TextTooLong));
+        return Err(refused_by(alloc, Code::TextTooLong)?);
     }
     match String::from_utf8(bytes) {
         Ok(text) => answer_mappings(alloc, text, line, column, interval),
-        Err(_) => Err(refused_by(alloc, Code::NotUtf8)),
+        Err(_) => Err(refused_by(alloc, Code::NotUtf8)?),
     }
 }
 

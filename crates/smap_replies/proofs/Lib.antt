@@ -1,5 +1,4 @@
 pub mod InTurnLaws
-mod ListLaws
 pub mod NextLaws
 pub mod RunLaws
 mod ShownLaws

@@ -1,6 +1,5 @@
 -- Why a list of files is refused.
-use Rattle.std.specs.Prelude.{ℕ, List, Option, Some, None, codes, if◌then◌else◌, length, nat_lt, not}
-use Rattle.std.specs.Str.{is_utf8}
+use Rattle.std.specs.Prelude.{ℕ, List, Option, Some, None, codes}
 use Rattle.smap_codes.specs.Codes.{text_of}
 use Rattle.smap_codes.specs.declared.code.Code.{Code}
 use Rattle.smap_codes.specs.declared.code.Code.TheVariants as called
@@ -8,6 +7,7 @@ use Rattle.smap_locations.specs.declared.refusal.ListFault.{ListFault}
 use Rattle.smap_locations.specs.declared.refusal.ListFault.TheVariants.{NoTab, NoFolder, BadUrl, Twice, Memory}
 use Rattle.smap_locations.specs.declared.refusal.ListRefusal.{ListRefusal}
 use Rattle.smap_replies.specs.Lines.{list_refused_line}
+use Rattle.smap_replies.specs.Map.{text_refusal}
 use Rattle.smap_replies.specs.Outcome.{Report, misuse, out_of_memory}
 
 -- ---- why a folder or a line is refused
@@ -29,15 +29,6 @@ misuse_for line_of None = out_of_memory
 abbrev pub list_refusal : (list : List ℕ) → ListRefusal → Report
 list_refusal list refused = misuse_for (list_refused_line list refused.line) (reason_of refused.fault)
 
--- ---- its bytes
-
--- so many bytes a list may have: 64 MiB
-abbrev pub most_list_bytes : ℕ
-most_list_bytes = 67108864
-
--- why the bytes of a list are refused, where they are, by name
+-- why its bytes are refused, where they are: as those of any text
 abbrev pub list_bytes_refusal : (bytes : List ℕ) → Option Code
-list_bytes_refusal bytes =
-    if nat_lt most_list_bytes (length bytes) then Some called.M1
-    else if not (is_utf8 bytes) then Some called.NotUtf8
-    else None
+list_bytes_refusal = text_refusal

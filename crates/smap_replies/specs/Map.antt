@@ -1,5 +1,5 @@
 -- What a command reports a map file: what the map states decides, or why the map is refused.
-use Rattle.std.specs.Prelude.{◌≡◌, ℕ, ◌≤◌, ◌⊎◌, true, List, Option, Result, Ok, Err, Some, MatchBool, length, nat_lt}
+use Rattle.std.specs.Prelude.{◌≡◌, ℕ, ◌⊎◌, List, Option, Result, Ok, Err, Some, None, MatchOption, if◌then◌else◌, length, nat_lt, not}
 use Rattle.std.specs.Str.{is_utf8}
 use Rattle.smap_codes.specs.Codes.{name_of}
 use Rattle.smap_codes.specs.declared.code.Code.{Code}
@@ -19,25 +19,24 @@ use Rattle.url.specs.Parts.{Parts}
 abbrev pub refused_file : (path : List ℕ) → Code → Report
 refused_file path code = refusal (Some code) (map_refused_line path (name_of code))
 
--- a text file of these bytes at a path is larger than a map file may be, or no UTF-8, and that is reported; or the text decides
+-- why the bytes of a text are refused, where they are: they are more than a map file may have, or no UTF-8
+abbrev pub text_refusal : (bytes : List ℕ) → Option Code
+text_refusal bytes =
+    if nat_lt most_file_bytes (length bytes) then Some M1
+    else if not (is_utf8 bytes) then Some NotUtf8
+    else None
+
+-- a text file of these bytes at a path is refused, and that is reported; or the text decides
 abbrev pub OfBytes : (path : List ℕ) → (List ℕ → Report → Type 0) → (bytes : List ℕ) → Report → Type 0
-OfBytes path Reports bytes report =
-    MatchBool (nat_lt most_file_bytes (length bytes)) (report ≡ refused_file path M1)
-    (MatchBool (is_utf8 bytes) (Reports bytes report) (report ≡ refused_file path NotUtf8))
+OfBytes path Reports bytes report = MatchOption (text_refusal bytes) (Reports bytes report) (λ code. report ≡ refused_file path code)
 
 -- the same of what the file of this number and path gives
 abbrev pub OfText : MayRead → (number : ℕ) (path : List ℕ) → (List ℕ → Report → Type 0) → Report → Type 0
 OfText Reads number path Reports = OfFile Reads number path (OfBytes path Reports)
 
--- the bytes are this text, which is not too large
-pub record IsShortText (bytes text : List ℕ) : Type 0 where
-  pub same : text ≡ bytes
-  pub short : length bytes ≤ most_file_bytes
-  pub utf8 : is_utf8 bytes ≡ true
-
 -- the file of this number and path gives this text
 abbrev pub IsText : MayRead → (number : ℕ) (path text : List ℕ) → Type 0
-IsText Reads number path text = (bytes : List ℕ) × Reads number path (Ok bytes) × IsShortText bytes text
+IsText Reads number path text = (bytes : List ℕ) × Reads number path (Ok bytes) × (text ≡ bytes) × (text_refusal bytes ≡ None)
 
 -- nothing is reported a text
 abbrev pub NeverText : List ℕ → Report → Type 0

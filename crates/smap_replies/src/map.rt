@@ -78,7 +78,7 @@ pub fn map_of(
 {
     match MapFile::read_owned(alloc, bytes, base, interval) {
         Ok(map) => Ok(map),
-        Err(refused) => Err(refusal_of(alloc, path, refused)),
+        Err(refused) => Err(refusal_of(alloc, path, refused)?),
     }
 }
 

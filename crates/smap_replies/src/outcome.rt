@@ -6,7 +6,7 @@ ghost use Rattle.smap_replies.specs.declared.outcome.Failure.TheVariants.{Memory
 use crate::lines;
 use smap_codes::Code;
 use smap_lines::LineFault;
-use std::alloc::AllocError;
+use std::alloc::{AllocError, AllocFailed};
 
 /// The exit status of a run that did what it was asked.
 pub const DONE: u8 = 0;
@@ -56,6 +56,14 @@ impl From<AllocError> for Failure {
     ghost from_gives = { λ _ failure. failure ≡ Memory };
 
     fn from(_error: AllocError) -> Failure {
+        Failure::Memory
+    }
+}
+
+impl<T: Drop> From<AllocFailed<T>> for Failure {
+    ghost from_gives = { λ _ failure. failure ≡ Memory };
+
+    fn from(_error: AllocFailed<T>) -> Failure {
         Failure::Memory
     }
 }

@@ -3,7 +3,7 @@ ghost use Rattle.std.specs.Prelude.{◌≡◌, ◌≢◌, string_bytes, IfOk};
 ghost use Rattle.smap_replies.specs.Arguments.{argument_text};
 ghost use Rattle.smap_replies.specs.Lines.{argument_refused_line, map_refused_line};
 ghost use Rattle.smap_replies.specs.Map.{refusal_result, refused_file};
-ghost use Rattle.smap_replies.specs.Outcome.{OrMemory, failure_report, misuse, refused_by};
+ghost use Rattle.smap_replies.specs.Outcome.{failure_report, misuse, refused_by};
 ghost use Rattle.smap_verdicts.specs.Refusal.{refusal_text};
 ghost use Rattle.smap_record.specs.declared.refusal.MapRefusal.TheVariants.{Memory};
 
@@ -15,14 +15,13 @@ use smap_verdicts::refusal_text;
 use std::alloc::{AllocError, Global};
 
 /// Why the map file at this path is refused. Out of memory is no refusal of the map.
-pub fn refusal_of(alloc: Global, path: &str, refused: MapRefusal) -> Failure
-    ensures { OrMemory (λ report. (refused ≢ Memory) × (report ≡ refusal_result path.now refused))
-        (failure_report result) }
+pub fn refusal_of(alloc: Global, path: &str, refused: MapRefusal) -> Result<Failure, AllocError>
+    ensures reported { IfOk result (λ failure.
+        failure_report failure ≡ refusal_result path.now refused) }
+    ensures not_memory { IfOk result (λ _. refused ≢ Memory) }
 {
-    match refusal_line(alloc, path, refused) {
-        Ok(line) => Failure::refusal(refused.code(), line),
-        Err(_) => Failure::Memory,
-    }
+    let line = refusal_line(alloc, path, refused)?;
+    Ok(Failure::refusal(refused.code(), line))
 }
 
 /// The line that says why the map file at this path is refused, with its LF. Out of memory has none.
@@ -39,33 +38,31 @@ pub fn refusal_line(alloc: Global, path: &str, refused: MapRefusal) -> Result<St
 }
 
 /// A refusal that its code says whole.
-pub fn refused_by(alloc: Global, code: Code) -> Failure
-    ensures { OrMemory (λ report. report ≡ refused_by code) (failure_report result) }
+pub fn refused_by(alloc: Global, code: Code) -> Result<Failure, AllocError>
+    ensures { IfOk result (λ failure. failure_report failure ≡ refused_by code) }
 {
-    match lines::code_refused_line(alloc, code) {
-        Ok(line) => Failure::refusal(code, line),
-        Err(_) => Failure::Memory,
-    }
+    let line = lines::code_refused_line(alloc, code)?;
+    Ok(Failure::refusal(code, line))
 }
 
 /// The file at this path is refused, and the name of this code says why.
-pub fn refused_file(alloc: Global, path: &str, code: Code) -> Failure
-    ensures { OrMemory (λ report. report ≡ refused_file path.now code) (failure_report result) }
+pub fn refused_file(alloc: Global, path: &str, code: Code) -> Result<Failure, AllocError>
+    ensures { IfOk result (λ failure. failure_report failure ≡ refused_file path.now code) }
 {
-    match lines::map_refused_line(alloc, path, code.name()) {
-        Ok(line) => Failure::refusal(code, line),
-        Err(_) => Failure::Memory,
-    }
+    let line = lines::map_refused_line(alloc, path, code.name())?;
+    Ok(Failure::refusal(code, line))
 }
 
 /// An argument that is a pair, such as a URL and a path, is refused, with the reason.
-pub fn refused_argument(alloc: Global, reason: &str, url: &str, path: &str) -> Failure
-    ensures { OrMemory (λ report. report
-        ≡ misuse (argument_refused_line (argument_text url.now path.now) reason.now))
-        (failure_report result) }
+pub fn refused_argument(
+    alloc: Global,
+    reason: &str,
+    url: &str,
+    path: &str,
+) -> Result<Failure, AllocError>
+    ensures { IfOk result (λ failure. failure_report failure
+        ≡ misuse (argument_refused_line (argument_text url.now path.now) reason.now)) }
 {
-    match lines::argument_refused_line(alloc, reason, url, path) {
-        Ok(line) => Failure::Misuse(line),
-        Err(_) => Failure::Memory,
-    }
+    let line = lines::argument_refused_line(alloc, reason, url, path)?;
+    Ok(Failure::Misuse(line))
 }

@@ -1,6 +1,6 @@
-//! Reading a file that is a text, such as a generated file.
-ghost use Rattle.std.specs.Prelude.{IfErr, IfOk, string_bytes};
-ghost use Rattle.smap_replies.specs.Map.{IsShortText, IsText, NeverText, OfBytes, OfText};
+//! Files that are texts, such as a generated file or a list.
+ghost use Rattle.std.specs.Prelude.{◌≡◌, None, string_bytes, IfErr, IfOk, IsSomeAnd, OnOk};
+ghost use Rattle.smap_replies.specs.Map.{IsText, NeverText, OfText, refused_file, text_refusal};
 ghost use Rattle.smap_replies.specs.Outcome.{OrMemory, failure_report};
 
 use crate::files::FileReader;
@@ -27,17 +27,19 @@ pub fn read_text<F: FileReader>(
     text_of(alloc, path, bytes)
 }
 
-// The text that the bytes of the file at a path are.
-fn text_of(alloc: Global, path: &str, bytes: Vec<u8>) -> Result<String, Failure>
-    ensures read { IfOk result (λ text. IsShortText bytes.items (string_bytes text)) }
-    ensures refused { IfErr result (λ failure. OrMemory
-        (OfBytes path.now NeverText bytes.items) (failure_report failure)) }
+/// The text that the bytes of the file at a path are.
+pub fn text_of(alloc: Global, path: &str, bytes: Vec<u8>) -> Result<String, Failure>
+    ensures same { IfOk result (λ text. string_bytes text ≡ bytes.items) }
+    ensures whole { OnOk result (text_refusal bytes.items ≡ None) }
+    ensures refused { IfErr result (λ failure. OrMemory (λ report. IsSomeAnd
+        (text_refusal bytes.items)
+        (λ code. report ≡ refused_file path.now code)) (failure_report failure)) }
 {
     if bytes.len() > MOST_FILE_BYTES {
-        return Err(refused_file(alloc, path, Code::M1));
+        return Err(refused_file(alloc, path, Code::M1)?);
     }
     match String::from_utf8(bytes) {
         Ok(text) => Ok(text),
-        Err(_) => Err(refused_file(alloc, path, Code::NotUtf8)),
+        Err(_) => Err(refused_file(alloc, path, Code::NotUtf8)?),
     }
 }

@@ -1,17 +1,10 @@
 -- What the parts of the call that reads inner maps give.
 use Rattle.std.specs.Borrow.{Bor}
 use Rattle.std.specs.Global.{Global}
-use Rattle.std.specs.Prelude.{◌≡◌, ℕ, true, false, List, Option, Some, None, Result, Ok, Err, Vec, is_some, map, option_map}
-use Rattle.std.specs.List.{list_any}
-use Rattle.smap_by_text.specs.ByText.{IsWith, value_under}
-use Rattle.smap_locations.specs.Named.{Named}
+use Rattle.std.specs.Prelude.{ℕ, List, Option, Some, None, Result, Ok, Err, Vec, map, option_map}
 use Rattle.smap_record.specs.MapFile.{Map}
 use Rattle.smap_record.specs.Record.{MapRecord}
-use Rattle.smap_record.specs.Sources.{StatedSource}
-use Rattle.smap_compose_answers.specs.ComposeAll.{is_called}
 use Rattle.smap_replies.specs.Outcome.{Report, failure_report}
-use Rattle.smap_compose_answers.specs.declared.inners.PairFault.{PairFault}
-use Rattle.smap_compose_answers.specs.declared.inners.PairFault.TheVariants.{Twice, NoSource, Memory}
 use Rattle.smap_replies.specs.declared.outcome.Failure.{Failure}
 
 -- what a call that reads a map gives
@@ -33,15 +26,3 @@ inners_reported (Err failure) = Err (failure_report failure)
 abbrev pub pair_seen : Option (Bor (List ℕ) × Bor (List ℕ)) → Option (List ℕ × List ℕ)
 pair_seen None = None
 pair_seen (Some (name, path)) = Some (name.now, path.now)
-
--- a path has gone under a name
-pub record IsNamed (sources : List StatedSource) (old : Named) (name path : List ℕ) (new : Named) : Type 0 where
-  pub once : is_some (value_under name old) ≡ false
-  pub called : list_any (is_called name) sources ≡ true
-  pub with_it : IsWith old name path new
-
--- or why it has not
-abbrev pub IsUnnamed : List StatedSource → (old : Named) → (name : List ℕ) → PairFault → Type 0
-IsUnnamed sources old name Twice = is_some (value_under name old) ≡ true
-IsUnnamed sources old name NoSource = (is_some (value_under name old) ≡ false) × (list_any (is_called name) sources ≡ false)
-IsUnnamed sources old name Memory = Unit {0}

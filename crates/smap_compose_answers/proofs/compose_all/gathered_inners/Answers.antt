@@ -1,4 +1,3 @@
-use Rattle.std.proofs.Common.{ap}
 use Rattle.std.specs.Prelude.{map, option_copied}
 use Rattle.smap_replies.specs.Arguments.{argument_of}
 use Rattle.smap_compose_answers.proofs.InnersLaws.{inners_gathered}

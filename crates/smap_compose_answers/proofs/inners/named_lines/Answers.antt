@@ -4,7 +4,8 @@ use Rattle.std.proofs.lemmas.Iterator.Splits.{YieldsList-from_lines}
 use Rattle.std.proofs.lemmas.List.{drop_all, length_push}
 use Rattle.std.proofs.lemmas.Result.{err_from_is_err_and}
 use Rattle.std.specs.Str.Lines.{lines}
-use Rattle.smap_compose_answers.proofs.InnersLaws.{line_at, lines_end, lines_next, lines_refused}
+use Rattle.smap_compose_answers.proofs.InnersLaws.{lines_end, lines_next, lines_refused}
+use Rattle.smap_replies.proofs.NextLaws.{item_at}
 use Rattle.smap_compose_answers.proofs.inners.named_lines.Goals as goal
 
 pub loop-line-preserved : goal.loop-line-preserved
@@ -14,7 +15,7 @@ loop-line-preserved c =
     let turn = YieldsList-turn (YieldsList-from_lines c.args.text.now cc) c.loop-line.yielded _ c.loop-line.yielded_by _ _ c.in-Some.line c.in-Some.is
     c.next.ensures.steps in
     let longer = length_push c.loop-line.yielded c.in-Some.line in
-    let is = line_at all (length c.loop-line.yielded) c.in-Some.line.now turn.0 turn.1
+    let is = item_at all (length c.loop-line.yielded) c.in-Some.line.now turn.0 turn.1
     ∙ ap (λ n. c.in-Some.line.now ∷ drop n all) (sym longer) in
     record {
       number = omega (arith, longer, c.loop-line.invariant.number);
@@ -28,7 +29,7 @@ returns-in_err-named c =
     let all = lines c.args.text.now in
     let turn = YieldsList-turn (YieldsList-from_lines c.args.text.now cc) c.loop-line.yielded _ c.loop-line.yielded_by _ _ c.in-Some.line c.in-Some.is
     c.next.ensures.steps in
-    let is = line_at all (length c.loop-line.yielded) c.in-Some.line.now turn.0 turn.1 in
+    let is = item_at all (length c.loop-line.yielded) c.in-Some.line.now turn.0 turn.1 in
     let p = err_from_is_err_and c.from_residual.result c.from_residual.ensures.1 in
     rw (p.1, p.2) (c.loop-line.invariant.names _
     (lines_refused sources c.args.list.now (c.loop-line.number + 1) _ _ _ c.loop-line.named is _ c.in_err-named.ensures))

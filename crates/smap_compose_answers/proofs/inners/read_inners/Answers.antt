@@ -5,7 +5,7 @@ use Rattle.smap_record.specs.Sources.{source_of}
 use Rattle.smap_compose_answers.specs.ComposeAll.{ReadsInners}
 use Rattle.smap_compose_answers.specs.Private.Inners.{inners_stated}
 use Rattle.smap_compose.proofs.ListLaws.{from_place}
-use Rattle.smap_compose_answers.proofs.InnersLaws.{inners_next, inners_refused, on_done, one_stated}
+use Rattle.smap_compose_answers.proofs.InnersLaws.{inners_next, inners_refused, one_stated}
 use Rattle.smap_compose_answers.proofs.inners.read_inners.Goals as goal
 
 pub loop-i-preserved : goal.loop-i-preserved
@@ -14,7 +14,7 @@ loop-i-preserved g c =
     let sources = c.args.outer.now.map.now.stated.sources in
     let before = c.loop-i.inners.items in
     let at = from_place sources c.loop-i.i (source_of c.in-Some.source.now) (sym c.in-Some.ensures) in
-    let more : c.push.new.self.items ≡ before ++ c.in_ok-inner.inner ∷ [] = on_done c.push.result _ _ _ (sym c.if-is_err.ensures.value) c.push.ensures.items in
+    let more : c.push.new.self.items ≡ before ++ c.in_ok-inner.inner ∷ [] = c.in_ok-push.ensures.items in
     let longer = length_push before c.in_ok-inner.inner in
     let same = ap inners_stated more ∙ one_stated before c.in_ok-inner.inner in
     record {

@@ -1,9 +1,11 @@
+use Rattle.std.proofs.Common.{sym}
+use Rattle.std.proofs.Math.Bool.{or-false}
 use Rattle.smap_compose_answers.specs.Private.OuterMap.{is_among}
-use Rattle.smap_compose_answers.proofs.NamesLaws.{name_added, none_added}
+use Rattle.smap_compose_answers.proofs.NamesLaws.{name_added}
 use Rattle.smap_compose_answers.proofs.outer_map.add_name.Goals as goal
 
 pub returns-in-None : goal.returns-in-None
-returns-in-None c = λ text. rw c.in-None.is (none_added (is_among c.args.names.now text))
+returns-in-None c = λ text. rw c.in-None.is (sym (or-false (is_among c.args.names.now text)))
 
 pub returns-in_ok-insert-in-Some : goal.returns-in_ok-insert-in-Some
 returns-in_ok-insert-in-Some c = λ text.

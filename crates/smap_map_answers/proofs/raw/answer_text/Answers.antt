@@ -1,4 +1,4 @@
-use Rattle.std.proofs.Common.{◌≡◌, ◌≤◌, ℕ, length, ap, subst, arith, Vec, Global}
+use Rattle.std.proofs.Common.{◌≡◌, ◌≤◌, ℕ, length, ap, subst, arith, inr, Vec, Global}
 use Rattle.std.specs.Prelude.{string_bytes}
 use Rattle.std.specs.Str.{IsUtf8}
 use Rattle.std.proofs.lemmas.Str.{IsUtf8-string_bytes}
@@ -25,4 +25,4 @@ pub returns : goal.returns
 returns c =
     let short : length c.args.bytes.items ≤ most_text_bytes = omega (arith, c.len.ensures) in
     rw (text_not_utf8 c.args.bytes.items c.args.line c.args.column short (λ is_text. false≢true (c.in-Err.ensures.succeeds is_text)))
-    c.refused_by-in-Err.ensures
+    (inr c.in_ok-refused_by-in-Err.ensures)

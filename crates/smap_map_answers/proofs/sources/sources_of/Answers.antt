@@ -3,8 +3,8 @@ use Rattle.std.specs.Prelude.{string_bytes}
 use Rattle.std.proofs.lemmas.Result.{err_from_is_err_and}
 use Rattle.smap_replies.specs.Outcome.{OrMemory, report_of}
 use Rattle.smap_replies.proofs.TextLaws.{no_text, of_text}
-use Rattle.smap_map_answers.specs.SourceList.{IsSourcesReported}
-use Rattle.smap_map_answers.proofs.source_list.sources_of.Goals as goal
+use Rattle.smap_map_answers.specs.Sources.{IsSourcesReported}
+use Rattle.smap_map_answers.proofs.sources.sources_of.Goals as goal
 
 pub returns-in_err-text-in-Some : goal.returns-in_err-text-in-Some
 returns-in_err-text-in-Some g c =

@@ -2,7 +2,7 @@
 ghost use Rattle.std.specs.Prelude.{◌≡◌, option_and_then, option_copied, option_map, slice_get};
 ghost use Rattle.smap_replies.specs.Map.{IsResult, ReportsMap};
 ghost use Rattle.smap_replies.specs.Outcome.{OrMemory, report_of};
-ghost use Rattle.smap_map_answers.specs.SourceList.{IsSourcesReported, ReportsSources, content_result};
+ghost use Rattle.smap_map_answers.specs.Sources.{IsSourcesReported, ReportsSources, content_result};
 
 use crate::lines;
 use smap_positions::{SourceOptions, sources_text};
