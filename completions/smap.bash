@@ -16,19 +16,19 @@ _smap() {
     lookup) options='--after --base --explain --interval --json --help' ;;
     positions) options='--after --base --interval --json --help' ;;
     mappings) options='--base --json --help' ;;
-    sources) options='--base --content --json --sort --help' ;;
-    rewrite) options='--anywhere --base --cache --hide-ignored --interval --limit --maps --strip-ansi --summary --help' ;;
+    sources) options='--base --content --fit --json --sort --help' ;;
+    rewrite) options='--anywhere --base --cache --hide --hide-ignored --interval --limit --maps --strip-ansi --summary --help' ;;
     check) options='--base --explain --interval --json --help' ;;
     show) options='--base --no-content --prune --help' ;;
     compose) options='--base --inner --inners --no-content --prune --help' ;;
-    fit) options='--json --help' ;;
+    fit) options='--explain --json --help' ;;
     explain) options='--help' ;;
     raw) options='--interval --help' ;;
     esac
 
     COMPREPLY=()
     case $before in
-    --base | --cache | --content | --limit) return ;;
+    --base | --cache | --content | --hide | --limit) return ;;
     esac
     if [[ $before == --interval ]]; then
         mapfile -t COMPREPLY < <(compgen -W '1 4 16 64 256 1024 4096' -- "$current")

@@ -22,7 +22,7 @@ use Rattle.clap.specs.declared.builder.value_parser.ValueParser.TheVariants as p
 use Rattle.clap.specs.declared.error.Error.{Error}
 use Rattle.clap.specs.declared.error.kind.ErrorKind.TheVariants.{DisplayHelp, DisplayVersion, OutOfMemory}
 use Rattle.smap_arguments.specs.CommandLine.{base_rule, bytes_number, bytes_rule, check, compose, content_rule, flag_rule, interval_number, interval_rule}
-use Rattle.smap_arguments.specs.CommandLine.{explain, fit, list_rule, lookup, mappings, named, number, order_rule, pairs_rule, positions, raw, rewrite, show, smap, source_number, sources}
+use Rattle.smap_arguments.specs.CommandLine.{explain, fit, list_rule, lookup, mappings, named, number, order_rule, positions, raw, repeated_rule, rewrite, show, smap, source_number, sources}
 use Rattle.smap_arguments.specs.declared.usage.Usage.{Usage}
 use Rattle.smap_arguments.specs.declared.usage.Usage.TheVariants.{Help, Words, Memory}
 use Rattle.smap_arguments.specs.Arguments.{HasArguments, HasCommand, HasValue, HasValues}
@@ -137,22 +137,18 @@ module _ (parser_at : Text → ValueParser) where
 
 -- ---- the commands of `smap`
 
+abbrev flags : List Text
+flags = codes "after" ∷ codes "anywhere" ∷ codes "fit" ∷ codes "json" ∷ codes "explain" ∷ codes "summary" ∷ codes "strip-ansi" ∷ codes "hide-ignored"
+    ∷ codes "prune" ∷ codes "no-content" ∷ []
+
 -- lines, columns, sources, intervals and bytes are numbers, flags are true or false, and the other arguments are any text
 abbrev at_argument : Text → ValueParser
-at_argument id = cond (bytes_eq id (codes "SOURCE") || bytes_eq id (codes "INDEX")) source_number
+at_argument id = cond (list_any (bytes_eq id) flags) parser.Bool
+    (cond (bytes_eq id (codes "SOURCE") || bytes_eq id (codes "INDEX")) source_number
+    (cond (bytes_eq id (codes "LINE") || bytes_eq id (codes "COLUMN")) number
     (cond (bytes_eq id (codes "K")) interval_number
     (cond (bytes_eq id (codes "cache")) (bytes_number 0)
-    (cond (bytes_eq id (codes "limit")) (bytes_number 1)
-    (cond (bytes_eq id (codes "after")) parser.Bool
-    (cond (bytes_eq id (codes "anywhere")) parser.Bool
-    (cond (bytes_eq id (codes "json")) parser.Bool
-    (cond (bytes_eq id (codes "explain")) parser.Bool
-    (cond (bytes_eq id (codes "summary")) parser.Bool
-    (cond (bytes_eq id (codes "strip-ansi")) parser.Bool
-    (cond (bytes_eq id (codes "hide-ignored")) parser.Bool
-    (cond (bytes_eq id (codes "prune")) parser.Bool
-    (cond (bytes_eq id (codes "no-content")) parser.Bool
-    (cond (bytes_eq id (codes "LINE") || bytes_eq id (codes "COLUMN")) number parser.String)))))))))))))
+    (cond (bytes_eq id (codes "limit")) (bytes_number 1) parser.String)))))
 
 base_plain : (i : ℕ) → IsPlain at_argument (with_index i (filled base_rule))
 base_plain i = option at_argument i (codes "URL") (codes "base")
@@ -174,8 +170,11 @@ flag_plain i name is = subst
 list_plain : (i : ℕ) (long : Text) → IsPlain at_argument (with_index i (filled (list_rule long)))
 list_plain i long = option at_argument i (codes "LIST") long
 
-pairs_plain : (i : ℕ) → IsPlain at_argument (with_index i (filled pairs_rule))
+pairs_plain : (i : ℕ) → IsPlain at_argument (with_index i (filled (repeated_rule (codes "NAME=FILE") (codes "inner"))))
 pairs_plain i = more_option at_argument i (codes "NAME=FILE") (codes "inner")
+
+hidden_plain : (i : ℕ) → IsPlain at_argument (with_index i (filled (repeated_rule (codes "TEXT") (codes "hide"))))
+hidden_plain i = more_option at_argument i (codes "TEXT") (codes "hide")
 
 cache_plain : (i : ℕ) → IsPlain at_argument (with_index i (filled (bytes_rule 0 (codes "cache"))))
 cache_plain i = named_option at_argument i (codes "cache") (codes "cache")
@@ -221,7 +220,7 @@ sources_plain = (
   value at_argument 1 (codes "MAP") true,
   (
     value at_argument 2 (codes "GENERATED") false,
-    (base_plain 3, (order_plain 3, (flag_plain 3 (codes "json") refl, (content_plain 3, (help_plain, tt))))),
+    (base_plain 3, (order_plain 3, (flag_plain 3 (codes "fit") refl, (flag_plain 3 (codes "json") refl, (content_plain 3, (help_plain, tt)))))),
   ),
 )
 
@@ -237,8 +236,14 @@ rewrite_plain = (
         (
           flag_plain 2 (codes "hide-ignored") refl,
           (
-            flag_plain 2 (codes "anywhere") refl,
-            (cache_plain 2, (limit_plain 2, (flag_plain 2 (codes "summary") refl, (flag_plain 2 (codes "strip-ansi") refl, (help_plain, tt))))),
+            hidden_plain 2,
+            (
+              flag_plain 2 (codes "anywhere") refl,
+              (
+                cache_plain 2,
+                (limit_plain 2, (flag_plain 2 (codes "summary") refl, (flag_plain 2 (codes "strip-ansi") refl, (help_plain, tt)))),
+              ),
+            ),
           ),
         ),
       ),
@@ -277,7 +282,10 @@ compose_plain = (
 )
 
 fit_plain : Each (IsPlain at_argument) (built_leaf fit.top).rules
-fit_plain = (more_values at_argument 1 (codes "MAP GENERATED") true, (flag_plain 2 (codes "json") refl, (help_plain, tt)))
+fit_plain = (
+  more_values at_argument 1 (codes "MAP GENERATED") true,
+  (flag_plain 2 (codes "json") refl, (flag_plain 2 (codes "explain") refl, (help_plain, tt))),
+)
 
 explain_plain : Each (IsPlain at_argument) (built_leaf explain.top).rules
 explain_plain = (value at_argument 1 (codes "CODE") false, (help_plain, tt))

@@ -1,11 +1,11 @@
 -- A command of clap that grows by arguments, or by subcommands.
 use Rattle.std.proofs.Common.{◌≡◌, ◌∙◌, ◌||◌, ap, ap₂, false, arith, fold, map, subst, suc, List, [], ◌∷◌}
-use Rattle.std.specs.List.{All, AllByRecursion}
+use Rattle.std.specs.Prelude.{Err, IfOk, IsOkAnd, Ok, Result}
+use Rattle.std.specs.List.{All}
 use Rattle.clap.specs.Built.{AddsArg, AddsInTurn, AddsSubcommand}
 use Rattle.clap.specs.Words.{App, app_of, rule_of, shape_of, with_rule, with_subcommand}
 use Rattle.clap.specs.declared.builder.arg.Arg.{Arg}
 use Rattle.clap.specs.declared.builder.command.Command.{Command}
-use Rattle.clap.specs.declared.builder.command.Command.TheViews.{out-Command}
 use Rattle.smap_arguments.specs.CommandLine.{IsLocalCommand}
 
 pub with_arguments : (app : App) (old new : Command) (arguments : List Arg) → IsLocalCommand app old → All (λ a. a.global ≡ false) arguments
@@ -18,8 +18,9 @@ with_arguments app old new (a ∷ rest) local plain added =
     ) in
     with_arguments (with_rule app (rule_of a)) added.0 new rest grown (λ k d low. plain (suc k) d (omega arith)) added.2
 
-pub with_commands : (app : App) (old new : Command) (subs : List Command) → app_of old ≡ app → AllByRecursion (λ s. (out-Command s).has_globals ≡ false) subs
-    → AddsInTurn AddsSubcommand old subs new → app_of new ≡ fold with_subcommand app (map shape_of subs)
-with_commands app old new [] is plain added = subst (λ c. app_of c ≡ app) added is
-with_commands app old new (s ∷ rest) is plain added =
-    with_commands (with_subcommand app (shape_of s)) added.0 new rest (added.1.shape plain.0 ∙ ap (λ o. with_subcommand o (shape_of s)) is) plain.1 added.2
+-- one more subcommand, where it could be made
+pub with_made : {E : Type 0} (app : App) (made : Result Command E) (above : App) (old new : Command) → IfOk made (IsLocalCommand app) → app_of old ≡ above
+    → IsOkAnd made (λ command. AddsSubcommand old command new) → app_of new ≡ with_subcommand above app.top
+with_made app (Ok command) above old new local is added =
+    added.shape local.1 ∙ (ap (λ a. with_subcommand a (shape_of command)) is ∙ ap (λ (a : App). with_subcommand above a.top) local.0)
+with_made app (Err e) above old new local is added = absurd added

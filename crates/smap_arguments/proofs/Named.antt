@@ -1,7 +1,8 @@
 -- The subcommand that clap's matches name.
-use Rattle.std.proofs.Common.{◌≡◌, ◌∙◌, Bool, true, false, List, [], ◌∷◌, Option, Some, None, ap, codes, cond, find, inl, refl, subst, sym}
+use Rattle.std.proofs.Common.{◌≡◌, ◌∙◌, ◌++◌, Bool, true, false, List, [], ◌∷◌, Option, Some, None, ap, codes, cond, find, inl, refl, subst, sym}
 use Rattle.std.specs.Borrow.{Bor}
 use Rattle.std.specs.Box.{box_value}
+use Rattle.std.specs.List.{AllByRecursion}
 use Rattle.std.specs.Prelude.{Box, option_map}
 use Rattle.std.specs.Str.{bytes_eq}
 use Rattle.std.proofs.lemmas.Slice.Eq.{bytes_eq-Decides}
@@ -12,8 +13,8 @@ use Rattle.clap.specs.declared.parser.matches.ArgMatches.{ArgMatches}
 use Rattle.clap.specs.declared.parser.matches.ArgMatches.TheViews.{out-ArgMatches, out-SubCommand}
 use Rattle.clap.specs.declared.parser.matches.SubCommand.{SubCommand}
 use Rattle.smap_command.specs.declared.command.Command.{Command}
-use Rattle.smap_arguments.specs.CommandLine.{check, compose, explain, fit, interval_number, lookup, mappings, named, number, positions, raw, rewrite, show, sources}
-use Rattle.smap_arguments.specs.Arguments.{HasArguments, HasCommand, HasValue, HasValueIfGiven, NamedAsksFor, SubcommandAsksFor}
+use Rattle.smap_arguments.specs.CommandLine.{check, compose, explain, fit, lookup, mappings, named, positions, raw, rewrite, show, sources}
+use Rattle.smap_arguments.specs.Arguments.{HasArguments, HasCommand, NamedAsksFor, SubcommandAsksFor}
 use Rattle.smap_arguments.specs.Refusals.{IsNamedRefusal}
 use Rattle.smap_arguments.specs.Refusals.{SubcommandReports, ReportsOfBase, ReportsRefusal}
 use Rattle.smap_arguments.specs.declared.usage.Usage.{Usage}
@@ -78,27 +79,23 @@ passed name s rest other = go (bytes_eq s.name name) refl
     go true is = absurd (other (sym ((bytes_eq-Decides s.name name).0 is)))
     go false is = refl
 
-abbrev pub IsRaw : Text → List Row → Type 0
-IsRaw name rows = (name ≡ codes "raw") × HasValue number rows (codes "LINE") × HasValue number rows (codes "COLUMN")
-    × HasValueIfGiven interval_number rows (codes "K")
+-- no shape of such a name is found among these
+past : (name : Text) (others rest : List Shape) → AllByRecursion (λ s. name ≡ s.name → ⊥) others
+    → find (λ c. bytes_eq c.name name) (others ++ rest) ≡ find (λ c. bytes_eq c.name name) rest
+past name [] rest none = refl
+past name (s ∷ others) rest none = passed name s (others ++ rest) none.0 ∙ past name others rest none.1
 
-pub only_raw : (name : Text) (rows : List Row) → (name ≡ codes "lookup" → ⊥) → (name ≡ codes "positions" → ⊥) → (name ≡ codes "mappings" → ⊥)
-    → (name ≡ codes "sources" → ⊥) → (name ≡ codes "rewrite" → ⊥) → (name ≡ codes "check" → ⊥)
-    → (name ≡ codes "show" → ⊥) → (name ≡ codes "compose" → ⊥) → (name ≡ codes "fit" → ⊥) → (name ≡ codes "explain" → ⊥) → HasArguments (named name) rows → IsRaw name rows
-only_raw name rows no_lookup no_positions no_mappings no_sources no_rewrite no_check no_show no_compose no_fit no_explain has =
-    go (bytes_eq (codes "raw") name) refl (subst (λ o. HasArguments o rows) past has)
+-- the commands before `raw`
+abbrev pub before_raw : List Shape
+before_raw =
+    lookup.top ∷ positions.top ∷ mappings.top ∷ sources.top ∷ rewrite.top ∷ check.top ∷ show.top ∷ compose.top ∷ fit.top ∷ explain.top ∷ []
+
+-- a name that is none of theirs is `raw`
+pub only_raw : (name : Text) (rows : List Row) → AllByRecursion (λ s. name ≡ s.name → ⊥) before_raw → HasArguments (named name) rows
+    → name ≡ codes "raw"
+only_raw name rows none has =
+    go (bytes_eq (codes "raw") name) refl (subst (λ o. HasArguments o rows) (past name before_raw (raw.top ∷ []) none) has)
   where
-    past : named name ≡ find (λ c. bytes_eq c.name name) (raw.top ∷ [])
-    past = passed name lookup.top (positions.top ∷ mappings.top ∷ sources.top ∷ rewrite.top ∷ check.top ∷ show.top ∷ compose.top ∷ fit.top ∷ explain.top ∷ raw.top ∷ []) no_lookup
-        ∙ (passed name positions.top (mappings.top ∷ sources.top ∷ rewrite.top ∷ check.top ∷ show.top ∷ compose.top ∷ fit.top ∷ explain.top ∷ raw.top ∷ []) no_positions
-        ∙ (passed name mappings.top (sources.top ∷ rewrite.top ∷ check.top ∷ show.top ∷ compose.top ∷ fit.top ∷ explain.top ∷ raw.top ∷ []) no_mappings
-        ∙ (passed name sources.top (rewrite.top ∷ check.top ∷ show.top ∷ compose.top ∷ fit.top ∷ explain.top ∷ raw.top ∷ []) no_sources
-        ∙ (passed name rewrite.top (check.top ∷ show.top ∷ compose.top ∷ fit.top ∷ explain.top ∷ raw.top ∷ []) no_rewrite
-        ∙ (passed name check.top (show.top ∷ compose.top ∷ fit.top ∷ explain.top ∷ raw.top ∷ []) no_check
-        ∙ (passed name show.top (compose.top ∷ fit.top ∷ explain.top ∷ raw.top ∷ []) no_show
-        ∙ (passed name compose.top (fit.top ∷ explain.top ∷ raw.top ∷ []) no_compose
-        ∙ (passed name fit.top (explain.top ∷ raw.top ∷ []) no_fit ∙ passed name explain.top (raw.top ∷ []) no_explain))))))))
-
-    go : (b : Bool) → bytes_eq (codes "raw") name ≡ b → HasArguments (cond b (Some raw.top) None) rows → IsRaw name rows
-    go true is has = (sym ((bytes_eq-Decides (codes "raw") name).0 is), has.0 refl, has.2.0 refl, has.2.2.1)
+    go : (b : Bool) → bytes_eq (codes "raw") name ≡ b → HasArguments (cond b (Some raw.top) None) rows → name ≡ codes "raw"
+    go true is has = sym ((bytes_eq-Decides (codes "raw") name).0 is)
     go false is has = absurd has

@@ -78,9 +78,9 @@ flag_rule name = record (new_rule name) { long = Some name; action = Some SetTru
 abbrev pub list_rule : (long : Text) → Rule
 list_rule long = record (new_rule (codes "LIST")) { long = Some long }
 
--- the option that is a source's name and a path, of any text, and may be given more than once
-abbrev pub pairs_rule : Rule
-pairs_rule = record (new_rule (codes "NAME=FILE")) { long = Some (codes "inner"); action = Some Append }
+-- an option that is of any text, and may be given more than once
+abbrev pub repeated_rule : (name long : Text) → Rule
+repeated_rule name long = record (new_rule name) { long = Some long; action = Some Append }
 
 -- an option that is a number of bytes, which its name in the help says
 abbrev pub bytes_rule : (least : ℕ) → Text → Rule
@@ -112,11 +112,11 @@ mappings = with_rules (codes "mappings") (text_rule (codes "MAP") ∷ optional_n
 
 abbrev pub sources : App
 sources = with_rules (codes "sources") (text_rule (codes "MAP") ∷ optional_rule (codes "GENERATED") ∷ base_rule ∷ order_rule
-    ∷ flag_rule (codes "json") ∷ content_rule ∷ [])
+    ∷ flag_rule (codes "fit") ∷ flag_rule (codes "json") ∷ content_rule ∷ [])
 
 abbrev pub rewrite : App
 rewrite = with_rules (codes "rewrite") (texts_rule false (codes "URL=FILE") ∷ list_rule (codes "maps") ∷ base_rule ∷ interval_rule
-    ∷ flag_rule (codes "hide-ignored") ∷ flag_rule (codes "anywhere") ∷ bytes_rule 0 (codes "cache") ∷ bytes_rule 1 (codes "limit")
+    ∷ flag_rule (codes "hide-ignored") ∷ repeated_rule (codes "TEXT") (codes "hide") ∷ flag_rule (codes "anywhere") ∷ bytes_rule 0 (codes "cache") ∷ bytes_rule 1 (codes "limit")
     ∷ flag_rule (codes "summary") ∷ flag_rule (codes "strip-ansi") ∷ [])
 
 abbrev pub check : App
@@ -127,11 +127,11 @@ abbrev pub show : App
 show = with_rules (codes "show") (text_rule (codes "PATH") ∷ base_rule ∷ flag_rule (codes "prune") ∷ flag_rule (codes "no-content") ∷ [])
 
 abbrev pub compose : App
-compose = with_rules (codes "compose") (text_rule (codes "OUTER") ∷ source_rule ∷ optional_rule (codes "INNER") ∷ pairs_rule
+compose = with_rules (codes "compose") (text_rule (codes "OUTER") ∷ source_rule ∷ optional_rule (codes "INNER") ∷ repeated_rule (codes "NAME=FILE") (codes "inner")
     ∷ list_rule (codes "inners") ∷ base_rule ∷ flag_rule (codes "prune") ∷ flag_rule (codes "no-content") ∷ [])
 
 abbrev pub fit : App
-fit = with_rules (codes "fit") (texts_rule true (codes "MAP GENERATED") ∷ flag_rule (codes "json") ∷ [])
+fit = with_rules (codes "fit") (texts_rule true (codes "MAP GENERATED") ∷ flag_rule (codes "json") ∷ flag_rule (codes "explain") ∷ [])
 
 abbrev pub explain : App
 explain = with_rules (codes "explain") (optional_rule (codes "CODE") ∷ [])

@@ -1,5 +1,5 @@
 -- Why the arguments of the command line give no command.
-use Rattle.std.specs.Prelude.{◌≡◌, ◌≢◌, ◌++◌, ◌%◌, ◌⊎◌, ◌∷◌, true, codes, length, List, [], Err, None, Option, Some, String, find, not, ⊤}
+use Rattle.std.specs.Prelude.{◌≡◌, ◌≢◌, ◌++◌, ◌%◌, ◌⊎◌, ◌∷◌, Bool, true, codes, length, List, [], Err, None, Option, Some, String, find, not, ⊤}
 use Rattle.std.specs.declared.alloc.Global.{Global}
 use Rattle.std.specs.Option.{IsSome}
 use Rattle.std.specs.String.{string_bytes}
@@ -13,8 +13,10 @@ use Rattle.clap.specs.Words.{Row, Text, first_of, one_of, subcommand_of}
 use Rattle.clap.specs.declared.error.kind.ErrorKind.{ErrorKind}
 use Rattle.clap.specs.declared.error.kind.ErrorKind.TheVariants.{DisplayHelp, DisplayVersion, OutOfMemory}
 use Rattle.smap_arguments.specs.CommandLine.{smap}
-use Rattle.smap_arguments.specs.Arguments.{GivesBase, GivesFlag, GivesOrder, GivesPairs, GivesText, GivesTexts, HasMaps, HasNoInners, has_equals_sign, has_inner}
+use Rattle.smap_arguments.specs.Arguments.{GivesBase, GivesFlag, GivesFurther, GivesOrder, GivesPairs, GivesText, GivesTexts, HasMaps, HasNoInners, has_equals_sign, has_inner}
 use Rattle.smap_arguments.specs.Arguments.{has_listing, words_of}
+use Rattle.smap_arguments.specs.Excludes.{excluded_line}
+use Rattle.smap_command.specs.declared.options.FurtherOptions.{FurtherOptions}
 use Rattle.smap_arguments.specs.declared.usage.Usage.{Usage}
 use Rattle.smap_arguments.specs.declared.usage.Usage.TheVariants.{Help, Words, Memory}
 
@@ -39,10 +41,6 @@ long_base_line = codes "usage: base URL too long" ++ 10 ∷ []
 -- an argument has no `=`, and is to have this form
 abbrev pub no_pair_line : (form argument : Text) → Text
 no_pair_line form argument = codes "usage: no " ++ (form ++ (codes ": " ++ shown argument ++ 10 ∷ []))
-
--- `rewrite` has both of these flags
-abbrev pub both_flags_line : Text
-both_flags_line = codes "usage: --hide-ignored with --anywhere" ++ 10 ∷ []
 
 -- `rewrite` has neither a word nor a list, which is reported as clap reports an argument that is missing
 abbrev pub no_maps_text : Text
@@ -97,14 +95,15 @@ ReportsBadPair rows form = ReportsNoPair form (words_of rows form)
 abbrev pub ReportsNoMaps : List Row → Text → Type 0
 ReportsNoMaps rows text = (text ≡ no_maps_text) × (words_of rows (codes "URL=FILE") ≡ []) × (first_of (codes "LIST") rows ≡ None)
 
--- it is reported that both flags are given, of words that are pairs
-abbrev pub ReportsBothFlags : List Row → Text → Type 0
-ReportsBothFlags rows text = (text ≡ both_flags_line) × ((pairs : List (String Global × String Global)) × GivesPairs rows (codes "URL=FILE") pairs)
-    × GivesFlag rows (codes "hide-ignored") true × GivesFlag rows (codes "anywhere") true
+-- it is reported that what is given excludes each other
+abbrev pub ReportsExcluded : List Row → Text → Type 0
+ReportsExcluded rows text = (maps : List (String Global × String Global)) × (hide_ignored : Bool) × (options : FurtherOptions)
+    × GivesPairs rows (codes "URL=FILE") maps × GivesFlag rows (codes "hide-ignored") hide_ignored × GivesFurther rows options
+    × (excluded_line maps hide_ignored options ≡ Some text)
 
--- what `rewrite` refuses after its base: a word, that there are no maps, and then its flags
+-- what `rewrite` refuses after its base: a word, that there are no maps, and then what excludes each other
 abbrev pub ReportsRewrite : List Row → Text → Type 0
-ReportsRewrite rows text = ReportsBadPair rows (codes "URL=FILE") text ⊎ ReportsNoMaps rows text ⊎ ReportsBothFlags rows text
+ReportsRewrite rows text = ReportsBadPair rows (codes "URL=FILE") text ⊎ ReportsNoMaps rows text ⊎ ReportsExcluded rows text
 
 -- it is reported that SOURCE or INNER is given beside maps that are given by the names of their sources, of words that are pairs
 abbrev pub ReportsSourceWithInners : List Row → Text → Type 0
@@ -124,7 +123,7 @@ ReportsCompose rows text = ReportsBadPair rows (codes "NAME=FILE") text ⊎ Repo
 
 -- `sources` is to write the content of a source and to do something else
 abbrev pub content_with_more_line : Text
-content_with_more_line = codes "usage: --content with GENERATED, --base, --json or --sort" ++ 10 ∷ []
+content_with_more_line = codes "usage: --content with GENERATED, --base, --fit, --json or --sort" ++ 10 ∷ []
 
 -- it has an order that there is none of
 abbrev pub bad_order_line : Text
@@ -134,24 +133,34 @@ bad_order_line = codes "usage: --sort takes bytes alone" ++ 10 ∷ []
 abbrev pub sort_alone_line : Text
 sort_alone_line = codes "usage: --sort without GENERATED" ++ 10 ∷ []
 
+-- it is to say how many mappings do not fit, and has no generated file
+abbrev pub fit_alone_line : Text
+fit_alone_line = codes "usage: --fit without GENERATED" ++ 10 ∷ []
+
 -- it is reported that the content of a source is not written with anything else
 abbrev pub ReportsContentWithMore : List Row → Text → Type 0
 ReportsContentWithMore rows text = (text ≡ content_with_more_line) × IsSome (one_of (codes "INDEX") rows)
-    × (GivesFlag rows (codes "json") true ⊎ (has_listing rows ≡ true))
+    × (GivesFlag rows (codes "json") true ⊎ GivesFlag rows (codes "fit") true ⊎ (has_listing rows ≡ true))
 
 -- it is reported that there is no such order
 abbrev pub ReportsBadOrder : List Row → Text → Type 0
 ReportsBadOrder rows text =
     (text ≡ bad_order_line) × ((order : Text) × GivesText rows (codes "BY") order × (order ≢ codes "bytes"))
 
--- it is reported that the generated file is missing
+-- it is reported that the generated file is missing that they are to be put in order by
 abbrev pub ReportsSortAlone : List Row → Text → Type 0
 ReportsSortAlone rows text =
     (text ≡ sort_alone_line) × GivesOrder rows true × (first_of (codes "GENERATED") rows ≡ None)
 
--- what `sources` refuses after its base: what is asked beside a content, and then its order
+-- it is reported that the generated file is missing that the map is to fit
+abbrev pub ReportsFitAlone : List Row → Text → Type 0
+ReportsFitAlone rows text =
+    (text ≡ fit_alone_line) × GivesFlag rows (codes "fit") true × (first_of (codes "GENERATED") rows ≡ None)
+
+-- what `sources` refuses after its base: what is asked beside a content, then its order, and then that the file is missing
 abbrev pub ReportsSources : List Row → Text → Type 0
-ReportsSources rows text = ReportsContentWithMore rows text ⊎ ReportsBadOrder rows text ⊎ ReportsSortAlone rows text
+ReportsSources rows text =
+    ReportsContentWithMore rows text ⊎ ReportsBadOrder rows text ⊎ ReportsSortAlone rows text ⊎ ReportsFitAlone rows text
 
 -- the last map has no generated file
 abbrev pub no_generated_line : Text

@@ -63,8 +63,8 @@ pub const SOURCES_NOTES: &str = "\
 Answer: for each source one line: INDEX SEGMENTS SOURCE or, with GENERATED, INDEX SEGMENTS BYTES SOURCE. INDEX is
 its number in the map, from 0; SEGMENTS says how many mappings lead to it, and BYTES how much of the generated
 file it makes. Behind it stand ` ignored` where the map says to pass over the source, and ` no content` where it
-does not hold its text. With GENERATED `unmapped BYTES` and `total BYTES` follow at the end. With --json each
-line is a JSON object.
+does not hold its text. With GENERATED `unmapped BYTES` and `total BYTES` follow at the end, and with --fit
+`misfits N`, the number of mappings that `smap fit` counts. With --json each line is a JSON object.
 
 A mapping owns the text up to the next one on its line. Line ends are unmapped, and so is what no source owns.
 
@@ -87,10 +87,15 @@ fragment. Each line of the file of --maps is a URL and a file, or a prefix and a
 them; empty lines and those that begin with `#` are passed over. Maps of folders and lists are read when the text
 first names them. One that cannot be read is reported on standard error, and the rest goes on.
 
+What begins with `*` is for more than one host or folder: *END=FILE gives the map of each URL that ends in END, from
+a `/` on, and *=FILE that of every URL; *MIDDLE=FOLDER/, where MIDDLE ends in `/`, the folder of those that have MIDDLE
+in them. A URL or a prefix that fits comes first, and then the longest of these.
+
 Answer: the trace, line by line. In a frame of V8, Firefox or Safari whose URL has a map, the place becomes
 the original one; the rest of the line stays, and so does each other line, byte for byte. With --hide-ignored
-the lines of frames from sources that a map says to pass over are left out. With --anywhere each place
-URL:LINE:COLUMN whose URL has a map becomes the original one, wherever it stands in a line.
+the lines of frames from sources that a map says to pass over are left out, and with --hide those from sources
+whose printed names have TEXT in them. With --anywhere each place URL:LINE:COLUMN whose URL
+has a map becomes the original one, wherever it stands in a line.
 
 Examples:
   smap rewrite https://example.test/receipt.min.js=examples/receipt.min.js.map < examples/receipt.trace
@@ -158,9 +163,13 @@ pub const FIT_ABOUT: &str =
     "Says of source map files whether they can be those of their generated files";
 
 pub const FIT_NOTES: &str = "\
-Answer: for each pair one line, in their order: `MAP: fits, M mappings`, or `MAP: does not fit GENERATED: P past
-the text, W inside a word, of M mappings`. A map that does not fit is that of another file, or the file was changed
-after it was made. With --json each line is a JSON object.
+Answer: for each pair one line, in their order: `MAP: fits, M mappings, K same of N`, or `MAP: does not fit
+GENERATED: P past the text, W inside a word, of M mappings`. A map that does not fit is that of another file, or the
+file was changed after it was made. Of N mappings into sources with content, K lead to the same word or character as
+they stand at. With --json each line is a JSON object.
+
+With --explain lines after a map that does not fit say where the first mapping of each kind stands, and with which
+shift of all mappings, by some lines or columns, fewest would not fit.
 
 A mapping that only goes on from the one before it, as far in its source as in the line, is not counted.
 
@@ -210,6 +219,9 @@ pub const FIT_HELP: &str = "Path of a source map file, and of its generated file
 
 pub const ORDER_HELP: &str = "Print those that make most first: `bytes`";
 
+pub const MISFIT_COUNT_HELP: &str =
+    "Say at the end how many mappings do not fit the generated file";
+
 pub const CONTENT_HELP: &str = "Write the content of this source, from 0, and nothing else";
 
 pub const COLUMN_HELP: &str = "Column of the generated file, from 1, in UTF-16 code units";
@@ -248,10 +260,15 @@ pub const JSON_HELP: &str = "Answer in JSON: one compact object a line";
 
 pub const WHY_HELP: &str = "Say after a refusal why the map is refused";
 
+pub const MISFITS_HELP: &str = "Say of a map that does not fit where, and what it would fit";
+
 pub const NEAREST_HELP: &str = "Say which mappings stand nearest to the position (not with --json)";
 
 pub const HIDE_HELP: &str =
     "Leave out the frames from sources that a map says to pass over (its `ignoreList`)";
+
+pub const TEXT_HELP: &str =
+    "Leave out the frames from sources with this text in their names; up to 16 times";
 
 pub const ANYWHERE_HELP: &str =
     "Rewrite every URL:LINE:COLUMN anywhere in a line, not frames alone";

@@ -6,9 +6,12 @@
 //! ```
 #![tactic(auto)]
 
+mod argument;
+mod checks;
 mod commands;
 mod help;
 mod line;
+mod lookups;
 mod mistakes;
 mod pairs;
 mod parsing;

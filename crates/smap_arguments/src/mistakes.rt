@@ -13,6 +13,14 @@ pub const LONG_BASE: &str = "usage: base URL too long\n";
 
 pub const BOTH_FLAGS: &str = "usage: --hide-ignored with --anywhere\n";
 
+/// Standard error: `rewrite` has more texts that hide frames than there may be.
+pub const MANY_HIDDEN: &str = "usage: more than 16 --hide\n";
+
+pub const HIDDEN_ANYWHERE: &str = "usage: --hide with --anywhere\n";
+
+/// Standard error: `rewrite` has a URL that begins with `*`, which finds no places.
+pub const PATTERN_ANYWHERE: &str = "usage: * with --anywhere\n";
+
 /// Standard error: `rewrite` has neither a word nor a list. It is reported as clap reports any argument that is missing.
 pub const NO_MAPS: &str = "\
 error: the following required arguments were not provided:
@@ -47,13 +55,17 @@ For more information, try '--help'.
 ";
 
 /// Standard error: `sources` is to write the content of a source and to do something else.
-pub const CONTENT_WITH_MORE: &str = "usage: --content with GENERATED, --base, --json or --sort\n";
+pub const CONTENT_WITH_MORE: &str =
+    "usage: --content with GENERATED, --base, --fit, --json or --sort\n";
 
 /// Standard error: `sources` has an order that there is none of.
 pub const BAD_ORDER: &str = "usage: --sort takes bytes alone\n";
 
 /// Standard error: `sources` has an order, and no generated file.
 pub const SORT_ALONE: &str = "usage: --sort without GENERATED\n";
+
+/// Standard error: `sources` is to say how many mappings do not fit, and has no generated file.
+pub const FIT_ALONE: &str = "usage: --fit without GENERATED\n";
 
 /// Standard error: the last map of `fit` has no generated file.
 pub const NO_GENERATED: &str = "usage: MAP without GENERATED\n";

@@ -6,7 +6,7 @@ ghost use Rattle.smap_arguments.specs.Arguments.{GivesBase, GivesNumber, GivesOr
 ghost use Rattle.smap_arguments.specs.Arguments.{has_listing};
 ghost use Rattle.smap_arguments.specs.Refusals.{IsNamedRefusal, ReportsBadOrder, ReportsContentWithMore, ReportsSources};
 
-use crate::mistakes::{BAD_ORDER, CONTENT_WITH_MORE, SORT_ALONE};
+use crate::mistakes::{BAD_ORDER, CONTENT_WITH_MORE, FIT_ALONE, SORT_ALONE};
 use crate::usage::Usage;
 use crate::values::{flag_in, form_in, has_text_in, source_in, text_if_given, text_in};
 use clap::ArgMatches;
@@ -36,11 +36,16 @@ pub fn sources_in(
     if by_bytes && generated.is_none() {
         return Err(Usage::Words(String::from_str(alloc, SORT_ALONE)?));
     }
+    let fit = flag_in(matches, "fit");
+    if fit && generated.is_none() {
+        return Err(Usage::Words(String::from_str(alloc, FIT_ALONE)?));
+    }
     Ok(Command::Sources {
         path,
         base,
         generated,
         by_bytes,
+        fit,
         form: form_in(matches),
     })
 }
@@ -60,7 +65,7 @@ fn content_in(
     ensures refused { IfErr result (IsNamedRefusal
         (ReportsContentWithMore (rows_of (found_of matches.now)))) }
 {
-    if flag_in(matches, "json") || has_listing(matches) {
+    if flag_in(matches, "json") || flag_in(matches, "fit") || has_listing(matches) {
         return Err(Usage::Words(String::from_str(alloc, CONTENT_WITH_MORE)?));
     }
     Ok(Command::SourceContent { path, source })

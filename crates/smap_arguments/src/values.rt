@@ -6,7 +6,7 @@ ghost use Rattle.smap_command.specs.Options.{is_json};
 ghost use Rattle.smap_arguments.specs.CommandLine.{bytes_number, interval_number, number, source_number};
 ghost use Rattle.smap_arguments.specs.Arguments.{GivesBase, GivesFlag, GivesInterval, GivesNumber, GivesNumberIfGiven, GivesText};
 ghost use Rattle.smap_arguments.specs.Arguments.{GivesTextIfGiven, GivesTexts, HasValue};
-ghost use Rattle.smap_arguments.specs.Arguments.{HasValueIfGiven, bytes_given};
+ghost use Rattle.smap_arguments.specs.Arguments.{HasValueIfGiven, bytes_given, texts, words_of};
 ghost use Rattle.smap_arguments.specs.Refusals.{IsNamedRefusal, ReportsOfBase};
 ghost use Rattle.clap.specs.declared.builder.value_parser.ValueParser.TheVariants as parser;
 
@@ -134,4 +134,29 @@ pub fn text_if_given(
         Some(text) => Ok(Some(String::from_str(alloc, text)?)),
         None => Ok(None),
     }
+}
+
+/// The texts of an argument that may be given more than once; none where it is not given.
+pub fn words_in(
+    alloc: Global,
+    matches: &ArgMatches<'_>,
+    name: &str,
+) -> Result<Vec<String>, AllocError>
+    ensures { IfOk result (λ words. texts words.items
+        ≡ words_of (rows_of (found_of matches.now)) name.now) }
+{
+    match matches.get_strs(name) {
+        Some(words) => copied_texts(alloc, words),
+        None => Ok(Vec::new(alloc)),
+    }
+}
+
+pub fn copied_texts(alloc: Global, given: &[&str]) -> Result<Vec<String>, AllocError>
+    ensures { IfOk result (λ copies. texts copies.items ≡ map (λ text. text.now) given.now) }
+{
+    let mut copies = Vec::new(alloc);
+    for text in given {
+        copies.push(String::from_str(alloc, text)?)?;
+    }
+    Ok(copies)
 }

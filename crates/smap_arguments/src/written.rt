@@ -1,4 +1,4 @@
-//! What `compose` is asked, and what is left out of a map that is written.
+//! What the commands that write a map are asked: `show` and `compose`.
 ghost use Rattle.std.specs.Prelude.{◌≡◌, IfErr, IfOk, codes, string_bytes};
 ghost use Rattle.clap.specs.Words.{found_of, rows_of};
 ghost use Rattle.smap_arguments.specs.CommandLine.{named, source_number};
@@ -13,8 +13,25 @@ use crate::usage::Usage;
 use crate::values::{flag_in, has_text_in, source_in, text_if_given, text_in};
 use clap::ArgMatches;
 use smap_command::{Command, WriteOptions};
-use std::alloc::Global;
+use std::alloc::{AllocError, Global};
 use url::Url;
+
+pub fn show_in(
+    alloc: Global,
+    matches: &ArgMatches<'_>,
+    base: Option<Url>,
+) -> Result<Command, AllocError>
+    requires required { HasArguments (named (codes "show")) (rows_of (found_of matches.now)) }
+    requires given { GivesBase (rows_of (found_of matches.now)) base }
+    ensures asked { IfOk result (NamedAsksFor (codes "show") (rows_of (found_of matches.now))) }
+    ensures in_range { IfOk result IsInRange }
+{
+    Ok(Command::Show {
+        path: text_in(alloc, matches, "PATH")?,
+        base,
+        options: options_in(matches),
+    })
+}
 
 /// What `compose` is asked: over one inner map, or over those of sources by their names.
 pub fn compose_in(
@@ -87,8 +104,8 @@ fn has_inner(matches: &ArgMatches<'_>) -> bool
     source_in(matches, "SOURCE").is_some() || has_text_in(matches, "INNER")
 }
 
-/// What is left out of the map.
-pub fn options_in(matches: &ArgMatches<'_>) -> WriteOptions
+// What is left out of the map.
+fn options_in(matches: &ArgMatches<'_>) -> WriteOptions
     requires prune { HasValueIfGiven parser.Bool (rows_of (found_of matches.now))
         (codes "prune") }
     requires no_content { HasValueIfGiven parser.Bool (rows_of (found_of matches.now))

@@ -1,7 +1,7 @@
 -- The code's numbers are those of the definitions.
 use Rattle.std.proofs.Common.{◌≡◌, refl}
-use Rattle.smap_command.specs.Limits.{limit, most_bytes, most_interval, usual_cache_bytes, usual_interval, usual_limit_bytes}
-use Rattle.smap_command.specs.declared.limits.TheConstants.{LIMIT, MOST_BYTES, MOST_INTERVAL, USUAL_CACHE_BYTES, USUAL_INTERVAL, USUAL_LIMIT_BYTES}
+use Rattle.smap_command.specs.Limits.{limit, most_bytes, most_hidden, most_interval, usual_cache_bytes, usual_interval, usual_limit_bytes}
+use Rattle.smap_command.specs.declared.limits.TheConstants.{LIMIT, MOST_BYTES, MOST_HIDDEN, MOST_INTERVAL, USUAL_CACHE_BYTES, USUAL_INTERVAL, USUAL_LIMIT_BYTES}
 
 limit_is : LIMIT ≡ limit
 limit_is = refl
@@ -11,6 +11,9 @@ most_interval_is = refl
 
 usual_interval_is : USUAL_INTERVAL ≡ usual_interval
 usual_interval_is = refl
+
+most_hidden_is : MOST_HIDDEN ≡ most_hidden
+most_hidden_is = refl
 
 most_bytes_is : MOST_BYTES ≡ most_bytes
 most_bytes_is = refl

@@ -17,6 +17,10 @@ usual_interval = 64
 abbrev pub is_interval : ℕ → Bool
 is_interval k = nat_le 1 k && nat_le k most_interval
 
+-- the most texts by which lines of frames may be dropped
+abbrev pub most_hidden : ℕ
+most_hidden = 16
+
 -- the greatest number of bytes that may be kept, and that may be taken
 abbrev pub most_bytes : ℕ
 most_bytes = 9223372036854775807

@@ -3,7 +3,7 @@ ghost use Rattle.std.specs.Prelude.{◌≡◌, option_copied};
 ghost use Rattle.smap_command.specs.Reading.{base_of, interval_of, strips_ansi};
 
 use crate::limits::USUAL_INTERVAL;
-use crate::options::{CheckOptions, Form, FurtherOptions, LookupOptions, WriteOptions};
+use crate::options::{CheckOptions, FitOptions, Form, FurtherOptions, LookupOptions, WriteOptions};
 use url::Url;
 
 /// A command. Lines and columns count from 0 here, columns in UTF-16 code units. Sources are resolved against the base. The
@@ -59,12 +59,13 @@ pub enum Command {
     },
     /// Prints the sources of the source map in the file at this path, a line each, with how many segments each has.
     /// Where the path of its generated file is given, each is reported with how many of that file's bytes it makes; with
-    /// `by_bytes` those that make most come first.
+    /// `by_bytes` those that make most come first, and with `fit` it is reported at the end where the map does not fit.
     Sources {
         path: String,
         base: Option<Url>,
         generated: Option<String>,
         by_bytes: bool,
+        fit: bool,
         form: Form,
     },
     /// Writes the content of the source of this number, from 0, of the source map in the file at this path, and nothing
@@ -109,7 +110,7 @@ pub enum Command {
     /// file, of another map and its generated file, and so on.
     Fit {
         paths: Vec<String>,
-        form: Form,
+        options: FitOptions,
     },
     /// Reports what a code of a refusal means, what usually causes it and what to do about it; without one, how all
     /// codes are called.

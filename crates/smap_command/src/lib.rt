@@ -14,7 +14,8 @@ mod options;
 
 pub use command::Command;
 pub use limits::{
-    LIMIT, MOST_BYTES, MOST_INTERVAL, USUAL_CACHE_BYTES, USUAL_INTERVAL, USUAL_LIMIT_BYTES,
+    LIMIT, MOST_BYTES, MOST_HIDDEN, MOST_INTERVAL, USUAL_CACHE_BYTES, USUAL_INTERVAL,
+    USUAL_LIMIT_BYTES,
 };
-pub use options::{CheckOptions, Form, FurtherOptions, LookupOptions, WriteOptions};
+pub use options::{CheckOptions, FitOptions, Form, FurtherOptions, LookupOptions, WriteOptions};
 pub use url::Url;

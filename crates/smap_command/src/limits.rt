@@ -9,6 +9,9 @@ pub const MOST_INTERVAL: u32 = 4096;
 /// The interval of the checkpoints where none is asked for.
 pub const USUAL_INTERVAL: u32 = 64;
 
+/// The most texts by which lines of frames may be dropped.
+pub const MOST_HIDDEN: usize = 16;
+
 /// The greatest number of bytes that may be kept, and that may be taken.
 pub const MOST_BYTES: u64 = 9223372036854775807;
 

@@ -1,6 +1,6 @@
 //! What may be asked of a command beside what it is about. Nothing of it is asked for by default.
 ghost use Rattle.std.specs.Prelude.{◌≡◌, [], false};
-ghost use Rattle.smap_command.specs.Options.{are_further, is_json, leaves_out};
+ghost use Rattle.smap_command.specs.Options.{HasBytes, are_further, is_json, leaves_out};
 ghost use Rattle.smap_command.specs.declared.options.Form.TheVariants.{Text};
 
 use std::alloc::Global;
@@ -64,6 +64,14 @@ pub struct LookupOptions {
     pub explain: bool,
 }
 
+/// How it is reported whether maps fit their generated files.
+#[derive(Clone, Copy)]
+pub struct FitOptions {
+    pub form: Form,
+    /// Whether a map that does not fit is followed by where it does not.
+    pub explain: bool,
+}
+
 /// What is left out of a map that is written.
 #[derive(Clone, Copy)]
 pub struct WriteOptions {
@@ -98,18 +106,30 @@ pub struct FurtherOptions {
     pub limit_bytes: Option<u64>,
     /// Whether counts are reported at the end.
     pub summary: bool,
+    /// Texts: the lines of frames from sources whose printed names have one of them are dropped.
+    pub hide: Vec<String>,
+    /// Whether it is reported at the end what became of the URLs that the text names.
+    pub explain: bool,
 }
 
 impl FurtherOptions {
     /// None of them.
-    pub const NONE: FurtherOptions = FurtherOptions {
-        strip_ansi: false,
-        list: None,
-        anywhere: false,
-        cache_bytes: None,
-        limit_bytes: None,
-        summary: false,
-    };
+    pub fn new(alloc: Global) -> FurtherOptions
+        ensures as_it_is { result.strip_ansi ≡ false }
+        ensures none { are_further result ≡ false }
+        ensures in_range { HasBytes result }
+    {
+        FurtherOptions {
+            strip_ansi: false,
+            list: None,
+            anywhere: false,
+            cache_bytes: None,
+            limit_bytes: None,
+            summary: false,
+            hide: Vec::new(alloc),
+            explain: false,
+        }
+    }
 
     /// Whether one of them is asked for, the first aside.
     pub fn are_given(&self) -> bool
@@ -120,5 +140,7 @@ impl FurtherOptions {
             || self.cache_bytes.is_some()
             || self.limit_bytes.is_some()
             || self.summary
+            || !self.hide.is_empty()
+            || self.explain
     }
 }

@@ -1,6 +1,8 @@
-use Rattle.std.proofs.Common.{◌≡◌, ◌∙◌, None, ap, inl, inr, length, rules}
+use Rattle.std.proofs.Common.{◌≡◌, ◌∙◌, List, None, Some, ap, inl, inr, length, rules, sym, ℕ}
+use Rattle.std.specs.Borrow.{Bor}
 use Rattle.std.specs.Prelude.{option_map, string_bytes}
 use Rattle.std.proofs.lemmas.List.{nil_from_length}
+use Rattle.smap_arguments.specs.Excludes.{excluded_line}
 use Rattle.smap_arguments.proofs.Cuts.{no_pairs}
 use Rattle.smap_arguments.proofs.rewrite.rewrite_in.Goals as goal
 
@@ -14,3 +16,13 @@ returns-then-is_none-clause-refused c =
       no_pairs _ maps c.in_ok-maps.ensures.given (nil_from_length maps empty),
       c.in_ok-options.ensures.given.0 ∙ ap (option_map string_bytes) none,
     ))
+
+pub returns-in-Some-clause-refused : goal.returns-in-Some-clause-refused
+returns-in-Some-clause-refused c =
+    let maps = c.in_ok-maps.maps.items in
+    let hide_ignored = c.flag_in-hide_ignored.result in
+    let options = c.in_ok-options.options in
+    let of_maps = rw c.deref.ensures.value at c.excluded_line.ensures in
+    let line : excluded_line maps hide_ignored options ≡ Some (string_bytes c.in_ok-from_str-2.field-0) =
+    sym of_maps ∙ (ap (option_map (λ (s : Bor (List ℕ)). s.now)) c.in-Some.is ∙ ap (λ text. Some text) (sym c.in_ok-from_str-2.ensures.ok)) in
+    inr (inr (maps, hide_ignored, options, c.in_ok-maps.ensures.given, c.flag_in-hide_ignored.ensures, c.in_ok-options.ensures.given, line))

@@ -1,6 +1,6 @@
 use Rattle.std.proofs.Common.{◌≡◌, map, take}
 use Rattle.smap_arguments.specs.Arguments.{texts}
-use Rattle.smap_arguments.proofs.commands.copied_texts.Given as goal
+use Rattle.smap_arguments.proofs.values.copied_texts.Given as goal
 
 -- the texts so far are copied
 abbrev pub invariant-loop-text : goal.invariant-loop-text

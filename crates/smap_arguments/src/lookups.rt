@@ -1,0 +1,88 @@
+//! What the commands that look positions up are asked: `lookup`, `positions`, `mappings` and `raw`.
+ghost use Rattle.std.specs.Prelude.{◌≡◌, IfOk, codes};
+ghost use Rattle.clap.specs.Words.{found_of, rows_of};
+ghost use Rattle.smap_arguments.specs.CommandLine.{named};
+ghost use Rattle.smap_arguments.specs.Arguments.{GivesBase, HasArguments, IsInRange, NamedAsksFor};
+
+use crate::values::{
+    flag_in, form_in, interval_in, position_number_if_given, position_number_in, text_in,
+};
+use clap::ArgMatches;
+use smap_command::{Command, LookupOptions};
+use std::alloc::{AllocError, Global};
+use url::Url;
+
+pub fn lookup_in(
+    alloc: Global,
+    matches: &ArgMatches<'_>,
+    base: Option<Url>,
+) -> Result<Command, AllocError>
+    requires required { HasArguments (named (codes "lookup")) (rows_of (found_of matches.now)) }
+    requires given { GivesBase (rows_of (found_of matches.now)) base }
+    ensures asked { IfOk result (NamedAsksFor (codes "lookup") (rows_of (found_of matches.now))) }
+    ensures in_range { IfOk result IsInRange }
+{
+    Ok(Command::Lookup {
+        path: text_in(alloc, matches, "PATH")?,
+        line: position_number_in(matches, "LINE"),
+        column: position_number_in(matches, "COLUMN"),
+        base,
+        interval: interval_in(matches),
+        after: flag_in(matches, "after"),
+        options: LookupOptions {
+            form: form_in(matches),
+            explain: flag_in(matches, "explain"),
+        },
+    })
+}
+
+pub fn positions_in(
+    alloc: Global,
+    matches: &ArgMatches<'_>,
+    base: Option<Url>,
+) -> Result<Command, AllocError>
+    requires required { HasArguments (named (codes "positions")) (rows_of (found_of matches.now)) }
+    requires given { GivesBase (rows_of (found_of matches.now)) base }
+    ensures asked { IfOk result
+        (NamedAsksFor (codes "positions") (rows_of (found_of matches.now))) }
+    ensures in_range { IfOk result IsInRange }
+{
+    Ok(Command::Positions {
+        path: text_in(alloc, matches, "MAP")?,
+        base,
+        interval: interval_in(matches),
+        after: flag_in(matches, "after"),
+        form: form_in(matches),
+    })
+}
+
+pub fn mappings_in(
+    alloc: Global,
+    matches: &ArgMatches<'_>,
+    base: Option<Url>,
+) -> Result<Command, AllocError>
+    requires required { HasArguments (named (codes "mappings")) (rows_of (found_of matches.now)) }
+    requires given { GivesBase (rows_of (found_of matches.now)) base }
+    ensures asked { IfOk result
+        (NamedAsksFor (codes "mappings") (rows_of (found_of matches.now))) }
+    ensures in_range { IfOk result IsInRange }
+{
+    Ok(Command::Mappings {
+        path: text_in(alloc, matches, "MAP")?,
+        base,
+        line: position_number_if_given(matches, "LINE"),
+        form: form_in(matches),
+    })
+}
+
+pub fn raw_in(matches: &ArgMatches<'_>) -> Command
+    requires { HasArguments (named (codes "raw")) (rows_of (found_of matches.now)) }
+    ensures asked { NamedAsksFor (codes "raw") (rows_of (found_of matches.now)) result }
+    ensures in_range { IsInRange result }
+{
+    Command::Raw {
+        line: position_number_in(matches, "LINE"),
+        column: position_number_in(matches, "COLUMN"),
+        interval: interval_in(matches),
+    }
+}
