@@ -14,8 +14,8 @@ mod running;
 
 pub use running::{run, run_reading};
 pub use smap_command::{
-    CheckOptions, Command, Form, FurtherOptions, LookupOptions, MOST_BYTES, USUAL_CACHE_BYTES,
-    USUAL_INTERVAL, USUAL_LIMIT_BYTES, WriteOptions,
+    CheckOptions, Command, FitOptions, Form, FurtherOptions, LookupOptions, MOST_BYTES,
+    USUAL_CACHE_BYTES, USUAL_INTERVAL, USUAL_LIMIT_BYTES, WriteOptions,
 };
 pub use smap_replies::{
     Failure, FileReader, Loaded, Reply, UnreadCause, print_error, refusal_line, report,

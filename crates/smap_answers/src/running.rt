@@ -162,11 +162,13 @@ fn run_over<F: FileReader, R: ByteSource, W: ByteSink, E: ByteSink>(
             path,
             generated,
             by_bytes,
+            fit,
             form,
             ..
         } => {
             let options = SourceOptions {
                 by_bytes: *by_bytes,
+                fit: *fit,
                 form: *form,
             };
             answer_sources(alloc, &maps, path, generated.as_deref(), options)
@@ -216,8 +218,8 @@ fn run_over<F: FileReader, R: ByteSource, W: ByteSink, E: ByteSink>(
             };
             answer_compose_all(alloc, reader, &all, *options)
         }
-        Command::Fit { paths, form } => {
-            return answer_fit(alloc, &maps, paths, form.is_json(), output, errors, first);
+        Command::Fit { paths, options } => {
+            return answer_fit(alloc, &maps, paths, *options, output, errors, first);
         }
         Command::Explain { code } => answer_explain(alloc, code.as_deref()),
     };

@@ -1,5 +1,5 @@
 -- Worked examples of the definitions: each holds by computing both sides.
-use Rattle.std.proofs.Common.{◌≡◌, ◌++◌, [], ◌∷◌, refl, codes}
+use Rattle.std.proofs.Common.{◌≡◌, ◌++◌, ◌∷◌, refl, codes}
 use Rattle.smap_sequences.specs.Sequences.{ending_length, kept, without_sequences}
 
 -- in grey and not: the sequences go, and the text stays

@@ -1,7 +1,7 @@
 -- Laws of what stands at the front of bytes.
-use Rattle.std.proofs.Common.{◌≡◌, ◌<◌, ◌≤◌, ℕ, zero, suc, ◌+◌, ◌-◌, Bool, true, false, List, [], ◌∷◌, ◌++◌, length, drop, refl, sym, ap, ◌∙◌, subst}
+use Rattle.std.proofs.Common.{◌≡◌, ◌<◌, ℕ, zero, suc, ◌+◌, ◌-◌, ◌&&◌, Bool, true, false, List, [], ◌∷◌, ◌++◌, length, drop, refl, sym, ap, ◌∙◌, subst}
 use Rattle.std.proofs.Common.{arith, ne_eqb, if◌then◌else◌}
-use Rattle.smap_sequences.specs.Sequences.{ending_length, goes_on, introduced_length, is_final_byte, is_intermediate_byte, kept, one_more, sequence_length}
+use Rattle.smap_sequences.specs.Sequences.{ending_length, goes_on, introduced_length, is_final_byte, is_intermediate_byte, kept, may_end, one_more}
 use Rattle.smap_sequences.specs.Private.Front.{IsEnding, IsFront}
 use Rattle.smap_sequences.specs.declared.front.Ending.TheVariants as ending
 use Rattle.smap_sequences.specs.declared.front.Front.TheVariants as front
@@ -28,11 +28,11 @@ none_left bytes most is_intermediate none more =
 
 pub open_here : (bytes : List ℕ) (most : ℕ) (is_intermediate : Bool) → length bytes ≡ 0 → 0 < most → IsEnding bytes most is_intermediate ending.Open
 unfolding ending_length
-open_here [] most is_intermediate empty some = (some, refl)
+open_here [] most is_intermediate empty some = (some, refl, refl)
 open_here (byte ∷ bytes) most is_intermediate empty some = absurd (omega (arith, empty))
 
 module _ (byte : ℕ) (is_intermediate : Bool) where
-  final : (text : List ℕ) (most : ℕ) → 0 < most → is_final_byte byte ≡ true → ending_length (byte ∷ text) most is_intermediate ≡ 1
+  pub final : (text : List ℕ) (most : ℕ) → 0 < most → is_final_byte byte ≡ true → ending_length (byte ∷ text) most is_intermediate ≡ 1
   unfolding ending_length
   final text zero some is = absurd (omega (arith, some))
   final text (suc most) some is = ap
@@ -46,7 +46,7 @@ module _ (byte : ℕ) (is_intermediate : Bool) where
       ap (λ f. if f then 1 else (if goes_on is_intermediate byte then one_more (ending_length text most (is_intermediate_byte byte)) else 0)) other
       ∙ ap (λ f. if f then one_more (ending_length text most (is_intermediate_byte byte)) else 0) stops
 
-  goes : (text : List ℕ) (most : ℕ) → 0 < most → is_final_byte byte ≡ false → goes_on is_intermediate byte ≡ true
+  pub goes : (text : List ℕ) (most : ℕ) → 0 < most → is_final_byte byte ≡ false → goes_on is_intermediate byte ≡ true
       → ending_length (byte ∷ text) most is_intermediate ≡ one_more (ending_length text (most - 1) (is_intermediate_byte byte))
   unfolding ending_length
   goes text zero some other on = absurd (omega (arith, some))
@@ -65,8 +65,11 @@ module _ (byte : ℕ) (is_intermediate : Bool) where
 
     module _ (other : is_final_byte byte ≡ false) (on : goes_on is_intermediate byte ≡ true) where
       pub open_on : IsEnding rest (most - 1) (is_intermediate_byte byte) ending.Open → IsEnding bytes most is_intermediate ending.Open
-      open_on is = subst (λ l. IsEnding l most is_intermediate ending.Open) (sym parts)
-          (omega (arith, is.0, some), goes rest most some other on ∙ ap one_more is.1)
+      open_on is = subst (λ l. IsEnding l most is_intermediate ending.Open) (sym parts) (
+        omega (arith, is.0, some),
+        goes rest most some other on ∙ ap one_more is.1,
+        ap (λ b. b && may_end rest (is_intermediate_byte byte)) on ∙ is.2,
+      )
 
       pub never_on : IsEnding rest (most - 1) (is_intermediate_byte byte) ending.Never → IsEnding bytes most is_intermediate ending.Never
       never_on is = subst (λ l. IsEnding l most is_intermediate ending.Never) (sym parts)
@@ -83,7 +86,7 @@ module _ (byte : ℕ) (is_intermediate : Bool) where
 -- ---- the front of bytes
 
 pub front_empty : (bytes : List ℕ) (most : ℕ) → length bytes ≡ 0 → IsFront bytes most front.Open
-front_empty [] most none = (omega arith, refl)
+front_empty [] most none = (omega arith, refl, refl)
 front_empty (byte ∷ bytes) most none = absurd (omega (arith, none))
 
 -- another byte than ESC
@@ -107,7 +110,7 @@ module _ (bytes : List ℕ) (byte : ℕ) (behind_first : List ℕ) (most : ℕ) 
   front_one none = go behind_first none escape
     where
       go : (l : List ℕ) → length l ≡ 0 → bytes ≡ 27 ∷ l → IsFront bytes most front.Open
-      go [] none is = subst (λ l. IsFront l most front.Open) (sym is) (omega arith, refl)
+      go [] none is = subst (λ l. IsFront l most front.Open) (sym is) (omega arith, refl, refl)
       go (b ∷ bs) none is = absurd (omega (arith, none))
 
   module _ (second : ℕ) (behind : List ℕ) (more_parts : behind_first ≡ second ∷ behind) where
@@ -124,7 +127,8 @@ module _ (bytes : List ℕ) (byte : ℕ) (behind_first : List ℕ) (most : ℕ) 
       whole = escape ∙ ap (λ l. 27 ∷ l) (more_parts ∙ ap (λ b. b ∷ behind) is_bracket)
 
       pub front_open : IsEnding behind 126 false ending.Open → IsFront bytes most front.Open
-      front_open is = subst (λ l. IsFront l most front.Open) (sym whole) (omega (arith, is.0), ap (λ n. one_more (one_more n)) is.1)
+      front_open is = subst (λ l. IsFront l most front.Open) (sym whole)
+          (omega (arith, is.0), ap (λ n. one_more (one_more n)) is.1, is.2)
 
       pub front_never : IsEnding behind 126 false ending.Never → IsFront bytes most (front.Byte 27)
       front_never is = stays (λ more. introduced more ∙ ap one_more (is more))

@@ -1,3 +1,4 @@
 pub mod Sequences
 pub mod Source
+pub mod Turns
 pub mod Private

@@ -1,5 +1,6 @@
 -- A text without its control sequences (ECMA-48): ESC, `[`, any parameter bytes, any intermediate bytes, and one final byte.
-use Rattle.std.specs.Prelude.{ℕ, zero, suc, ◌+◌, ◌-◌, ◌==◌, ◌&&◌, ◌||◌, ◌^◌, Bool, false, not, List, [], ◌∷◌, nat_le, if◌then◌else◌}
+use Rattle.std.specs.Prelude.{◌≡◌, ◌<◌, ℕ, zero, suc, ◌-◌, ◌==◌, ◌&&◌, ◌||◌, ◌^◌, Bool, true, false, not, List, [], ◌∷◌, length, nat_le}
+use Rattle.std.specs.Prelude.{if◌then◌else◌}
 
 abbrev pub is_parameter_byte : ℕ → Bool
 is_parameter_byte byte = nat_le 48 byte && nat_le byte 63
@@ -44,6 +45,29 @@ introduced_length (byte ∷ bytes) = if byte == 91 then one_more (ending_length 
 abbrev pub sequence_length : List ℕ → ℕ
 sequence_length [] = 0
 sequence_length (byte ∷ bytes) = if byte == 27 then one_more (introduced_length bytes) else 0
+
+-- ---- what may still become one
+
+-- behind an ESC and a `[`: a final byte may follow these
+abbrev pub may_end : List ℕ → (is_intermediate : Bool) → Bool
+may_end [] is_intermediate = true
+may_end (byte ∷ bytes) is_intermediate = goes_on is_intermediate byte && may_end bytes (is_intermediate_byte byte)
+
+-- behind an ESC
+abbrev pub may_go_on : List ℕ → Bool
+may_go_on [] = true
+may_go_on (byte ∷ bytes) = byte == 91 && may_end bytes false
+
+-- bytes with which a sequence may begin, and that are none yet
+abbrev pub may_become : List ℕ → Bool
+may_become [] = true
+may_become (byte ∷ bytes) = byte == 27 && may_go_on bytes
+
+-- they may still become one, and are fewer bytes than one may have
+abbrev pub IsWaiting : List ℕ → Type 0
+IsWaiting bytes = (length bytes < most_sequence_bytes) × (may_become bytes ≡ true)
+
+-- ---- a text without them
 
 -- a byte and what follows it, of which this sequence is left out, where there is one and some may be left out
 abbrev pub kept_byte : (byte length most : ℕ) → (rest : (gone most : ℕ) → List ℕ) → List ℕ

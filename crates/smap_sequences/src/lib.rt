@@ -11,6 +11,7 @@
 
 mod front;
 mod held;
+pub mod laws;
 mod source;
 mod telling;
 

@@ -51,7 +51,7 @@ returns-in-Check g c = rw c.in-Check.is (refl, (rw (c.deref.ensures, c.base.ensu
 
 pub returns-in-Fit : goal.returns-in-Fit
 returns-in-Fit g c =
-    rw c.in-Fit.is (refl, (rw (c.deref-in-Fit.ensures.value, c.is_json.ensures, c.base.ensures, c.interval.ensures, c.in-Fit.is) at c.answer_fit.ensures))
+    rw c.in-Fit.is (refl, (rw (c.deref-in-Fit.ensures.value, c.base.ensures, c.interval.ensures, c.in-Fit.is) at c.answer_fit.ensures))
 
 pub returns-in-Rewrite : goal.returns-in-Rewrite
 returns-in-Rewrite g c =

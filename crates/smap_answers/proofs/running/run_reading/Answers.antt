@@ -1,9 +1,9 @@
-use Rattle.std.proofs.Common.{◌≡◌, ◌∙◌, [], subst, sym}
+use Rattle.std.proofs.Common.{◌≡◌, ◌∙◌, [], ap, subst, sym}
 use Rattle.smap_command.specs.Reading.{strips_ansi}
 use Rattle.smap_io.specs.Device.{SourceSeen}
 use Rattle.smap_replies.specs.Streams.{streams_seen}
 use Rattle.smap_sequences.specs.Sequences.{most_sequences}
-use Rattle.smap_sequences.specs.Source.{source_seen, without_seen}
+use Rattle.smap_sequences.specs.Source.{without_seen}
 use Rattle.smap_answers.specs.Run.{Runs}
 use Rattle.smap_answers.proofs.OverLaws.{in_case, in_other}
 use Rattle.smap_answers.proofs.running.run_reading.Goals as goal
@@ -17,9 +17,10 @@ returns g c =
     let seen = g.R.ByteSource.seen in
     let run = c.run_over-status-2 in
     let text = run.new.input in
-    let before : source_seen seen c.new-text.result ≡ without_seen [] most_sequences (seen c.args.input) =
+    let made = c.new-text.result in
+    let before : without_seen made.held made.most (seen made.inner) ≡ without_seen [] most_sequences (seen c.args.input) =
     λ i. without_seen (c.new-text.ensures.none i) (c.new-text.ensures.all i) (seen (c.new-text.ensures.over i)) in
-    let after : source_seen seen text ≡ without_seen text.held text.most (seen c.into_inner.result) =
+    let after : without_seen text.held text.most (seen text.inner) ≡ without_seen text.held text.most (seen c.into_inner.result) =
     λ i. without_seen text.held text.most (seen (sym c.into_inner.ensures i)) in
     let runs = λ (old new : SourceSeen). Runs (g.F.FileReader.gives c.args.reader.now) c.args.command.now run.result
     (streams_seen old (g.W.ByteSink.seen c.args.output.now) (g.E.ByteSink.seen c.args.errors.now) c.args.first.now)
@@ -27,5 +28,7 @@ returns g c =
     in_case (strips_ansi c.args.command.now) _ _ (sym c.strips_ansi.ensures ∙ c.if-not-strips_ansi.false) (
       text.held,
       text.most,
-      subst (λ new. runs (without_seen [] most_sequences (seen c.args.input)) new) after (subst (λ old. runs old (source_seen seen text)) before run.ensures),
+      subst (λ new. runs (without_seen [] most_sequences (seen c.args.input)) new) after
+          (subst (λ old. runs old (without_seen text.held text.most (seen text.inner))) before run.ensures),
+      λ failed. text.waits (ap (λ inner. (seen inner).failed) (sym c.into_inner.ensures) ∙ failed),
     )

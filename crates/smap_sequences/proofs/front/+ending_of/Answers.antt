@@ -1,5 +1,5 @@
-use Rattle.std.proofs.Common.{◌≡◌, ◌<◌, ◌-◌, ◌∷◌, ◌++◌, ◌∙◌, arith, rules, sym, subst, true, false, length}
-use Rattle.smap_sequences.specs.Sequences.{goes_on, is_final_byte}
+use Rattle.std.proofs.Common.{◌≡◌, ◌<◌, ◌-◌, ◌∙◌, arith, rules, sym, subst, true, false, length}
+use Rattle.smap_sequences.specs.Sequences.{goes_on}
 use Rattle.smap_sequences.specs.Private.Front.{IsEnding}
 use Rattle.smap_sequences.specs.declared.front.Ending.TheVariants as ending
 use Rattle.smap_sequences.proofs.FrontLaws.{behind_on, ends_here, ends_nowhere, never_on, none_left, open_here, open_on}

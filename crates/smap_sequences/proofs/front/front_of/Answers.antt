@@ -1,4 +1,4 @@
-use Rattle.std.proofs.Common.{◌≡◌, ◌<◌, arith, rules}
+use Rattle.std.proofs.Common.{◌<◌, arith}
 use Rattle.smap_sequences.proofs.FrontLaws.{front_all, front_byte, front_never, front_other, front_sequence}
 use Rattle.smap_sequences.proofs.front.front_of.Goals as goal
 

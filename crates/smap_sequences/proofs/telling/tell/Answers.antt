@@ -1,4 +1,4 @@
-use Rattle.std.proofs.Common.{◌≡◌, ◌≤◌, ◌-◌, ◌+◌, ap, arith, drop, length, length-set, set, take, subst, sym, ◌∙◌}
+use Rattle.std.proofs.Common.{◌≡◌, ◌-◌, ◌+◌, ap, arith, drop, length, length-set, set, take, subst, sym, ◌∙◌}
 use Rattle.smap_sequences.specs.Private.Given.{IsGiven}
 use Rattle.smap_sequences.proofs.KeptLaws.{end_of, given_byte}
 use Rattle.smap_sequences.proofs.telling.tell.Goals as goal

@@ -1,4 +1,4 @@
-use Rattle.std.proofs.Common.{◌≡◌, ◌≤◌, ◌-◌, ap, arith, drop, length, slice_range, subst, sym, ◌∙◌}
+use Rattle.std.proofs.Common.{◌≡◌, ◌≤◌, arith, length, slice_range, subst, sym}
 use Rattle.smap_sequences.proofs.KeptLaws.{range_end}
 use Rattle.smap_sequences.proofs.held.Held.leave.Goals as goal
 

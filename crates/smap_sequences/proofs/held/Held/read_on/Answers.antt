@@ -1,4 +1,4 @@
-use Rattle.std.proofs.Common.{◌≡◌, ◌∙◌, ◌+◌, ◌-◌, ◌++◌, ◌<◌, ◌≤◌, ap, arith, drop, length, length-append, length-drop, length-take, rules, slice_range, subst, sym, take}
+use Rattle.std.proofs.Common.{◌≡◌, ◌∙◌, ◌-◌, ◌++◌, ◌<◌, ap, arith, length, length-append, length-drop, length-take, rules, slice_range, take}
 use Rattle.std.proofs.lemmas.Grind.{common_steps}
 use Rattle.smap_sequences.proofs.KeptLaws.{front_is, more_or_end, read_behind}
 use Rattle.smap_sequences.proofs.held.Held.read_on.Goals as goal

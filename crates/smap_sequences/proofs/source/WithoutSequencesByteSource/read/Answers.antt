@@ -1,8 +1,6 @@
-use Rattle.std.proofs.Common.{◌≡◌, ◌∙◌, ◌<◌, ap, arith, length, rules, sym, subst, true, false}
+use Rattle.std.proofs.Common.{◌≡◌, ◌∙◌, ◌<◌, arith, length, refl, rules, true, false}
 use Rattle.std.proofs.lemmas.Grind.{common_steps}
-use Rattle.std.specs.Io.KnownBytes.{IsAtEnd}
-use Rattle.smap_io.specs.Device.{SourceSeen}
-use Rattle.smap_sequences.specs.Source.{source_seen}
+use Rattle.smap_sequences.specs.Source.{without_seen}
 use Rattle.smap_sequences.proofs.SeenLaws.{given_last, gone_on, nearer_end, no_more, seen_end, some_more}
 use Rattle.smap_sequences.proofs.source.WithoutSequencesByteSource.read.Goals as goal
 
@@ -11,7 +9,7 @@ give_one-requires-clause-undecided g c =
     let none : c.give-count.result ≡ 0 = omega (arith, c.if-count-gt0.false) in
     let room : 0 < length c.give-count.new.room = first_of (search rules, grind (arith, common_steps)) in
     let ended : c.in_ok-read_on.field-0 ≡ false = search rules in
-    let no = no_more (g.R.ByteSource.seen c.give-count.new.self.inner) (g.R.ByteSource.seen c.read_on.new.inner) _ _ _ ended c.in_ok-read_on.ensures.more in
+    let no = no_more (g.R.ByteSource.seen c.loop-self.self.inner) (g.R.ByteSource.seen c.read_on.new.inner) _ _ _ ended c.in_ok-read_on.ensures.more in
     rw no.0 (c.give-count.ensures.undecided none room)
 
 pub returns-then-not-branch-clause-gives : goal.returns-then-not-branch-clause-gives
@@ -19,30 +17,31 @@ returns-then-not-branch-clause-gives g c =
     let seen = g.R.ByteSource.seen in
     let none : c.give-count.result ≡ 0 = omega (arith, c.if-count-gt0.false) in
     let ended : c.in_ok-read_on.field-0 ≡ false = search rules in
-    let no = no_more (g.R.ByteSource.seen c.give-count.new.self.inner) (g.R.ByteSource.seen c.read_on.new.inner) _ _ _ ended c.in_ok-read_on.ensures.more in
-    let at = gone_on (source_seen seen c.args.self.now) (seen c.loop-count.self.inner) (seen c.give-count.new.self.inner) (seen c.read_on.new.inner) _ _ _ _ _ _ _ _ c.loop-count.invariant.seen none c.give-count.ensures.gives
-    (ap seen c.give-count.ensures.inner) c.in_ok-read_on.ensures.more c.in_ok-read_on.ensures.no_failure in
-    given_last (source_seen seen c.args.self.now) (seen c.read_on.new.inner) (seen c.give_one.new.self.inner) _ _ _ _ _ at no.2 c.give_one.ensures.gives (ap seen c.give_one.ensures.inner)
+    let no = no_more (g.R.ByteSource.seen c.loop-self.self.inner) (g.R.ByteSource.seen c.read_on.new.inner) _ _ _ ended c.in_ok-read_on.ensures.more in
+    let at = gone_on (without_seen c.args.self.now.held c.args.self.now.most (seen c.args.self.now.inner)) (seen c.loop-self.self.inner) (seen c.loop-self.self.inner) (seen c.read_on.new.inner) _ _ _ _ _ _ _ _ c.loop-self.invariant.seen none c.give-count.ensures.gives
+    refl c.in_ok-read_on.ensures.more c.in_ok-read_on.ensures.no_failure in
+    given_last (without_seen c.args.self.now.held c.args.self.now.most (seen c.args.self.now.inner)) (seen c.read_on.new.inner) (seen c.read_on.new.inner) _ _ _ _ _ at no.2 c.give_one.ensures.gives refl
 
 pub returns-then-not-branch-clause-ends : goal.returns-then-not-branch-clause-ends
 returns-then-not-branch-clause-ends g c none room =
     let seen = g.R.ByteSource.seen in
     let ended : c.in_ok-read_on.field-0 ≡ false = search rules in
-    let no = no_more (g.R.ByteSource.seen c.give-count.new.self.inner) (g.R.ByteSource.seen c.read_on.new.inner) _ _ _ ended c.in_ok-read_on.ensures.more in
-    seen_end _ _ (c.give_one.ensures.end none) _ (subst (λ (s : SourceSeen). IsAtEnd s.left) (sym (ap seen c.give_one.ensures.inner)) no.2)
+    let no = no_more (g.R.ByteSource.seen c.loop-self.self.inner) (g.R.ByteSource.seen c.read_on.new.inner) _ _ _ ended c.in_ok-read_on.ensures.more in
+    seen_end _ _ (c.give_one.ensures.end none) _ no.2
 
-pub loop-count-smaller : goal.loop-count-smaller
-loop-count-smaller g c =
+pub loop-self-smaller : goal.loop-self-smaller
+loop-self-smaller g c =
     let none : c.give-count.result ≡ 0 = omega (arith, c.if-count-gt0.false) in
     let room : 0 < length c.give-count.new.room = first_of (search rules, grind (arith, common_steps)) in
     let more : c.in_ok-read_on.field-0 ≡ true = search rules in
-    nearer_end _ _ _ _ _ (c.give-count.ensures.nearer none) (c.give-count.ensures.undecided none room).0 (some_more (g.R.ByteSource.seen c.give-count.new.self.inner) (g.R.ByteSource.seen c.read_on.new.inner) _ _ _ more c.in_ok-read_on.ensures.more)
+    nearer_end _ _ _ _ _ (c.give-count.ensures.nearer none) (c.give-count.ensures.undecided none room).0 (some_more (g.R.ByteSource.seen c.loop-self.self.inner) (g.R.ByteSource.seen c.read_on.new.inner) _ _ _ more c.in_ok-read_on.ensures.more)
 
-pub loop-count-preserved : goal.loop-count-preserved
-loop-count-preserved g c =
+pub loop-self-preserved : goal.loop-self-preserved
+loop-self-preserved g c =
     let seen = g.R.ByteSource.seen in
     let none : c.give-count.result ≡ 0 = omega (arith, c.if-count-gt0.false) in
     record {
-      seen = gone_on (source_seen seen c.args.self.now) (seen c.loop-count.self.inner) (seen c.give-count.new.self.inner) (seen c.read_on.new.inner) _ _ _ _ _ _ _ _ c.loop-count.invariant.seen none c.give-count.ensures.gives
-          (ap seen c.give-count.ensures.inner) c.in_ok-read_on.ensures.more c.in_ok-read_on.ensures.no_failure;
+      works = c.in_ok-read_on.ensures.no_failure ∙ c.loop-self.invariant.works;
+      seen = gone_on (without_seen c.args.self.now.held c.args.self.now.most (seen c.args.self.now.inner)) (seen c.loop-self.self.inner) (seen c.loop-self.self.inner) (seen c.read_on.new.inner) _ _ _ _ _ _ _ _ c.loop-self.invariant.seen none c.give-count.ensures.gives
+          refl c.in_ok-read_on.ensures.more c.in_ok-read_on.ensures.no_failure;
     }
