@@ -1,7 +1,7 @@
 -- What is found in folders stays in them.
 use Rattle.std.proofs.Common.{◌≡◌, ◌≢◌, ℕ, zero, suc, ◌<◌, ◌≤◌, ◌&&◌, Bool, true, false, cond, ltb, List, ◌++◌, Option, Some, None, length, take, drop, refl, sym, ap, subst, arith, ◌∙◌}
 use Rattle.std.specs.Prelude.{codes}
-use Rattle.std.specs.List.{list_all}
+use Rattle.std.specs.List.{Contains, list_all}
 use Rattle.std.specs.Str.{is_utf8}
 use Rattle.std.proofs.lemmas.Bool.{and_parts, ltb-false, ltb-true}
 use Rattle.std.proofs.lemmas.List.{length-take-le, take-append-drop}
@@ -25,6 +25,15 @@ no_dots piece plain is =
     let on : is_plain_piece (codes "..") ≡ true = ap is_plain_piece (sym is) ∙ plain in
     cc
 
+-- what a folder has for a plain rest
+pub plain_inside : (folder rest path : List ℕ) → map_path folder rest ≡ Some path
+    → (path ≡ folder ++ (rest ++ codes ".map")) × ((piece : List ℕ) → Contains (pieces rest) piece → piece ≢ codes "..")
+plain_inside folder rest path made =
+    let given = where_plain (is_utf8 rest && is_plain rest) (folder ++ (rest ++ codes ".map")) path made in
+    let plain : is_plain rest ≡ true = (and_parts (is_utf8 rest) (is_plain rest) given.1).1 in
+    let each = AllPass-from_list_all is_plain_piece (pieces rest) (and_parts (list_all is_plain_byte rest) (list_all is_plain_piece (pieces rest)) plain).1 in
+    (given.0, (λ piece within. no_dots piece (All-contains (λ p. is_plain_piece p ≡ true) (pieces rest) piece each within)))
+
 -- ---- the folder
 
 module _ (folders : Named) (url path : List ℕ) where
@@ -33,9 +42,7 @@ module _ (folders : Named) (url path : List ℕ) where
       → ((longer : ℕ) → bytes < longer → longer ≤ length url → value_under (take longer url) folders ≡ None) → IsInFolder folders url path
   in_one bytes folder few there made none =
       let rest = drop bytes url in
-      let given = where_plain (is_utf8 rest && is_plain rest) (folder ++ (rest ++ codes ".map")) path made in
-      let plain : is_plain rest ≡ true = (and_parts (is_utf8 rest) (is_plain rest) given.1).1 in
-      let each = AllPass-from_list_all is_plain_piece (pieces rest) (and_parts (list_all is_plain_byte rest) (list_all is_plain_piece (pieces rest)) plain).1 in
+      let given = plain_inside folder rest path made in
       let long = length-take-le bytes url few in
       record {
         prefix = take bytes url;
@@ -45,7 +52,7 @@ module _ (folders : Named) (url path : List ℕ) where
         named = there;
         longest = λ longer more. none longer (omega (arith, long, more));
         inside = given.0;
-        stays = λ piece within. no_dots piece (All-contains (λ p. is_plain_piece p ≡ true) (pieces rest) piece each within);
+        stays = given.1;
       }
 
   in_folders : (bytes : ℕ) → bytes ≤ length url → path_within folders url bytes ≡ Some path

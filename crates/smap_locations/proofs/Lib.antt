@@ -1,2 +1,6 @@
 mod FolderLaws
 mod PathLaws
+mod PatternLaws
+mod DecidingLaws
+mod OrderLaws
+mod Examples

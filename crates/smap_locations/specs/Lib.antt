@@ -2,5 +2,8 @@ pub mod Named
 pub mod Paths
 pub mod Locations
 pub mod ListLine
+pub mod Patterns
+pub mod PatternSeen
 pub mod Laws
 pub mod InFolder
+pub mod ByPattern

@@ -1,17 +1,20 @@
 -- Where the map of a URL is (this project's own): in the file that is named for it, or for it without its query and its
--- fragment; else in the folder of the longest prefix of the latter.
-use Rattle.std.specs.Prelude.{ℕ, zero, suc, List, Option, Some, None, is_some, length, take, drop, if◌then◌else◌}
+-- fragment; else in the folder of the longest prefix of the latter; else where a pattern says.
+use Rattle.std.specs.Prelude.{ℕ, zero, suc, ◌||◌, Bool, List, Option, Some, None, is_some, length, take, drop, if◌then◌else◌}
+use Rattle.std.specs.List.{list_any}
 use Rattle.smap_locations.specs.ListLine.{is_folder}
 use Rattle.smap_by_text.specs.ByText.{value_under}
 use Rattle.smap_locations.specs.Named.{Named, twice}
 use Rattle.smap_locations.specs.Paths.{map_path, without_query}
+use Rattle.smap_locations.specs.Patterns.{needs_query, path_by_patterns}
 use Rattle.smap_locations.specs.declared.refusal.LocationRefusal.{LocationRefusal}
 use Rattle.smap_locations.specs.declared.refusal.LocationRefusal.TheVariants.{NoFolder}
 
--- files under URLs, and folders under prefixes
+-- files under URLs, folders under prefixes, and the files and folders of patterns
 pub record LocationsSeen : Type 0 where
   pub files : Named
   pub folders : Named
+  pub patterns : Named
 
 -- what a folder has for a URL behind so many bytes, or else what another has
 abbrev pub folder_path : (url : List ℕ) → (bytes : ℕ) → Option (List ℕ) → (other : Option (List ℕ)) → Option (List ℕ)
@@ -35,11 +38,16 @@ or_else None other = other
 abbrev pub path_for : LocationsSeen → (url : List ℕ) → Option (List ℕ)
 path_for locations url =
     or_else (value_under url locations.files)
-    (or_else (value_under (without_query url) locations.files) (path_in_folders locations.folders (without_query url)))
+    (or_else (value_under (without_query url) locations.files)
+    (or_else (path_in_folders locations.folders (without_query url)) (path_by_patterns locations.patterns url (without_query url))))
+
+-- what is named for a URL is so with its query and its fragment
+abbrev pub is_whole : LocationsSeen → (url : List ℕ) → Bool
+is_whole locations url = is_some (value_under url locations.files) || list_any (needs_query url (without_query url)) locations.patterns
 
 -- the text that stands for a URL where maps are remembered
 abbrev pub key_for : LocationsSeen → (url : List ℕ) → List ℕ
-key_for locations url = if is_some (value_under url locations.files) then url else without_query url
+key_for locations url = if is_whole locations url then url else without_query url
 
 -- ---- what is added
 

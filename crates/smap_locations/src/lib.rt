@@ -1,5 +1,5 @@
-//! Where the maps of a trace are: in files that are named for a URL, and in folders in which the URLs behind a prefix have
-//! files of their own.
+//! Where the maps of a trace are: in files that are named for a URL, in folders in which the URLs behind a prefix have
+//! files of their own, and in files and folders of patterns of URLs.
 //!
 //! ```
 //! locations.add_folder(text("https://example.test/js/"), text("maps/"))?;
@@ -12,10 +12,14 @@ mod list_line;
 mod locations;
 mod named;
 mod paths;
+mod pattern;
+mod patterns;
+mod pieces;
 mod refusal;
 
-pub use list_line::{entry_of_line, is_folder};
+pub use list_line::{entry_of_line, is_folder, is_rule, pattern_text};
 pub use locations::Locations;
 pub use named::NamedPaths;
 pub use paths::without_query;
+pub use pieces::ends_in_separator;
 pub use refusal::{ListFault, ListRefusal, LocationRefusal};

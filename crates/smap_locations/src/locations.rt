@@ -1,7 +1,9 @@
 //! The files and the folders that maps are in.
-ghost use Rattle.std.specs.Prelude.{◌≡◌, [], is_some, string_bytes, option_map, MatchOption};
+ghost use Rattle.std.specs.Prelude.{◌≡◌, ◌++◌, ◌∷◌, [], is_some, string_bytes, option_map, MatchOption};
 ghost use Rattle.std.specs.Prelude.{OnErr, OnOk, IfErr, IfOk, IsErrAnd, length, map};
 ghost use Rattle.smap_locations.specs.Locations.{key_for, path_for, path_in_folders, prefix_refusal};
+ghost use Rattle.smap_locations.specs.Patterns.{has_text, pattern_refusal};
+ghost use Rattle.std.specs.List.{list_any};
 ghost use Rattle.smap_by_text.specs.ByText.{IsWith, value_under};
 ghost use Rattle.smap_locations.specs.Named.{twice};
 ghost use Rattle.smap_locations.specs.declared.refusal.LocationRefusal.TheVariants.{Memory};
@@ -9,15 +11,18 @@ ghost use Rattle.smap_locations.specs.declared.refusal.LocationRefusal.TheVarian
 use crate::list_line::is_folder;
 use crate::named::NamedPaths;
 use crate::paths::{map_path, without_query};
+use crate::patterns::Patterns;
 use crate::refusal::LocationRefusal;
 use std::alloc::{AllocError, Global};
 use std::marker::Model;
 
-/// The files that are named for URLs, and the folders under prefixes of URLs, which end in `/`.
+/// The files that are named for URLs, the folders under prefixes of URLs, which end in `/`, and the files and folders of
+/// patterns.
 #[derive(Drop)]
 pub struct Locations {
     files: NamedPaths,
     folders: NamedPaths,
+    patterns: Patterns,
 }
 
 impl Model for Locations {
@@ -31,6 +36,7 @@ impl Model for Locations {
     ghost view = { λ locations. record {
       files = locations.files;
       folders = locations.folders;
+      patterns = locations.patterns;
     } };
 
     ghost invariant = { λ locations. list_all (λ e. is_folder e.0) locations.folders ≡ true };
@@ -39,11 +45,12 @@ impl Model for Locations {
 impl Locations {
     /// No location. The call takes no memory.
     pub fn new(alloc: Global) -> Locations
-        ensures { result ≡ record { files = []; folders = [] } }
+        ensures { result ≡ record { files = []; folders = []; patterns = [] } }
     {
         Locations {
             files: NamedPaths::new(alloc),
             folders: NamedPaths::new(alloc),
+            patterns: Patterns::new(alloc),
         }
     }
 
@@ -51,7 +58,7 @@ impl Locations {
     pub fn add_file(&mut self, url: String, path: String) -> Result<(), LocationRefusal>
         ensures added { OnOk result
             (IsWith self.old.files (string_bytes url) (string_bytes path) self.new.files) }
-        ensures others { self.new.folders ≡ self.old.folders }
+        ensures others { (self.new.folders ≡ self.old.folders) × (self.new.patterns ≡ self.old.patterns) }
         ensures kept { OnErr result (self.new ≡ self.old) }
         ensures refused { MatchOption (twice self.old.files (string_bytes url))
             (IfErr result (λ refusal. refusal ≡ Memory)) (λ refusal. IsErrAnd result (λ e. e ≡ refusal)) }
@@ -93,7 +100,7 @@ impl Locations {
     pub fn add_folder(&mut self, prefix: String, folder: String) -> Result<(), LocationRefusal>
         ensures added { OnOk result
             (IsWith self.old.folders (string_bytes prefix) (string_bytes folder) self.new.folders) }
-        ensures others { self.new.files ≡ self.old.files }
+        ensures others { (self.new.files ≡ self.old.files) × (self.new.patterns ≡ self.old.patterns) }
         ensures kept { OnErr result (self.new ≡ self.old) }
         ensures refused { MatchOption (prefix_refusal self.old.folders (string_bytes prefix))
             (IfErr result (λ refusal. refusal ≡ Memory)) (λ refusal. IsErrAnd result (λ e. e ≡ refusal)) }
@@ -104,8 +111,29 @@ impl Locations {
         self.folders.add(prefix, folder)
     }
 
+    /// Adds a pattern: a text that stands behind `*`, and the path of a file or, where it ends in `/`, of a folder; then the
+    /// text ends in `/` or `\`. After a refusal, which comes in the order of `LocationRefusal`, nothing is changed.
+    pub fn add_pattern(&mut self, text: Vec<u8>, path: String) -> Result<(), LocationRefusal>
+        ensures added { OnOk result
+            (self.new.patterns ≡ self.old.patterns ++ (text.items, string_bytes path) ∷ []) }
+        ensures others { (self.new.files ≡ self.old.files) × (self.new.folders ≡ self.old.folders) }
+        ensures kept { OnErr result (self.new ≡ self.old) }
+        ensures refused { MatchOption (pattern_refusal self.old.patterns text.items (string_bytes path))
+            (IfErr result (λ refusal. refusal ≡ Memory)) (λ refusal. IsErrAnd result (λ e. e ≡ refusal)) }
+    {
+        self.patterns.add(text, path)
+    }
+
+    /// Whether a pattern has this text.
+    pub fn has_pattern(&self, text: &[u8]) -> bool
+        ensures { result ≡ list_any (has_text text.now) self.now.patterns }
+    {
+        self.patterns.has_text(text)
+    }
+
     /// The path of the file that has a URL's map, where there is one: what is named for the URL, or for it without its query
-    /// and its fragment; or the file in the folder of the longest prefix, if what stands behind that is a plain path.
+    /// and its fragment; or the file in the folder of the longest prefix, if what stands behind that is a plain path; or what
+    /// the pattern gives that has the longest text.
     pub fn path_for(&self, alloc: Global, url: &[u8]) -> Result<Option<String>, AllocError>
         ensures { IfOk result (λ path. option_map string_bytes path ≡ path_for self.now url.now) }
     {
@@ -116,19 +144,26 @@ impl Locations {
         if let Some(path) = self.files.path_under(short) {
             return Ok(Some(String::from_str(alloc, path)?));
         }
-        self.path_in_folders(alloc, short)
+        if let Some(path) = self.path_in_folders(alloc, short)? {
+            return Ok(Some(path));
+        }
+        self.patterns.path_for(alloc, url, short)
     }
 
-    /// The text that stands for a URL where maps are remembered: the URL itself where a file is named for it, else the URL
-    /// without its query and its fragment. So URLs of one text have one path.
+    /// The text that stands for a URL where maps are remembered: the URL itself where a file is named for it, or a pattern
+    /// needs its query or its fragment, else the URL without these. So URLs of one text have one path.
     pub fn key_for<'u>(&self, url: &'u [u8]) -> &'u [u8]
         ensures key { result.now ≡ key_for self.now url.now }
         ensures path { path_for self.now result.now ≡ path_for self.now url.now }
     {
         if self.has_file(url) {
+            return url;
+        }
+        let short = without_query(url);
+        if short.len() < url.len() && self.patterns.needs_query(url, short) {
             url
         } else {
-            without_query(url)
+            short
         }
     }
 

@@ -3,9 +3,9 @@
 /// Why a location is not added.
 #[derive(Clone, Copy)]
 pub enum LocationRefusal {
-    /// A folder's prefix does not end in `/`.
+    /// A folder's prefix does not end in `/`, nor the text of its pattern in `/` or `\`.
     NoFolder,
-    /// The URL has a file already, or the prefix a folder.
+    /// The URL has a file already, or the prefix a folder, or a pattern the text.
     Twice,
     /// Memory ran out.
     Memory,
@@ -24,11 +24,11 @@ pub struct ListRefusal {
 pub enum ListFault {
     /// It has no TAB.
     NoTab,
-    /// It names a folder, and what stands before the TAB does not end in `/`.
+    /// It names a folder, and what stands before the TAB does not end in `/`, nor as a pattern in `\`.
     NoFolder,
-    /// What stands before the TAB is empty, holds a CR, or begins with `async ` or `eval at `.
+    /// What stands before the TAB holds a CR, or is empty or begins with `async ` or `eval at `.
     BadUrl,
-    /// The URL has a map or a file already, or the prefix a folder.
+    /// The URL has a map or a file already, or the prefix a folder, or a pattern the text.
     Twice,
     /// Memory ran out.
     Memory,

@@ -8,11 +8,12 @@ use Rattle.smap_locations.specs.ListLine.{entry_of}
 use Rattle.smap_store.specs.MapList.{line_fault}
 use Rattle.smap_locations.specs.declared.refusal.ListFault.TheVariants.{NoTab, NoFolder, Twice}
 
--- a file and a folder
+-- a file, a folder and a pattern
 places : LocationsSeen
 places = record {
   files = (codes "a:/f?1", codes "f.map") ∷ [];
   folders = (codes "a:/", codes "m/") ∷ [];
+  patterns = (codes "g.js", codes "g.map") ∷ [];
 }
 
 -- the URL that a file is named for stands for itself, and others for what stands before their query
@@ -69,3 +70,14 @@ folder_twice = refl
 file_twice : line_fault words places (codes "a:/f?1\tg.map") ≡ Some Twice
 unfolding words places is_bad_url
 file_twice = refl
+
+pattern_twice : line_fault words places (codes "*g.js\th.map") ≡ Some Twice
+unfolding places
+pattern_twice = refl
+
+pattern_of_folder : line_fault words places (codes "*g.js\tm/") ≡ Some NoFolder
+pattern_of_folder = refl
+
+every_url : line_fault words places (codes "*\th.map") ≡ None
+unfolding places
+every_url = refl

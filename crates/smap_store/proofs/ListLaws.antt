@@ -1,11 +1,15 @@
 -- Lines of a list that are taken, one more each time.
-use Rattle.std.proofs.Common.{◌≡◌, ◌<◌, ◌≤◌, ◌+◌, ℕ, List, [], ◌∷◌, ◌++◌, length, get_or, take, drop, refl, sym, ap, subst, suc, arith, add-one, ◌∙◌}
+use Rattle.std.proofs.Common.{◌≡◌, ◌<◌, ◌≤◌, ◌+◌, ℕ, Bool, true, false, List, [], ◌∷◌, ◌++◌, Option, Some, None, length, get_or, take, drop, refl, sym, ap, subst, suc}
+use Rattle.std.proofs.Common.{inl, inr, arith, add-one, ◌∙◌}
+use Rattle.std.specs.Prelude.{Result, Ok, Err, IfErr, IsErrAnd, MatchOption, if◌then◌else◌}
 use Rattle.std.proofs.Math.Seq.{drop-cons, take-length, take-suc}
 use Rattle.std.proofs.lemmas.List.{length-take-le, take-append-drop}
 use Rattle.smap_locations.specs.Locations.{LocationsSeen}
 use Rattle.smap_record.specs.Record.{MapRecord}
-use Rattle.smap_store.specs.MapList.{AreTaken, IsRefused, IsRefusedAt, IsTaken}
+use Rattle.smap_locations.specs.ListLine.{entry_of, entry_or_fault, is_passed_over, is_rule, line_entry}
+use Rattle.smap_store.specs.MapList.{AreTaken, IsRefused, IsRefusedAt, IsTaken, entry_fault, file_fault, line_fault, rule_fault}
 use Rattle.smap_locations.specs.declared.refusal.ListFault.{ListFault}
+use Rattle.smap_locations.specs.declared.refusal.ListFault.TheVariants.{Memory}
 
 one_taken : (words : List (List ℕ × MapRecord)) (lines : List (List ℕ)) (line : List ℕ) (old now new : LocationsSeen) → AreTaken words lines old now
     → IsTaken words now line new → AreTaken words (lines ++ line ∷ []) old new
@@ -46,3 +50,33 @@ pub all_taken : (words : List (List ℕ × MapRecord)) (lines : List (List ℕ))
 all_taken words lines number old now is taken =
     let P : List (List ℕ) → Type 0 = λ lines. AreTaken words lines old now in
     subst P (ap (λ n. take n lines) is ∙ take-length lines) taken
+
+-- ---- a rule
+
+module _ (words : List (List ℕ × MapRecord)) (locations : LocationsSeen) (line url path : List ℕ) where
+  -- why it is refused is why its line is
+  refused_by : (result : Result (Unit {0}) ListFault) (fault : Option ListFault) → is_passed_over line ≡ false → line_fault words locations line ≡ fault
+      → MatchOption fault (IfErr result (λ refusal. refusal ≡ Memory)) (λ fault. IsErrAnd result (λ e. e ≡ fault))
+      → IfErr result (IsRefused words locations line)
+  refused_by (Ok done) fault says is refused = tt
+  refused_by (Err refusal) None says is refused = inr (says, is, refused)
+  refused_by (Err refusal) (Some fault) says is refused = inl (is ∙ ap Some (sym refused))
+
+  fault_of_line : (passed : Bool) (entry : Option (List ℕ × List ℕ)) → is_passed_over line ≡ passed → entry_of line ≡ entry
+      → (if passed then Ok None else entry_or_fault entry) ≡ Ok (Some (url, path)) → is_rule url path ≡ true
+      → (passed ≡ false) × (line_fault words locations line ≡ rule_fault locations url path)
+  fault_of_line true entry says has is rule = cc
+  fault_of_line false None says has is rule = cc
+  fault_of_line false (Some entry) says has is rule =
+      let same : entry ≡ (url, path) = cc in (
+        refl,
+        ap (λ b. if b then None else entry_fault words locations (entry_of line)) says ∙ ap (entry_fault words locations) (has ∙ ap Some same)
+            ∙ ap (λ b. if b then rule_fault locations url path else file_fault words locations url) rule,
+      )
+
+  pub rule_refused : (result : Result (Unit {0}) ListFault) → line_entry line ≡ Ok (Some (url, path)) → is_rule url path ≡ true
+      → MatchOption (rule_fault locations url path) (IfErr result (λ refusal. refusal ≡ Memory)) (λ fault. IsErrAnd result (λ e. e ≡ fault))
+      → IfErr result (IsRefused words locations line)
+  rule_refused result is rule refused =
+      let found = fault_of_line (is_passed_over line) (entry_of line) refl refl is rule in
+      refused_by result (rule_fault locations url path) found.0 found.1 refused

@@ -1,8 +1,10 @@
 -- A list of maps (this project's own), whose lines end in LF or CR LF.
-use Rattle.std.specs.Prelude.{◌≡◌, ◌⊎◌, ℕ, ◌+◌, ◌||◌, false, not, List, [], ◌∷◌, ◌++◌, Option, Some, None, is_some, Result}
-use Rattle.std.specs.Prelude.{MatchBool, MatchResult, if◌then◌else◌, length}
-use Rattle.smap_locations.specs.ListLine.{entry_of, is_folder, is_passed_over}
+use Rattle.std.specs.Prelude.{◌≡◌, ◌⊎◌, ℕ, ◌+◌, ◌==◌, ◌||◌, ◌&&◌, Bool, false, not, List, [], ◌∷◌, ◌++◌, Option, Some, None, is_some, Result}
+use Rattle.std.specs.Prelude.{MatchBool, MatchOption, MatchResult, if◌then◌else◌, length}
+use Rattle.std.specs.List.{list_any}
+use Rattle.smap_locations.specs.ListLine.{entry_of, is_folder, is_passed_over, is_rule, pattern_text}
 use Rattle.smap_locations.specs.Locations.{LocationsSeen}
+use Rattle.smap_locations.specs.Patterns.{ends_in_separator, has_text}
 use Rattle.smap_by_text.specs.ByText.{IsWith, value_under}
 use Rattle.smap_record.specs.Record.{MapRecord}
 use Rattle.smap_trace.specs.Table.{is_bad_url}
@@ -25,9 +27,28 @@ folder_fault locations prefix =
     else if is_some (value_under prefix locations.folders) then Some Twice
     else None
 
+-- a line ends at this byte
+abbrev pub is_line_byte : ℕ → Bool
+is_line_byte byte = byte == 10 || byte == 13
+
+abbrev pub pattern_fault : LocationsSeen → (text path : List ℕ) → Option ListFault
+pattern_fault locations text path =
+    if is_folder path && not (ends_in_separator text) then Some NoFolder
+    else if list_any is_line_byte text then Some BadUrl
+    else if list_any (has_text text) locations.patterns then Some Twice
+    else None
+
+-- of an entry that is a rule: of its pattern, where this is the text of one, or of its prefix
+abbrev pub fault_of_rule : LocationsSeen → (pattern : Option (List ℕ)) → (url path : List ℕ) → Option ListFault
+fault_of_rule locations None url path = folder_fault locations url
+fault_of_rule locations (Some text) url path = pattern_fault locations text path
+
+abbrev pub rule_fault : LocationsSeen → (url path : List ℕ) → Option ListFault
+rule_fault locations url path = fault_of_rule locations (pattern_text url) url path
+
 abbrev pub entry_fault : List (List ℕ × MapRecord) → LocationsSeen → Option (List ℕ × List ℕ) → Option ListFault
 entry_fault words locations None = Some NoTab
-entry_fault words locations (Some (url, path)) = if is_folder path then folder_fault locations url else file_fault words locations url
+entry_fault words locations (Some (url, path)) = if is_rule url path then rule_fault locations url path else file_fault words locations url
 
 abbrev pub line_fault : List (List ℕ × MapRecord) → LocationsSeen → (line : List ℕ) → Option ListFault
 line_fault words locations line = if is_passed_over line then None else entry_fault words locations (entry_of line)
@@ -38,16 +59,28 @@ line_fault words locations line = if is_passed_over line then None else entry_fa
 pub record PutsFile (old : LocationsSeen) (url path : List ℕ) (new : LocationsSeen) : Type 0 where
   pub files : IsWith old.files url path new.files
   pub folders : new.folders ≡ old.folders
+  pub patterns : new.patterns ≡ old.patterns
 
 -- one folder more
 pub record PutsFolder (old : LocationsSeen) (prefix folder : List ℕ) (new : LocationsSeen) : Type 0 where
   pub folders : IsWith old.folders prefix folder new.folders
   pub files : new.files ≡ old.files
+  pub patterns : new.patterns ≡ old.patterns
+
+-- one pattern more, behind those that there were
+pub record PutsPattern (old : LocationsSeen) (text path : List ℕ) (new : LocationsSeen) : Type 0 where
+  pub patterns : new.patterns ≡ old.patterns ++ (text, path) ∷ []
+  pub files : new.files ≡ old.files
+  pub folders : new.folders ≡ old.folders
+
+-- one rule more
+abbrev pub PutsRule : (old : LocationsSeen) → (url path : List ℕ) → (new : LocationsSeen) → Type 0
+PutsRule old url path new = MatchOption (pattern_text url) (PutsFolder old url path new) (λ text. PutsPattern old text path new)
 
 -- what a line names
 abbrev pub Puts : (old : LocationsSeen) → Option (List ℕ × List ℕ) → (new : LocationsSeen) → Type 0
 Puts old None new = new ≡ old
-Puts old (Some (url, path)) new = MatchBool (is_folder path) (PutsFolder old url path new) (PutsFile old url path new)
+Puts old (Some (url, path)) new = MatchBool (is_rule url path) (PutsRule old url path new) (PutsFile old url path new)
 
 -- a line is taken
 pub record IsTaken (words : List (List ℕ × MapRecord)) (old : LocationsSeen) (line : List ℕ) (new : LocationsSeen) : Type 0 where

@@ -17,6 +17,6 @@ mod loader;
 mod stored;
 
 pub use cache::MapCache;
-pub use list::{add_folder, add_list};
+pub use list::{add_list, add_rule};
 pub use loader::{LoadedMap, MapLoader};
 pub use stored::StoredMaps;
