@@ -13,21 +13,21 @@ use Rattle.smap_trace.specs.Table.{is_bad_url}
 use Rattle.smap_replies.specs.Files.{MayRead}
 use Rattle.smap_command.specs.Lines.{line_from}
 use Rattle.smap_replies.specs.Outcome.{misuse, out_of_memory}
-use Rattle.smap_text_answers.specs.Sources.{GathersSources, NamesFolders, folder_refusal}
+use Rattle.smap_text_answers.specs.Sources.{GathersSources, NamesRules, rule_refusal}
 use Rattle.smap_replies.specs.Lists.{list_bytes_refusal, list_refusal}
 use Rattle.smap_text_answers.specs.Trace.{Gathers}
 
--- ---- folders and lines that are refused
+-- ---- rules and lines that are refused
 
-a_prefix_without_slash : folder_refusal NoFolder (codes "https://a.test/js") (codes "maps/") ≡ misuse (codes "usage: no folder: https://a.test/js=maps/\n")
+a_prefix_without_slash : rule_refusal NoFolder (codes "https://a.test/js") (codes "maps/") ≡ misuse (codes "usage: no folder: https://a.test/js=maps/\n")
 unfolding shown
 a_prefix_without_slash = refl
 
-a_bad_prefix : folder_refusal BadUrl (codes "eval at /") (codes "maps/") ≡ misuse (codes "usage: A1 BadUrl: eval at /=maps/\n")
+a_bad_prefix : rule_refusal BadUrl (codes "eval at /") (codes "maps/") ≡ misuse (codes "usage: A1 BadUrl: eval at /=maps/\n")
 unfolding shown called
 a_bad_prefix = refl
 
-a_prefix_twice : folder_refusal Twice (codes "app:///") (codes "a\nb/") ≡ misuse (codes "usage: A2 Twice: app:///=a?b/\n")
+a_prefix_twice : rule_refusal Twice (codes "app:///") (codes "a\nb/") ≡ misuse (codes "usage: A2 Twice: app:///=a?b/\n")
 unfolding shown called
 a_prefix_twice = refl
 
@@ -47,24 +47,31 @@ bytes_of_a_text : list_bytes_refusal (codes "u\tm.map\n") ≡ None
 unfolding is_utf8 chars encode
 bytes_of_a_text = refl
 
--- ---- folders among files
+-- ---- rules among files
 
 none : LocationsSeen
-none = record { files = []; folders = [] }
+none = record { files = []; folders = []; patterns = [] }
 
 one : LocationsSeen
-one = record { files = []; folders = (codes "app:///", codes "maps/") ∷ [] }
+one = record { files = []; folders = (codes "app:///", codes "maps/") ∷ []; patterns = [] }
 
 arguments : List (List ℕ × List ℕ)
 arguments = (codes "u", codes "m.map") ∷ (codes "app:///", codes "maps/") ∷ []
 
-a_folder_is_named : NamesFolders arguments none (Ok one)
+a_folder_is_named : NamesRules arguments none (Ok one)
 unfolding arguments none one is_bad_url
-a_folder_is_named = inr (one, record { folders = record { before = []; after = []; old_is = refl; new_is = refl }; files = refl }, refl)
+a_folder_is_named = inr (one, record { folders = record { before = []; after = []; old_is = refl; new_is = refl }; files = refl; patterns = refl }, refl)
 
-a_folder_is_named_twice : NamesFolders ((codes "app:///", codes "other/") ∷ []) one (Err (misuse (codes "usage: A2 Twice: app:///=other/\n")))
+a_folder_is_named_twice : NamesRules ((codes "app:///", codes "other/") ∷ []) one (Err (misuse (codes "usage: A2 Twice: app:///=other/\n")))
 unfolding one is_bad_url shown called
 a_folder_is_named_twice = inr refl
+
+a_pattern_is_named : NamesRules ((codes "*app.js", codes "app.map") ∷ []) one (Ok (record one { patterns = (codes "app.js", codes "app.map") ∷ [] }))
+unfolding one
+a_pattern_is_named = inr (record one { patterns = (codes "app.js", codes "app.map") ∷ [] }, record { patterns = refl; files = refl; folders = refl }, refl)
+
+a_pattern_is_not_read : (Reads : MayRead) → Gathers true Reads None 128 0 (Ok []) ((codes "*", codes "app.map") ∷ []) (Ok [])
+a_pattern_is_not_read Reads = refl
 
 a_folder_is_not_read : (Reads : MayRead) → Gathers true Reads None 128 0 (Ok []) ((codes "app:///", codes "maps/") ∷ []) (Ok [])
 a_folder_is_not_read Reads = refl
@@ -76,10 +83,10 @@ a_list_is_refused : (Reads : MayRead) → Reads 1 (codes "all.txt") (Ok (codes "
     (Err (misuse (line_from (codes "usage: all.txt line " ∷ decimal 2 ∷ codes ": no TAB" ∷ []))))
 unfolding is_bad_url shown is_utf8 chars encode
 a_list_is_refused Reads reads = (
-  Ok (record { files = []; folders = (codes "app:///", codes "maps/") ∷ [] }),
+  Ok (record { files = []; folders = (codes "app:///", codes "maps/") ∷ []; patterns = [] }),
   inr (
-    record { files = []; folders = (codes "app:///", codes "maps/") ∷ [] },
-    record { folders = record { before = []; after = []; old_is = refl; new_is = refl }; files = refl },
+    record { files = []; folders = (codes "app:///", codes "maps/") ∷ []; patterns = [] },
+    record { folders = record { before = []; after = []; old_is = refl; new_is = refl }; files = refl; patterns = refl },
     refl,
   ),
   (
@@ -91,14 +98,14 @@ a_list_is_refused Reads reads = (
       inr (
         Err (record { line = 2; fault = NoTab }),
         (
-          record { files = []; folders = (codes "app:///", codes "maps/") ∷ [] },
+          record { files = []; folders = (codes "app:///", codes "maps/") ∷ []; patterns = [] },
           record {
             before = codes "#" ∷ [];
             line = codes "u m.map";
             after = [];
             lines_are = refl;
             number = refl;
-            taken = (record { files = []; folders = (codes "app:///", codes "maps/") ∷ [] }, record { faultless = refl; puts = refl }, refl);
+            taken = (record { files = []; folders = (codes "app:///", codes "maps/") ∷ []; patterns = [] }, record { faultless = refl; puts = refl }, refl);
             refused = inl refl;
           },
           refl,

@@ -1,3 +1,4 @@
+mod BesideLaws
 mod BytesLaws
 mod Examples
 mod LoaderLaws

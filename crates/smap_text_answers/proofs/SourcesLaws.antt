@@ -1,62 +1,62 @@
--- What the folders and the list come to over which a text is rewritten.
+-- What the rules and the list come to over which a text is rewritten.
 use Rattle.std.proofs.Common.{◌≡◌, ℕ, ◌⊎◌, List, ◌∷◌, refl, sym, ap, subst, ◌∙◌, inl, inr}
 use Rattle.std.specs.Prelude.{true, false, Option, Some, None, Result, Ok, Err, MatchBool, MatchOption}
 use Rattle.std.specs.Option.{IsSomeAnd}
 use Rattle.std.specs.Str.Lines.{lines}
 use Rattle.smap_codes.specs.declared.code.Code.{Code}
 use Rattle.smap_locations.specs.Locations.{LocationsSeen}
-use Rattle.smap_store.specs.MapList.{AreTaken, IsRefusedAt, PutsFolder, folder_fault}
-use Rattle.smap_locations.specs.ListLine.{is_folder}
+use Rattle.smap_store.specs.MapList.{AreTaken, IsRefusedAt, PutsRule, rule_fault}
+use Rattle.smap_locations.specs.ListLine.{is_rule}
 use Rattle.smap_locations.specs.declared.refusal.ListFault.{ListFault}
 use Rattle.smap_locations.specs.declared.refusal.ListRefusal.{ListRefusal}
 use Rattle.smap_replies.specs.Map.{refused_file}
 use Rattle.smap_replies.specs.Outcome.{OrMemory, Report, out_of_memory}
-use Rattle.smap_text_answers.specs.Private.Sources.{IsFolderRefusal}
-use Rattle.smap_text_answers.specs.Sources.{AddsLines, AddsList, NamesFolders, folder_refusal}
+use Rattle.smap_text_answers.specs.Private.Sources.{IsRuleRefusal}
+use Rattle.smap_text_answers.specs.Sources.{AddsLines, AddsList, NamesRules, rule_refusal}
 use Rattle.smap_replies.specs.Lists.{list_bytes_refusal, list_refusal}
 use Rattle.smap_text_answers.specs.Trace.{Maps}
 use Rattle.smap_text_answers.specs.declared.sources.MapSources.{MapSources}
 
--- ---- folders
+-- ---- rules
 
 module _ (arguments rest : List (List ℕ × List ℕ)) (url path : List ℕ) (old : LocationsSeen) (is : arguments ≡ (url, path) ∷ rest) where
-  -- an argument names a file
-  pub names_none : is_folder path ≡ false → (result : Result LocationsSeen Report) → NamesFolders rest old result → NamesFolders arguments old result
+  -- an argument names a file for one URL
+  pub names_none : is_rule url path ≡ false → (result : Result LocationsSeen Report) → NamesRules rest old result → NamesRules arguments old result
   names_none file result names =
-      subst (λ left. NamesFolders left old result) (sym is)
-      (subst (λ b. MatchBool b ((result ≡ Err out_of_memory) ⊎ MatchOption (folder_fault old url)
-      ((next : LocationsSeen) × PutsFolder old url path next × NamesFolders rest next result)
-      (λ fault. result ≡ Err (folder_refusal fault url path))) (NamesFolders rest old result)) (sym file) names)
+      subst (λ left. NamesRules left old result) (sym is)
+      (subst (λ b. MatchBool b ((result ≡ Err out_of_memory) ⊎ MatchOption (rule_fault old url path)
+      ((next : LocationsSeen) × PutsRule old url path next × NamesRules rest next result)
+      (λ fault. result ≡ Err (rule_refusal fault url path))) (NamesRules rest old result)) (sym file) names)
 
-  -- or a folder
-  named : is_folder path ≡ true → (result : Result LocationsSeen Report) → (result ≡ Err out_of_memory) ⊎ MatchOption (folder_fault old url)
-      ((next : LocationsSeen) × PutsFolder old url path next × NamesFolders rest next result)
-      (λ fault. result ≡ Err (folder_refusal fault url path)) → NamesFolders arguments old result
-  named folder result names =
-      subst (λ left. NamesFolders left old result) (sym is)
-      (subst (λ b. MatchBool b ((result ≡ Err out_of_memory) ⊎ MatchOption (folder_fault old url)
-      ((next : LocationsSeen) × PutsFolder old url path next × NamesFolders rest next result)
-      (λ fault. result ≡ Err (folder_refusal fault url path))) (NamesFolders rest old result)) (sym folder) names)
+  -- or is a rule
+  named : is_rule url path ≡ true → (result : Result LocationsSeen Report) → (result ≡ Err out_of_memory) ⊎ MatchOption (rule_fault old url path)
+      ((next : LocationsSeen) × PutsRule old url path next × NamesRules rest next result)
+      (λ fault. result ≡ Err (rule_refusal fault url path)) → NamesRules arguments old result
+  named rule result names =
+      subst (λ left. NamesRules left old result) (sym is)
+      (subst (λ b. MatchBool b ((result ≡ Err out_of_memory) ⊎ MatchOption (rule_fault old url path)
+      ((next : LocationsSeen) × PutsRule old url path next × NamesRules rest next result)
+      (λ fault. result ≡ Err (rule_refusal fault url path))) (NamesRules rest old result)) (sym rule) names)
 
   -- which is named
-  pub names_next : is_folder path ≡ true → folder_fault old url ≡ None → (next : LocationsSeen) → PutsFolder old url path next
-      → (result : Result LocationsSeen Report) → NamesFolders rest next result → NamesFolders arguments old result
-  names_next folder faultless next puts result names =
-      named folder result (inr (subst (λ fault. MatchOption fault
-      ((next : LocationsSeen) × PutsFolder old url path next × NamesFolders rest next result)
-      (λ fault. result ≡ Err (folder_refusal fault url path))) (sym faultless) (next, puts, names)))
+  pub names_next : is_rule url path ≡ true → rule_fault old url path ≡ None → (next : LocationsSeen) → PutsRule old url path next
+      → (result : Result LocationsSeen Report) → NamesRules rest next result → NamesRules arguments old result
+  names_next rule faultless next puts result names =
+      named rule result (inr (subst (λ fault. MatchOption fault
+      ((next : LocationsSeen) × PutsRule old url path next × NamesRules rest next result)
+      (λ fault. result ≡ Err (rule_refusal fault url path))) (sym faultless) (next, puts, names)))
 
   -- or refused
   refused_so : (fault : Option ListFault) (report : Report) (result : Result LocationsSeen Report) → result ≡ Err report
-      → (report ≡ out_of_memory) ⊎ MatchOption fault ⊥ (λ fault. report ≡ folder_refusal fault url path)
-      → (result ≡ Err out_of_memory) ⊎ MatchOption fault ((next : LocationsSeen) × PutsFolder old url path next × NamesFolders rest next result)
-      (λ fault. result ≡ Err (folder_refusal fault url path))
+      → (report ≡ out_of_memory) ⊎ MatchOption fault ⊥ (λ fault. report ≡ rule_refusal fault url path)
+      → (result ≡ Err out_of_memory) ⊎ MatchOption fault ((next : LocationsSeen) × PutsRule old url path next × NamesRules rest next result)
+      (λ fault. result ≡ Err (rule_refusal fault url path))
   refused_so fault report result given (inl no_memory) = inl (given ∙ ap Err no_memory)
   refused_so None report result given (inr never) = absurd never
   refused_so (Some fault) report result given (inr reported) = inr (given ∙ ap Err reported)
 
-  pub names_refused : is_folder path ≡ true → (report : Report) → OrMemory (IsFolderRefusal old url path) report → NamesFolders arguments old (Err report)
-  names_refused folder report refused = named folder (Err report) (refused_so (folder_fault old url) report (Err report) refl refused)
+  pub names_refused : is_rule url path ≡ true → (report : Report) → OrMemory (IsRuleRefusal old url path) report → NamesRules arguments old (Err report)
+  names_refused rule report refused = named rule (Err report) (refused_so (rule_fault old url path) report (Err report) refl refused)
 
 -- ---- a list
 
@@ -84,6 +84,5 @@ module _ (list bytes : List ℕ) (words : Maps) (old : LocationsSeen) where
 
   -- up to one that is refused
   pub adds_refused : list_bytes_refusal bytes ≡ None → (new : LocationsSeen) (refused : ListRefusal) → IsRefusedAt words (lines bytes) old new refused
-      → (report : Report) → OrMemory (λ t. t ≡ list_refusal list refused) report → AddsList list bytes words old (Err report)
-  adds_refused is_text new refused at report (inl no_memory) = inl (ap Err no_memory)
-  adds_refused is_text new refused at report (inr reported) = of_lines is_text _ (Err refused, (new, at, ap Err reported))
+      → (report : Report) → report ≡ list_refusal list refused → AddsList list bytes words old (Err report)
+  adds_refused is_text new refused at report reported = of_lines is_text _ (Err refused, (new, at, ap Err reported))

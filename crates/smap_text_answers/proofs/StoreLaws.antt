@@ -13,6 +13,7 @@ use Rattle.smap_by_text.specs.ByText.{value_under}
 use Rattle.smap_store.specs.Cache.{Kept}
 use Rattle.smap_store.specs.Laws.Seen.{finds_seen, gives_seen, see_store}
 use Rattle.smap_store.specs.Stored.{Asks, Comes, FindsIn, GivesIn, LoadsMay, LoadsStep, Recalls, StoredSeen, Untouched, found_in}
+use Rattle.smap_trace.specs.Hiding.{HidingSeen}
 use Rattle.smap_trace.specs.Rewriting.{Looked}
 use Rattle.smap_trace.specs.Laws.Seen.{front_seen, looked_seen, rewrites_seen}
 use Rattle.smap_trace.specs.declared.outcome.RewriteCounts.{RewriteCounts}
@@ -107,11 +108,11 @@ module _ {F E : Type 0} (gives : F → MayRead) (seen : E → SinkSeen) where
       may_first : (url path : List ℕ) (found : Option MapRecord) → May old.loader url path found → MaySeen (loader_seen seen old.loader) url path found
       may_first url path found may = subst (λ l. May l url path found) is may
 
-      module _ (begins : List ℕ → Option PlaceUrl) (hide : Bool) (most : ℕ) (before after : DevicesSeen) where
+      module _ (begins : List ℕ → Option PlaceUrl) (hide : HidingSeen) (most : ℕ) (before after : DevicesSeen) where
         text_from : (anywhere : Bool) (counts : RewriteCounts) → RewritesText anywhere (FindsIn Steps) begins hide most before after old new counts
             → RewritesText anywhere (FindsIn Seen) begins hide most before after (see old) (see new) counts
         text_from true counts is = (
-          places_seen (FindsIn Steps) found_in (FindsIn Seen) found_in see (λ maps. IsSameLoader first maps.loader) finds_so (λ maps url. refl)
+          places_seen (FindsIn Steps) found_in (FindsIn Seen) found_in see (λ maps. IsSameLoader first maps.loader) finds_so (λ maps url same. refl)
               begins most before after old new counts.summary at_first is.0,
           is.1,
         )
@@ -127,7 +128,7 @@ module _ {F E : Type 0} (gives : F → MayRead) (seen : E → SinkSeen) where
         front_from false fault is =
             front_seen (GivesIn May old) (GivesIn MaySeen (see old)) (gives_seen (loader_seen seen) May MaySeen old may_first) hide most before after fault is
 
-      pub rewritten_from : (sources : MapSources) (anywhere hide : Bool) (most : ℕ) (before after : DevicesSeen) (result : Result RewriteCounts LineFault)
+      pub rewritten_from : (sources : MapSources) (anywhere : Bool) (hide : HidingSeen) (most : ℕ) (before after : DevicesSeen) (result : Result RewriteCounts LineFault)
           → IfOk result (RewritesText anywhere (FindsIn Steps) (places_of sources) hide most before after old new)
           → IfErr result (RewritesTextFront anywhere (GivesIn May old) (places_of sources) hide most before after) → Looked (FindsIn Steps) old new
           → IsStoredRewritten (gives first.maps.now.files.now) (option_copied first.maps.now.base) first.maps.now.interval first.number sources anywhere hide

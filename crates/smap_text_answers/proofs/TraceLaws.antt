@@ -1,7 +1,7 @@
 -- What the arguments of `rewrite` come to, argument by argument.
 use Rattle.std.proofs.Common.{◌≡◌, ℕ, ◌+◌, ◌⊎◌, List, ◌∷◌, refl, sym, ap, subst, ◌∙◌, inl, inr, add-one}
 use Rattle.std.specs.Prelude.{Bool, true, false, ◌&&◌, MatchBool, Option, Some, None, Result, Ok, Err, MatchOption}
-use Rattle.smap_locations.specs.ListLine.{is_folder}
+use Rattle.smap_locations.specs.ListLine.{is_rule}
 use Rattle.smap_record.specs.Record.{MapRecord, record_of}
 use Rattle.smap_record.specs.declared.refusal.MapRefusal.{MapRefusal}
 use Rattle.smap_trace.specs.Table.{url_refusal}
@@ -21,11 +21,10 @@ use Rattle.url.specs.Parts.{Parts}
 -- a map that the table did not take
 pub puts_refused : (maps : Maps) (url path : List ℕ) (stated : MapRecord) (refusal : Option TableRefusal) (refused : TableRefusal)
     (report : Report) (result : Result Maps Report)
-    → result ≡ Err report → MatchOption refusal (refused ≡ Memory) (λ first. refused ≡ first) → OrMemory (λ t. t ≡ url_refusal_result refused url path) report
+    → result ≡ Err report → MatchOption refusal (refused ≡ Memory) (λ first. refused ≡ first) → report ≡ url_refusal_result refused url path
     → (result ≡ Err out_of_memory) ⊎ Puts maps url path stated refusal result
-puts_refused maps url path stated refusal refused report result given is (inl no_memory) = inl (given ∙ ap Err no_memory)
-puts_refused maps url path stated None refused report result given is (inr reported) = inl (given ∙ ap Err (reported ∙ ap (λ r. url_refusal_result r url path) is))
-puts_refused maps url path stated (Some first) refused report result given is (inr reported) =
+puts_refused maps url path stated None refused report result given is reported = inl (given ∙ ap Err (reported ∙ ap (λ r. url_refusal_result r url path) is))
+puts_refused maps url path stated (Some first) refused report result given is reported =
     inr (given ∙ ap Err (reported ∙ ap (λ r. url_refusal_result r url path) is))
 
 -- ---- a file
@@ -73,19 +72,19 @@ module _ (passes : Bool) (Reads : MayRead) (base : Option Parts) (k number : ℕ
       → Gathers passes Reads base k number before arguments result
   of_first result gathers = subst (λ left. Gathers passes Reads base k number before left result) (sym is) gathers
 
-  -- a folder was passed over
-  pub gathers_passed : (passed : Bool) → passed ≡ (passes && is_folder path) → passed ≡ true → (result : Result Maps Report)
+  -- a rule was passed over
+  pub gathers_passed : (passed : Bool) → passed ≡ (passes && is_rule url path) → passed ≡ true → (result : Result Maps Report)
       → Gathers passes Reads base k (number + 1) before rest result → Gathers passes Reads base k number before arguments result
   gathers_passed passed so holds result gathers = of_first result (if_true _ _ _ (sym so ∙ holds) (rw (add-one) at gathers))
 
   -- the file of an argument was read
-  pub gathers_next : (passed : Bool) → passed ≡ (passes && is_folder path) → passed ≡ false → (bytes : List ℕ) (next result : Result Maps Report)
+  pub gathers_next : (passed : Bool) → passed ≡ (passes && is_rule url path) → passed ≡ false → (bytes : List ℕ) (next result : Result Maps Report)
       → Reads number path (Ok bytes) → PutsNext base k before url path bytes next → Gathers passes Reads base k (number + 1) next rest result
       → Gathers passes Reads base k number before arguments result
   gathers_next passed so fails bytes next result reads puts gathers =
       of_first result (if_false _ _ _ (sym so ∙ fails) (inr (bytes, reads, (next, puts, (rw (add-one) at gathers)))))
 
   -- or was not
-  pub gathers_unread : (passed : Bool) → passed ≡ (passes && is_folder path) → passed ≡ false → (report : Report)
+  pub gathers_unread : (passed : Bool) → passed ≡ (passes && is_rule url path) → passed ≡ false → (report : Report)
       → OrMemory (IsUnread Reads number path) report → Gathers passes Reads base k number before arguments (Err report)
   gathers_unread passed so fails report unread = of_first (Err report) (if_false _ _ _ (sym so ∙ fails) (inl (report, unread, refl)))

@@ -4,7 +4,7 @@ use Rattle.std.specs.List.{list_any}
 use Rattle.smap_command.specs.Limits.{usual_cache_bytes, usual_limit_bytes}
 use Rattle.smap_command.specs.Options.{are_further}
 use Rattle.smap_command.specs.declared.options.FurtherOptions.{FurtherOptions}
-use Rattle.smap_locations.specs.ListLine.{is_folder}
+use Rattle.smap_locations.specs.ListLine.{is_rule}
 use Rattle.smap_replies.specs.Arguments.{argument_of}
 use Rattle.smap_replies.specs.Files.{MayRead}
 use Rattle.smap_replies.specs.Runs.{RunsOne}
@@ -14,20 +14,20 @@ use Rattle.smap_text_answers.specs.Trace.{IsTraceRewritten, RewriteReports}
 use Rattle.url.specs.Parts.{Parts}
 
 module _ {A : Type 0} (maps : List (String A × String A)) where
-  -- one of the pairs is of a prefix and a folder
-  abbrev pub has_folder : Bool
-  has_folder = list_any (λ pair. is_folder (string_bytes pair.1)) maps
+  -- one of the pairs is a rule: it has a folder or a pattern
+  abbrev pub has_rule : Bool
+  has_rule = list_any (λ pair. is_rule (string_bytes pair.0) (string_bytes pair.1)) maps
 
-  -- a folder is given, or an option
+  -- a rule is given, or an option
   abbrev pub asks_for_more : FurtherOptions → Bool
-  asks_for_more options = are_further options || has_folder
+  asks_for_more options = are_further options || has_rule
 
   -- what is asked then, with the usual numbers where none are given
   abbrev pub request_of : (hide : Bool) → FurtherOptions → RequestSeen
   request_of hide options = record {
     arguments = map argument_of maps;
     list = option_map string_bytes options.list;
-    hide_ignored = hide;
+    hide = record { ignored = hide; texts = map string_bytes options.hide.items };
     anywhere = options.anywhere;
     cache_bytes = unwrap_or options.cache_bytes usual_cache_bytes;
     limit_bytes = unwrap_or options.limit_bytes usual_limit_bytes;

@@ -18,6 +18,7 @@ use Rattle.smap_record.specs.Record.{MapRecord}
 use Rattle.smap_store.specs.ByPath.{stored_maps}
 use Rattle.smap_store.specs.Cache.{CacheSeen}
 use Rattle.smap_store.specs.Stored.{FindsIn, GivesIn, StoredSeen, found_in}
+use Rattle.smap_trace.specs.Hiding.{HidingSeen, hiding_seen}
 use Rattle.smap_trace.specs.MapsOf.{MapsByUrl, RewritesBy}
 use Rattle.smap_trace.specs.Rewriting.{Looked, RewritesFrontOver, RewritesOver}
 use Rattle.smap_trace.specs.declared.outcome.RewriteCounts.{RewriteCounts}
@@ -38,7 +39,7 @@ use Rattle.smap_text_answers.specs.declared.sources.MapSources.{MapSources}
 pub record RequestSeen : Type 0 where
   pub arguments : List (List ℕ × List ℕ)
   pub list : Option (List ℕ)
-  pub hide_ignored : Bool
+  pub hide : HidingSeen
   pub anywhere : Bool
   pub cache_bytes : ℕ
   pub limit_bytes : ℕ
@@ -48,7 +49,7 @@ abbrev pub request_seen : {F : Type 0} → RewriteRequest F → RequestSeen
 request_seen request = record {
   arguments = map argument_of request.arguments.now;
   list = option_copied request.list;
-  hide_ignored = request.hide_ignored;
+  hide = hiding_seen request.hiding;
   anywhere = request.anywhere;
   cache_bytes = request.cache_bytes;
   limit_bytes = request.limit_bytes;
@@ -84,19 +85,19 @@ RewritesPlacesCounted Finds begins most before after old new counts =
 
 -- a text is rewritten over stored maps: its places, which begin so, or the frames of a trace
 abbrev pub RewritesText : {L : Type 0} → (anywhere : Bool) → (Finds : StoredSeen L → (url : List ℕ) → StoredSeen L → Type 0)
-    → (begins : List ℕ → Option PlaceUrl) → (hide : Bool) → (most : ℕ) → (before after : DevicesSeen) → (old new : StoredSeen L) → RewriteCounts → Type 0
+    → (begins : List ℕ → Option PlaceUrl) → (hide : HidingSeen) → (most : ℕ) → (before after : DevicesSeen) → (old new : StoredSeen L) → RewriteCounts → Type 0
 RewritesText anywhere Finds begins hide most before after old new counts =
     MatchBool anywhere (RewritesPlacesCounted Finds begins most before after old new counts)
     (RewritesOver Finds found_in hide most before after old new counts)
 
 -- or up to a fault
 abbrev pub RewritesTextFront : (anywhere : Bool) → (Gives : (url : List ℕ) → Option MapRecord → Type 0) → (begins : List ℕ → Option PlaceUrl)
-    → (hide : Bool) → (most : ℕ) → (before after : DevicesSeen) → LineFault → Type 0
+    → (hide : HidingSeen) → (most : ℕ) → (before after : DevicesSeen) → LineFault → Type 0
 RewritesTextFront anywhere Gives begins hide most before after fault =
     MatchBool anywhere (RewritesPlacesFrontOver Gives begins most before after fault) (RewritesFrontOver Gives hide most before after fault)
 
 -- a text was rewritten over a store of these maps to its end, or up to a fault, and the store stands so then
-abbrev pub IsStoredRewritten : MayRead → Option Parts → (k number : ℕ) → (sources : MapSources) → (anywhere hide : Bool) → (most : ℕ)
+abbrev pub IsStoredRewritten : MayRead → Option Parts → (k number : ℕ) → (sources : MapSources) → (anywhere : Bool) → (hide : HidingSeen) → (most : ℕ)
     → (old new : StoredSeen LoaderSeen) → (before after : DevicesSeen) → Result RewriteCounts LineFault → Type 0
 IsStoredRewritten Reads base k number sources anywhere hide most old new before after (Ok counts) =
     RewritesText anywhere (FindsIn (Loads Reads base k number)) (places_of sources) hide most before after old new counts
@@ -111,7 +112,7 @@ both_counted one other = min (one + other) (2 ^ 64 - 1)
 -- what rewriting over a store came to
 pub record IsOverStore (Reads : MayRead) (base : Option Parts) (k : ℕ) (request : RequestSeen) (sources : MapSources) (end : StoreEnd) (before after : Streams) : Type 0 where
   pub last : StoredSeen LoaderSeen
-  pub rewritten : IsStoredRewritten Reads base k (length request.arguments + 1) sources request.anywhere request.hide_ignored request.limit_bytes
+  pub rewritten : IsStoredRewritten Reads base k (length request.arguments + 1) sources request.anywhere request.hide request.limit_bytes
       (store_start sources request.cache_bytes before.sinks.errors before.sinks.code) last
       (devices_seen before.input before.sinks.output) (devices_seen after.input after.sinks.output) end.result
   pub errors : after.sinks.errors ≡ last.loader.errors
@@ -125,7 +126,7 @@ pub record IsOverStore (Reads : MayRead) (base : Option Parts) (k : ℕ) (reques
   pub shortages : end.shortages ≡ last.cache.shortages
 
 -- a text becomes what the maps make of it that a function gives: its places, which begin so, or the frames of a trace
-abbrev pub RewritesTextBy : (anywhere : Bool) → (maps : MapsByUrl) → (begins : List ℕ → Option PlaceUrl) → (hide : Bool) → (most : ℕ)
+abbrev pub RewritesTextBy : (anywhere : Bool) → (maps : MapsByUrl) → (begins : List ℕ → Option PlaceUrl) → (hide : HidingSeen) → (most : ℕ)
     → (before after : DevicesSeen) → RewriteCounts → Type 0
 RewritesTextBy anywhere maps begins hide most before after counts =
     MatchBool anywhere (RewritesPlacesBy maps begins most before after counts.summary) (RewritesBy maps hide most before after counts)
@@ -136,7 +137,7 @@ abbrev pub AnswersByPath : MayRead → Option Parts → (k : ℕ) → RequestSee
 AnswersByPath Reads base k request sources end before after =
     (bytes_at : BytesByPath) → ReadsSame Reads (length request.arguments + 1) bytes_at
     → (counts : RewriteCounts) → end.result ≡ Ok counts → end.status ≡ 0 → end.shortages ≡ 0
-    → RewritesTextBy request.anywhere (stored_maps (maps_at base k bytes_at) sources.words sources.locations) (places_of sources) request.hide_ignored request.limit_bytes
+    → RewritesTextBy request.anywhere (stored_maps (maps_at base k bytes_at) sources.words sources.locations) (places_of sources) request.hide request.limit_bytes
     (devices_seen before.input before.sinks.output) (devices_seen after.input after.sinks.output) counts
 
 -- ---- what is reported at the end

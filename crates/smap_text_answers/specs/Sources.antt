@@ -1,12 +1,12 @@
--- What `rewrite` is over where folders and a list are given beside files: the folders of its arguments, then the maps of
--- their files, then the lines of the list.
+-- What `rewrite` is over where rules, which are folders and patterns, and a list are given beside files: the rules of its
+-- arguments, then the maps of their files, then the lines of the list.
 use Rattle.std.specs.Prelude.{◌≡◌, ◌⊎◌, ℕ, List, [], ◌∷◌, Option, Some, None, Result, Ok, Err, MatchBool, MatchOption}
 use Rattle.std.specs.Prelude.{length, true}
 use Rattle.std.specs.Str.Lines.{lines}
 use Rattle.url.specs.Parts.{Parts}
 use Rattle.smap_locations.specs.Locations.{LocationsSeen}
-use Rattle.smap_store.specs.MapList.{PutsFolder, TakesList, folder_fault}
-use Rattle.smap_locations.specs.ListLine.{is_folder}
+use Rattle.smap_store.specs.MapList.{PutsRule, TakesList, rule_fault}
+use Rattle.smap_locations.specs.ListLine.{is_rule}
 use Rattle.smap_locations.specs.declared.refusal.ListFault.{ListFault}
 use Rattle.smap_locations.specs.declared.refusal.ListRefusal.{ListRefusal}
 use Rattle.smap_replies.specs.Files.{MayRead, IsUnread}
@@ -18,22 +18,22 @@ use Rattle.smap_text_answers.specs.Trace.{Gathers, Maps}
 use Rattle.smap_replies.specs.Arguments.{argument_text}
 use Rattle.smap_text_answers.specs.declared.sources.MapSources.{MapSources}
 
--- ---- folders
+-- ---- rules
 
--- an argument that names a folder is refused
-abbrev pub folder_refusal : ListFault → (prefix folder : List ℕ) → Report
-folder_refusal fault prefix folder = misuse_for (argument_refused_line (argument_text prefix folder)) (reason_of fault)
+-- an argument that is a rule is refused
+abbrev pub rule_refusal : ListFault → (url path : List ℕ) → Report
+rule_refusal fault url path = misuse_for (argument_refused_line (argument_text url path)) (reason_of fault)
 
--- the folders among these arguments, each a URL and a path, go into the locations, argument by argument, up to the first that is
--- refused, unless memory runs out; files are passed over
-abbrev pub NamesFolders : List (List ℕ × List ℕ) → (old : LocationsSeen) → Result LocationsSeen Report → Type 0
-NamesFolders [] old result = result ≡ Ok old
-NamesFolders ((url, path) ∷ arguments) old result =
-    MatchBool (is_folder path)
-    ((result ≡ Err out_of_memory) ⊎ MatchOption (folder_fault old url)
-    ((next : LocationsSeen) × PutsFolder old url path next × NamesFolders arguments next result)
-    (λ fault. result ≡ Err (folder_refusal fault url path)))
-    (NamesFolders arguments old result)
+-- the rules among these arguments, each a URL and a path, go into the locations, argument by argument, up to the first that is
+-- refused, unless memory runs out; files for one URL are passed over
+abbrev pub NamesRules : List (List ℕ × List ℕ) → (old : LocationsSeen) → Result LocationsSeen Report → Type 0
+NamesRules [] old result = result ≡ Ok old
+NamesRules ((url, path) ∷ arguments) old result =
+    MatchBool (is_rule url path)
+    ((result ≡ Err out_of_memory) ⊎ MatchOption (rule_fault old url path)
+    ((next : LocationsSeen) × PutsRule old url path next × NamesRules arguments next result)
+    (λ fault. result ≡ Err (rule_refusal fault url path)))
+    (NamesRules arguments old result)
 
 -- ---- a list
 
@@ -69,17 +69,17 @@ abbrev pub AfterWords : MayRead → (number : ℕ) → (list : Option (List ℕ)
 AfterWords Reads number list locations (Err refused) result = result ≡ Err refused
 AfterWords Reads number list locations (Ok words) result = ReadsList Reads number list words locations result
 
--- after the folders of the arguments
-abbrev pub AfterFolders : MayRead → Option Parts → (k : ℕ) → List (List ℕ × List ℕ) → (list : Option (List ℕ)) → Result LocationsSeen Report
+-- after the rules of the arguments
+abbrev pub AfterRules : MayRead → Option Parts → (k : ℕ) → List (List ℕ × List ℕ) → (list : Option (List ℕ)) → Result LocationsSeen Report
     → Result MapSources Report → Type 0
-AfterFolders Reads base k arguments list (Err refused) result = result ≡ Err refused
-AfterFolders Reads base k arguments list (Ok locations) result =
+AfterRules Reads base k arguments list (Err refused) result = result ≡ Err refused
+AfterRules Reads base k arguments list (Ok locations) result =
     (words : Result Maps Report) × Gathers true Reads base k 0 (Ok []) arguments words
     × AfterWords Reads (length arguments) list locations words result
 
--- what a text is rewritten over: the arguments, each a URL and a path, where a path that ends in `/` is that of a folder, and
--- the list at a path, whose number is that behind the arguments; or what is reported where one of them is refused or not read
+-- what a text is rewritten over: the arguments, each a URL and a path, where a path that ends in `/` is that of a folder and a
+-- URL that begins with `*` a pattern, and the list at a path, whose number is that behind the arguments; or what is reported where one of them is refused or not read
 abbrev pub GathersSources : MayRead → Option Parts → (k : ℕ) → List (List ℕ × List ℕ) → (list : Option (List ℕ)) → Result MapSources Report → Type 0
 GathersSources Reads base k arguments list result =
-    (folders : Result LocationsSeen Report) × NamesFolders arguments (record { files = []; folders = [] }) folders
-    × AfterFolders Reads base k arguments list folders result
+    (rules : Result LocationsSeen Report) × NamesRules arguments (record { files = []; folders = []; patterns = [] }) rules
+    × AfterRules Reads base k arguments list rules result

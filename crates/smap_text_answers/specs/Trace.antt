@@ -8,7 +8,7 @@ use Rattle.smap_record.specs.declared.refusal.MapRefusal.TheVariants.{Url}
 use Rattle.smap_lines.specs.Editing.{DevicesSeen, is_read_fault, is_write_fault}
 use Rattle.smap_lines.specs.declared.fault.LineFault.{LineFault}
 use Rattle.smap_lines.specs.declared.fault.LineFault.TheVariants as fault
-use Rattle.smap_locations.specs.ListLine.{is_folder}
+use Rattle.smap_locations.specs.ListLine.{is_rule}
 use Rattle.smap_codes.specs.Codes.{text_of}
 use Rattle.smap_trace.specs.Codes.{table_code}
 use Rattle.smap_trace.specs.Rewriting.{Rewrites, RewritesFront}
@@ -57,13 +57,13 @@ PutsNext base k (Err refused) url path bytes result = result ≡ Err refused
 PutsNext base k (Ok maps) url path bytes result = PutsMap base k maps url path bytes result
 
 -- the files of these arguments, of which the first has this number, are read one after another, and each map goes into the
--- table of those before; a file that can't be read is reported before any refusal. Folders are passed over or not: their paths
--- end in `/`
+-- table of those before; a file that can't be read is reported before any refusal. Rules, which have a folder or a
+-- pattern, are passed over or not
 abbrev pub Gathers : (passes : Bool) → MayRead → Option Parts → (k : ℕ) → (number : ℕ) → Result Maps Report → List (List ℕ × List ℕ)
     → Result Maps Report → Type 0
 Gathers passes Reads base k number before [] result = result ≡ before
 Gathers passes Reads base k number before ((url, path) ∷ arguments) result =
-    MatchBool (passes && is_folder path)
+    MatchBool (passes && is_rule url path)
     (Gathers passes Reads base k (suc number) before arguments result)
     (((report : Report) × OrMemory (IsUnread Reads number path) report × (result ≡ Err report))
     ⊎ ((bytes : List ℕ) × Reads number path (Ok bytes) × ((next : Result Maps Report)

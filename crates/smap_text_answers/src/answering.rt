@@ -2,15 +2,16 @@
 ghost use Rattle.std.specs.Prelude.{◌≡◌, false, option_copied};
 ghost use Rattle.smap_command.specs.Options.{HasBytes};
 ghost use Rattle.smap_replies.specs.Streams.{streams_seen};
-ghost use Rattle.smap_text_answers.specs.Rewrite.{RunsRewrite, asks_for_more, has_folder};
+ghost use Rattle.smap_text_answers.specs.Rewrite.{RunsRewrite, asks_for_more, has_rule};
 
 use crate::rewriting::{RewriteRequest, rewrite_from};
 use crate::trace::rewrite_trace;
 use smap_codes::Code;
 use smap_command::{FurtherOptions, USUAL_CACHE_BYTES, USUAL_LIMIT_BYTES};
 use smap_io::{ByteSink, ByteSource};
-use smap_locations::is_folder;
+use smap_locations::is_rule;
 use smap_replies::{FileReader, MapReader, report};
+use smap_trace::Hiding;
 use std::alloc::Global;
 
 /// How a text is rewritten.
@@ -18,7 +19,8 @@ use std::alloc::Global;
 pub struct TextRequest<'a, 'r, F: FileReader> {
     /// How map files are read.
     pub maps: &'a MapReader<'r, F>,
-    /// Pairs of a URL and a path; where the path ends in `/`, of a prefix of URLs and a folder.
+    /// Pairs of a URL and a path; where the path ends in `/`, of a prefix of URLs and a folder; where the URL begins with
+    /// `*`, of a pattern.
     pub arguments: &'a [(String, String)],
     /// Whether the lines of frames from sources that a map says to ignore are dropped.
     pub hide_ignored: bool,
@@ -26,8 +28,8 @@ pub struct TextRequest<'a, 'r, F: FileReader> {
     pub options: &'a FurtherOptions,
 }
 
-/// Rewrites the text on standard input, and gives the exit status. Where there are files alone, and no options, their maps
-/// are read before the text, and any that is refused ends it; else maps are read when the text names them. The code of
+/// Rewrites the text on standard input, and gives the exit status. Where there are files for URLs alone, and no options, their
+/// maps are read before the text, and any that is refused ends it; else maps are read when the text names them. The code of
 /// the first refusal is put into `first`, where that has none. The caller gives numbers of bytes that are in their ranges, and
 /// devices that have not failed.
 pub fn answer_rewrite<F: FileReader, R: ByteSource, W: ByteSink, E: ByteSink>(
@@ -59,7 +61,10 @@ pub fn answer_rewrite<F: FileReader, R: ByteSource, W: ByteSink, E: ByteSink>(
         maps,
         arguments,
         list: options.list.as_deref(),
-        hide_ignored,
+        hiding: Hiding {
+            ignored: hide_ignored,
+            texts: &options.hide,
+        },
         anywhere: options.anywhere,
         cache_bytes,
         limit_bytes,
@@ -68,16 +73,16 @@ pub fn answer_rewrite<F: FileReader, R: ByteSource, W: ByteSink, E: ByteSink>(
     rewrite_from(alloc, &request, input, output, errors, first)
 }
 
-// Whether a folder is given, or an option.
+// Whether a rule is given, or an option.
 fn asks_for_more(arguments: &[(String, String)], options: &FurtherOptions) -> bool
     ensures { result ≡ asks_for_more arguments.now options.now }
 {
-    options.are_given() || has_folder(arguments)
+    options.are_given() || has_rule(arguments)
 }
 
-// Whether one of the pairs is of a prefix and a folder.
-fn has_folder(arguments: &[(String, String)]) -> bool
-    ensures { result ≡ has_folder arguments.now }
+// Whether one of the pairs is a rule: it has a folder or a pattern.
+fn has_rule(arguments: &[(String, String)]) -> bool
+    ensures { result ≡ has_rule arguments.now }
 {
-    arguments.iter().any(|(_, path)| is_folder(path.as_bytes()))
+    arguments.iter().any(|(url, path)| is_rule(url, path))
 }

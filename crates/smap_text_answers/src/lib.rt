@@ -2,7 +2,8 @@
 //! are read when the text names them.
 //!
 //! ```text
-//! let request = TextRequest { maps: &maps, arguments: &arguments, hide_ignored, options: &FurtherOptions::NONE };
+//! let options = FurtherOptions::new(alloc);
+//! let request = TextRequest { maps: &maps, arguments: &arguments, hide_ignored, options: &options };
 //! let status = answer_rewrite(alloc, &request, &mut input, &mut output, &mut errors, &mut first);
 //! ```
 #![tactic(auto)]

@@ -1,13 +1,13 @@
 //! Rewriting the stack trace on standard input over files and folders of maps, which are read when it names them.
 ghost use Rattle.std.specs.Prelude.{◌≡◌, ◌<◌, ◌^◌, false, option_copied, string_bytes, IfErr, IfOk};
-ghost use Rattle.smap_text_answers.specs.RewriteFrom.{ClosesWith, EndsFrom, IsOverStore, RewritesFrom, RewritesPlacesCounted, RewritesText, RewritesTextFront, ReportsShortage, ReportsSummary, places_of, request_seen, store_of};
+ghost use Rattle.smap_text_answers.specs.RewriteFrom.{ClosesWith, EndsFrom, IsOverStore, RewritesFrom, RewritesText, RewritesTextFront, ReportsShortage, ReportsSummary, places_of, request_seen, store_of};
 ghost use Rattle.smap_text_answers.specs.RewriteFrom.{maps_text, summary_line, trace_text};
 ghost use Rattle.smap_replies.specs.Streams.{sinks_seen, streams_seen};
 ghost use Rattle.smap_lines.specs.Editing.{devices_seen, is_read_fault, is_write_fault};
 ghost use Rattle.smap_lines.specs.declared.fault.LineFault.TheVariants.{Memory};
-ghost use Rattle.smap_places.specs.PlacesOver.{RewritesPlacesFrontOver};
-ghost use Rattle.smap_store.specs.Stored.{FindsIn, GivesIn, found_in};
-ghost use Rattle.smap_trace.specs.Rewriting.{Looked, RewritesFrontOver, RewritesOver};
+ghost use Rattle.smap_store.specs.Stored.{FindsIn, GivesIn};
+ghost use Rattle.smap_trace.specs.Hiding.{hiding_seen};
+ghost use Rattle.smap_trace.specs.Rewriting.{Looked};
 
 use crate::loader::FileLoader;
 use crate::sources::{MapSources, sources_of};
@@ -18,7 +18,7 @@ use smap_replies::{
     DONE, FAILED, Failure, FileReader, MapReader, NO_MEMORY, Reply, print_error, report,
 };
 use smap_store::{MapCache, MapLoader, StoredMaps};
-use smap_trace::{RewriteCounts, RewriteFault, RewriteOptions, rewrite_over};
+use smap_trace::{Hiding, RewriteCounts, RewriteFault, RewriteOptions, Table, rewrite_over};
 use std::alloc::{AllocError, Global};
 
 /// How a trace is rewritten over files and folders.
@@ -26,12 +26,13 @@ use std::alloc::{AllocError, Global};
 pub struct RewriteRequest<'a, 'r, F: FileReader> {
     /// How map files are read.
     pub maps: &'a MapReader<'r, F>,
-    /// Pairs of a URL and a path; where the path ends in `/`, of a prefix of URLs and a folder.
+    /// Pairs of a URL and a path; where the path ends in `/`, of a prefix of URLs and a folder; where the URL begins with
+    /// `*`, of a pattern.
     pub arguments: &'a [(String, String)],
     /// The path of a list of more of them.
     pub list: Option<&'a str>,
-    /// Whether the lines of frames from sources that a map says to ignore are dropped.
-    pub hide_ignored: bool,
+    /// Which frames are left out, with their line ends.
+    pub hiding: Hiding<'a>,
     /// Whether places are rewritten wherever they stand in the text, in place of frames; then no line is dropped.
     pub anywhere: bool,
     /// How many bytes of files are kept as maps.
@@ -121,7 +122,7 @@ fn over_store<F: FileReader, R: ByteSource, W: ByteSink, E: ByteSink>(
         sources,
         anywhere: request.anywhere,
         options: RewriteOptions {
-            hide_ignored: request.hide_ignored,
+            hiding: request.hiding,
             most: request.limit_bytes,
         },
     };
@@ -144,10 +145,11 @@ struct StoreRun<'a> {
     alloc: Global,
     sources: &'a MapSources,
     anywhere: bool,
-    options: RewriteOptions,
+    options: RewriteOptions<'a>,
 }
 
-// Rewrites the text: its frames, or its places anywhere.
+// Rewrites the text over a store of maps: its frames, or its places anywhere. (It is generic in what loads them: the borrow
+// checker does not cover a call of `rewrite_over` over a loader that borrows from elsewhere.)
 fn rewrite_text<L: MapLoader, R: ByteSource, W: ByteSink>(
     asked: &StoreRun<'_>,
     cache: &mut MapCache,
@@ -159,7 +161,7 @@ fn rewrite_text<L: MapLoader, R: ByteSource, W: ByteSink>(
     requires output_works { (W.seen output.old).failed ≡ false }
     requires limit { asked.now.options.most < 2 ^ 63 }
     ensures rewrites { IfOk result (RewritesText asked.now.anywhere (FindsIn L.Loads)
-        (places_of asked.now.sources.now) asked.now.options.hide_ignored asked.now.options.most
+        (places_of asked.now.sources.now) (hiding_seen asked.now.options.hiding) asked.now.options.most
         (devices_seen (R.seen input.old) (W.seen output.old))
         (devices_seen (R.seen input.new) (W.seen output.new))
         (store_of asked.now.sources.now cache.old loader.old)
@@ -167,7 +169,7 @@ fn rewrite_text<L: MapLoader, R: ByteSource, W: ByteSink>(
     ensures front { IfErr result (RewritesTextFront asked.now.anywhere
         (GivesIn L.MayLoad (store_of asked.now.sources.now cache.old loader.old))
         (places_of asked.now.sources.now)
-        asked.now.options.hide_ignored asked.now.options.most
+        (hiding_seen asked.now.options.hiding) asked.now.options.most
         (devices_seen (R.seen input.old) (W.seen output.old))
         (devices_seen (R.seen input.new) (W.seen output.new))) }
     ensures looked { Looked (FindsIn L.Loads) (store_of asked.now.sources.now cache.old loader.old)
@@ -177,96 +179,31 @@ fn rewrite_text<L: MapLoader, R: ByteSource, W: ByteSink>(
     ensures memory_input { IfErr result (λ fault. fault ≡ Memory → input.new ≡ input.old) }
     ensures memory_output { IfErr result (λ fault. fault ≡ Memory → output.new ≡ output.old) }
 {
-    if asked.anywhere {
-        rewrite_stored_places(asked, cache, loader, input, output)
-    } else {
-        rewrite_stored(asked, cache, loader, input, output)
-    }
-}
-
-// Rewrites the trace over a store of maps. (It is generic in what loads them: the borrow checker does not cover a call of
-// `rewrite_over` over a loader that borrows from elsewhere.)
-fn rewrite_stored<L: MapLoader, R: ByteSource, W: ByteSink>(
-    asked: &StoreRun<'_>,
-    cache: &mut MapCache,
-    loader: &mut L,
-    input: &mut R,
-    output: &mut W,
-) -> Result<RewriteCounts, RewriteFault>
-    requires input_works { (R.seen input.old).failed ≡ false }
-    requires output_works { (W.seen output.old).failed ≡ false }
-    requires limit { asked.now.options.most < 2 ^ 63 }
-    ensures rewrites { IfOk result (RewritesOver (FindsIn L.Loads) found_in
-        asked.now.options.hide_ignored asked.now.options.most
-        (devices_seen (R.seen input.old) (W.seen output.old))
-        (devices_seen (R.seen input.new) (W.seen output.new))
-        (store_of asked.now.sources.now cache.old loader.old)
-        (store_of asked.now.sources.now cache.new loader.new)) }
-    ensures front { IfErr result (RewritesFrontOver
-        (GivesIn L.MayLoad (store_of asked.now.sources.now cache.old loader.old))
-        asked.now.options.hide_ignored asked.now.options.most
-        (devices_seen (R.seen input.old) (W.seen output.old))
-        (devices_seen (R.seen input.new) (W.seen output.new))) }
-    ensures looked { Looked (FindsIn L.Loads) (store_of asked.now.sources.now cache.old loader.old)
-        (store_of asked.now.sources.now cache.new loader.new) }
-    ensures input_failure { (R.seen input.new).failed ≡ is_read_fault result }
-    ensures output_failure { (W.seen output.new).failed ≡ is_write_fault result }
-    ensures memory_input { IfErr result (λ fault. fault ≡ Memory → input.new ≡ input.old) }
-    ensures memory_output { IfErr result (λ fault. fault ≡ Memory → output.new ≡ output.old) }
-{
-    let mut stored = StoredMaps {
-        alloc: asked.alloc,
-        words: &asked.sources.words,
-        locations: &asked.sources.locations,
-        cache,
-        loader,
-    };
-    rewrite_over(asked.alloc, input, output, &mut stored, asked.options)
-}
-
-// The same of the places anywhere in the text.
-fn rewrite_stored_places<L: MapLoader, R: ByteSource, W: ByteSink>(
-    asked: &StoreRun<'_>,
-    cache: &mut MapCache,
-    loader: &mut L,
-    input: &mut R,
-    output: &mut W,
-) -> Result<RewriteCounts, RewriteFault>
-    requires input_works { (R.seen input.old).failed ≡ false }
-    requires output_works { (W.seen output.old).failed ≡ false }
-    requires limit { asked.now.options.most < 2 ^ 63 }
-    ensures rewrites { IfOk result (RewritesPlacesCounted (FindsIn L.Loads)
-        (places_of asked.now.sources.now) asked.now.options.most
-        (devices_seen (R.seen input.old) (W.seen output.old))
-        (devices_seen (R.seen input.new) (W.seen output.new))
-        (store_of asked.now.sources.now cache.old loader.old)
-        (store_of asked.now.sources.now cache.new loader.new)) }
-    ensures front { IfErr result (RewritesPlacesFrontOver
-        (GivesIn L.MayLoad (store_of asked.now.sources.now cache.old loader.old))
-        (places_of asked.now.sources.now)
-        asked.now.options.most
-        (devices_seen (R.seen input.old) (W.seen output.old))
-        (devices_seen (R.seen input.new) (W.seen output.new))) }
-    ensures looked { Looked (FindsIn L.Loads) (store_of asked.now.sources.now cache.old loader.old)
-        (store_of asked.now.sources.now cache.new loader.new) }
-    ensures input_failure { (R.seen input.new).failed ≡ is_read_fault result }
-    ensures output_failure { (W.seen output.new).failed ≡ is_write_fault result }
-    ensures memory_input { IfErr result (λ fault. fault ≡ Memory → input.new ≡ input.old) }
-    ensures memory_output { IfErr result (λ fault. fault ≡ Memory → output.new ≡ output.old) }
-{
+    let (alloc, anywhere, options) = (asked.alloc, asked.anywhere, asked.options);
     let MapSources { words, locations } = asked.sources;
-    let Ok(finder) = PlaceFinder::new(asked.alloc, words, locations) else {
+    if !anywhere {
+        let mut stored = StoredMaps {
+            alloc,
+            words,
+            locations,
+            cache,
+            loader,
+        };
+        return rewrite_over(alloc, input, output, &mut stored, options);
+    }
+    let Ok(finder) = PlaceFinder::new(alloc, words, locations) else {
         return Err(RewriteFault::Memory);
     };
-    let mut stored = StoredMaps {
-        alloc: asked.alloc,
-        words,
+    // Those of words come with the places.
+    let none = Table::new(alloc);
+    let mut beside = StoredMaps {
+        alloc,
+        words: &none,
         locations,
         cache,
         loader,
     };
-    let most = asked.options.most;
-    match rewrite_places_over(asked.alloc, input, output, &finder, &mut stored, most) {
+    match rewrite_places_over(alloc, input, output, &finder, &mut beside, options.most) {
         Ok(summary) => Ok(RewriteCounts { summary, long: 0 }),
         Err(fault) => Err(fault),
     }

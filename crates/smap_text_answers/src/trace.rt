@@ -1,19 +1,19 @@
 //! Rewriting the stack trace on standard input.
-ghost use Rattle.std.specs.Prelude.{◌≡◌, ◌&&◌, [], false, map, option_copied, Ok};
-ghost use Rattle.smap_replies.specs.Outcome.{OrMemory, failure_report, report_of};
+ghost use Rattle.std.specs.Prelude.{◌≡◌, ◌&&◌, [], false, map, option_copied, Ok, IfOk};
+ghost use Rattle.smap_replies.specs.Outcome.{failure_report, report_of};
 ghost use Rattle.smap_lines.specs.Editing.{devices_seen};
 ghost use Rattle.smap_text_answers.specs.Private.Gathering.{gathered};
-ghost use Rattle.smap_locations.specs.ListLine.{is_folder};
+ghost use Rattle.smap_locations.specs.ListLine.{is_rule};
 ghost use Rattle.smap_text_answers.specs.Trace.{Gathers, PutsNext, IsTraceRewritten, RewriteReports, rewrite_report, url_refusal_result};
 ghost use Rattle.smap_replies.specs.Arguments.{argument_of};
 
 use smap_io::{ByteSink, ByteSource};
-use smap_locations::is_folder;
+use smap_locations::is_rule;
 use smap_replies::{
     Failure, FileReader, MapReader, Reply, file_bytes, read_map_at, refused_argument,
 };
 use smap_trace::{RewriteFault, Summary, Table, TableRefusal, rewrite};
-use std::alloc::Global;
+use std::alloc::{AllocError, Global};
 
 /// Reads the map of each argument, which is a URL and a path, from its file, and rewrites the trace on standard input over
 /// them, with the frames of ignored sources hidden or not. The caller gives devices that have not failed.
@@ -48,19 +48,19 @@ fn rewritten(end: Result<Summary, RewriteFault>) -> Result<Reply, Failure>
 }
 
 /// The maps of the files at the paths of the arguments, each under its URL; or the first file that can't be read, and then
-/// the first refusal. Folders, whose paths end in `/`, are passed over where that is asked, and count as arguments.
+/// the first refusal. Rules, which have a folder or a pattern, are passed over where that is asked, and count as arguments.
 pub fn table_of<F: FileReader>(
     alloc: Global,
     maps: &MapReader<'_, F>,
     arguments: &[(String, String)],
-    passes_folders: bool,
+    passes_rules: bool,
 ) -> Result<Table, Failure>
-    ensures { Gathers passes_folders (F.gives maps.now.files.now) (option_copied maps.now.base)
+    ensures { Gathers passes_rules (F.gives maps.now.files.now) (option_copied maps.now.base)
         maps.now.interval 0 (Ok []) (map argument_of arguments.now) (gathered result) }
 {
     let mut table = Ok(Table::new(alloc));
     for (number, (url, path)) in arguments.iter().enumerate() {
-        if is_passed_over(passes_folders, path) {
+        if is_passed_over(passes_rules, url, path) {
             continue;
         }
         let bytes = file_bytes(alloc, maps.files, number, path)?;
@@ -69,11 +69,11 @@ pub fn table_of<F: FileReader>(
     table
 }
 
-// Whether an argument with this path is passed over: that of a folder, where those are.
-fn is_passed_over(passes_folders: bool, path: &str) -> bool
-    ensures { result ≡ (passes_folders && is_folder path.now) }
+// Whether an argument with this URL and path is passed over: a rule, where those are.
+fn is_passed_over(passes_rules: bool, url: &str, path: &str) -> bool
+    ensures { result ≡ (passes_rules && is_rule url.now path.now) }
 {
-    passes_folders && is_folder(path.as_bytes())
+    passes_rules && is_rule(url, path)
 }
 
 // The table with the map that the bytes are under a URL, where nothing was refused before.
@@ -93,17 +93,22 @@ fn with_map<F: FileReader>(
     let owned = String::from_str(alloc, url)?;
     match table.add(owned, map) {
         Ok(()) => Ok(table),
-        Err((refusal, _, _)) => Err(refused_url(alloc, refusal, url, path)),
+        Err((refusal, _, _)) => Err(refused_url(alloc, refusal, url, path)?),
     }
 }
 
 // Why a map is not put under a URL.
-fn refused_url(alloc: Global, refusal: TableRefusal, url: &str, path: &str) -> Failure
-    ensures { OrMemory (λ report. report ≡ url_refusal_result refusal url.now path.now)
-        (failure_report result) }
+fn refused_url(
+    alloc: Global,
+    refusal: TableRefusal,
+    url: &str,
+    path: &str,
+) -> Result<Failure, AllocError>
+    ensures { IfOk result (λ failure.
+        failure_report failure ≡ url_refusal_result refusal url.now path.now) }
 {
     match refusal {
-        TableRefusal::Memory => Failure::Memory,
+        TableRefusal::Memory => Err(AllocError),
         _ => refused_argument(alloc, refusal.code().text(), url, path),
     }
 }

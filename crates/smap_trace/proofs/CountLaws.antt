@@ -13,6 +13,7 @@ use Rattle.smap_lines.specs.Laws.Step.{edits_front_wider, few_lines}
 use Rattle.smap_record.specs.Record.{MapRecord}
 use Rattle.smap_trace.specs.Frame.{FrameParts}
 use Rattle.smap_trace.specs.FrameOf.{frame_of}
+use Rattle.smap_trace.specs.Hiding.{HidingSeen, only_ignored}
 use Rattle.smap_trace.specs.Laws.MapsOf.{in_table, rewrites_by, rewrites_by_table}
 use Rattle.smap_trace.specs.Rewriting.{BecomesFrame, Rewrites, RewritesFront, RewritesFrontOver, RewritesOver, TraceNow, TraceStep, hidden_in, mapped_in}
 use Rattle.smap_trace.specs.Rewriting.{staying_in}
@@ -27,7 +28,7 @@ abbrev frames_in : Fate → ℕ
 frames_in met = staying_in met + mapped_in met + hidden_in met
 
 -- each line adds one frame at most
-module _ {M : Type 0} (Finds : M → (url : List ℕ) → M → Type 0) (found : M → (url : List ℕ) → Option MapRecord) (hide : Bool) where
+module _ {M : Type 0} (Finds : M → (url : List ℕ) → M → Type 0) (found : M → (url : List ℕ) → Option MapRecord) (hide : HidingSeen) where
   one_at_most : (met : Fate) → frames_in met ≤ 1
   one_at_most no_frame = omega arith
   one_at_most stays = omega arith
@@ -76,25 +77,25 @@ module _ (table : List (List ℕ × MapRecord)) (hide : Bool) where
       (ap (value_under url) same, same)
 
   pub rewrites_one : (before after : DevicesSeen) (old new : TableMaps) (counts : RewriteCounts) → old.0.now ≡ table →
-      RewritesOver TableFinds table_found hide most_text_bytes before after old new counts → Rewrites before after table hide counts.summary
+      RewritesOver TableFinds table_found (only_ignored hide) most_text_bytes before after old new counts → Rewrites before after table hide counts.summary
   rewrites_one before after old new counts is all =
       rewrites_by_table table hide before after counts
       (rewrites_by TableFinds table_found (in_table table hide) (λ maps. ⊤) IsOver (λ old new url finds good. tt)
-      (λ old new url finds good is. finds_table old new url finds is) hide most_text_bytes before after old new counts all tt is)
+      (λ old new url finds good is. finds_table old new url finds is) (only_ignored hide) most_text_bytes before after old new counts all tt is)
 
   -- where it fails too
-  may_is : (parts : Option FrameParts) (met : Fate) → MayMeet (λ url stated. stated ≡ value_under url table) hide parts met → met ≡ fate_of hide table parts
+  may_is : (parts : Option FrameParts) (met : Fate) → MayMeet (λ url stated. stated ≡ value_under url table) (only_ignored hide) parts met → met ≡ fate_of hide table parts
   may_is None met may = may
-  may_is (Some parts) met may = may.2 ∙ ap (λ found. fate_at hide parts (original_in parts found)) may.1
+  may_is (Some parts) met may = may.2 ∙ ap (λ found. fate_at (only_ignored hide) parts (original_in parts found)) may.1
 
-  becomes_one : (line : Line) (text : List ℕ) → BecomesFrame (λ url stated. stated ≡ value_under url table) hide line text
+  becomes_one : (line : Line) (text : List ℕ) → BecomesFrame (λ url stated. stated ≡ value_under url table) (only_ignored hide) line text
       → text ≡ rewritten_line table hide line
   unfolding fate
   becomes_one line text may = may.2 ∙ ap (line_after line) (may_is (frame_of line.bytes) may.0 may.1)
 
   pub front_one : (before after : DevicesSeen) (fault : LineFault) →
-      RewritesFrontOver (λ url stated. stated ≡ value_under url table) hide most_text_bytes before after fault → RewritesFront before after table hide fault
+      RewritesFrontOver (λ url stated. stated ≡ value_under url table) (only_ignored hide) most_text_bytes before after fault → RewritesFront before after table hide fault
   front_one before after fault is =
       edits_front_one (rewritten_line table hide) most_text_bytes before after fault
-      (edits_front_wider (BecomesFrame (λ url stated. stated ≡ value_under url table) hide) (Only (rewritten_line table hide)) becomes_one most_text_bytes
+      (edits_front_wider (BecomesFrame (λ url stated. stated ≡ value_under url table) (only_ignored hide)) (Only (rewritten_line table hide)) becomes_one most_text_bytes
       before after fault is)

@@ -2,6 +2,7 @@
 use Rattle.std.proofs.Common.{◌≡◌, ℕ, true, false, List, [], ◌∷◌, ◌++◌, Option, Some, None, refl, codes}
 use Rattle.smap_trace.specs.Frame.{FrameParts}
 use Rattle.smap_trace.specs.FrameOf.{frame_of}
+use Rattle.smap_trace.specs.Hiding.{HidingSeen, only_ignored}
 use Rattle.smap_trace.specs.Rewritten.{SourceLocation, fate_at, hidden, line_after, location_text, printable, replaced, stays}
 use Rattle.smap_trace.specs.Table.{is_bad_url}
 
@@ -52,13 +53,22 @@ of_ignored name = record { name = printable name; ignored = true; line = 1; colu
 abbrev a_parts : FrameParts
 a_parts = record { head = codes "f@"; url = codes "u"; line = 1; column = 6; tail = [] }
 
-hiding : fate_at true a_parts (Some (of_ignored None)) ∷ fate_at true a_parts (Some (of_ignored (Some (codes "a"))))
-    ∷ fate_at true a_parts None ∷ [] ≡ hidden ∷ hidden ∷ stays ∷ []
+hiding : fate_at (only_ignored true) a_parts (Some (of_ignored None)) ∷ fate_at (only_ignored true) a_parts (Some (of_ignored (Some (codes "a"))))
+    ∷ fate_at (only_ignored true) a_parts None ∷ [] ≡ hidden ∷ hidden ∷ stays ∷ []
 hiding = refl
 
-not_hiding : fate_at false a_parts (Some (of_ignored None)) ∷ fate_at false a_parts (Some (of_ignored (Some (codes "a")))) ∷ []
+not_hiding : fate_at (only_ignored false) a_parts (Some (of_ignored None)) ∷ fate_at (only_ignored false) a_parts (Some (of_ignored (Some (codes "a")))) ∷ []
     ≡ stays ∷ replaced (codes "f@" ++ location_text (codes "a") 1 2 ++ []) ∷ []
 not_hiding = refl
+
+-- so is one of a source whose name contains a text, wherever in it, and ignored or not
+abbrev by_text : List ℕ → HidingSeen
+by_text text = record { ignored = false; texts = text ∷ [] }
+
+hiding_text : fate_at (by_text (codes "b/")) a_parts (Some (of_ignored (Some (codes "a/b/c")))) ∷ fate_at (by_text (codes "c")) a_parts (Some (of_ignored (Some (codes "a/b/c"))))
+    ∷ fate_at (by_text (codes "b/a")) a_parts (Some (of_ignored (Some (codes "a/b/c")))) ∷ fate_at (by_text []) a_parts (Some (of_ignored None)) ∷ []
+    ≡ hidden ∷ hidden ∷ replaced (codes "f@" ++ location_text (codes "a/b/c") 1 2 ++ []) ∷ stays ∷ []
+hiding_text = refl
 
 -- a hidden line goes with its LF
 dropped : line_after (record { bytes = codes "f@u:1:6"; is_ended = true }) hidden ≡ []

@@ -1,4 +1,5 @@
 pub mod CutLaws
+pub mod HidingLaws
 pub mod FrameSteps
 pub mod NumberLaws
 pub mod FrameLaws

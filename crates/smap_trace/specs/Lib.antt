@@ -3,6 +3,7 @@ pub mod Frame
 pub mod FrameOf
 pub mod FrameSeen
 pub mod Table
+pub mod Hiding
 pub mod Rewritten
 pub mod Rewriting
 pub mod SightSeen

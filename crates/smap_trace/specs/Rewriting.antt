@@ -7,6 +7,7 @@ use Rattle.smap_lines.specs.Lines.{Line}
 use Rattle.smap_lines.specs.declared.fault.LineFault.{LineFault}
 use Rattle.smap_record.specs.Record.{MapRecord}
 use Rattle.smap_trace.specs.FrameOf.{frame_of}
+use Rattle.smap_trace.specs.Hiding.{HidingSeen}
 use Rattle.smap_trace.specs.Rewritten.{Counts, Fate, FateStep, MayMeet, counts_of, hidden, line_after, no_frame, replaced, rewritten_line, stays}
 use Rattle.smap_trace.specs.declared.outcome.RewriteCounts.{RewriteCounts}
 use Rattle.smap_trace.specs.declared.outcome.Summary.{Summary}
@@ -59,7 +60,7 @@ abbrev pub trace_start : {M : Type 0} → M → TraceNow M
 trace_start maps = record { maps = maps; staying = 0; mapped = 0; hidden = 0 }
 
 -- what a line became, and how the maps and the counts stand after it
-pub record TraceStep {M : Type 0} (Finds : M → (url : List ℕ) → M → Type 0) (found : M → (url : List ℕ) → Option MapRecord) (hide : Bool)
+pub record TraceStep {M : Type 0} (Finds : M → (url : List ℕ) → M → Type 0) (found : M → (url : List ℕ) → Option MapRecord) (hide : HidingSeen)
     (old : TraceNow M) (line : Line) (text : List ℕ) (new : TraceNow M) : Type 0 where
   pub met : Fate
   pub step : FateStep Finds found hide old.maps (frame_of line.bytes) met new.maps
@@ -70,7 +71,7 @@ pub record TraceStep {M : Type 0} (Finds : M → (url : List ℕ) → M → Type
 
 -- all that the input had, which is at most `most` bytes, was read, and what each line became over the maps that were found for
 -- it was written, and nothing else
-pub record RewritesOver {M : Type 0} (Finds : M → (url : List ℕ) → M → Type 0) (found : M → (url : List ℕ) → Option MapRecord) (hide : Bool) (most : ℕ)
+pub record RewritesOver {M : Type 0} (Finds : M → (url : List ℕ) → M → Type 0) (found : M → (url : List ℕ) → Option MapRecord) (hide : HidingSeen) (most : ℕ)
     (before after : DevicesSeen) (old new : M) (counts : RewriteCounts) : Type 0 where
   pub last : TraceNow M
   pub edits : EditsInto (TraceStep Finds found hide) most before after (trace_start old) last (record { lines = counts.summary.lines; long = counts.long })
@@ -84,11 +85,11 @@ abbrev pub Looked : {M : Type 0} → (Finds : M → (url : List ℕ) → M → T
 Looked Finds old new = (urls : List (List ℕ)) × FoldsTo Finds old urls new
 
 -- what a line may become, where each URL may have these maps
-abbrev pub BecomesFrame : (Gives : (url : List ℕ) → Option MapRecord → Type 0) → (hide : Bool) → Line → (text : List ℕ) → Type 0
+abbrev pub BecomesFrame : (Gives : (url : List ℕ) → Option MapRecord → Type 0) → (hide : HidingSeen) → Line → (text : List ℕ) → Type 0
 BecomesFrame Gives hide line text = (met : Fate) × MayMeet Gives hide (frame_of line.bytes) met × (text ≡ line_after line met)
 
 -- these bytes were read, and a front of a text that they may become was written; where a read failed, all of a text that
 -- their whole lines may become
-abbrev pub RewritesFrontOver : (Gives : (url : List ℕ) → Option MapRecord → Type 0) → (hide : Bool) → (most : ℕ) → (before after : DevicesSeen) → LineFault
+abbrev pub RewritesFrontOver : (Gives : (url : List ℕ) → Option MapRecord → Type 0) → (hide : HidingSeen) → (most : ℕ) → (before after : DevicesSeen) → LineFault
     → Type 0
 RewritesFrontOver Gives hide most before after fault = EditsFrontInto (BecomesFrame Gives hide) most before after fault

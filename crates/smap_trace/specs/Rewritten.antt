@@ -1,6 +1,6 @@
 -- What a trace becomes: each of its lines by itself, over a table of the maps and their URLs, with the frames of sources
 -- that a map says to ignore hidden or not (this project's own).
-use Rattle.std.specs.Prelude.{◌≡◌, ℕ, ◌+◌, ◌-◌, ◌==◌, ◌||◌, ◌&&◌, Bool, true, false, List, [], ◌++◌, Option, Some, None, is_some, codes, length}
+use Rattle.std.specs.Prelude.{◌≡◌, ℕ, ◌+◌, ◌-◌, ◌==◌, ◌||◌, Bool, true, false, List, [], ◌++◌, Option, Some, None, is_some, codes, length}
 use Rattle.std.specs.Prelude.{if◌then◌else◌, option_and_then, slice_get, filter}
 use Rattle.std.specs.Char.{is_ascii_control}
 use Rattle.std.specs.Fmt.{decimal}
@@ -14,6 +14,7 @@ use Rattle.smap_record.specs.Sources.{StatedSource}
 use Rattle.smap_record.specs.Written.{is_ignored_where, text_of_source}
 use Rattle.smap_trace.specs.Frame.{FrameParts}
 use Rattle.smap_trace.specs.FrameOf.{frame_of}
+use Rattle.smap_trace.specs.Hiding.{HidingSeen, hides, only_ignored}
 use Rattle.smap_by_text.specs.ByText.{value_under}
 
 -- ---- a source
@@ -75,14 +76,14 @@ abbrev pub named_fate : FrameParts → SourceLocation → (name : Option (List �
 named_fate parts location None = stays
 named_fate parts location (Some name) = replaced (parts.head ++ location_text name location.line location.column ++ parts.tail)
 
--- that of a frame from this location, with the frames of ignored sources hidden or not; a hidden one needs no name
-abbrev pub fate_at : (hide : Bool) → FrameParts → Option SourceLocation → Fate
+-- that of a frame from this location, which is hidden or not by its source; a hidden one needs no name
+abbrev pub fate_at : (hide : HidingSeen) → FrameParts → Option SourceLocation → Fate
 fate_at hide parts None = stays
-fate_at hide parts (Some location) = if hide && location.ignored then hidden else named_fate parts location location.name
+fate_at hide parts (Some location) = if hides hide location.ignored location.name then hidden else named_fate parts location location.name
 
 abbrev pub fate_of : (hide : Bool) → List (List ℕ × MapRecord) → Option FrameParts → Fate
 fate_of hide table None = no_frame
-fate_of hide table (Some parts) = fate_at hide parts (original_of parts table)
+fate_of hide table (Some parts) = fate_at (only_ignored hide) parts (original_of parts table)
 
 -- the fate of a line, without its LF
 unfoldable pub fate : List ℕ → List (List ℕ × MapRecord) → (hide : Bool) → Fate
@@ -90,13 +91,13 @@ fate line table hide = fate_of hide table (frame_of line)
 
 -- the fate of a line, where the maps are given by what finds them: that of its frame's URL is looked for, and how the maps
 -- stand then decides
-abbrev pub FateStep : {M : Type 0} → (Finds : M → (url : List ℕ) → M → Type 0) → (found : M → (url : List ℕ) → Option MapRecord) → (hide : Bool)
+abbrev pub FateStep : {M : Type 0} → (Finds : M → (url : List ℕ) → M → Type 0) → (found : M → (url : List ℕ) → Option MapRecord) → (hide : HidingSeen)
     → (old : M) → Option FrameParts → Fate → (new : M) → Type 0
 FateStep Finds found hide old None met new = (met ≡ no_frame) × (new ≡ old)
 FateStep Finds found hide old (Some parts) met new = Finds old parts.url new × (met ≡ fate_at hide parts (original_in parts (found new parts.url)))
 
 -- the fate that a line may have from now on, where each URL may have these maps
-abbrev pub MayMeet : (Gives : (url : List ℕ) → Option MapRecord → Type 0) → (hide : Bool) → Option FrameParts → Fate → Type 0
+abbrev pub MayMeet : (Gives : (url : List ℕ) → Option MapRecord → Type 0) → (hide : HidingSeen) → Option FrameParts → Fate → Type 0
 MayMeet Gives hide None met = met ≡ no_frame
 MayMeet Gives hide (Some parts) met = (found : Option MapRecord) × Gives parts.url found × (met ≡ fate_at hide parts (original_in parts found))
 

@@ -6,6 +6,7 @@ ghost use Rattle.smap_lines.specs.Lines.{end_in};
 ghost use Rattle.smap_trace.specs.SightSeen.{replaced_frame};
 
 use crate::frames::frame_of_line;
+use crate::hiding::Hiding;
 use crate::maps::Maps;
 use crate::original::Replacement;
 use crate::parts::Frame;
@@ -18,16 +19,16 @@ use std::alloc::Global;
 /// Rewrites the frames among the lines of a trace, and counts those that stay, those that are replaced and those that
 /// are hidden.
 #[derive(Drop)]
-pub struct FrameRewriter<'m, M: Maps> {
+pub struct FrameRewriter<'m, 'h, M: Maps> {
     pub alloc: Global,
     pub maps: &'m mut M,
-    pub hide_ignored: bool,
+    pub hiding: Hiding<'h>,
     pub staying: u64,
     pub mapped: u64,
     pub hidden: u64,
 }
 
-impl<M: Maps> LineEditor for FrameRewriter<'_, M> {
+impl<M: Maps> LineEditor for FrameRewriter<'_, '_, M> {
     ghost use Rattle.smap_trace.specs.Private.FrameRewriter.{RewriterBecomes, RewriterReaches, RewriterSteps, room_of};
     ghost use Rattle.smap_trace.specs.Laws.Rewriter.{became_frame, room_after, same_frame, some_frame};
     ghost use Rattle.smap_trace.specs.Laws.Rewriter.{rewriter_goes_on, rewriter_stays};
@@ -50,7 +51,7 @@ impl<M: Maps> LineEditor for FrameRewriter<'_, M> {
             return output.put_line(line, is_ended);
         };
         self.maps.find(frame.url);
-        match look_at(self.alloc, self.maps, self.hide_ignored, &frame) {
+        match look_at(self.alloc, self.maps, &self.hiding, &frame) {
             Sight::Staying => {
                 output.put_line(line, is_ended)?;
                 self.staying += 1;

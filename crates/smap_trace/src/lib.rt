@@ -13,6 +13,7 @@
 mod cuts;
 mod frame_rewriter;
 mod frames;
+mod hiding;
 mod maps;
 mod original;
 mod outcome;
@@ -23,6 +24,7 @@ mod sight;
 mod table;
 
 pub use frames::frame;
+pub use hiding::Hiding;
 pub use maps::{Maps, TableMaps};
 pub use original::{Original, Replacement, original_at};
 pub use outcome::{RewriteCounts, RewriteFault, Summary};

@@ -2,9 +2,11 @@
 ghost use Rattle.std.specs.Prelude.{◌≡◌, ◌<◌, ◌^◌, false, IfErr, IfOk};
 ghost use Rattle.smap_lines.specs.Editing.{devices_seen, is_read_fault, is_write_fault};
 ghost use Rattle.smap_lines.specs.declared.fault.LineFault.TheVariants.{Memory};
+ghost use Rattle.smap_trace.specs.Hiding.{hiding_seen};
 ghost use Rattle.smap_trace.specs.Rewriting.{Looked, Rewrites, RewritesFront, RewritesFrontOver, RewritesOver};
 
 use crate::frame_rewriter::FrameRewriter;
+use crate::hiding::Hiding;
 use crate::maps::{Maps, TableMaps};
 use crate::outcome::{RewriteCounts, RewriteFault, Summary};
 use crate::table::Table;
@@ -42,7 +44,7 @@ pub fn rewrite<R: ByteSource, W: ByteSink>(
 {
     let mut maps = TableMaps(table);
     let options = RewriteOptions {
-        hide_ignored,
+        hiding: Hiding::only_ignored(hide_ignored),
         most: MOST_TEXT_BYTES,
     };
     let counts = rewrite_over(alloc, input, output, &mut maps, options)?;
@@ -51,9 +53,9 @@ pub fn rewrite<R: ByteSource, W: ByteSink>(
 
 /// How a trace is rewritten.
 #[derive(Clone, Copy)]
-pub struct RewriteOptions {
-    /// Whether the lines of frames are dropped whose original is in a source that its map says to ignore.
-    pub hide_ignored: bool,
+pub struct RewriteOptions<'h> {
+    /// Which frames are left out.
+    pub hiding: Hiding<'h>,
     /// How many bytes of the trace are taken at most: less than 2^63.
     pub most: u64,
 }
@@ -65,16 +67,17 @@ pub fn rewrite_over<R: ByteSource, W: ByteSink, M: Maps>(
     input: &mut R,
     output: &mut W,
     maps: &mut M,
-    options: RewriteOptions,
+    options: RewriteOptions<'_>,
 ) -> Result<RewriteCounts, RewriteFault>
     requires input_works { (R.seen input.old).failed ≡ false }
     requires output_works { (W.seen output.old).failed ≡ false }
     requires most { options.most < 2 ^ 63 }
-    ensures rewrites { IfOk result (RewritesOver M.Finds M.found options.hide_ignored options.most
+    ensures rewrites { IfOk result (RewritesOver M.Finds M.found
+        (hiding_seen options.entry.hiding) options.entry.most
         (devices_seen (R.seen input.old) (W.seen output.old))
         (devices_seen (R.seen input.new) (W.seen output.new)) maps.old maps.new) }
     ensures front { IfErr result (RewritesFrontOver (M.Gives maps.old)
-        options.hide_ignored options.most
+        (hiding_seen options.entry.hiding) options.entry.most
         (devices_seen (R.seen input.old) (W.seen output.old))
         (devices_seen (R.seen input.new) (W.seen output.new))) }
     ensures looked { Looked M.Finds maps.old maps.new }
@@ -83,11 +86,11 @@ pub fn rewrite_over<R: ByteSource, W: ByteSink, M: Maps>(
     ensures memory_input { IfErr result (λ fault. fault ≡ Memory → input.new ≡ input.old) }
     ensures memory_output { IfErr result (λ fault. fault ≡ Memory → output.new ≡ output.old) }
 {
-    let RewriteOptions { hide_ignored, most } = options;
+    let RewriteOptions { hiding, most } = options;
     let mut rewriter = FrameRewriter {
         alloc,
         maps,
-        hide_ignored,
+        hiding,
         staying: 0,
         mapped: 0,
         hidden: 0,

@@ -1,9 +1,11 @@
 //! What a frame is, over the maps.
 ghost use Rattle.std.specs.Prelude.{◌≡◌};
 ghost use Rattle.smap_trace.specs.FrameSeen.{parts_seen};
+ghost use Rattle.smap_trace.specs.Hiding.{hiding_seen};
 ghost use Rattle.smap_trace.specs.Rewritten.{fate_at, original_in};
 ghost use Rattle.smap_trace.specs.SightSeen.{fate_seen};
 
+use crate::hiding::Hiding;
 use crate::maps::Maps;
 use crate::original::{Original, Replacement, original_at};
 use crate::parts::Frame;
@@ -20,15 +22,14 @@ pub enum Sight<'m> {
     Hidden,
 }
 
-/// What a frame is over the maps, of which that of its URL was looked for, where the frames of sources that a map says to
-/// ignore are hidden or not.
+/// What a frame is over the maps, of which that of its URL was looked for, where these frames are left out.
 pub fn look_at<'m, M: Maps>(
     alloc: Global,
     maps: &'m M,
-    hide_ignored: bool,
+    hiding: &Hiding<'_>,
     frame: &Frame<'_>,
 ) -> Sight<'m>
-    ensures { fate_seen frame.now result ≡ fate_at hide_ignored (parts_seen frame.now)
+    ensures { fate_seen frame.now result ≡ fate_at (hiding_seen hiding.now) (parts_seen frame.now)
         (original_in (parts_seen frame.now) (M.found maps.now frame.now.url.now)) }
 {
     let Some(map) = maps.map_for(frame.url) else {
@@ -43,7 +44,7 @@ pub fn look_at<'m, M: Maps>(
         line,
         column,
     } = original;
-    if hide_ignored && ignored {
+    if hiding.hides(ignored, name) {
         return Sight::Hidden;
     }
     match name {

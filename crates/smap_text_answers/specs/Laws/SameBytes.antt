@@ -15,6 +15,7 @@ use Rattle.smap_store.specs.ByPath.{IsGood, IsRight, MapsByPath, stored_maps}
 use Rattle.smap_store.specs.Loaded.{record_in}
 use Rattle.smap_store.specs.Laws.Same.{good_before, right_after, right_start}
 use Rattle.smap_store.specs.Stored.{FindsIn, LoadsStep, StoredSeen, found_in}
+use Rattle.smap_trace.specs.Hiding.{HidingSeen}
 use Rattle.smap_trace.specs.MapsOf.{RewritesBy}
 use Rattle.smap_trace.specs.Laws.MapsOf.{rewrites_by}
 use Rattle.smap_trace.specs.Rewriting.{RewritesOver}
@@ -37,7 +38,7 @@ use Rattle.smap_text_answers.specs.declared.sources.MapSources.{MapSources}
 module _ {L : Type 0} (Steps : LoadsStep L) (Good : L → Type 0) (load : MapsByPath)
     (loads_right : (old new : L) (url path : List ℕ) (came : Option (MapRecord × ℕ)) → Steps old url path came new → Good new
     → Good old × (record_in came ≡ load url path)) where
-  pub rewrites_same : (hide : Bool) (most : ℕ) (before after : DevicesSeen) (old new : StoredSeen L) (counts : RewriteCounts)
+  pub rewrites_same : (hide : HidingSeen) (most : ℕ) (before after : DevicesSeen) (old new : StoredSeen L) (counts : RewriteCounts)
       → RewritesOver (FindsIn Steps) found_in hide most before after old new counts → old.cache.kept ≡ [] → IsGood Good new
       → RewritesBy (stored_maps load old.words old.locations) hide most before after counts
   rewrites_same hide most before after old new counts all empty good =
@@ -83,7 +84,7 @@ module _ (Reads : MayRead) (base : Option Parts) (k number : ℕ) (bytes_at : By
       let (bytes, read, many, is) = loads.0 in
       (subst IsSilent loads.1 silent, sym (ap (stated_by (base_at base url) k) (same path bytes read) ∙ ap stated_in is))
 
-  pub same_settled : (sources : MapSources) (anywhere hide : Bool) (most : ℕ) (before after : DevicesSeen) (old new : StoredSeen LoaderSeen) (counts : RewriteCounts)
+  pub same_settled : (sources : MapSources) (anywhere : Bool) (hide : HidingSeen) (most : ℕ) (before after : DevicesSeen) (old new : StoredSeen LoaderSeen) (counts : RewriteCounts)
       → IsStoredRewritten Reads base k number sources anywhere hide most old new before after (Ok counts) → old.cache.kept ≡ []
       → IsSilent new.loader → new.cache.shortages ≡ 0
       → RewritesTextBy anywhere (stored_maps load old.words old.locations) (places_of sources) hide most before after counts
@@ -98,10 +99,10 @@ pub same_run : (Reads : MayRead) (base : Option Parts) (k : ℕ) (request : Requ
     → IsOverStore Reads base k request sources end before after → AnswersByPath Reads base k request sources end before after
 same_run Reads base k request sources end before after over bytes_at same counts result silent enough =
     let P : Result RewriteCounts LineFault → Type 0 = λ result.
-    IsStoredRewritten Reads base k (length request.arguments + 1) sources request.anywhere request.hide_ignored request.limit_bytes
+    IsStoredRewritten Reads base k (length request.arguments + 1) sources request.anywhere request.hide request.limit_bytes
     (store_start sources request.cache_bytes before.sinks.errors before.sinks.code) over.last
     (devices_seen before.input before.sinks.output) (devices_seen after.input after.sinks.output) result in
-    same_settled Reads base k (length request.arguments + 1) bytes_at same sources request.anywhere request.hide_ignored request.limit_bytes
+    same_settled Reads base k (length request.arguments + 1) bytes_at same sources request.anywhere request.hide request.limit_bytes
     (devices_seen before.input before.sinks.output) (devices_seen after.input after.sinks.output)
     (store_start sources request.cache_bytes before.sinks.errors before.sinks.code) over.last counts (subst P result over.rewritten) refl
     (sym over.status ∙ silent) (sym over.shortages ∙ enough)

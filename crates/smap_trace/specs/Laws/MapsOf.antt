@@ -15,6 +15,7 @@ use Rattle.smap_lines.specs.declared.counts.LineCounts.{LineCounts}
 use Rattle.smap_record.specs.Record.{MapRecord}
 use Rattle.smap_trace.specs.Frame.{FrameParts, has_cr_within, is_line}
 use Rattle.smap_trace.specs.FrameOf.{frame_of}
+use Rattle.smap_trace.specs.Hiding.{HidingSeen, hides, only_ignored}
 use Rattle.smap_trace.specs.MapsOf.{MapsByUrl, RewritesBy, counts_by, fate_by, is_hidden_by, is_mapped_by, line_by, rewritten_by}
 use Rattle.smap_trace.specs.Rewriting.{Rewrites, RewritesOver, TraceNow, TraceStep, hidden_in, mapped_in, staying_in, trace_start}
 use Rattle.smap_trace.specs.Rewritten.{Fate, FateStep, SourceLocation, counts_of, fate, fate_at, fate_of, hidden, is_frame_line, is_hidden}
@@ -28,21 +29,21 @@ module _ (table : List (List ℕ × MapRecord)) (hide : Bool) where
   abbrev pub in_table : MapsByUrl
   in_table url = value_under url table
 
-  fate_table : (parts : Option FrameParts) → fate_by in_table hide parts ≡ fate_of hide table parts
+  fate_table : (parts : Option FrameParts) → fate_by in_table (only_ignored hide) parts ≡ fate_of hide table parts
   fate_table None = refl
   fate_table (Some parts) = refl
 
   -- a line becomes the same
-  pub line_by_table : (line : Line) → line_by in_table hide line ≡ rewritten_line table hide line
+  pub line_by_table : (line : Line) → line_by in_table (only_ignored hide) line ≡ rewritten_line table hide line
   unfolding fate
   line_by_table line = ap (line_after line) (fate_table (frame_of line.bytes))
 
   -- so does a trace
-  pub rewritten_by_table : (text : List ℕ) → rewritten_by in_table hide text ≡ rewritten text table hide
+  pub rewritten_by_table : (text : List ℕ) → rewritten_by in_table (only_ignored hide) text ≡ rewritten text table hide
   rewritten_by_table text = λ i. edited (λ line. line_by_table line i) text
 
   -- and as much is counted
-  pub counts_by_table : (text : List ℕ) → counts_by in_table hide text ≡ counts_of text table hide
+  pub counts_by_table : (text : List ℕ) → counts_by in_table (only_ignored hide) text ≡ counts_of text table hide
   unfolding counts_by counts_of fate
   counts_by_table text = λ i. record {
     lines = length (lines_with_ends text);
@@ -52,7 +53,7 @@ module _ (table : List (List ℕ × MapRecord)) (hide : Bool) where
   }
 
   -- so rewriting does the same
-  pub rewrites_by_table : (before after : DevicesSeen) (counts : RewriteCounts) → RewritesBy in_table hide most_text_bytes before after counts
+  pub rewrites_by_table : (before after : DevicesSeen) (counts : RewriteCounts) → RewritesBy in_table (only_ignored hide) most_text_bytes before after counts
       → Rewrites before after table hide counts.summary
   rewrites_by_table before after counts is = record {
     bytes = is.bytes;
@@ -83,12 +84,12 @@ named_frame : (parts : FrameParts) (location : SourceLocation) (name : Option (L
 named_frame parts location None = refl
 named_frame parts location (Some name) = refl
 
-one_frame : (hide : Bool) (parts : FrameParts) (location : Option SourceLocation) → frames_in (fate_at hide parts location) ≡ 1
+one_frame : (hide : HidingSeen) (parts : FrameParts) (location : Option SourceLocation) → frames_in (fate_at hide parts location) ≡ 1
 one_frame hide parts None = refl
-one_frame hide parts (Some location) = cond_both (hide && location.ignored) hidden (named_fate parts location location.name) (λ met. frames_in met ≡ 1)
+one_frame hide parts (Some location) = cond_both (hides hide location.ignored location.name) hidden (named_fate parts location location.name) (λ met. frames_in met ≡ 1)
     (λ _. refl) (λ _. named_frame parts location location.name)
 
-frames_by : (maps : MapsByUrl) (hide : Bool) (parts : Option FrameParts) → frames_in (fate_by maps hide parts) ≡ cond (is_some parts) 1 0
+frames_by : (maps : MapsByUrl) (hide : HidingSeen) (parts : Option FrameParts) → frames_in (fate_by maps hide parts) ≡ cond (is_some parts) 1 0
 frames_by maps hide None = refl
 frames_by maps hide (Some parts) = one_frame hide parts (original_in parts (maps parts.url))
 
@@ -116,7 +117,7 @@ CountsNow = TraceNow ⊤
 abbrev counts_now : {M : Type 0} → TraceNow M → CountsNow
 counts_now now = record { maps = tt; staying = now.staying; mapped = now.mapped; hidden = now.hidden }
 
-module _ (maps : MapsByUrl) (hide : Bool) where
+module _ (maps : MapsByUrl) (hide : HidingSeen) where
   -- after a line
   abbrev after_counts : CountsNow → Line → CountsNow
   after_counts now line =
@@ -209,7 +210,7 @@ module _ {M : Type 0} (Finds : M → (url : List ℕ) → M → Type 0) (found :
     (Good Kept : M → Type 0)
     (good_back : (old new : M) (url : List ℕ) → Finds old url new → Good new → Good old)
     (finds_right : (old new : M) (url : List ℕ) → Finds old url new → Good new → Kept old → (found new url ≡ maps url) × Kept new)
-    (hide : Bool) where
+    (hide : HidingSeen) where
   fate_back : (old new : M) (parts : Option FrameParts) (met : Fate) → FateStep Finds found hide old parts met new → Good new → Good old
   fate_back old new None met step good = subst Good step.1 good
   fate_back old new (Some parts) met step good = good_back old new parts.url step.0 good

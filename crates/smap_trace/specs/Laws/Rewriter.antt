@@ -1,11 +1,12 @@
 -- Laws of the editor that rewrites frames, which its trait asks for: a line takes room for one, and becomes what it may; and what
 -- another may become after it, it may become before.
 use Rattle.std.specs.Prelude.{◌≡◌, ◌≤◌, ◌+◌, ℕ, Bool, List, Option, Some, None, refl}
-use Rattle.std.proofs.Common.{arith, subst, ◌∙◌}
+use Rattle.std.proofs.Common.{ap, arith, subst, ◌∙◌}
 use Rattle.smap_lines.specs.Lines.{Line}
 use Rattle.smap_record.specs.Record.{MapRecord}
 use Rattle.smap_trace.specs.Frame.{FrameParts}
 use Rattle.smap_trace.specs.FrameOf.{frame_of}
+use Rattle.smap_trace.specs.Hiding.{HidingSeen, hiding_seen}
 use Rattle.smap_trace.specs.Private.FrameRewriter.{RewriterBecomes, RewriterReaches, RewriterSteps, room_of, trace_now}
 use Rattle.smap_trace.specs.Laws.Looked.{looked_both, looked_none}
 use Rattle.smap_trace.specs.Rewriting.{TraceStep, hidden_in, mapped_in, staying_in}
@@ -28,7 +29,7 @@ module _ {M : Type 0} (Gives : M → (url : List ℕ) → Option MapRecord → T
       omega (arith, one, staying, mapped, hiding)
 
   module _ (some : (maps : M) (url : List ℕ) → (stated : Option MapRecord) × Gives maps url stated) where
-    some_met : (maps : M) (hide : Bool) (parts : Option FrameParts) → (met : Fate) × MayMeet (Gives maps) hide parts met
+    some_met : (maps : M) (hide : HidingSeen) (parts : Option FrameParts) → (met : Fate) × MayMeet (Gives maps) hide parts met
     some_met maps hide None = (no_frame, refl)
     some_met maps hide (Some parts) =
         let one = some maps parts.url in
@@ -36,11 +37,11 @@ module _ {M : Type 0} (Gives : M → (url : List ℕ) → Option MapRecord → T
 
     pub some_frame : (rewriter : FrameRewriter M) (line : Line) → (text : List ℕ) × RewriterBecomes Gives rewriter line text
     some_frame rewriter line =
-        let met = some_met rewriter.maps.now rewriter.hide_ignored (frame_of line.bytes) in
+        let met = some_met rewriter.maps.now (hiding_seen rewriter.hiding) (frame_of line.bytes) in
         (line_after line met.0, (met.0, met.1, refl))
 
   module _ (given : (maps after : M) (url : List ℕ) → Finds maps url after → Gives maps url (found after url)) where
-    may_meet : (hide : Bool) (old new : M) (parts : Option FrameParts) (met : Fate) → FateStep Finds found hide old parts met new
+    may_meet : (hide : HidingSeen) (old new : M) (parts : Option FrameParts) (met : Fate) → FateStep Finds found hide old parts met new
         → MayMeet (Gives old) hide parts met
     may_meet hide old new None met step = step.0
     may_meet hide old new (Some parts) met step = (found new parts.url, given old new parts.url step.0, step.1)
@@ -48,16 +49,16 @@ module _ {M : Type 0} (Gives : M → (url : List ℕ) → Option MapRecord → T
     pub became_frame : (rewriter after : FrameRewriter M) (line : Line) (text : List ℕ) → RewriterSteps Finds found rewriter line text after
         → RewriterBecomes Gives rewriter line text
     became_frame rewriter after line text is =
-        (is.step.met, may_meet rewriter.hide_ignored _ _ (frame_of line.bytes) is.step.met is.step.step, is.step.text_is)
+        (is.step.met, may_meet (hiding_seen rewriter.hiding) _ _ (frame_of line.bytes) is.step.met is.step.step, is.step.text_is)
 
   module _ (same : (maps after : M) (url other : List ℕ) (stated : Option MapRecord) → Finds maps url after → Gives after other stated
       → Gives maps other stated) where
-    gives_before : (hide : Bool) (old new : M) (parts : Option FrameParts) (met : Fate) → FateStep Finds found hide old parts met new →
+    gives_before : (hide : HidingSeen) (old new : M) (parts : Option FrameParts) (met : Fate) → FateStep Finds found hide old parts met new →
         (other : List ℕ) (stated : Option MapRecord) → Gives new other stated → Gives old other stated
     gives_before hide old new None met step other stated gives = subst (λ m. Gives m other stated) step.1 gives
     gives_before hide old new (Some parts) met step other stated gives = same old new parts.url other stated step.0 gives
 
-    met_before : (hide : Bool) (old new : M) → ((other : List ℕ) (stated : Option MapRecord) → Gives new other stated → Gives old other stated) →
+    met_before : (hide : HidingSeen) (old new : M) → ((other : List ℕ) (stated : Option MapRecord) → Gives new other stated → Gives old other stated) →
         (parts : Option FrameParts) (met : Fate) → MayMeet (Gives new) hide parts met → MayMeet (Gives old) hide parts met
     met_before hide old new before None met may = may
     met_before hide old new before (Some parts) met may = (may.0, before parts.url may.0 may.1, may.2)
@@ -66,9 +67,9 @@ module _ {M : Type 0} (Gives : M → (url : List ℕ) → Option MapRecord → T
         → RewriterBecomes Gives after other later → RewriterBecomes Gives rewriter other later
     same_frame rewriter after line other text later is may = (
       may.0,
-      met_before rewriter.hide_ignored rewriter.maps.now after.maps.now
-          (gives_before rewriter.hide_ignored _ _ (frame_of line.bytes) is.step.met is.step.step) (frame_of other.bytes) may.0
-          (subst (λ h. MayMeet (Gives after.maps.now) h (frame_of other.bytes) may.0) is.hides may.1),
+      met_before (hiding_seen rewriter.hiding) rewriter.maps.now after.maps.now
+          (gives_before (hiding_seen rewriter.hiding) _ _ (frame_of line.bytes) is.step.met is.step.step) (frame_of other.bytes) may.0
+          (subst (λ h. MayMeet (Gives after.maps.now) (hiding_seen h) (frame_of other.bytes) may.0) is.hiding may.1),
       may.2,
     )
 
@@ -81,8 +82,8 @@ module _ {M : Type 0} (Finds : M → (url : List ℕ) → M → Type 0) where
   rewriter_goes_on rewriter mid later one two = (looked_both Finds rewriter.maps.now mid.maps.now later.maps.now one.0 two.0, two.1 ∙ one.1)
 
   -- what is seen of its steps
-  pub step_seen : (found : M → (url : List ℕ) → Option MapRecord) (hide : Bool) (old : FrameRewriter M) (line : Line) (text : List ℕ) (new : FrameRewriter M)
-      → old.hide_ignored ≡ hide → RewriterSteps Finds found old line text new
-      → TraceStep Finds found hide (trace_now old) line text (trace_now new) × (new.hide_ignored ≡ hide)
+  pub step_seen : (found : M → (url : List ℕ) → Option MapRecord) (hide : HidingSeen) (old : FrameRewriter M) (line : Line) (text : List ℕ) (new : FrameRewriter M)
+      → hiding_seen old.hiding ≡ hide → RewriterSteps Finds found old line text new
+      → TraceStep Finds found hide (trace_now old) line text (trace_now new) × (hiding_seen new.hiding ≡ hide)
   step_seen found hide old line text new is steps =
-      (subst (λ h. TraceStep Finds found h (trace_now old) line text (trace_now new)) is steps.step, steps.hides ∙ is)
+      (subst (λ h. TraceStep Finds found h (trace_now old) line text (trace_now new)) is steps.step, ap hiding_seen steps.hiding ∙ is)

@@ -9,6 +9,7 @@ use Rattle.smap_lines.specs.declared.fault.LineFault.{LineFault}
 use Rattle.smap_record.specs.Record.{MapRecord}
 use Rattle.smap_trace.specs.Frame.{FrameParts}
 use Rattle.smap_trace.specs.FrameOf.{frame_of}
+use Rattle.smap_trace.specs.Hiding.{HidingSeen}
 use Rattle.smap_trace.specs.Rewriting.{BecomesFrame, Looked, RewritesFrontOver, RewritesOver, TraceNow, TraceStep, trace_start}
 use Rattle.smap_trace.specs.Rewritten.{Fate, FateStep, MayMeet, fate_at, original_in}
 use Rattle.smap_trace.specs.declared.outcome.RewriteCounts.{RewriteCounts}
@@ -27,7 +28,7 @@ module _ {M N : Type 0} (Finds : M → (url : List ℕ) → M → Type 0) (found
   pub looked_seen : (old new : M) → Is old → Looked Finds old new → Looked Seen (see old) (see new) × Is new
   looked_seen old new is looked = let all = urls_go looked.0 old new is looked.1 in ((looked.0, all.0), all.1)
 
-  module _ (hide : Bool) where
+  module _ (hide : HidingSeen) where
     abbrev see_trace : TraceNow M → TraceNow N
     see_trace now = record { maps = see now.maps; staying = now.staying; mapped = now.mapped; hidden = now.hidden }
 
@@ -68,7 +69,7 @@ module _ {M N : Type 0} (Finds : M → (url : List ℕ) → M → Type 0) (found
         }
 
 -- what may be found may be found by more
-module _ (Gives More : (url : List ℕ) → Option MapRecord → Type 0) (gives : (url : List ℕ) (found : Option MapRecord) → Gives url found → More url found) (hide : Bool) where
+module _ (Gives More : (url : List ℕ) → Option MapRecord → Type 0) (gives : (url : List ℕ) (found : Option MapRecord) → Gives url found → More url found) (hide : HidingSeen) where
   may_meet_more : (parts : Option FrameParts) (met : Fate) → MayMeet Gives hide parts met → MayMeet More hide parts met
   may_meet_more None met may = may
   may_meet_more (Some parts) met may = (may.0, gives parts.url may.0 may.1, may.2)

@@ -2,6 +2,7 @@
 use Rattle.std.specs.Prelude.{◌≡◌, ℕ, ◌+◌, ◌-◌, ◌^◌, List, Option}
 use Rattle.smap_lines.specs.Lines.{Line}
 use Rattle.smap_record.specs.Record.{MapRecord}
+use Rattle.smap_trace.specs.Hiding.{hiding_seen}
 use Rattle.smap_trace.specs.Rewriting.{BecomesFrame, Looked, TraceNow, TraceStep}
 use Rattle.smap_trace.specs.declared.frame_rewriter.FrameRewriter.{FrameRewriter}
 
@@ -11,13 +12,13 @@ trace_now rewriter = record { maps = rewriter.maps.now; staying = rewriter.stayi
 
 -- what a line may become
 abbrev pub RewriterBecomes : {M : Type 0} → (Gives : M → (url : List ℕ) → Option MapRecord → Type 0) → FrameRewriter M → Line → (text : List ℕ) → Type 0
-RewriterBecomes Gives rewriter = BecomesFrame (Gives rewriter.maps.now) rewriter.hide_ignored
+RewriterBecomes Gives rewriter = BecomesFrame (Gives rewriter.maps.now) (hiding_seen rewriter.hiding)
 
 -- what it became, and the editor after it
 pub record RewriterSteps {M : Type 0} (Finds : M → (url : List ℕ) → M → Type 0) (found : M → (url : List ℕ) → Option MapRecord)
     (old : FrameRewriter M) (line : Line) (text : List ℕ) (new : FrameRewriter M) : Type 0 where
-  pub step : TraceStep Finds found old.hide_ignored (trace_now old) line text (trace_now new)
-  pub hides : new.hide_ignored ≡ old.hide_ignored
+  pub step : TraceStep Finds found (hiding_seen old.hiding) (trace_now old) line text (trace_now new)
+  pub hiding : new.hiding ≡ old.hiding
   pub same : new.maps.ghost_name ≡ old.maps.ghost_name
 
 -- how it may stand later

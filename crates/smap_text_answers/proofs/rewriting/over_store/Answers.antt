@@ -4,6 +4,7 @@ use Rattle.smap_lines.specs.Editing.{devices_seen}
 use Rattle.smap_store.specs.Cache.{CacheSeen}
 use Rattle.smap_store.specs.Stored.{StoredSeen}
 use Rattle.smap_text_answers.specs.Loader.{LoaderSeen, loader_seen}
+use Rattle.smap_trace.specs.Hiding.{hiding_seen}
 use Rattle.smap_text_answers.specs.RewriteFrom.{IsStoredRewritten, store_of}
 use Rattle.smap_replies.specs.Arguments.{argument_of}
 use Rattle.smap_text_answers.proofs.StoreLaws.{looked_from, rewritten_from, untouched_by}
@@ -26,16 +27,16 @@ returns-clause-over g c =
       loader = record { errors = seen c.args.errors.now; status = 0; code = c.args.first.now; reported = 0; refused = 0 };
     } in
     let last : StoredSeen LoaderSeen = store_of c.args.sources.now c.rewrite_text-result.new.cache (loader_seen seen c.rewrite_text-result.new.loader) in
-    let rewritten = rewritten_from gives seen _ _ _ refl c.args.sources.now request.anywhere request.hide_ignored request.limit_bytes before after c.rewrite_text-result.result
+    let rewritten = rewritten_from gives seen _ _ _ refl c.args.sources.now request.anywhere (hiding_seen request.hiding) request.limit_bytes before after c.rewrite_text-result.result
     made.ensures.rewrites made.ensures.front made.ensures.looked in
     let numbered = subst (λ n. IsStoredRewritten (gives request.maps.now.files.now) (option_copied request.maps.now.base) request.maps.now.interval (n + 1)
-    c.args.sources.now request.anywhere request.hide_ignored request.limit_bytes (start c.new-cache.result) last before after c.rewrite_text-result.result)
+    c.args.sources.now request.anywhere (hiding_seen request.hiding) request.limit_bytes (start c.new-cache.result) last before after c.rewrite_text-result.result)
     (sym (length-map request.arguments.now argument_of)) rewritten in
     record {
       last = last;
       rewritten = subst (λ (cache : CacheSeen). IsStoredRewritten (gives request.maps.now.files.now) (option_copied request.maps.now.base)
           request.maps.now.interval (length (map argument_of request.arguments.now) + 1) c.args.sources.now request.anywhere
-          request.hide_ignored request.limit_bytes
+          (hiding_seen request.hiding) request.limit_bytes
           (start cache) last before after c.rewrite_text-result.result) c.new-cache.ensures numbered;
       errors = ap seen errors;
       code = refl;

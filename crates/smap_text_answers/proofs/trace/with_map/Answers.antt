@@ -3,12 +3,12 @@ use Rattle.std.proofs.lemmas.Result.{err_from_is_err_and}
 use Rattle.smap_text_answers.proofs.TraceLaws.{puts_after, puts_read, puts_refused, puts_unread}
 use Rattle.smap_text_answers.proofs.trace.with_map.Goals as goal
 
-pub returns-in-Err : goal.returns-in-Err
-returns-in-Err g c =
+pub returns-in_ok-refused_url-in-Err : goal.returns-in_ok-refused_url-in-Err
+returns-in_ok-refused_url-in-Err g c =
     let url_is : string_bytes c.in_ok-owned.owned ≡ c.args.url.now = c.in_ok-owned.ensures.ok in
     let refused = rw url_is at c.in-Err.ensures.refused in
     puts_after _ _ _ _ _ _ _ _ c.in_ok-table.was
-    (puts_read _ _ _ _ _ _ _ _ c.in_ok-map.ensures.read.0 (puts_refused _ _ _ _ _ _ _ _ refl refused c.refused_url.ensures))
+    (puts_read _ _ _ _ _ _ _ _ c.in_ok-map.ensures.read.0 (puts_refused _ _ _ _ _ _ _ _ refl refused c.in_ok-refused_url-in-Err.ensures))
 
 pub returns-in_err-map : goal.returns-in_err-map
 returns-in_err-map g c =

@@ -1,5 +1,6 @@
 use Rattle.std.proofs.Common.{◌≡◌, arith, refl, rules}
 use Rattle.smap_lines.specs.Laws.Step.{edits_seen}
+use Rattle.smap_trace.specs.Hiding.{hiding_seen}
 use Rattle.smap_trace.specs.Private.FrameRewriter.{RewriterSteps, trace_now}
 use Rattle.smap_trace.specs.Laws.Rewriter.{step_seen}
 use Rattle.smap_trace.specs.Rewriting.{TraceStep}
@@ -8,25 +9,25 @@ use Rattle.smap_trace.proofs.rewriting.rewrite_over.Goals as goal
 
 pub overflow_add-summary : goal.overflow_add-summary
 overflow_add-summary g c =
-    let seen = edits_seen (RewriterSteps g.M.Maps.Finds g.M.Maps.found) (TraceStep g.M.Maps.Finds g.M.Maps.found c.args.options.hide_ignored)
-    trace_now (λ e. e.hide_ignored ≡ c.args.options.hide_ignored)
-    (step_seen g.M.Maps.Finds g.M.Maps.found c.args.options.hide_ignored) _ _ _ _ _ _ refl c.in_ok-lines.ensures.edits in
-    let few = edits_add g.M.Maps.Finds g.M.Maps.found c.args.options.hide_ignored _ _ _ _ _ _ seen.0 in
+    let seen = edits_seen (RewriterSteps g.M.Maps.Finds g.M.Maps.found) (TraceStep g.M.Maps.Finds g.M.Maps.found (hiding_seen c.args.options.hiding))
+    trace_now (λ e. hiding_seen e.hiding ≡ hiding_seen c.args.options.hiding)
+    (step_seen g.M.Maps.Finds g.M.Maps.found (hiding_seen c.args.options.hiding)) _ _ _ _ _ _ refl c.in_ok-lines.ensures.edits in
+    let few = edits_add g.M.Maps.Finds g.M.Maps.found (hiding_seen c.args.options.hiding) _ _ _ _ _ _ seen.0 in
     omega (arith, few, c.requires.most)
 
 pub overflow_add-summary-2 : goal.overflow_add-summary-2
 overflow_add-summary-2 g c =
-    let seen = edits_seen (RewriterSteps g.M.Maps.Finds g.M.Maps.found) (TraceStep g.M.Maps.Finds g.M.Maps.found c.args.options.hide_ignored)
-    trace_now (λ e. e.hide_ignored ≡ c.args.options.hide_ignored)
-    (step_seen g.M.Maps.Finds g.M.Maps.found c.args.options.hide_ignored) _ _ _ _ _ _ refl c.in_ok-lines.ensures.edits in
-    let few = edits_add g.M.Maps.Finds g.M.Maps.found c.args.options.hide_ignored _ _ _ _ _ _ seen.0 in
+    let seen = edits_seen (RewriterSteps g.M.Maps.Finds g.M.Maps.found) (TraceStep g.M.Maps.Finds g.M.Maps.found (hiding_seen c.args.options.hiding))
+    trace_now (λ e. hiding_seen e.hiding ≡ hiding_seen c.args.options.hiding)
+    (step_seen g.M.Maps.Finds g.M.Maps.found (hiding_seen c.args.options.hiding)) _ _ _ _ _ _ refl c.in_ok-lines.ensures.edits in
+    let few = edits_add g.M.Maps.Finds g.M.Maps.found (hiding_seen c.args.options.hiding) _ _ _ _ _ _ seen.0 in
     omega (arith, few, c.requires.most)
 
 pub returns-clause-rewrites : goal.returns-clause-rewrites
 returns-clause-rewrites g c =
-    let seen = edits_seen (RewriterSteps g.M.Maps.Finds g.M.Maps.found) (TraceStep g.M.Maps.Finds g.M.Maps.found c.args.options.hide_ignored)
-    trace_now (λ e. e.hide_ignored ≡ c.args.options.hide_ignored)
-    (step_seen g.M.Maps.Finds g.M.Maps.found c.args.options.hide_ignored) _ _ _ _ _ _ refl c.in_ok-lines.ensures.edits in
+    let seen = edits_seen (RewriterSteps g.M.Maps.Finds g.M.Maps.found) (TraceStep g.M.Maps.Finds g.M.Maps.found (hiding_seen c.args.options.hiding))
+    trace_now (λ e. hiding_seen e.hiding ≡ hiding_seen c.args.options.hiding)
+    (step_seen g.M.Maps.Finds g.M.Maps.found (hiding_seen c.args.options.hiding)) _ _ _ _ _ _ refl c.in_ok-lines.ensures.edits in
     let maps : c.maps-2-1.given.0 ≡ c.edit_lines.new.editor.maps.now = search rules in
     rw maps (record {
       last = trace_now c.edit_lines.new.editor;

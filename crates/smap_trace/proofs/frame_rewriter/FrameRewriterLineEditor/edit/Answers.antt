@@ -40,7 +40,7 @@ returns-in_ok-put_frame-in-Replaced-clause-put g c = (
       mapped = omega arith;
       hiding = omega arith;
     };
-    hides = refl;
+    hiding = refl;
     same = refl;
   },
   c.in_ok-put_frame-in-Replaced.ensures,
@@ -61,7 +61,7 @@ returns-in-Hidden-clause-put g c = (
       mapped = omega arith;
       hiding = omega arith;
     };
-    hides = refl;
+    hiding = refl;
     same = refl;
   },
   puts_none c.args.output.now,

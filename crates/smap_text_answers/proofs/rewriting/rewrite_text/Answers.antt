@@ -1,0 +1,105 @@
+use Rattle.std.proofs.Common.{◌≡◌, ap, refl, rules, subst, sym}
+use Rattle.std.proofs.lemmas.Result.{IfErr-weaker, IfOk-weaker}
+use Rattle.smap_lines.specs.Editing.{devices_seen}
+use Rattle.smap_places.specs.PlaceAt.{place_at}
+use Rattle.smap_places.specs.PlacesOver.{RewritesPlacesOver}
+use Rattle.smap_places.specs.Laws.PlacesSeen.{front_of_none, places_front_seen}
+use Rattle.smap_store.specs.Stored.{FindsIn, GivesIn, StoredSeen, found_in}
+use Rattle.smap_store.specs.StoredMaps.{IsSameStore, same_store_on, same_store_self, stored_seen}
+use Rattle.smap_trace.specs.Hiding.{hiding_seen}
+use Rattle.smap_trace.specs.Rewriting.{Looked, RewritesOver}
+use Rattle.smap_trace.specs.Laws.Seen.{looked_seen, rewrites_seen}
+use Rattle.smap_text_answers.specs.RewriteFrom.{places_of, store_of}
+use Rattle.smap_text_answers.proofs.BesideLaws.{gives_both, looked_both, places_both, store_after, when_off, when_on}
+use Rattle.smap_text_answers.proofs.rewriting.rewrite_text.Goals as goal
+
+-- ---- frames
+
+pub returns-then-not-anywhere-clause-looked : goal.returns-then-not-anywhere-clause-looked
+returns-then-not-anywhere-clause-looked g c =
+    let new = c.rewrite_over.new.maps in
+    let looked = looked_seen _ (λ m. found_in (stored_seen m)) (FindsIn g.L.MapLoader.Loads) found_in stored_seen (IsSameStore _)
+    (λ old new url is finds. (finds.0, same_store_on _ old new is finds.1)) (λ m url. refl) _ new (same_store_self _) c.rewrite_over.ensures.looked in
+    let cache : c.cache-1.given.0 ≡ new.cache.now = search rules in
+    let loader : c.loader-1.given.0 ≡ new.loader.now = search rules in
+    subst (λ (s : StoredSeen g.row.L.Denot). Looked (FindsIn g.L.MapLoader.Loads) (store_of c.args.asked.now.sources.now c.args.cache.now c.args.loader.now) s)
+    (store_after _ _ new looked.1 _ (ap (λ w. w.now) looked.1.words) _ _ cache loader) looked.0
+
+pub returns-then-not-anywhere-clause-rewrites : goal.returns-then-not-anywhere-clause-rewrites
+returns-then-not-anywhere-clause-rewrites g c =
+    let new = c.rewrite_over.new.maps in
+    let looked = looked_seen _ (λ m. found_in (stored_seen m)) (FindsIn g.L.MapLoader.Loads) found_in stored_seen (IsSameStore _)
+    (λ old new url is finds. (finds.0, same_store_on _ old new is finds.1)) (λ m url. refl) _ new (same_store_self _) c.rewrite_over.ensures.looked in
+    let cache : c.cache-1.given.0 ≡ new.cache.now = search rules in
+    let loader : c.loader-1.given.0 ≡ new.loader.now = search rules in
+    let before = devices_seen (g.R.ByteSource.seen c.args.input.now) (g.W.ByteSink.seen c.args.output.now) in
+    let after = devices_seen (g.R.ByteSource.seen c.rewrite_over.new.input) (g.W.ByteSink.seen c.rewrite_over.new.output) in
+    IfOk-weaker c.rewrite_over.result _ _ (λ counts is. when_off c.args.asked.now.anywhere _ _ c.if-not-anywhere.true
+    (subst (λ (s : StoredSeen g.row.L.Denot). RewritesOver (FindsIn g.L.MapLoader.Loads) found_in (hiding_seen c.args.asked.now.options.hiding)
+    c.args.asked.now.options.most before after (store_of c.args.asked.now.sources.now c.args.cache.now c.args.loader.now) s counts)
+    (store_after _ _ new looked.1 _ (ap (λ w. w.now) looked.1.words) _ _ cache loader)
+    (rewrites_seen _ (λ m. found_in (stored_seen m)) (FindsIn g.L.MapLoader.Loads) found_in stored_seen (IsSameStore _)
+    (λ old new url is finds. (finds.0, same_store_on _ old new is finds.1)) (λ m url. refl) (hiding_seen c.args.asked.now.options.hiding)
+    c.args.asked.now.options.most before after _ new counts (same_store_self _) is))) c.rewrite_over.ensures.rewrites
+
+pub returns-then-not-anywhere-clause-front : goal.returns-then-not-anywhere-clause-front
+returns-then-not-anywhere-clause-front g c =
+    IfErr-weaker c.rewrite_over.result _ _ (λ fault is. when_off c.args.asked.now.anywhere _ _ c.if-not-anywhere.true is) c.rewrite_over.ensures.front
+
+-- ---- places
+
+pub returns-in_default-clause-front : goal.returns-in_default-clause-front
+returns-in_default-clause-front g c =
+    when_on c.args.asked.now.anywhere _ _ c.if-not-anywhere.false
+    (front_of_none (GivesIn g.L.MapLoader.MayLoad (store_of c.args.asked.now.sources.now c.args.cache.now c.args.loader.now))
+    (places_of c.args.asked.now.sources.now) c.args.asked.now.options.most _)
+
+pub returns-in-Ok-rewrite_places_over-clause-looked : goal.returns-in-Ok-rewrite_places_over-clause-looked
+returns-in-Ok-rewrite_places_over-clause-looked g c =
+    let new = c.rewrite_places_over.new.maps in
+    let looked = looked_both c.args.asked.now.sources.now.words _ g.L.MapLoader.Loads new c.new-none.ensures
+    (rw c.in-Ok.ensures at c.rewrite_places_over.ensures.looked) in
+    let cache : c.cache-2-1.given.0 ≡ new.cache.now = search rules in
+    let loader : c.loader-2-1.given.0 ≡ new.loader.now = search rules in
+    subst (λ (s : StoredSeen g.row.L.Denot). Looked (FindsIn g.L.MapLoader.Loads) (store_of c.args.asked.now.sources.now c.args.cache.now c.args.loader.now) s)
+    (store_after _ _ new looked.1.0 _ refl _ _ cache loader) looked.0
+
+pub returns-in-Ok-rewrite_places_over-clause-rewrites : goal.returns-in-Ok-rewrite_places_over-clause-rewrites
+returns-in-Ok-rewrite_places_over-clause-rewrites g c =
+    let new = c.rewrite_places_over.new.maps in
+    let words = c.args.asked.now.sources.now.words in
+    let looked = looked_both words _ g.L.MapLoader.Loads new c.new-none.ensures (rw c.in-Ok.ensures at c.rewrite_places_over.ensures.looked) in
+    let cache : c.cache-2-1.given.0 ≡ new.cache.now = search rules in
+    let loader : c.loader-2-1.given.0 ≡ new.loader.now = search rules in
+    let before = devices_seen (g.R.ByteSource.seen c.args.input.now) (g.W.ByteSink.seen c.args.output.now) in
+    let after = devices_seen (g.R.ByteSource.seen c.rewrite_places_over.new.input) (g.W.ByteSink.seen c.rewrite_places_over.new.output) in
+    let summary = c.in-Ok-rewrite_places_over.summary in
+    let is = rw c.in-Ok.ensures at c.in-Ok-rewrite_places_over.ensures.rewrites in
+    when_on c.args.asked.now.anywhere _ _ c.if-not-anywhere.false (
+      subst (λ (s : StoredSeen g.row.L.Denot). RewritesPlacesOver (FindsIn g.L.MapLoader.Loads) found_in (places_of c.args.asked.now.sources.now)
+          c.args.asked.now.options.most before after (store_of c.args.asked.now.sources.now c.args.cache.now c.args.loader.now) s summary)
+          (store_after _ _ new looked.1.0 _ refl _ _ cache loader)
+          (places_both words _ g.L.MapLoader.Loads new c.new-none.ensures (places_of c.args.asked.now.sources.now) c.args.asked.now.options.most before after
+          summary is),
+      refl,
+    )
+
+pub returns-clause-looked : goal.returns-clause-looked
+returns-clause-looked g c =
+    let new = c.rewrite_places_over.new.maps in
+    let looked = looked_both c.args.asked.now.sources.now.words _ g.L.MapLoader.Loads new c.new-none.ensures
+    (rw c.in-Ok.ensures at c.rewrite_places_over.ensures.looked) in
+    let cache : c.cache-2-1.given.0 ≡ new.cache.now = search rules in
+    let loader : c.loader-2-1.given.0 ≡ new.loader.now = search rules in
+    subst (λ (s : StoredSeen g.row.L.Denot). Looked (FindsIn g.L.MapLoader.Loads) (store_of c.args.asked.now.sources.now c.args.cache.now c.args.loader.now) s)
+    (store_after _ _ new looked.1.0 _ refl _ _ cache loader) looked.0
+
+pub returns-clause-front : goal.returns-clause-front
+returns-clause-front g c =
+    let sources = c.args.asked.now.sources.now in
+    let others : StoredSeen g.row.L.Denot =
+    record { words = c.new-none.result; locations = sources.locations; cache = c.args.cache.now; loader = c.args.loader.now } in
+    when_on c.args.asked.now.anywhere _ _ c.if-not-anywhere.false
+    (places_front_seen _ (GivesIn g.L.MapLoader.MayLoad (store_of sources c.args.cache.now c.args.loader.now))
+    (gives_both g.L.MapLoader.MayLoad sources.words others c.new-none.ensures) (places_of sources) c.args.asked.now.options.most _ _ c.in-Err.fault
+    (rw c.in-Ok.ensures at c.in-Err.ensures.front))
