@@ -46,6 +46,12 @@ named : at (codes "a/b/x.js:3:1:2") ∷ at (codes "a/b/y:1:2") ∷ at (codes "a/
 unfolding candidate_at numbers_after
 named = refl
 
+-- a named URL before a query or a fragment, also where a prefix runs as far; but no other bytes, and no blank before the numbers
+behind : at (codes "a/b/y?v=1:1:2") ∷ at (codes "a/b/x.js:3#L:1:2") ∷ at (codes "a/b/y? :1:2") ∷ at (codes "a/b/y?v=1") ∷ []
+    ≡ place (codes "a/b/y") 1 2 13 ∷ place (codes "a/b/x.js:3") 1 2 16 ∷ None ∷ None ∷ []
+unfolding candidate_at numbers_after
+behind = refl
+
 -- the longest prefix that stands there is taken, whatever runs from a shorter one
 longest : at (codes "a/b :1:2") ∷ at (codes "a/b/ :1:2") ∷ at (codes "a/c/d:1:2") ∷ []
     ≡ None ∷ None ∷ place (codes "a/c/d") 1 2 9 ∷ []

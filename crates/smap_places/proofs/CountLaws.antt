@@ -1,7 +1,8 @@
 -- How many lines a text has.
-use Rattle.std.proofs.Common.{◌≡◌, ◌==◌, ◌+◌, ◌<◌, ◌≤◌, ℕ, Bool, true, false, cond, not, List, [], ◌∷◌, ◌++◌, length, count_by, refl, sym, ap, ◌∙◌, arith}
+use Rattle.std.proofs.Common.{◌≡◌, ◌==◌, ◌+◌, ◌<◌, ◌≤◌, ℕ, zero, suc, Bool, true, false, cond, not, List, [], ◌∷◌, ◌++◌, length, count_by, refl, sym, ap, ◌∙◌}
+use Rattle.std.proofs.Common.{arith, drop, get_or}
 use mir.Val.{bool_byte}
-use Rattle.std.proofs.lemmas.Bool.{cond_both}
+use Rattle.std.proofs.lemmas.Bool.{cond_both, false_from_ne_true}
 use Rattle.std.proofs.lemmas.List.Sums.{sum_by-append, sum_by-cons}
 use Rattle.smap_lines.specs.Lines.{Line, lines_with_ends, onto_first}
 use Rattle.smap_places.specs.Private.LineEnds.{has_open_line}
@@ -25,6 +26,29 @@ ends_both text more = sum_by-append (λ byte. cond (is_end byte) 1 0) text more
 
 ends_cons : (byte : ℕ) (text : List ℕ) → count_by is_end (byte ∷ text) ≡ cond (byte == 10) 1 0 + count_by is_end text
 ends_cons byte text = sum_by-cons (λ byte. cond (is_end byte) 1 0) byte text
+
+-- up to the first, and where there is none
+pub ends_first : (text : List ℕ) (place : ℕ) → place < length text → ((k : ℕ) → k < place → (get_or text k 0 == 10) ≡ true → ⊥)
+    → (get_or text place 0 == 10) ≡ true → count_by is_end text ≡ 1 + count_by is_end (drop (place + 1) text)
+ends_first [] place within none here = absurd (omega (arith, within))
+ends_first (byte ∷ text) zero within none here = ends_cons byte text ∙ ap (λ b. cond b 1 0 + count_by is_end text) here
+ends_first (byte ∷ text) (suc place) within none here =
+    let next : suc place + 1 ≡ suc (place + 1) = omega arith in
+    let off : (byte == 10) ≡ false = false_from_ne_true (byte == 10) (none 0 (omega arith)) in
+    let one : count_by is_end (byte ∷ text) ≡ 0 + count_by is_end text = ends_cons byte text ∙ ap (λ b. cond b 1 0 + count_by is_end text) off in
+    let more : count_by is_end text ≡ 1 + count_by is_end (drop (place + 1) text) =
+    ends_first text place (omega (arith, within)) (λ k below. none (suc k) (omega (arith, below))) here in
+    let rest : count_by is_end (drop (suc place + 1) (byte ∷ text)) ≡ count_by is_end (drop (place + 1) text) =
+    ap (λ n. count_by is_end (drop n (byte ∷ text))) next in
+    omega (arith, one, more, rest)
+
+pub ends_none : (text : List ℕ) → ((k : ℕ) → k < length text → (get_or text k 0 == 10) ≡ true → ⊥) → count_by is_end text ≡ 0
+ends_none [] none = refl
+ends_none (byte ∷ text) none =
+    let off : (byte == 10) ≡ false = false_from_ne_true (byte == 10) (none 0 (omega arith)) in
+    let one : count_by is_end (byte ∷ text) ≡ 0 + count_by is_end text = ends_cons byte text ∙ ap (λ b. cond b 1 0 + count_by is_end text) off in
+    let more : count_by is_end text ≡ 0 = ends_none text (λ k below. none (suc k) (omega (arith, below))) in
+    omega (arith, one, more)
 
 -- ---- the line that is open
 

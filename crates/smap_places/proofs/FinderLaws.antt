@@ -1,5 +1,5 @@
 -- Which place begins a text over named URLs and prefixes whose lengths are known.
-use Rattle.std.proofs.Common.{◌≡◌, ◌==◌, ◌&&◌, ◌||◌, cond, map, ◌+◌, ◌<◌, ◌≤◌, ◌⊎◌, inl, inr, ℕ, zero, suc, Bool, true, false, not, List, [], ◌∷◌, ◌++◌}
+use Rattle.std.proofs.Common.{◌≡◌, ◌==◌, ◌&&◌, ◌||◌, cond, map, nat_le, ◌+◌, ◌<◌, ◌≤◌, ◌⊎◌, inl, inr, ℕ, zero, suc, Bool, true, false, not, List, [], ◌∷◌, ◌++◌}
 use Rattle.std.proofs.Common.{length, max, take, drop, IfSome, IsSomeAnd, Option, Some, None, is_some, refl, subst, sym, ap, ◌∙◌, arith}
 use Rattle.std.proofs.Common.{length-append, length-drop}
 use Rattle.std.proofs.lemmas.Bool.{cases_lt, false_from_ne_true}
@@ -11,19 +11,19 @@ use Rattle.std.specs.Str.{bytes_eq}
 use Rattle.smap_lines.specs.Lines.{has_line_end}
 use Rattle.smap_by_text.specs.ByText.{value_under}
 use Rattle.smap_record.specs.Record.{MapRecord}
-use Rattle.smap_places.specs.Candidates.{candidate_at, greatest, has_named, has_prefix, named_bytes, place_of, place_of_bytes, prefix_bytes, run_bytes}
-use Rattle.smap_places.specs.Candidates.{run_length, url_bytes, with_run}
+use Rattle.smap_places.specs.Candidates.{candidate_at, greatest, has_named, has_prefix, named_bytes, own_bytes, place_of, place_of_bytes, prefix_bytes}
+use Rattle.smap_places.specs.Candidates.{query_length, run_end, run_length, url_bytes, url_end, with_run}
 use Rattle.smap_places.specs.Places.{PlaceUrl, begun_at, numbers_after}
 use Rattle.smap_places.specs.PlacesNear.{DecidedWithin, EndsAtLines}
 use Rattle.smap_places.specs.PlaceAt.{MapsSeen, is_named, is_prefix, place_at, table_alone, table_place_at}
-use Rattle.smap_places.specs.Private.Finder.{HasLengths, IsBarred, IsLongest, IsOpen, KnowsLengths, is_among}
+use Rattle.smap_places.specs.Private.Finder.{HasLengths, IsBarred, IsLongest, IsOpen, IsUnqueried, KnowsLengths, is_among}
 use Rattle.smap_places.specs.declared.lengths.Lengths.{Lengths}
 use Rattle.smap_places.proofs.BegunLaws.{not_begun}
 use Rattle.smap_places.proofs.GreatestLaws.{greatest_passes, greatest_same, greatest_within, head_or}
 use Rattle.smap_places.proofs.LineEndLaws.{end_within}
 use Rattle.smap_places.proofs.NumberReach.{numbers_line, numbers_reach}
 use Rattle.smap_places.proofs.NumberLaws.{no_numbers, numbers_size}
-use Rattle.smap_places.proofs.RunLaws.{run_line, run_reach, run_within}
+use Rattle.smap_places.proofs.RunLaws.{query_line, query_reach, run_line, run_reach, run_within}
 
 -- ---- both tests
 
@@ -47,7 +47,7 @@ ended_last false ended is = refl
 
 module _ (test : List ℕ → Bool) (text : List ℕ) (bytes : ℕ) where
   abbrev behind : Bool
-  behind = is_some (numbers_after (drop bytes text))
+  behind = is_some (query_length (drop bytes text))
 
   pub named_on : has_named test text bytes ≡ true → test (take bytes text) ≡ true
   named_on on = go (test (take bytes text)) (not (has_line_end (take bytes text))) behind on
@@ -56,12 +56,33 @@ module _ (test : List ℕ → Bool) (text : List ℕ) (bytes : ℕ) where
       go true two three is = refl
       go false two three is = cc
 
-  named_off : test (take bytes text) ≡ false → has_named test text bytes ≡ false
+  pub named_behind : has_named test text bytes ≡ true → behind ≡ true
+  named_behind on = go (test (take bytes text)) (not (has_line_end (take bytes text))) behind on
+    where
+      go : (one two three : Bool) → (one && two && three) ≡ true → three ≡ true
+      go true true three is = is
+      go true false three is = cc
+      go false two three is = cc
+
+  pub named_off : test (take bytes text) ≡ false → has_named test text bytes ≡ false
   named_off off = go (test (take bytes text)) (not (has_line_end (take bytes text))) behind off
     where
       go : (one two three : Bool) → one ≡ false → (one && two && three) ≡ false
       go true two three is = cc
       go false two three is = refl
+
+  pub named_all : test (take bytes text) ≡ true → has_line_end (take bytes text) ≡ false → behind ≡ true → has_named test text bytes ≡ true
+  named_all one two three = λ i. one i && not (two i) && three i
+
+  pub named_ended : has_line_end (take bytes text) ≡ true → has_named test text bytes ≡ false
+  named_ended two = ended_off (test (take bytes text)) (has_line_end (take bytes text)) behind two
+
+  pub named_alone : behind ≡ false → has_named test text bytes ≡ false
+  named_alone three = ap (λ b. test (take bytes text) && not (has_line_end (take bytes text)) && b) three ∙ go (test (take bytes text) && not (has_line_end (take bytes text)))
+    where
+      go : (b : Bool) → (b && false) ≡ false
+      go true = refl
+      go false = refl
 
   pub prefix_on : has_prefix test text bytes ≡ true → test (take bytes text) ≡ true
   prefix_on on = first_on (test (take bytes text)) (not (has_line_end (take bytes text))) on
@@ -69,11 +90,11 @@ module _ (test : List ℕ → Bool) (text : List ℕ) (bytes : ℕ) where
   prefix_off : test (take bytes text) ≡ false → has_prefix test text bytes ≡ false
   prefix_off off = first_off (test (take bytes text)) (not (has_line_end (take bytes text))) off
 
-named_same : (test : List ℕ → Bool) (one other : List ℕ) (n : ℕ) → take n one ≡ take n other → numbers_after (drop n one) ≡ numbers_after (drop n other)
+named_same : (test : List ℕ → Bool) (one other : List ℕ) (n : ℕ) → take n one ≡ take n other → query_length (drop n one) ≡ query_length (drop n other)
     → has_named test one n ≡ has_named test other n
-named_same test one other n urls numbers =
-    ap (λ url. test url && not (has_line_end url) && is_some (numbers_after (drop n one))) urls
-    ∙ ap (λ o. test (take n other) && not (has_line_end (take n other)) && is_some o) numbers
+named_same test one other n urls queries =
+    ap (λ url. test url && not (has_line_end url) && is_some (query_length (drop n one))) urls
+    ∙ ap (λ o. test (take n other) && not (has_line_end (take n other)) && is_some o) queries
 
 prefix_same : (test : List ℕ → Bool) (one other : List ℕ) (n : ℕ) → take n one ≡ take n other → has_prefix test one n ≡ has_prefix test other n
 prefix_same test one other n texts = ap (λ text. test text && not (has_line_end text)) texts
@@ -106,7 +127,7 @@ module _ (test : List ℕ → Bool) (lengths : Lengths) (has : HasLengths length
   ]
 
   -- what stands far behind decides nothing
-  named_reach : (text later : List ℕ) → lengths.greatest + 23 ≤ length text → named_bytes test (text ++ later) ≡ named_bytes test text
+  named_reach : (text later : List ℕ) → lengths.greatest + 2048 + 23 ≤ length text → named_bytes test (text ++ later) ≡ named_bytes test text
   named_reach text later long =
       ap (greatest (has_named test (text ++ later))) (length-append text later)
       ∙ greatest_same (has_named test (text ++ later)) (has_named test text) (length text) (length later)
@@ -114,8 +135,8 @@ module _ (test : List ℕ → Bool) (lengths : Lengths) (has : HasLengths length
         | inl far ↦ named_off test (text ++ later) n (none_longer (text ++ later) n far (omega (arith, long, length-append text later)))
             ∙ sym (named_off test text n (none_longer text n far (omega (arith, long))))
         | inr near ↦ named_same test (text ++ later) text n (take-append-le n text later within)
-            (ap numbers_after (drop-append-le n text later within)
-            ∙ numbers_reach (drop n text) later (omega (arith, near, long, length-drop n text)))
+            (ap query_length (drop-append-le n text later within)
+            ∙ query_reach (drop n text) later (omega (arith, near, long, length-drop n text)))
       ])
       (λ n past. named_off test (text ++ later) n
       (none_longer (text ++ later) n (omega (arith, long, past)) (omega (arith, long, length-append text later))))
@@ -139,8 +160,8 @@ module _ (test : List ℕ → Bool) (line rest : List ℕ) where
       ap (greatest (has_named test text)) (length-append line (10 ∷ rest))
       ∙ greatest_same (has_named test text) (has_named test line) (length line) (length (10 ∷ rest))
       (λ n within. named_same test text line n (take-append-le n line (10 ∷ rest) within)
-      (ap numbers_after (drop-append-le n line (10 ∷ rest) within) ∙ numbers_line (drop n line) rest))
-      (λ n past. ended_off (test (take n text)) (has_line_end (take n text)) (is_some (numbers_after (drop n text))) (end_within line rest n past))
+      (ap query_length (drop-append-le n line (10 ∷ rest) within) ∙ query_line (drop n line) rest))
+      (λ n past. ended_off (test (take n text)) (has_line_end (take n text)) (is_some (query_length (drop n text))) (end_within line rest n past))
 
   prefix_line : prefix_bytes test text ≡ prefix_bytes test line
   prefix_line =
@@ -149,19 +170,17 @@ module _ (test : List ℕ → Bool) (line rest : List ℕ) where
       (λ n within. prefix_same test text line n (take-append-le n line (10 ∷ rest) within))
       (λ n past. ended_last (test (take n text)) (has_line_end (take n text)) (end_within line rest n past))
 
--- ---- what runs from a prefix
+-- ---- what runs to numbers
 
-run_few : (text : List ℕ) (prefix named most longest : ℕ) → prefix ≤ most → IsLongest named most longest → run_bytes text prefix ≤ longest
-run_few text zero named most longest few is = omega arith
-run_few text (suc bytes) named most longest few is = go (run_length 2048 (drop (suc bytes) text)) (run_within 2048 (drop (suc bytes) text)) is.1
+run_few : (text : List ℕ) (bytes most longest : ℕ) → bytes ≤ most → most + 2048 ≤ longest → run_end text bytes ≤ longest
+run_few text zero most longest few is = omega arith
+run_few text (suc bytes) most longest few is = go (run_length 2048 (drop (suc bytes) text)) (run_within 2048 (drop (suc bytes) text))
   where
-    go : (run : Option ℕ) → IfSome run (λ n. (n ≤ 2048) × (n ≤ length (drop (suc bytes) text))) → (most ≡ 0) ⊎ (most + 2048 ≤ longest)
-        → with_run (suc bytes) run ≤ longest
-    go None within long = omega arith
-    go (Some n) within (inl none) = absurd (omega (arith, none, few))
-    go (Some n) within (inr long) = omega (arith, within.0, long, few)
+    go : (run : Option ℕ) → IfSome run (λ n. (n ≤ 2048) × (n ≤ length (drop (suc bytes) text))) → with_run (suc bytes) run ≤ longest
+    go None within = omega arith
+    go (Some n) within = omega (arith, within.0, is, few)
 
-run_inside : (text : List ℕ) (prefix : ℕ) → prefix ≤ length text → run_bytes text prefix ≤ length text
+run_inside : (text : List ℕ) (bytes : ℕ) → bytes ≤ length text → run_end text bytes ≤ length text
 run_inside text zero inside = omega arith
 run_inside text (suc bytes) inside = go (run_length 2048 (drop (suc bytes) text)) (run_within 2048 (drop (suc bytes) text))
   where
@@ -169,142 +188,167 @@ run_inside text (suc bytes) inside = go (run_length 2048 (drop (suc bytes) text)
     go None within = omega arith
     go (Some n) within = omega (arith, within.1, inside, length-drop (suc bytes) text)
 
-pub run_none : (text : List ℕ) (prefix : ℕ) → (1 ≤ prefix → run_length 2048 (drop prefix text) ≡ None) → run_bytes text prefix ≡ 0
+pub run_none : (text : List ℕ) (bytes : ℕ) → (1 ≤ bytes → run_length 2048 (drop bytes text) ≡ None) → run_end text bytes ≡ 0
 run_none text zero none = refl
 run_none text (suc bytes) none = ap (with_run (suc bytes)) (none (omega arith))
 
-run_same : (one other : List ℕ) (prefix : ℕ) → run_length 2048 (drop prefix one) ≡ run_length 2048 (drop prefix other)
-    → run_bytes one prefix ≡ run_bytes other prefix
+pub run_some : (text : List ℕ) (bytes run : ℕ) → 0 < bytes → run_length 2048 (drop bytes text) ≡ Some run → run_end text bytes ≡ bytes + run
+run_some text zero run some is = absurd (omega (arith, some))
+run_some text (suc bytes) run some is = ap (with_run (suc bytes)) is
+
+run_same : (one other : List ℕ) (bytes : ℕ) → run_length 2048 (drop bytes one) ≡ run_length 2048 (drop bytes other) → run_end one bytes ≡ run_end other bytes
 run_same one other zero same = refl
 run_same one other (suc bytes) same = ap (with_run (suc bytes)) same
 
-run_same_far : (text later : List ℕ) (prefix : ℕ) → (1 ≤ prefix → prefix + 2048 + 23 ≤ length text) → run_bytes (text ++ later) prefix ≡ run_bytes text prefix
-run_same_far text later zero long = refl
-run_same_far text later (suc bytes) long =
-    let enough : suc bytes + 2048 + 23 ≤ length text = long (omega arith) in
-    run_same (text ++ later) text (suc bytes)
-    (ap (run_length 2048) (drop-append-le (suc bytes) text later (omega (arith, enough)))
-    ∙ run_reach 2048 (drop (suc bytes) text) later (omega (arith, enough, length-drop (suc bytes) text)))
+run_same_line : (line rest : List ℕ) (bytes : ℕ) → bytes ≤ length line → run_end (line ++ 10 ∷ rest) bytes ≡ run_end line bytes
+run_same_line line rest bytes inside =
+    run_same (line ++ 10 ∷ rest) line bytes
+    (ap (run_length 2048) (drop-append-le bytes line (10 ∷ rest) inside) ∙ run_line 2048 (drop bytes line) rest)
+
+run_same_far : (text later : List ℕ) (bytes : ℕ) → bytes + 2048 + 23 ≤ length text → run_end (text ++ later) bytes ≡ run_end text bytes
+run_same_far text later bytes long =
+    run_same (text ++ later) text bytes
+    (ap (run_length 2048) (drop-append-le bytes text later (omega (arith, long)))
+    ∙ run_reach 2048 (drop bytes text) later (omega (arith, long, length-drop bytes text)))
 
 -- ---- the place
 
-place_same : (one other : List ℕ) (n : ℕ) → take n one ≡ take n other → numbers_after (drop n one) ≡ numbers_after (drop n other)
-    → place_of_bytes one n ≡ place_of_bytes other n
-place_same one other zero urls numbers = refl
-place_same one other (suc n) urls numbers =
-    ap (λ url. place_of url (suc n) (numbers_after (drop (suc n) one))) urls ∙ ap (place_of (take (suc n) other) (suc n)) numbers
+own_few : (named end run most : ℕ) → named ≤ most → run ≤ most → own_bytes named end run ≤ most
+own_few named end run most few run_few = go (nat_le run end)
+  where
+    go : (b : Bool) → cond b named run ≤ most
+    go true = few
+    go false = run_few
 
-place_none : (text : List ℕ) (n : ℕ) → (1 ≤ n → numbers_after (drop n text) ≡ None) → place_of_bytes text n ≡ None
-place_none text zero none = refl
-place_none text (suc n) none = ap (place_of (take (suc n) text) (suc n)) (none (omega arith))
+place_same : (one other : List ℕ) (n end : ℕ) → take n one ≡ take n other → numbers_after (drop end one) ≡ numbers_after (drop end other)
+    → place_of_bytes one n end ≡ place_of_bytes other n end
+place_same one other n zero urls numbers = refl
+place_same one other n (suc end) urls numbers =
+    ap (λ url. place_of url (suc end) (numbers_after (drop (suc end) one))) urls ∙ ap (place_of (take n other) (suc end)) numbers
+
+place_none : (text : List ℕ) (n end : ℕ) → (1 ≤ end → numbers_after (drop end text) ≡ None) → place_of_bytes text n end ≡ None
+place_none text n zero none = refl
+place_none text n (suc end) none = ap (place_of (take n text) (suc end)) (none (omega arith))
 
 abbrev size_or : Option PlaceUrl → ℕ
 size_or None = 0
 size_or (Some place) = place.size
 
-place_size : (text : List ℕ) (n : ℕ) (place : PlaceUrl) → place_of_bytes text n ≡ Some place → place.size ≤ length text
-place_size text zero place is = cc
-place_size text (suc n) place is = go (numbers_after (drop (suc n) text)) refl is
+place_size : (text : List ℕ) (n end : ℕ) (place : PlaceUrl) → place_of_bytes text n end ≡ Some place → place.size ≤ length text
+place_size text n zero place is = cc
+place_size text n (suc end) place is = go (numbers_after (drop (suc end) text)) refl is
   where
-    go : (o : Option (ℕ × ℕ × ℕ)) → numbers_after (drop (suc n) text) ≡ o → place_of (take (suc n) text) (suc n) o ≡ Some place → place.size ≤ length text
+    go : (o : Option (ℕ × ℕ × ℕ)) → numbers_after (drop (suc end) text) ≡ o → place_of (take n text) (suc end) o ≡ Some place → place.size ≤ length text
     go None numbers is = cc
     go (Some (line, column, size)) numbers is =
-        let both : suc n + size ≡ place.size = ap (λ o. size_or o) is in
-        let few : size ≤ length (drop (suc n) text) = numbers_size (drop (suc n) text) (line, column, size) numbers in
-        elim (cases_lt (suc n) (length text)) [
-          | inl inside ↦ omega (arith, both, few, inside, length-drop (suc n) text)
-          | inr past ↦ absurd (cc (ap numbers_after (drop_all (suc n) text past), no_numbers, numbers))
+        let both : suc end + size ≡ place.size = ap (λ o. size_or o) is in
+        let few : size ≤ length (drop (suc end) text) = numbers_size (drop (suc end) text) (line, column, size) numbers in
+        elim (cases_lt (suc end) (length text)) [
+          | inl inside ↦ omega (arith, both, few, inside, length-drop (suc end) text)
+          | inr past ↦ absurd (cc (ap numbers_after (drop_all (suc end) text past), no_numbers, numbers))
         ]
 
 module _ (named prefixes : List ℕ → Bool) where
-  bytes_line : (line rest : List ℕ) → url_bytes named prefixes (line ++ 10 ∷ rest) ≡ url_bytes named prefixes line
-  bytes_line line rest =
-      let inside : prefix_bytes prefixes line ≤ length line = greatest_within (has_prefix prefixes line) (length line) in
-      ap (λ n. max n (run_bytes (line ++ 10 ∷ rest) (prefix_bytes prefixes (line ++ 10 ∷ rest)))) (named_line named line rest)
-      ∙ ap (λ n. max (named_bytes named line) (run_bytes (line ++ 10 ∷ rest) n)) (prefix_line prefixes line rest)
-      ∙ ap (max (named_bytes named line)) (run_same (line ++ 10 ∷ rest) line (prefix_bytes prefixes line)
-      (ap (run_length 2048) (drop-append-le (prefix_bytes prefixes line) line (10 ∷ rest) inside)
-      ∙ run_line 2048 (drop (prefix_bytes prefixes line) line) rest))
+  pub candidate_is : (text : List ℕ) (bytes end run : ℕ) → named_bytes named text ≡ bytes → run_end text (named_bytes named text) ≡ end
+      → run_end text (prefix_bytes prefixes text) ≡ run → candidate_at named prefixes text ≡ place_of_bytes text (own_bytes bytes end run) (max end run)
+  unfolding candidate_at
+  candidate_is text bytes end run bytes_is end_is run_is = λ i. place_of_bytes text (own_bytes (bytes_is i) (end_is i) (run_is i)) (max (end_is i) (run_is i))
 
-  bytes_inside : (text : List ℕ) → url_bytes named prefixes text ≤ length text
-  bytes_inside text =
+  -- over texts that are the same as far as their URLs and numbers reach it is the same
+  candidate_same : (one other : List ℕ) (bytes prefix : ℕ) → named_bytes named one ≡ bytes → named_bytes named other ≡ bytes → prefix_bytes prefixes one ≡ prefix
+      → prefix_bytes prefixes other ≡ prefix → run_end one bytes ≡ run_end other bytes → run_end one prefix ≡ run_end other prefix
+      → ((n : ℕ) → n ≤ max bytes (max (run_end other bytes) (run_end other prefix)) → (take n one ≡ take n other) × (numbers_after (drop n one) ≡ numbers_after (drop n other)))
+      → candidate_at named prefixes one ≡ candidate_at named prefixes other
+  candidate_same one other bytes prefix one_named other_named one_prefix other_prefix ends runs same =
+      let end : ℕ = run_end other bytes in
+      let run : ℕ = run_end other prefix in
+      candidate_is one bytes end run one_named (ap (run_end one) one_named ∙ ends) (ap (run_end one) one_prefix ∙ runs)
+      ∙ place_same one other (own_bytes bytes end run) (max end run)
+      (same (own_bytes bytes end run) (own_few bytes end run (max bytes (max end run)) (omega arith) (omega arith))).0
+      (same (max end run) (omega arith)).1
+      ∙ sym (candidate_is other bytes end run other_named (ap (run_end other) other_named) (ap (run_end other) other_prefix))
+
+  end_inside : (text : List ℕ) → url_end named prefixes text ≤ length text
+  end_inside text =
       omega (
         arith,
-        greatest_within (has_named named text) (length text),
+        run_inside text (named_bytes named text) (greatest_within (has_named named text) (length text)),
         run_inside text (prefix_bytes prefixes text) (greatest_within (has_prefix prefixes text) (length text)),
       )
+
+  candidate_line : (line rest : List ℕ) → candidate_at named prefixes (line ++ 10 ∷ rest) ≡ candidate_at named prefixes line
+  candidate_line line rest =
+      let bytes : ℕ = named_bytes named line in
+      let prefix : ℕ = prefix_bytes prefixes line in
+      let inside : bytes ≤ length line = greatest_within (has_named named line) (length line) in
+      let within : prefix ≤ length line = greatest_within (has_prefix prefixes line) (length line) in
+      candidate_same (line ++ 10 ∷ rest) line bytes prefix (named_line named line rest) refl (prefix_line prefixes line rest) refl
+      (run_same_line line rest bytes inside) (run_same_line line rest prefix within)
+      (λ n few.
+      let small : n ≤ length line = omega (arith, few, inside, run_inside line bytes inside, run_inside line prefix within) in (
+        take-append-le n line (10 ∷ rest) small,
+        ap numbers_after (drop-append-le n line (10 ∷ rest) small) ∙ numbers_line (drop n line) rest,
+      ))
 
   pub candidate_ends : EndsAtLines (candidate_at named prefixes)
   unfolding candidate_at
   candidate_ends = record {
     empty = refl;
-    sized = λ text place is. place_size text (url_bytes named prefixes text) place is;
-    line = λ line rest.
-        let n = url_bytes named prefixes line in
-        ap (place_of_bytes (line ++ 10 ∷ rest)) (bytes_line line rest)
-        ∙ place_same (line ++ 10 ∷ rest) line n (take-append-le n line (10 ∷ rest) (bytes_inside line))
-        (ap numbers_after (drop-append-le n line (10 ∷ rest) (bytes_inside line)) ∙ numbers_line (drop n line) rest);
+    sized = λ text place is. place_size text (url_bytes named prefixes text) (url_end named prefixes text) place is;
+    line = candidate_line;
   }
 
   -- without numbers after a URL, no place begins
   pub none_at_all : (text : List ℕ) → ((bytes : ℕ) → 1 ≤ bytes → numbers_after (drop bytes text) ≡ None) → candidate_at named prefixes text ≡ None
   unfolding candidate_at
-  none_at_all text none = place_none text (url_bytes named prefixes text) (none (url_bytes named prefixes text))
+  none_at_all text none =
+      place_none text (url_bytes named prefixes text) (url_end named prefixes text) (none (url_end named prefixes text))
 
-  no_more : (n : ℕ) → max n 0 ≡ n
-  no_more n = omega arith
-
-  -- nor where nothing runs from a prefix, and no numbers stand after the named URL
-  pub no_candidate : (text : List ℕ) → run_bytes text (prefix_bytes prefixes text) ≡ 0
-      → (1 ≤ named_bytes named text → numbers_after (drop (named_bytes named text) text) ≡ None) → candidate_at named prefixes text ≡ None
+  -- nor where nothing runs from the named URL, and nothing from the prefix
+  pub no_candidate : (text : List ℕ) → run_end text (named_bytes named text) ≡ 0 → run_end text (prefix_bytes prefixes text) ≡ 0
+      → candidate_at named prefixes text ≡ None
   unfolding candidate_at
-  no_candidate text no_run none =
-      ap (λ n. place_of_bytes text (max (named_bytes named text) n)) no_run
-      ∙ ap (place_of_bytes text) (no_more (named_bytes named text))
-      ∙ place_none text (named_bytes named text) none
+  no_candidate text no_end no_run = λ i. place_of_bytes text (url_bytes named prefixes text) (max (no_end i) (no_run i))
 
   module _ (urls folders : Lengths) (has_urls : HasLengths urls named) (has_folders : HasLengths folders prefixes) (longest : ℕ)
       (is : IsLongest urls.greatest folders.greatest longest) where
-    bytes_few : (text : List ℕ) → url_bytes named prefixes text ≤ longest
-    bytes_few text =
+    end_few : (text : List ℕ) → url_end named prefixes text ≤ longest
+    end_few text =
         omega (
           arith,
-          named_few named urls has_urls text,
-          is.0,
-          run_few text (prefix_bytes prefixes text) urls.greatest folders.greatest longest (prefix_few prefixes folders has_folders text) is,
+          run_few text (named_bytes named text) urls.greatest longest (named_few named urls has_urls text) is.0,
+          run_few text (prefix_bytes prefixes text) folders.greatest longest (prefix_few prefixes folders has_folders text) is.1,
         )
 
     pub none_near : (text : List ℕ) → ((bytes : ℕ) → 1 ≤ bytes → bytes ≤ longest → numbers_after (drop bytes text) ≡ None)
         → candidate_at named prefixes text ≡ None
     unfolding candidate_at
-    none_near text none = place_none text (url_bytes named prefixes text) (λ some. none (url_bytes named prefixes text) some (bytes_few text))
-
-    bytes_reach : (text later : List ℕ) → longest + 23 ≤ length text → url_bytes named prefixes (text ++ later) ≡ url_bytes named prefixes text
-    bytes_reach text later long =
-        let few : prefix_bytes prefixes text ≤ folders.greatest = prefix_few prefixes folders has_folders text in
-        ap (λ n. max n (run_bytes (text ++ later) (prefix_bytes prefixes (text ++ later))))
-        (named_reach named urls has_urls text later (omega (arith, is.0, long)))
-        ∙ ap (λ n. max (named_bytes named text) (run_bytes (text ++ later) n)) (prefix_reach prefixes folders has_folders text later (below is.1))
-        ∙ ap (max (named_bytes named text)) (run_same_far text later (prefix_bytes prefixes text) (λ some. enough few some is.1))
-      where
-        below : (folders.greatest ≡ 0) ⊎ (folders.greatest + 2048 ≤ longest) → folders.greatest < length text
-        below (inl none) = omega (arith, none, long)
-        below (inr more) = omega (arith, more, long)
-
-        enough : prefix_bytes prefixes text ≤ folders.greatest → 1 ≤ prefix_bytes prefixes text → (folders.greatest ≡ 0) ⊎ (folders.greatest + 2048 ≤ longest)
-            → prefix_bytes prefixes text + 2048 + 23 ≤ length text
-        enough few some (inl none) = absurd (omega (arith, none, few, some))
-        enough few some (inr more) = omega (arith, more, few, long)
+    none_near text none =
+        place_none text (url_bytes named prefixes text) (url_end named prefixes text) (λ some. none (url_end named prefixes text) some (end_few text))
 
     pub candidate_reach : DecidedWithin (candidate_at named prefixes) (longest + 23)
-    unfolding candidate_at
     candidate_reach text later long =
-        let n = url_bytes named prefixes text in
-        let few : url_bytes named prefixes text ≤ longest = bytes_few text in
-        ap (place_of_bytes (text ++ later)) (bytes_reach text later long)
-        ∙ place_same (text ++ later) text n (take-append-le n text later (omega (arith, few, long)))
-        (ap numbers_after (drop-append-le n text later (omega (arith, few, long)))
-        ∙ numbers_reach (drop n text) later (omega (arith, few, long, length-drop n text)))
+        let bytes : ℕ = named_bytes named text in
+        let prefix : ℕ = prefix_bytes prefixes text in
+        let few : bytes ≤ urls.greatest = named_few named urls has_urls text in
+        let prefix_small : prefix ≤ folders.greatest = prefix_few prefixes folders has_folders text in
+        candidate_same (text ++ later) text bytes prefix (named_reach named urls has_urls text later (omega (arith, is.0, long))) refl
+        (prefix_reach prefixes folders has_folders text later (omega (arith, is.1, long))) refl
+        (run_same_far text later bytes (omega (arith, few, is.0, long))) (run_same_far text later prefix (omega (arith, prefix_small, is.1, long)))
+        (λ n within.
+        let small : n ≤ longest =
+        omega (
+          arith,
+          within,
+          few,
+          is.0,
+          run_few text bytes urls.greatest longest few is.0,
+          run_few text prefix folders.greatest longest prefix_small is.1,
+        ) in (
+          take-append-le n text later (omega (arith, small, long)),
+          ap numbers_after (drop-append-le n text later (omega (arith, small, long)))
+              ∙ numbers_reach (drop n text) later (omega (arith, small, long, length-drop n text)),
+        ))
 
 -- ---- in a line, over maps
 
@@ -350,10 +394,9 @@ module _ (maps : MapsSeen) (urls folders : Lengths) (longest : Option ℕ) (know
           (none_near (is_named maps) (is_prefix maps) urls folders known.named known.prefixes most few (drop i line)
           (λ bytes some within. ap numbers_after (drop-drop bytes i line) ∙ none (i + bytes) (omega (arith, least, some)) (omega (arith, below, within, far))))
 
--- none begins where no named URL reaches the numbers, and no prefix what bars
-module _ (maps : MapsSeen) (line : List ℕ) (near first numbers barred : ℕ)
-    (none : (i : ℕ) → near < i → i < numbers → numbers_after (drop i line) ≡ None) (bars : IsBarred line near barred)
-    (opens : IsOpen maps near first numbers barred) (i : ℕ) (least : near ≤ i) (below : i < first) where
+-- none begins where no named URL reaches what has a query up to numbers, and no prefix what bars
+module _ (maps : MapsSeen) (line : List ℕ) (near first queried barred : ℕ) (queries : IsUnqueried line near queried) (bars : IsBarred line near barred)
+    (opens : IsOpen maps near first queried barred) (i : ℕ) (least : near ≤ i) (below : i < first) where
   abbrev named_there : ℕ
   named_there = named_bytes (is_named maps) (drop i line)
 
@@ -364,24 +407,28 @@ module _ (maps : MapsSeen) (line : List ℕ) (near first numbers barred : ℕ)
   no_run some = elim (greatest_passes (has_prefix (is_prefix maps) (drop i line)) (length (drop i line))) [
     | inl zero_is ↦ absurd (omega (arith, zero_is, some))
     | inr on ↦
-        let short = (opens (take prefix_there (drop i line)) i least below).1 (prefix_on (is_prefix maps) (drop i line) prefix_there on) in
         let all = length-take-le prefix_there (drop i line) (greatest_within (has_prefix (is_prefix maps) (drop i line)) (length (drop i line))) in
+        let short = (opens (take prefix_there (drop i line)) i least below).1 (prefix_on (is_prefix maps) (drop i line) prefix_there on)
+        (omega (arith, all, some)) in
         ap (run_length 2048) (drop-drop prefix_there i line) ∙ bars (i + prefix_there) (omega (arith, least, some)) (omega (arith, short, all))
   ]
 
-  none_after : 1 ≤ named_there → numbers_after (drop named_there (drop i line)) ≡ None
-  none_after some = elim (greatest_passes (has_named (is_named maps) (drop i line)) (length (drop i line))) [
+  none_named : 1 ≤ named_there → run_length 2048 (drop named_there (drop i line)) ≡ None
+  none_named some = elim (greatest_passes (has_named (is_named maps) (drop i line)) (length (drop i line))) [
     | inl zero_is ↦ absurd (omega (arith, zero_is, some))
     | inr on ↦
         let short = (opens (take named_there (drop i line)) i least below).0 (named_on (is_named maps) (drop i line) named_there on) in
         let all = length-take-le named_there (drop i line) (greatest_within (has_named (is_named maps) (drop i line)) (length (drop i line))) in
-        ap numbers_after (drop-drop named_there i line) ∙ none (i + named_there) (omega (arith, least, some)) (omega (arith, short, all))
+        let none : query_length (drop named_there (drop i line)) ≡ None =
+        ap query_length (drop-drop named_there i line) ∙ queries (i + named_there) (omega (arith, least, some)) (omega (arith, short, all)) in
+        absurd (cc (ap is_some none, named_behind (is_named maps) (drop i line) named_there on))
   ]
 
   pub none_open : begun_at (place_at maps) line i ≡ None
   none_open =
       not_begun (place_at maps) line i
-      (no_candidate (is_named maps) (is_prefix maps) (drop i line) (run_none (drop i line) prefix_there no_run) none_after)
+      (no_candidate (is_named maps) (is_prefix maps) (drop i line) (run_none (drop i line) named_there none_named)
+      (run_none (drop i line) prefix_there no_run))
 
 -- ---- the lengths are known
 
@@ -436,8 +483,9 @@ module _ (table : List (List ℕ × MapRecord)) (text : List ℕ) where
   -- where no front of a text is a URL of the table, no place begins it
   pub none_known : ((bytes : ℕ) → is_some (value_under (take bytes text) table) ≡ false) → table_place_at table text ≡ None
   none_known none =
-      no_candidate named prefixes text (run_none text (prefix_bytes prefixes text) no_folder)
-      (λ some. elim (greatest_passes (has_named named text) (length text)) [
+      no_candidate named prefixes text
+      (run_none text (named_bytes named text) (λ some. elim (greatest_passes (has_named named text) (length text)) [
         | inl zero_is ↦ absurd (omega (arith, zero_is, some))
         | inr on ↦ absurd (cc (ap (λ b. b || false) (none (named_bytes named text)), named_on named text (named_bytes named text) on))
-      ])
+      ]))
+      (run_none text (prefix_bytes prefixes text) no_folder)

@@ -12,6 +12,7 @@ pub mod NearLaws
 pub mod CountLaws
 pub mod PartLaws
 pub mod PartStepLaws
+pub mod BesideLaws
 pub mod PassageLaws
 pub mod FinderLaws
 pub mod CutLaws

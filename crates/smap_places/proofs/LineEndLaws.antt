@@ -5,26 +5,22 @@ use Rattle.std.proofs.Math.Bool.{or-true}
 use Rattle.std.proofs.Math.Seq.{take-append-add}
 use Rattle.std.proofs.lemmas.Bool.{eqb-true, false_from_ne_true, or_from}
 use Rattle.std.proofs.lemmas.List.{get_or-drop}
+use Rattle.std.proofs.lemmas.List.Folds.{list_any_at}
+use Rattle.std.specs.List.{list_any}
 use Rattle.smap_lines.specs.Lines.{has_line_end}
 
--- no byte of the text is an LF
-pub no_end_anywhere : (text : List ℕ) → ((k : ℕ) → k < length text → (get_or text k 0 == 10) ≡ true → ⊥) → has_line_end text ≡ false
-no_end_anywhere [] none = refl
-no_end_anywhere (byte ∷ text) none =
-    or_from (byte == 10) (has_line_end text) (false_from_ne_true (byte == 10) (none 0 (omega arith)))
-    (no_end_anywhere text (λ k within. none (suc k) (omega (arith, within))))
-
--- one is
-pub end_there : (text : List ℕ) (k : ℕ) → k < length text → (get_or text k 0 == 10) ≡ true → has_line_end text ≡ true
-end_there [] k within here = absurd (omega (arith, within))
-end_there (byte ∷ text) zero within here = ap (λ b. b || has_line_end text) here
-end_there (byte ∷ text) (suc k) within here = ap (λ b. (byte == 10) || b) (end_there text k (omega (arith, within)) here) ∙ or-true (byte == 10)
+-- no byte of a text passes a test
+pub none_passes : (test : ℕ → Bool) (text : List ℕ) → ((k : ℕ) → k < length text → test (get_or text k 0) ≡ true → ⊥) → list_any test text ≡ false
+none_passes test [] none = refl
+none_passes test (byte ∷ text) none =
+    or_from (test byte) (list_any test text) (false_from_ne_true (test byte) (none 0 (omega arith)))
+    (none_passes test text (λ k within. none (suc k) (omega (arith, within))))
 
 -- none stands from a byte on
 pub no_end_after : (text : List ℕ) (low start : ℕ) → ((k : ℕ) → low ≤ k → k < length text → (get_or text k 0 == 10) ≡ true → ⊥) → low ≤ start
     → has_line_end (drop start text) ≡ false
 no_end_after text low start none least =
-    no_end_anywhere (drop start text) (λ k within here. none (start + k) (omega (arith, least)) (omega (arith, within, length-drop start text))
+    none_passes (λ byte. byte == 10) (drop start text) (λ k within here. none (start + k) (omega (arith, least)) (omega (arith, within, length-drop start text))
     (ap (λ b. b == 10) (sym (get_or-drop start text k 0)) ∙ here))
 
 -- one in a text stands in the rest of it too
@@ -38,7 +34,7 @@ pub end_later : (text : List ℕ) (from place start : ℕ) → from ≤ start �
     (get_or (drop from text) place 0 == 10) ≡ true → has_line_end (drop start text) ≡ true
 end_later text from place start least late within here =
     let same : start + (from + place - start) ≡ from + place = omega (arith, late) in
-    end_there (drop start text) (from + place - start) (omega (arith, late, within, length-drop start text))
+    list_any_at (λ byte. byte == 10) (drop start text) (from + place - start) 0 (omega (arith, late, within, length-drop start text))
     (ap (λ b. b == 10) (get_or-drop start text (from + place - start) 0 ∙ ap (λ k. get_or text k 0) same ∙ sym (get_or-drop from text place 0)) ∙ here)
 
 pub has_later : (line rest : List ℕ) → has_line_end (line ++ 10 ∷ rest) ≡ true

@@ -105,6 +105,11 @@ module _ (begins : List ℕ → Option PlaceUrl) (window : List ℕ) (high : ℕ
 
 -- ---- what was put so far
 
+-- the bytes of a window up to a place, and what stands in its stead
+abbrev pub place_text : (window : List ℕ) → (to : ℕ) → FoundPlace → (stated : Option MapRecord) → List ℕ
+place_text window to place stated =
+    slice_range window to place.start ++ unwrap_or (replacement stated (place_seen place)) (slice_range window place.start place.end)
+
 module _ {M W : Type 0} (begins : List ℕ → Option PlaceUrl) (Finds : M → (url : List ℕ) → M → Type 0) (under : M → (url : List ℕ) → Option MapRecord)
     (seen : W → SinkSeen) (old : PlaceRewriter M) (before : LineOutput W) (window : List ℕ) (from high : ℕ) where
   pub record IsDone (new : PlaceRewriter M) (after : LineOutput W) (to : ℕ) : Type 0 where
@@ -129,11 +134,6 @@ module _ {M W : Type 0} (begins : List ℕ → Option PlaceUrl) (Finds : M → (
     few_mapped = omega arith;
   }
 
-  -- the bytes up to a place, and what stands in its stead
-  abbrev pub place_text : (to : ℕ) → FoundPlace → (stated : Option MapRecord) → List ℕ
-  place_text to place stated =
-      slice_range window to place.start ++ unwrap_or (replacement stated (place_seen place)) (slice_range window place.start place.end)
-
   module _ (now : PlaceRewriter M) (mid : LineOutput W) (to : ℕ) (is : IsDone now mid to) where
     pub done_looked : Looked Finds old.maps.now now.maps.now
     done_looked = steps_looked Finds under (places_now old []) (places_now now is.text) is.parts is.steps
@@ -149,7 +149,7 @@ module _ {M W : Type 0} (begins : List ℕ → Option PlaceUrl) (Finds : M → (
       abbrev then_now : PlacesNow M
       then_now = record {
         maps = maps;
-        text = is.text ++ place_text to place stated;
+        text = is.text ++ place_text window to place stated;
         places = now.places + 1;
         mapped = now.mapped + cond (is_some (replacement stated (place_seen place))) 1 0;
       }
@@ -176,10 +176,10 @@ module _ {M W : Type 0} (begins : List ℕ → Option PlaceUrl) (Finds : M → (
             passed_then begins window high from to place.end is.parts more is.passed (passed_place begins window high to place next below)
 
         -- it was put
-        pub done_place : (new : PlaceRewriter M) → Puts seen mid after (place_text to place stated) → maps ≡ new.maps.now → IsSameRewriter now new →
+        pub done_place : (new : PlaceRewriter M) → Puts seen mid after (place_text window to place stated) → maps ≡ new.maps.now → IsSameRewriter now new →
             new.places ≡ now.places + 1 → new.mapped ≡ now.mapped + cond (is_some (replacement stated (place_seen place))) 1 0 → IsDone new after place.end
         done_place new put maps_are same places mapped =
-            let text : List ℕ = is.text ++ place_text to place stated in
+            let text : List ℕ = is.text ++ place_text window to place stated in
             let state : then_now ≡ places_now new text = λ i. record { maps = maps_are i; text = text; places = sym places i; mapped = sym mapped i } in
             record {
               parts = is.parts ++ more;
@@ -194,12 +194,12 @@ module _ {M W : Type 0} (begins : List ℕ → Option PlaceUrl) (Finds : M → (
 
         -- a write of it failed
         module _ (Gives : M → (url : List ℕ) → Option MapRecord → Type 0) (same : IsSame Gives Finds) (given : IsGiven Gives Finds under) where
-          pub place_fails : FailsToPut seen mid after (place_text to place stated)
+          pub place_fails : FailsToPut seen mid after (place_text window to place stated)
               → FailsToWrite begins (Gives old.maps.now) seen before after window from high
           place_fails fails = record {
             to = place.end;
             parts = is.parts ++ more;
-            text = is.text ++ place_text to place stated;
+            text = is.text ++ place_text window to place stated;
             passed = place_passed;
             may = became_may Gives Finds same under given old.maps.now then_now (is.parts ++ more) old.places old.mapped place_steps;
             front = let both = fails_second is.puts fails in both.front;

@@ -4,7 +4,6 @@ use Rattle.std.proofs.Common.{Some, None, refl, sym, ap, subst, ◌∙◌, arith
 use Rattle.std.specs.Io.KnownBytes.{IsAtEnd, prepend_known}
 use Rattle.std.proofs.lemmas.Bool.{or_parts}
 use Rattle.std.proofs.lemmas.List.{drop-drop, take-append-drop, take_rest}
-use Rattle.std.proofs.lemmas.List.Sums.{count_by-le-length}
 use Rattle.std.proofs.Math.Seq.{drop-append_seam}
 use Rattle.smap_io.specs.Device.{Gives, Takes, TakesFront}
 use Rattle.smap_lines.specs.Editing.{DevicesSeen}
@@ -59,11 +58,6 @@ pub ends_more : (front window more now : List ℕ) → now ≡ window ++ more
     → count_by is_end (front ++ now) ≡ count_by is_end (front ++ window) + count_by is_end more
 ends_more front window more now is =
     ap (λ l. count_by is_end (front ++ l)) is ∙ ap (count_by is_end) (sym (append_assoc front window more)) ∙ ends_both (front ++ window) more
-
-pub none_more : (front window more now : List ℕ) (ends : ℕ) → now ≡ window ++ more → length more ≡ 0 → ends ≡ count_by is_end (front ++ window)
-    → ends ≡ count_by is_end (front ++ now)
-none_more front window more now ends is none ends_is =
-    omega (arith, ends_more front window more now is, count_by-le-length is_end more, none, ends_is)
 
 -- cut, it is the same text
 pub cut_text : (front now : List ℕ) (cut : ℕ) → (front ++ take cut now) ++ drop cut now ≡ front ++ now

@@ -1,9 +1,12 @@
 -- How far a URL runs to the first numbers.
-use Rattle.std.proofs.Common.{◌≡◌, ◌+◌, ◌≤◌, ℕ, zero, suc, Bool, true, false, cond, List, [], ◌∷◌, ◌++◌, length, IfSome, Option, Some, None, is_some}
-use Rattle.std.proofs.Common.{◌<◌, ◌⊎◌, drop, get_or, inl, inr, option_map, refl, sym, ap, ◌∙◌, arith}
-use Rattle.std.proofs.lemmas.List.{drop_more}
-use Rattle.smap_places.specs.Candidates.{is_url_byte, run_further, run_length}
+use Rattle.std.proofs.Math.Bool.{or-true}
+use Rattle.std.proofs.Common.{◌≡◌, ◌==◌, ◌||◌, ◌+◌, ◌-◌, ◌≤◌, ℕ, zero, suc, Bool, true, false, cond, List, [], ◌∷◌, ◌++◌, length, IfSome, Option, Some, None, is_some}
+use Rattle.std.proofs.Common.{◌<◌, ◌⊎◌, drop, take, get_or, inl, inr, option_map, refl, sym, ap, ◌∙◌, arith}
+use Rattle.std.proofs.lemmas.Bool.{false_from_ne_true}
+use Rattle.std.proofs.lemmas.List.{drop_more, get_or-drop, get_or-take}
+use Rattle.smap_places.specs.Candidates.{has_query, is_url_byte, query_length, run_further, run_length}
 use Rattle.smap_places.specs.Places.{numbers_after}
+use Rattle.smap_places.specs.Private.Finder.{IsBarred, IsUnqueried}
 use Rattle.smap_places.proofs.NumberReach.{numbers_line, numbers_reach}
 use Rattle.smap_places.proofs.NumberLaws.{no_numbers}
 
@@ -79,6 +82,73 @@ run_reach zero (byte ∷ text) later long =
 run_reach (suc most) (byte ∷ text) later long =
     ap (λ o. cond (is_some o) (Some 0) (run_further byte (run_length most (text ++ later)))) (numbers_reach (byte ∷ text) later (omega (arith, long)))
     ∙ ap (λ o. cond (is_some (numbers_after (byte ∷ text))) (Some 0) (run_further byte o)) (run_reach most text later (omega (arith, long)))
+
+-- ---- a query or a fragment
+
+query_begins : (text later : List ℕ) → 0 < length text → has_query (text ++ later) ≡ has_query text
+query_begins [] later some = absurd (omega (arith, some))
+query_begins (byte ∷ text) later some = refl
+
+query_begins_line : (line rest : List ℕ) → has_query (line ++ 10 ∷ rest) ≡ has_query line
+query_begins_line [] rest = refl
+query_begins_line (byte ∷ line) rest = refl
+
+pub query_line : (line rest : List ℕ) → query_length (line ++ 10 ∷ rest) ≡ query_length line
+query_line line rest = λ i. cond (is_some (numbers_line line rest i) || query_begins_line line rest i) (run_line 2048 line rest i) None
+
+pub query_reach : (text later : List ℕ) → 2048 + 23 ≤ length text → query_length (text ++ later) ≡ query_length text
+query_reach text later long =
+    λ i. cond (is_some (numbers_reach text later (omega (arith, long)) i) || query_begins text later (omega (arith, long)) i) (run_reach 2048 text later long i) None
+
+-- it runs on where it begins, and is empty before numbers
+pub query_runs : (text : List ℕ) → has_query text ≡ true → query_length text ≡ run_length 2048 text
+query_runs text on =
+    ap (λ b. cond (is_some (numbers_after text) || b) (run_length 2048 text) None) on
+    ∙ ap (λ b. cond b (run_length 2048 text) None) (or-true (is_some (numbers_after text)))
+
+pub query_empty : (text : List ℕ) → is_some (numbers_after text) ≡ true → query_length text ≡ Some 0
+query_empty [] on = absurd (cc (ap is_some no_numbers, on))
+query_empty (byte ∷ text) on =
+    ap (λ b. cond (b || has_query (byte ∷ text)) (run_length 2048 (byte ∷ text)) None) on ∙ run_ends 2048 byte text on
+
+pub query_none : (text : List ℕ) → is_some (numbers_after text) ≡ false → has_query text ≡ false → query_length text ≡ None
+query_none text off none = λ i. cond (off i || none i) (run_length 2048 text) None
+
+-- it is what runs there, or nothing
+pub query_is_run : (text : List ℕ) (run : ℕ) → query_length text ≡ Some run → run_length 2048 text ≡ Some run
+query_is_run text run is = go (is_some (numbers_after text) || has_query text) is
+  where
+    go : (on : Bool) → cond on (run_length 2048 text) None ≡ Some run → run_length 2048 text ≡ Some run
+    go true is = is
+    go false is = cc
+
+pub none_to_query : (text : List ℕ) → run_length 2048 text ≡ None → query_length text ≡ None
+none_to_query text none = go (is_some (numbers_after text) || has_query text)
+  where
+    go : (on : Bool) → cond on (run_length 2048 text) None ≡ None
+    go true = none
+    go false = refl
+
+-- where none begins before numbers, and where no URL runs to them
+pub no_query_between : (line : List ℕ) (near numbers : ℕ) → ((i : ℕ) → near < i → i < numbers → numbers_after (drop i line) ≡ None)
+    → ((i : ℕ) → near ≤ i → i < numbers → has_query (drop i line) ≡ false) → IsUnqueried line near numbers
+no_query_between line near numbers none off end above below =
+    query_none (drop end line) (ap is_some (none end above below)) (off end (omega (arith, above)) below)
+
+pub barred_query : (line : List ℕ) (near barred : ℕ) → IsBarred line near barred → IsUnqueried line near barred
+barred_query line near barred bars end above below = none_to_query (drop end line) (bars end above below)
+
+-- in a part of a line that has neither byte
+pub no_query_in : (line : List ℕ) (low high : ℕ) → high ≤ length line
+    → ((k : ℕ) → k < high - low → ((get_or (take (high - low) (drop low line)) k 0 == 63) || (get_or (take (high - low) (drop low line)) k 0 == 35)) ≡ true → ⊥)
+    → (i : ℕ) → low ≤ i → i < high → has_query (drop i line) ≡ false
+no_query_in line low high within none i least below =
+    let same : low + (i - low) ≡ i = omega (arith, least) in
+    let here : get_or (take (high - low) (drop low line)) (i - low) 0 ≡ get_or line i 0 =
+    get_or-take (high - low) (drop low line) (i - low) 0 (omega (arith, least, below)) ∙ get_or-drop low line (i - low) 0 ∙ ap (λ k. get_or line k 0) same in
+    ap has_query (drop_more line i 0 (omega (arith, below, within)))
+    ∙ false_from_ne_true ((get_or line i 0 == 63) || (get_or line i 0 == 35))
+    (λ on. none (i - low) (omega (arith, least, below)) (ap (λ b. (b == 63) || (b == 35)) here ∙ on))
 
 -- ---- where none runs
 

@@ -3,6 +3,7 @@ pub mod Printed
 pub mod PlaceSeen
 pub mod PlacesNear
 pub mod PlacesOver
+pub mod PlacesBeside
 pub mod Candidates
 pub mod PlaceAt
 pub mod PlacesRewritten

@@ -25,7 +25,7 @@ place_at maps = candidate_at (is_named maps) (is_prefix maps)
 
 -- over a table alone: the place with its longest URL
 abbrev pub table_alone : List (List ℕ × MapRecord) → MapsSeen
-table_alone table = record { table = table; locations = record { files = []; folders = [] } }
+table_alone table = record { table = table; locations = record { files = []; folders = []; patterns = [] } }
 
 abbrev pub table_place_at : List (List ℕ × MapRecord) → (text : List ℕ) → Option PlaceUrl
 table_place_at table = place_at (table_alone table)

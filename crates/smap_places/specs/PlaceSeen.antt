@@ -1,5 +1,7 @@
 -- What contracts see of a `FoundPlace`, and which place of a text is the next.
-use Rattle.std.specs.Prelude.{◌≡◌, ◌<◌, ◌≤◌, ◌-◌, ℕ, List, Option, Some, None, length}
+use Rattle.std.specs.Prelude.{◌≡◌, ◌<◌, ◌≤◌, ◌-◌, ℕ, List, Option, Some, None, length, option_map}
+use Rattle.smap_by_text.specs.ByText.{value_under}
+use Rattle.smap_record.specs.Record.{MapRecord}
 use Rattle.smap_places.specs.Places.{PlaceUrl, begun_at}
 use Rattle.smap_places.specs.declared.place.FoundPlace.{FoundPlace}
 
@@ -11,6 +13,10 @@ place_seen place = record {
   column = place.column;
   size = place.end - place.start;
 }
+
+-- the map that comes with it is what a table has under its URL
+abbrev pub HasMap : List (List ℕ × MapRecord) → FoundPlace → Type 0
+HasMap table place = option_map (λ file. file.now.stated) place.map ≡ value_under place.url.now table
 
 -- it is the first of a text's places that begin at byte `from` or after it
 pub record IsNext (begins : List ℕ → Option PlaceUrl) (text : List ℕ) (from : ℕ) (place : FoundPlace) : Type 0 where

@@ -1,27 +1,29 @@
 //! The places in a text.
-ghost use Rattle.std.specs.Prelude.{◌≡◌, ◌<◌, ◌≤◌, ◌+◌, ℕ, IfOk, IfSome, IsSomeAnd, MatchOption, None, drop, length, option_map};
+ghost use Rattle.std.specs.Prelude.{◌≡◌, ◌<◌, ◌≤◌, ◌+◌, ℕ, IfOk, IfSome, IsSomeAnd, MatchOption, None, drop, is_some, length};
+ghost use Rattle.std.specs.Prelude.{max, option_map};
 ghost use Rattle.smap_lines.specs.Lines.{has_line_end};
-ghost use Rattle.smap_places.specs.Candidates.{has_named, has_prefix, named_bytes, place_of_bytes, prefix_bytes, run_bytes};
+ghost use Rattle.smap_places.specs.Candidates.{has_named, has_prefix, named_bytes, own_bytes, place_of_bytes, prefix_bytes, run_end};
 ghost use Rattle.smap_places.specs.Places.{numbers_after};
 ghost use Rattle.smap_places.specs.PlaceAt.{is_named, is_prefix, place_at};
-ghost use Rattle.smap_places.specs.PlaceSeen.{IsNext, NoNext, NoneBetween, place_seen};
+ghost use Rattle.smap_places.specs.PlaceSeen.{HasMap, IsNext, NoNext, NoneBetween, place_seen};
 ghost use Rattle.smap_places.specs.PlacesNear.{DecidedWithin, EndsAtLines};
-ghost use Rattle.smap_places.specs.Private.Finder.{IsBarred, IsLongest, IsOpen};
+ghost use Rattle.smap_places.specs.Private.Finder.{HasOwnMap, IsBarred, IsLongest, IsOpen, IsUnqueried};
 
 use crate::begins::may_begin;
 use crate::lengths::Lengths;
 use crate::numbers::{MOST_NUMBERS, find_numbers, numbers_after};
-use crate::place::FoundPlace;
-use crate::runs::{MOST_RUN, barred_end, run_length};
+use crate::place::{FoundPlace, FoundUrl};
+use crate::runs::{MOST_RUN, barred_end, has_query_between, query_length, run_length};
 use memchr::memchr;
 use smap_locations::Locations;
+use smap_record::MapFile;
 use smap_trace::Table;
 use std::alloc::{AllocError, Global};
 use std::marker::Model;
 
-/// Finds the places of a text whose URLs have a map in a table or a file that is named for them, or stand behind the prefix
-/// of a folder. Of two URLs that begin at one byte the longer is taken. Which maps those of files and folders have is not its
-/// matter.
+/// Finds the places of a text whose URLs have a map in a table or a file that is named for them, also where a query or a
+/// fragment follows, or stand behind the prefix of a folder. Of two URLs that begin at one byte the longer is taken. The map of a URL that the table has comes with the
+/// place; which maps those of files and folders have is not its matter.
 #[derive(Drop)]
 pub struct PlaceFinder<'t> {
     table: &'t Table,
@@ -29,7 +31,7 @@ pub struct PlaceFinder<'t> {
     // Of the URLs that are named, and of the prefixes.
     named: Lengths,
     prefixes: Lengths,
-    // How many bytes the URL of a place has at most; `None` where they are too many to count.
+    // How many bytes stand before the numbers of a place at most; `None` where they are too many to count.
     longest: Option<usize>,
 }
 
@@ -84,10 +86,11 @@ impl<'t> PlaceFinder<'t> {
     /// The first place of a text that begins at byte `from` or after it. What stands before `from` is asked only for
     /// whether a place may begin there: so the places of a text are found one after the end of another, from 0. The call
     /// takes no memory.
-    pub fn next<'l>(&self, text: &'l [u8], from: usize) -> Option<FoundPlace<'l>>
+    pub fn next<'l>(&self, text: &'l [u8], from: usize) -> Option<FoundPlace<'l, 't>>
         requires { from ≤ length text.now }
-        ensures { MatchOption result
-            (NoNext (place_at self.now) text.now from) (IsNext (place_at self.now) text.now from) }
+        ensures { MatchOption result (NoNext (place_at self.now) text.now from)
+            (λ place. IsNext (place_at self.now) text.now from place ×
+            HasMap self.now.table place) }
     {
         self.next_before(text, from, text.len())
     }
@@ -98,18 +101,19 @@ impl<'t> PlaceFinder<'t> {
         text: &'l [u8],
         from: usize,
         high: usize,
-    ) -> Option<FoundPlace<'l>>
+    ) -> Option<FoundPlace<'l, 't>>
         requires from { from ≤ length text.now }
         requires high { high ≤ length text.now }
         ensures { MatchOption result (NoneBetween (place_at self.now) text.now from high)
-            (λ place. IsNext (place_at self.now) text.now from place × (place.start < high)) }
+            (λ place. IsNext (place_at self.now) text.now from place × (place.start < high) ×
+            HasMap self.now.table place) }
     {
         let mut start = from;
         while start < high {
             let numbers = find_numbers(text, start + 1)?;
             let near = first_start(self.longest, start, numbers);
-            let barred = self.barred(text, near, numbers);
-            let low = self.first_open(near, numbers, barred);
+            let (queried, barred) = self.bars(text, near, numbers);
+            let low = self.first_open(near, queried, barred);
             if let Some(place) = self.first_between(text, low, numbers.min(high), barred) {
                 return Some(place);
             }
@@ -118,26 +122,35 @@ impl<'t> PlaceFinder<'t> {
         None
     }
 
-    // Before which byte no URL runs behind a prefix that ends after byte `near`, where these numbers are the first that
-    // stand after it.
-    fn barred(&self, line: &[u8], near: usize, numbers: usize) -> usize
+    // Before which byte no named URL has a query or a fragment up to numbers that ends after byte `near`, and before which no
+    // URL runs behind a prefix that ends after it, where these numbers are the first that stand after it.
+    fn bars(&self, line: &[u8], near: usize, numbers: usize) -> (usize, usize)
+        requires near { near ≤ numbers }
         requires within { numbers ≤ length line.now }
         requires none { (i : ℕ) → near < i → i < numbers → numbers_after (drop i line.now) ≡ None }
-        ensures { IsBarred line.now near result }
+        ensures queries { IsUnqueried line.now near result.0 }
+        ensures runs { IsBarred line.now near result.1 }
     {
-        if self.prefixes.greatest == 0 {
-            return near;
+        if has_query_between(line, near, numbers) {
+            let barred = barred_end(line, near, numbers);
+            return (barred, barred);
         }
-        barred_end(line, near, numbers)
+        if self.prefixes.greatest == 0 {
+            return (numbers, near);
+        }
+        (numbers, barred_end(line, near, numbers))
     }
 
-    // The first byte from `near` on where a named URL may begin that ends before these numbers, or a prefix that ends at
+    // The first byte from `near` on where a named URL may begin that ends at `queried` or after it, or a prefix that ends at
     // `barred` or after it.
-    fn first_open(&self, near: usize, numbers: usize, barred: usize) -> usize
+    fn first_open(&self, near: usize, queried: usize, barred: usize) -> usize
         ensures after { near ≤ result }
-        ensures open { IsOpen self.now near result numbers barred }
+        ensures open { IsOpen self.now near result queried barred }
     {
-        let named = numbers.saturating_sub(self.named.greatest);
+        let named = queried.saturating_sub(self.named.greatest);
+        if self.prefixes.greatest == 0 {
+            return named.max(near);
+        }
         let in_folder = barred.saturating_sub(self.prefixes.greatest);
         named.min(in_folder).max(near)
     }
@@ -149,11 +162,12 @@ impl<'t> PlaceFinder<'t> {
         low: usize,
         high: usize,
         barred: usize,
-    ) -> Option<FoundPlace<'l>>
+    ) -> Option<FoundPlace<'l, 't>>
         requires high { high ≤ length line.now }
         requires barred { IsBarred line.now low barred }
         ensures { MatchOption result (NoneBetween (place_at self.now) line.now low high)
-            (λ place. IsNext (place_at self.now) line.now low place × (place.start < high)) }
+            (λ place. IsNext (place_at self.now) line.now low place × (place.start < high) ×
+            HasMap self.now.table place) }
     {
         for start in low..high {
             if may_begin(line, start) {
@@ -167,55 +181,129 @@ impl<'t> PlaceFinder<'t> {
 
     // The place that begins at `start`. No URL runs behind a prefix that ends before `barred`.
     #[tactic(auto, unfolding(crate::specs::Candidates::candidate_at))]
-    fn place_at<'l>(&self, line: &'l [u8], start: usize, barred: usize) -> Option<FoundPlace<'l>>
+    fn place_at<'l>(
+        &self,
+        line: &'l [u8],
+        start: usize,
+        barred: usize,
+    ) -> Option<FoundPlace<'l, 't>>
         requires start { start ≤ length line.now }
         requires barred { IsBarred line.now start barred }
         ensures place { option_map place_seen result ≡ place_at self.now (drop start line.now) }
         ensures here { IfSome result (λ place.
             (place.start ≡ start) × (start < place.end) × (place.end ≤ length line.now)) }
+        ensures map { IfSome result (HasMap self.now.table) }
     {
         let text = &line[start..];
-        let named = self.named_bytes(text);
-        let in_folder = self.bytes_in_folder(text, barred.saturating_sub(start));
-        let bytes = named.max(in_folder);
-        place_with(line, start, bytes)
+        let named = self.longest_named(text);
+        let run = self.folder_end(text, barred.saturating_sub(start));
+        let url = self.longer(text, named, run);
+        self.place_with(line, start, url)
     }
 
-    // How many bytes the longest named URL has that begins a text with numbers behind it, 0 where there is none.
-    fn named_bytes(&self, text: &[u8]) -> usize
-        ensures named { result ≡ named_bytes (is_named self.now) text.now }
-        ensures within { result ≤ length text.now }
+    // Of a named URL that begins a text, and one of so many bytes in a folder, that which runs further, and the first where
+    // both run as far.
+    fn longer(&self, text: &[u8], named: FoundUrl<'t>, run: usize) -> FoundUrl<'t>
+        requires within { run ≤ length text.now }
+        requires map { HasOwnMap self.now.table text.now named }
+        ensures bytes { result.bytes ≡ own_bytes named.entry.bytes named.entry.end run }
+        ensures end { result.end ≡ max named.entry.end run }
+        ensures map { HasOwnMap self.now.table text.now result }
     {
-        let mut most = 0;
+        if run <= named.end {
+            return named;
+        }
+        FoundUrl {
+            bytes: run,
+            end: run,
+            map: self.table.map_for(&text[..run]),
+        }
+    }
+
+    // The place at `start` with a URL that begins there, where there is one.
+    fn place_with<'l>(
+        &self,
+        line: &'l [u8],
+        start: usize,
+        found: FoundUrl<'t>,
+    ) -> Option<FoundPlace<'l, 't>>
+        requires start { start ≤ length line.now }
+        requires bytes { found.bytes ≤ length (drop start line.now) }
+        requires end { found.end ≤ length (drop start line.now) }
+        requires map { HasOwnMap self.now.table (drop start line.now) found }
+        ensures place { option_map place_seen result
+            ≡ place_of_bytes (drop start line.now) found.entry.bytes found.entry.end }
+        ensures here { IfSome result (λ place.
+            (place.start ≡ start) × (start < place.end) × (place.end ≤ length line.now)) }
+        ensures map { IfSome result (HasMap self.now.table) }
+    {
+        let FoundUrl { bytes, end, map } = found;
+        if end == 0 {
+            return None;
+        }
+        let text = &line[start..];
+        let (line, column, size) = numbers_after(&text[end..])?;
+        Some(FoundPlace {
+            start,
+            end: start + end + size,
+            url: &text[..bytes],
+            line,
+            column,
+            map,
+        })
+    }
+
+    // The longest named URL that begins a text with numbers behind it, or a query or a fragment up to numbers.
+    fn longest_named(&self, text: &[u8]) -> FoundUrl<'t>
+        ensures bytes { result.bytes ≡ named_bytes (is_named self.now) text.now }
+        ensures end { result.end ≡ run_end text.now result.bytes }
+        ensures within { result.bytes ≤ length text.now }
+        ensures end_within { result.end ≤ length text.now }
+        ensures map { HasOwnMap self.now.table text.now result }
+    {
+        let mut named = FoundUrl {
+            bytes: 0,
+            end: 0,
+            map: None,
+        };
         for bytes in &self.named.each {
-            if *bytes > most && *bytes <= text.len() && self.has_named(text, *bytes) {
-                most = *bytes;
+            if *bytes > named.bytes && *bytes <= text.len() {
+                if let Some(longer) = self.named_url(text, *bytes) {
+                    named = longer;
+                }
             }
         }
-        most
+        named
     }
 
-    // Whether the first bytes of a text, so many, are a named URL without LF with numbers behind it.
-    fn has_named(&self, text: &[u8], bytes: usize) -> bool
-        requires { bytes ≤ length text.now }
-        ensures { result ≡ has_named (is_named self.now) text.now bytes }
+    // The first bytes of a text, so many, where they are a named URL without LF, and numbers stand behind it, or behind its
+    // query or fragment.
+    fn named_url(&self, text: &[u8], bytes: usize) -> Option<FoundUrl<'t>>
+        requires some { 0 < bytes }
+        requires within { bytes ≤ length text.now }
+        ensures named { is_some result ≡ has_named (is_named self.now) text.now bytes }
+        ensures url { IfSome result (λ url. (url.bytes ≡ bytes) × (url.end ≡ run_end text.now bytes) ×
+            (url.end ≤ length text.now)) }
+        ensures map { IfSome result (HasOwnMap self.now.table text.now) }
     {
         let (url, rest) = text.split_at(bytes);
-        numbers_after(rest).is_some() && self.is_named(url) && !has_line_end(url)
+        let run = query_length(rest)?;
+        if has_line_end(url) {
+            return None;
+        }
+        let map = self.table.map_for(url);
+        if map.is_none() && !self.locations.has_file(url) {
+            return None;
+        }
+        let end = bytes + run;
+        Some(FoundUrl { bytes, end, map })
     }
 
-    // Whether the table has a map under a URL, or a file is named for it.
-    fn is_named(&self, url: &[u8]) -> bool
-        ensures { result ≡ is_named self.now url.now }
-    {
-        self.table.map_for(url).is_some() || self.locations.has_file(url)
-    }
-
-    // How many bytes the URL has that runs from the longest prefix to numbers, 0 where there is none. None runs behind a
-    // prefix that ends before `barred`.
-    fn bytes_in_folder(&self, text: &[u8], barred: usize) -> usize
+    // Where the numbers stand to which a URL runs from the longest prefix that begins a text, 0 where none does. None runs
+    // behind a prefix that ends before `barred`.
+    fn folder_end(&self, text: &[u8], barred: usize) -> usize
         requires { IsBarred text.now 0 barred }
-        ensures run { result ≡ run_bytes text.now (prefix_bytes (is_prefix self.now) text.now) }
+        ensures run { result ≡ run_end text.now (prefix_bytes (is_prefix self.now) text.now) }
         ensures within { result ≤ length text.now }
     {
         let prefix = self.prefix_bytes(text);
@@ -252,49 +340,24 @@ impl<'t> PlaceFinder<'t> {
     }
 }
 
-// How many bytes a URL has at most where those that are named, and prefixes, have so many. `None` where they are too many to
-// count.
+// How many bytes stand before the numbers of a place at most where the URLs that are named, and prefixes, have so many. `None`
+// where they are too many to count.
 fn longest_url(named: usize, prefix: usize) -> Option<usize>
     ensures { IfSome result (IsLongest named prefix) }
 {
-    if prefix == 0 {
-        return Some(named);
-    }
-    let in_folder = prefix.checked_add(MOST_RUN)?;
-    Some(named.max(in_folder))
+    named.max(prefix).checked_add(MOST_RUN)
 }
 
 // The first byte from `start` on where a URL of at most so many bytes may begin that ends before these numbers.
 fn first_start(longest: Option<usize>, start: usize, numbers: usize) -> usize
     ensures after { start ≤ result }
+    ensures before { start ≤ numbers → result ≤ numbers }
     ensures near { start < result → IsSomeAnd longest (λ bytes. result + bytes ≤ numbers) }
 {
     match longest {
         Some(longest) => numbers.saturating_sub(longest).max(start),
         None => start,
     }
-}
-
-// The place at `start` with a URL of so many bytes, where there are some and numbers stand behind them.
-fn place_with(line: &[u8], start: usize, bytes: usize) -> Option<FoundPlace<'_>>
-    requires start { start ≤ length line.now }
-    requires within { bytes ≤ length (drop start line.now) }
-    ensures place { option_map place_seen result ≡ place_of_bytes (drop start line.now) bytes }
-    ensures here { IfSome result (λ place.
-        (place.start ≡ start) × (start < place.end) × (place.end ≤ length line.now)) }
-{
-    if bytes == 0 {
-        return None;
-    }
-    let (url, rest) = line[start..].split_at(bytes);
-    let (line, column, size) = numbers_after(rest)?;
-    Some(FoundPlace {
-        start,
-        end: start + bytes + size,
-        url,
-        line,
-        column,
-    })
 }
 
 // Whether an LF stands in a text.

@@ -1,9 +1,11 @@
 //! The places of a text, rewritten as it passes through a window.
-ghost use Rattle.std.specs.Prelude.{◌≡◌, ◌<◌, ◌≤◌, ◌+◌, ◌^◌, ◌++◌, [], codes, false, true, is_some, length, map, option_map, slice_range, unwrap_or, IfOk};
-ghost use Rattle.std.specs.Prelude.{OnErr, OnOk};
+ghost use Rattle.std.specs.Prelude.{◌≡◌, ◌<◌, ◌≤◌, ◌+◌, ◌^◌, ◌++◌, [], codes, false, true, is_some, length, map, option_map};
+ghost use Rattle.std.specs.Prelude.{slice_range, unwrap_or, IfOk, MatchOption, OnErr, OnOk};
 ghost use Rattle.std.specs.List.{concat};
+ghost use Rattle.std.specs.Option.{option_or};
 ghost use Rattle.smap_lines.specs.LineOutput.{IsPut, IsSameOutput};
 ghost use Rattle.smap_places.specs.PlaceAt.{place_at};
+ghost use Rattle.smap_places.specs.PlacesBeside.{FindsBeside, GivesBeside, found_beside};
 ghost use Rattle.smap_places.specs.PlaceSeen.{place_seen};
 ghost use Rattle.smap_places.specs.PlacesRewritten.{replacement};
 ghost use Rattle.smap_places.specs.Private.PlaceRewriter.{FailsToWrite, IsSameRewriter, Writes};
@@ -31,9 +33,9 @@ pub struct PlaceRewriter<'f, 't, 'm, M: Maps> {
 
 impl<M: Maps> PlaceRewriter<'_, '_, '_, M> {
     /// Writes what becomes of a window from byte `from` on: of the places that begin before byte `high`, which the caller
-    /// knows to be decided, and of the bytes before it that belong to none. The map of each place's URL is looked for when
-    /// the place is met. The result is the byte after all these: `high`, or the end of a place that begins before it.
-    /// Nothing waits then.
+    /// knows to be decided, and of the bytes before it that belong to none. The map of each place's URL that does not come
+    /// with it is looked for when the place is met. The result is the byte after all these: `high`, or the end of a place that
+    /// begins before it. Nothing waits then.
     pub fn write_places<W: ByteSink>(
         &mut self,
         window: &[u8],
@@ -47,8 +49,11 @@ impl<M: Maps> PlaceRewriter<'_, '_, '_, M> {
         requires countable_mapped { self.old.mapped + length window.now < 2 ^ 64 }
         ensures same { IsSameOutput output.old output.new }
         ensures same_maps { IsSameRewriter self.old self.new }
-        ensures looked { Looked M.Finds self.old.maps.now self.new.maps.now }
-        ensures writes { IfOk result (λ to. Writes (place_at self.old.finder.now) M.Finds M.found
+        ensures looked { Looked (FindsBeside self.old.finder.now.table M.Finds)
+            self.old.maps.now self.new.maps.now }
+        ensures writes { IfOk result (λ to. Writes (place_at self.old.finder.now)
+            (FindsBeside self.old.finder.now.table M.Finds)
+            (found_beside self.old.finder.now.table M.found)
             W.seen self.old self.new output.old output.new window.now from high to) }
         ensures far { IfOk result (λ to. high ≤ to) }
         ensures none { OnOk result (output.new.gathered.now ≡ []) }
@@ -56,13 +61,14 @@ impl<M: Maps> PlaceRewriter<'_, '_, '_, M> {
             ((W.seen output.new.sink.now).failed ≡ (W.seen output.old.sink.now).failed) }
 
         ensures front { OnErr result (FailsToWrite (place_at self.old.finder.now)
-            (M.Gives self.old.maps.now) W.seen output.old output.new window.now from high) }
+            (GivesBeside self.old.finder.now.table M.Gives self.old.maps.now)
+            W.seen output.old output.new window.now from high) }
         ensures failure { OnErr result ((W.seen output.new.sink.now).failed ≡ true) }
     {
         let mut to = from;
         while let Some(place) = self.finder.next_before(window, to, high) {
-            self.maps.find(place.url);
-            let map = self.maps.map_for(place.url);
+            look_for(self.maps, &place);
+            let map = map_of(self.maps, &place);
             let is_mapped = put_place(self.alloc, map, window, to, &place, output)?;
             self.places += 1;
             self.mapped += u64::from(is_mapped);
@@ -75,6 +81,29 @@ impl<M: Maps> PlaceRewriter<'_, '_, '_, M> {
     }
 }
 
+// Looks for the map of a place's URL, where none comes with the place.
+fn look_for<M: Maps>(maps: &mut M, place: &FoundPlace<'_, '_>)
+    ensures { MatchOption place.now.map (M.Finds maps.old place.now.url.now maps.new)
+        (λ _. maps.new ≡ maps.old) }
+{
+    match place.map {
+        Some(_) => {}
+        None => maps.find(place.url),
+    }
+}
+
+// The map of a place's URL: the one that comes with the place, or else the one that was looked for.
+fn map_of<'m, 't: 'm, M: Maps>(maps: &'m M, place: &FoundPlace<'_, 't>) -> Option<&'m MapFile>
+    ensures { option_map (λ file. file.now.stated) result
+        ≡ option_or (option_map (λ file. file.now.stated) place.now.map)
+        (M.found maps.now place.now.url.now) }
+{
+    match place.map {
+        Some(map) => Some(map),
+        None => maps.map_for(place.url),
+    }
+}
+
 // Puts the bytes of a text from byte `from` on that stand before a place, and what becomes of it where its URL has this
 // map; and says whether it is replaced.
 fn put_place<W: ByteSink>(
@@ -82,7 +111,7 @@ fn put_place<W: ByteSink>(
     map: Option<&MapFile>,
     line: &[u8],
     from: usize,
-    place: &FoundPlace<'_>,
+    place: &FoundPlace<'_, '_>,
     output: &mut LineOutput<'_, W>,
 ) -> Result<bool, DeviceFault>
     requires after { from ≤ place.now.start }

@@ -6,6 +6,7 @@ ghost use Rattle.smap_places.specs.PlacesRewritten.{is_quoting, replacement};
 ghost use Rattle.smap_trace.specs.SightSeen.{replacement_seen};
 
 use crate::place::FoundPlace;
+use memchr::memchr2;
 use smap_record::MapFile;
 use smap_trace::{Replacement, original_at};
 use std::alloc::Global;
@@ -16,7 +17,7 @@ use std::alloc::Global;
 pub fn find_replacement<'t>(
     alloc: Global,
     map: Option<&'t MapFile>,
-    place: &FoundPlace<'_>,
+    place: &FoundPlace<'_, '_>,
 ) -> Option<Replacement<'t>>
     ensures { option_map replacement_seen result
         ≡ replacement (option_map (λ file. file.now.stated) map.entry) (place_seen place.now) }
@@ -37,12 +38,8 @@ pub fn find_replacement<'t>(
 fn has_quoting(text: &[u8]) -> bool
     ensures { result ≡ list_any is_quoting text.now }
 {
-    text.iter().any(|byte| is_quoting(*byte))
-}
-
-// Whether a byte is a quotation mark or a backslash.
-fn is_quoting(byte: u8) -> bool
-    ensures { result ≡ is_quoting byte }
-{
-    byte == b'"' || byte == b'\\'
+    match memchr2(b'"', b'\\', text) {
+        Some(_) => true,
+        None => false,
+    }
 }

@@ -3,6 +3,7 @@ ghost use Rattle.std.specs.Prelude.{◌≡◌, ◌<◌, ◌+◌, ◌^◌, false,
 ghost use Rattle.smap_lines.specs.Editing.{devices_seen, is_read_fault, is_write_fault};
 ghost use Rattle.smap_lines.specs.declared.fault.LineFault.TheVariants.{Memory};
 ghost use Rattle.smap_places.specs.PlaceAt.{place_at};
+ghost use Rattle.smap_places.specs.PlacesBeside.{FindsBeside, GivesBeside, found_beside};
 ghost use Rattle.smap_places.specs.PlacesNear.{DecidedWithin, EndsAtLines};
 ghost use Rattle.smap_places.specs.PlacesOver.{RewritesPlacesFrontOver, RewritesPlacesOver};
 ghost use Rattle.smap_places.specs.PlacesRewriting.{RewritesPlaces, RewritesPlacesFront};
@@ -55,17 +56,18 @@ pub fn rewrite_places<R: ByteSource, W: ByteSink>(
     ensures memory_output { IfErr result (λ fault. fault ≡ Memory → output.new ≡ output.old) }
 {
     let locations = Locations::new(alloc);
+    let none = Table::new(alloc);
     let Ok(finder) = PlaceFinder::new(alloc, table, &locations) else {
         return Err(RewriteFault::Memory);
     };
-    let mut maps = TableMaps(table);
+    let mut maps = TableMaps(&none);
     rewrite_places_over(alloc, input, output, &finder, &mut maps, most_bytes)
 }
 
-/// The same over the places of a finder, and over maps that are looked for when a place names their URL: each
-/// place is replaced by what its URL's map has for it then. Of a line's beginning all but fewer bytes than decide which
-/// place begins at one was written before more is read. The caller gives devices that have not failed. The output is not
-/// flushed.
+/// The same over the places of a finder, the maps of its table, and others, which are looked for when a place names a URL
+/// that the table has not: each place is replaced by what its URL's map has for it then. Of a line's beginning all but fewer
+/// bytes than decide which place begins at one was written before more is read. The caller gives devices that have not failed.
+/// The output is not flushed.
 pub fn rewrite_places_over<R: ByteSource, W: ByteSink, M: Maps>(
     alloc: Global,
     input: &mut R,
@@ -77,13 +79,15 @@ pub fn rewrite_places_over<R: ByteSource, W: ByteSink, M: Maps>(
     requires input_works { (R.seen input.old).failed ≡ false }
     requires output_works { (W.seen output.old).failed ≡ false }
     requires most_bytes { most_bytes < 2 ^ 63 }
-    ensures rewrites { IfOk result (RewritesPlacesOver M.Finds M.found (place_at finder.now)
-        most_bytes (devices_seen (R.seen input.old) (W.seen output.old))
+    ensures rewrites { IfOk result (RewritesPlacesOver (FindsBeside finder.now.table M.Finds)
+        (found_beside finder.now.table M.found) (place_at finder.now) most_bytes
+        (devices_seen (R.seen input.old) (W.seen output.old))
         (devices_seen (R.seen input.new) (W.seen output.new)) maps.old maps.new) }
-    ensures front { IfErr result (RewritesPlacesFrontOver (M.Gives maps.old)
-        (place_at finder.now) most_bytes (devices_seen (R.seen input.old) (W.seen output.old))
+    ensures front { IfErr result (RewritesPlacesFrontOver
+        (GivesBeside finder.now.table M.Gives maps.old) (place_at finder.now) most_bytes
+        (devices_seen (R.seen input.old) (W.seen output.old))
         (devices_seen (R.seen input.new) (W.seen output.new))) }
-    ensures looked { Looked M.Finds maps.old maps.new }
+    ensures looked { Looked (FindsBeside finder.now.table M.Finds) maps.old maps.new }
     ensures input_failure { (R.seen input.new).failed ≡ is_read_fault result }
     ensures output_failure { (W.seen output.new).failed ≡ is_write_fault result }
     ensures memory_input { IfErr result (λ fault. fault ≡ Memory → input.new ≡ input.old) }
@@ -110,16 +114,13 @@ pub fn rewrite_places_over<R: ByteSource, W: ByteSink, M: Maps>(
         let Ok(count) = window.read(input) else {
             return Err(RewriteFault::Read);
         };
-        if count == 0 {
-            break;
-        }
         if count as u64 > most_bytes - total {
             return Err(RewriteFault::TooMuch);
         }
         total += count as u64;
         let bytes = window.bytes();
         ends += count_ends(&bytes[bytes.len() - count..]) as u64;
-        let high = decided_end(bytes, from, reach);
+        let high = decided_end(bytes, from, reach, count == 0);
         let mut lent = LineOutput {
             gathered: &mut gathered,
             sink: output,
@@ -127,24 +128,18 @@ pub fn rewrite_places_over<R: ByteSource, W: ByteSink, M: Maps>(
         let Ok(to) = rewriter.write_places(bytes, from, high, &mut lent) else {
             return Err(RewriteFault::Write);
         };
+        if count == 0 {
+            return Ok(Summary {
+                lines: ends + u64::from(has_open_line(bytes)),
+                frames: rewriter.places,
+                mapped: rewriter.mapped,
+                hidden: 0,
+            });
+        }
         let cut = to.saturating_sub(KNOWN_BYTES);
         window.cut(cut);
         from = to - cut;
     }
-    let bytes = window.bytes();
-    let mut lent = LineOutput {
-        gathered: &mut gathered,
-        sink: output,
-    };
-    let Ok(_) = rewriter.write_places(bytes, from, bytes.len(), &mut lent) else {
-        return Err(RewriteFault::Write);
-    };
-    Ok(Summary {
-        lines: ends + u64::from(has_open_line(bytes)),
-        frames: rewriter.places,
-        mapped: rewriter.mapped,
-        hidden: 0,
-    })
 }
 
 // How many bytes decide which place begins at one, and how many the window has room for: these, those before it that decide

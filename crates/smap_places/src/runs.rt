@@ -1,10 +1,11 @@
-//! What a URL has behind the prefix of a folder.
-ghost use Rattle.std.specs.Prelude.{◌≡◌, ◌<◌, ◌≤◌, ℕ, IfSome, None, drop, length};
-ghost use Rattle.smap_places.specs.Candidates.{is_url_byte, run_length};
+//! What a URL has behind the prefix of a folder, and behind the bytes that are named.
+ghost use Rattle.std.specs.Prelude.{◌≡◌, ◌<◌, ◌≤◌, ℕ, IfSome, None, drop, false, length};
+ghost use Rattle.smap_places.specs.Candidates.{has_query, is_url_byte, query_length, run_length};
 ghost use Rattle.smap_places.specs.Places.{numbers_after};
 ghost use Rattle.smap_places.specs.Private.Finder.{IsBarred};
 
 use crate::numbers::numbers_after;
+use memchr::memchr2;
 
 /// How many bytes it is at most.
 pub const MOST_RUN: usize = 2048;
@@ -29,6 +30,34 @@ pub fn run_length(text: &[u8]) -> Option<usize>
     None
 }
 
+/// How many bytes stand between a named URL and the first numbers of a text behind it: none, or those of a query or a
+/// fragment.
+pub fn query_length(text: &[u8]) -> Option<usize>
+    ensures query { result ≡ query_length text.now }
+    ensures within { IfSome result (λ run. run ≤ length text.now) }
+{
+    if numbers_after(text).is_some() {
+        return Some(0);
+    }
+    if has_query(text) {
+        run_length(text)
+    } else {
+        None
+    }
+}
+
+/// Whether a `?` or a `#` stands in a line from byte `low` on, before another.
+pub fn has_query_between(line: &[u8], low: usize, high: usize) -> bool
+    requires low { low ≤ high }
+    requires high { high ≤ length line.now }
+    ensures { result ≡ false → (i : ℕ) → low ≤ i → i < high → has_query (drop i line.now) ≡ false }
+{
+    match memchr2(b'?', b'#', &line[low..high]) {
+        Some(_) => true,
+        None => false,
+    }
+}
+
 /// Before which byte of a line no URL runs behind a prefix that ends after byte `low`, where these numbers are the first
 /// that stand after it.
 pub fn barred_end(line: &[u8], low: usize, numbers: usize) -> usize
@@ -45,6 +74,16 @@ pub fn barred_end(line: &[u8], low: usize, numbers: usize) -> usize
         end -= 1;
     }
     end
+}
+
+// Whether a text begins with a `?` or a `#`.
+fn has_query(text: &[u8]) -> bool
+    ensures { result ≡ has_query text.now }
+{
+    match text.first() {
+        None => false,
+        Some(byte) => *byte == b'?' || *byte == b'#',
+    }
 }
 
 // Whether a byte may stand in a URL behind a prefix.

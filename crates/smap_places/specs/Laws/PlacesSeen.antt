@@ -16,7 +16,7 @@ use Rattle.smap_places.specs.PlacesRewritten.{replacement}
 module _ {M N : Type 0} (Finds : M → (url : List ℕ) → M → Type 0) (under : M → (url : List ℕ) → Option MapRecord)
     (Seen : N → (url : List ℕ) → N → Type 0) (under_seen : N → (url : List ℕ) → Option MapRecord) (see : M → N) (Is : M → Type 0)
     (finds : (old new : M) (url : List ℕ) → Is old → Finds old url new → Seen (see old) url (see new) × Is new)
-    (same : (maps : M) (url : List ℕ) → under maps url ≡ under_seen (see maps) url) where
+    (same : (maps : M) (url : List ℕ) → Is maps → under maps url ≡ under_seen (see maps) url) where
   abbrev see_places : PlacesNow M → PlacesNow N
   see_places now = record { maps = see now.maps; text = now.text; places = now.places; mapped = now.mapped }
 
@@ -24,7 +24,7 @@ module _ {M N : Type 0} (Finds : M → (url : List ℕ) → M → Type 0) (under
       → PlaceStep Seen under_seen (see_places old) place bytes (see_places new) × Is new.maps
   place_goes old new place bytes is step =
       let one = finds old.maps new.maps place.url is step.finds in
-      let found_so = same new.maps place.url in (
+      let found_so = same new.maps place.url one.1 in (
         record {
           finds = one.0;
           text_is = step.text_is ∙ ap (λ f. old.text ++ unwrap_or (replacement f place) bytes) found_so;

@@ -1,9 +1,12 @@
--- Of private contracts only: the lengths of named URLs and of prefixes, and where no URL runs.
-use Rattle.std.specs.Prelude.{◌≡◌, ◌<◌, ◌≤◌, ◌+◌, ◌⊎◌, ◌==◌, ℕ, Bool, true, IfSome, List, Option, None, drop, length}
+-- Of private contracts only: the lengths of named URLs and of prefixes, and where none runs to numbers.
+use Rattle.std.specs.Prelude.{◌≡◌, ◌<◌, ◌≤◌, ◌+◌, ◌==◌, ℕ, Bool, true, IfSome, List, Option, None, drop, length, option_map, take}
 use Rattle.std.specs.List.{list_any}
-use Rattle.smap_places.specs.Candidates.{run_length}
+use Rattle.smap_by_text.specs.ByText.{value_under}
+use Rattle.smap_record.specs.Record.{MapRecord}
+use Rattle.smap_places.specs.Candidates.{query_length, run_length}
 use Rattle.smap_places.specs.PlaceAt.{MapsSeen, is_named, is_prefix}
 use Rattle.smap_places.specs.declared.lengths.Lengths.{Lengths}
+use Rattle.smap_places.specs.declared.place.FoundUrl.{FoundUrl}
 
 -- a number is among these
 abbrev pub is_among : List ℕ → ℕ → Bool
@@ -14,11 +17,11 @@ abbrev pub HasLengths : (lengths : Lengths) → (test : List ℕ → Bool) → T
 HasLengths lengths test =
     (text : List ℕ) → test text ≡ true → (is_among lengths.each.items (length text) ≡ true) × (length text ≤ lengths.greatest)
 
--- so many bytes are as many as a named URL has, and as a URL in a folder has with 2048 bytes behind the prefix
+-- so many bytes are as many as stand before the numbers of a place, with 2048 behind a named URL or a prefix
 abbrev pub IsLongest : (named prefix : ℕ) → (longest : ℕ) → Type 0
-IsLongest named prefix longest = (named ≤ longest) × ((prefix ≡ 0) ⊎ (prefix + 2048 ≤ longest))
+IsLongest named prefix longest = (named + 2048 ≤ longest) × (prefix + 2048 ≤ longest)
 
--- these are the lengths of the URLs and prefixes of maps, and the longest URL of a place has at most so many bytes
+-- these are the lengths of the URLs and prefixes of maps, and at most so many bytes stand before the numbers of a place
 pub record KnowsLengths (urls folders : Lengths) (most : Option ℕ) (maps : MapsSeen) : Type 0 where
   pub named : HasLengths urls (is_named maps)
   pub prefixes : HasLengths folders (is_prefix maps)
@@ -28,8 +31,16 @@ pub record KnowsLengths (urls folders : Lengths) (most : Option ℕ) (maps : Map
 abbrev pub IsBarred : (line : List ℕ) → (low high : ℕ) → Type 0
 IsBarred line low high = (end : ℕ) → low < end → end < high → run_length 2048 (drop end line) ≡ None
 
--- between one byte and another no URL of these maps begins that may reach these numbers, and no prefix that ends at the last byte
--- or after it
-abbrev pub IsOpen : MapsSeen → (near first numbers barred : ℕ) → Type 0
-IsOpen maps near first numbers barred = (text : List ℕ) → (i : ℕ) → near ≤ i → i < first →
-    (is_named maps text ≡ true → i + length text < numbers) × (is_prefix maps text ≡ true → i + length text < barred)
+-- behind a named URL that ends after one byte and before another neither numbers stand nor a query or a fragment up to numbers
+abbrev pub IsUnqueried : (line : List ℕ) → (low high : ℕ) → Type 0
+IsUnqueried line low high = (end : ℕ) → low < end → end < high → query_length (drop end line) ≡ None
+
+-- between one byte and another no named URL of these maps begins that ends at a third or after it, and no prefix that ends at a
+-- fourth or after it
+abbrev pub IsOpen : MapsSeen → (near first queried barred : ℕ) → Type 0
+IsOpen maps near first queried barred = (text : List ℕ) → (i : ℕ) → near ≤ i → i < first →
+    (is_named maps text ≡ true → i + length text < queried) × (is_prefix maps text ≡ true → 0 < length text → i + length text < barred)
+
+-- the map that comes with a URL that begins a text is what a table has under it
+abbrev pub HasOwnMap : List (List ℕ × MapRecord) → (text : List ℕ) → FoundUrl → Type 0
+HasOwnMap table text url = 0 < url.end → option_map (λ file. file.now.stated) url.map ≡ value_under (take url.bytes text) table

@@ -1,13 +1,17 @@
-use Rattle.std.proofs.Common.{◌+◌, ◌-◌, arith, inl, inr, length-drop}
+use Rattle.std.proofs.Common.{◌+◌, ◌-◌, ap, arith, inl, inr, length, length-drop}
 use Rattle.std.proofs.lemmas.Bool.{cases_lt}
-use Rattle.std.proofs.lemmas.List.{take_rest}
+use Rattle.std.proofs.lemmas.List.{drop_all, take_rest}
+use Rattle.smap_lines.specs.Lines.{has_line_end}
 use Rattle.smap_places.proofs.LineEndLaws.{end_in_rest, end_later, no_end_after}
 use Rattle.smap_places.proofs.line_ends.decided_end.Goals as goal
 use Rattle.smap_places.proofs.line_ends.decided_end.Goals.{in-Some, in-None}
 
+pub returns-then-is_last-clause-open : goal.returns-then-is_last-clause-open
+returns-then-is_last-clause-open c = ap has_line_end (drop_all (length c.args.window.now) c.args.window.now (omega arith))
+
 pub returns-clause-decided : goal.returns-clause-decided
 returns-clause-decided c =
-    λ start least below. elim (cases_lt start c.saturating_sub-reached.result) [
+    λ _ start least below. elim (cases_lt start c.saturating_sub-reached.result) [
       | inl early ↦ inl (omega (arith, early, c.saturating_sub-reached.ensures))
       | inr late ↦ elim c.match-memrchr.branch [
         | in-Some w ↦

@@ -1,102 +1,118 @@
-use Rattle.std.proofs.Common.{◌≡◌, ◌-◌, ℕ, List, [], ◌++◌, ap, arith, cond, count_by, drop, length, refl, rules, subst, take, ◌∙◌, length-drop}
+use Rattle.std.proofs.Common.{◌≡◌, ◌==◌, ◌+◌, ◌-◌, ℕ, Bool, true, false, List, [], ◌++◌, ap, arith, cond, count_by, drop, length, refl, rules, subst, take, ◌∙◌, length-drop}
+use Rattle.std.proofs.lemmas.Bool.{eq-eqb, eqb-true, false_from_ne_true}
+use Rattle.smap_io.specs.Device.{Takes}
 use Rattle.smap_trace.specs.Laws.Looked.{looked_both}
-use Rattle.smap_places.specs.PlaceAt.{place_at}
+use Rattle.smap_trace.specs.Rewriting.{Looked}
+use Rattle.smap_places.specs.PlaceAt.{MapsSeen, place_at}
+use Rattle.smap_places.specs.PlacesBeside.{FindsBeside, GivesBeside, found_beside}
 use Rattle.smap_places.specs.Laws.PlacesSeen.{front_of_none}
 use Rattle.smap_places.specs.Private.PlaceRewriter.{IsPassed}
 use Rattle.smap_places.specs.Private.Window.{WindowState}
+use Rattle.smap_places.proofs.BesideLaws.{fails_over, given_beside, same_beside, some_beside, writes_over}
 use Rattle.smap_places.proofs.CountLaws.{byte_is, is_end}
-use Rattle.smap_places.proofs.RewritingLaws.{cut_text, ends_more, gives_more, gives_none, last_bytes, long_more, maps_looked, no_end_left, none_more}
-use Rattle.smap_places.proofs.RewritingLaws.{read_fails, rewrites}
-use Rattle.smap_places.proofs.RewritingLaws.{through_more, too_much, write_fails}
+use Rattle.smap_places.proofs.RewritingLaws.{cut_text, ends_more, gives_more, gives_none, last_bytes, long_more, maps_looked, no_end_left}
+use Rattle.smap_places.proofs.RewritingLaws.{read_fails, rewrites, through_more, too_much, write_fails}
 use Rattle.smap_places.proofs.ThroughLaws.{through_cut, through_shows, through_shows_all, through_start, through_written}
 use Rattle.smap_places.proofs.rewriting.rewrite_places_over.Goals as goal
 
 pub returns-in_default-clause-front : goal.returns-in_default-clause-front
-returns-in_default-clause-front g c = front_of_none (g.M.Maps.Gives c.args.maps.now) _ c.args.most_bytes _
+returns-in_default-clause-front g c = front_of_none (GivesBeside c.args.finder.now.table g.M.Maps.Gives c.args.maps.now) _ c.args.most_bytes _
 
 pub returns-in_default-2-clause-front : goal.returns-in_default-2-clause-front
-returns-in_default-2-clause-front g c = front_of_none (g.M.Maps.Gives c.args.maps.now) _ c.args.most_bytes _
+returns-in_default-2-clause-front g c = front_of_none (GivesBeside c.args.finder.now.table g.M.Maps.Gives c.args.maps.now) _ c.args.most_bytes _
 
 pub loop-count-init : goal.loop-count-init
-loop-count-init g c = rw c.in-Ok-Ok.ensures (record {
-  read = ([], gives_none _, refl, through_start (place_at c.args.finder.now) g.M.Maps.Finds g.M.Maps.found c.args.maps.now _, refl);
-  over = refl;
-  same = refl;
-  size = refl;
-  near = omega arith;
-  few = omega (arith, c.in-Some.ensures.some);
-  whole = refl;
-  none = c.in-Ok-Ok.ensures';
-  fits = omega arith;
-  input_works = c.requires.input_works;
-  output_works = c.requires.output_works;
-})
+loop-count-init g c =
+    let table = c.args.finder.now.table in
+    rw c.in-Ok-Ok.ensures (record {
+      read = (
+        [],
+        gives_none _,
+        refl,
+        through_start (place_at c.args.finder.now) (FindsBeside table g.M.Maps.Finds) (found_beside table g.M.Maps.found) c.args.maps.now _,
+        refl,
+      );
+      over = refl;
+      same = refl;
+      size = refl;
+      near = omega arith;
+      few = omega (arith, c.in-Some.ensures.some);
+      whole = refl;
+      none = c.in-Ok-Ok.ensures';
+      fits = omega arith;
+      input_works = c.requires.input_works;
+      output_works = c.requires.output_works;
+    })
 
 pub returns-in_default-read-clause-front : goal.returns-in_default-read-clause-front
 returns-in_default-read-clause-front g c =
+    let table = c.args.finder.now.table in
     let read = c.loop-count.invariant.read in
-    read_fails (place_at c.args.finder.now) g.M.Maps.Finds g.M.Maps.found c.args.maps.now c.args.most_bytes _ _ read.0 _ _ _ _ _ _ read.3
-    (rw c.in_default-read.ensures.keeps read.1) g.M.Maps.Gives g.met.M.Maps.some g.met.M.Maps.given g.met.M.Maps.same refl
+    read_fails _ _ _ _ c.args.most_bytes _ _ read.0 _ _ _ _ _ _ read.3 (rw c.in_default-read.ensures.keeps read.1) (GivesBeside table g.M.Maps.Gives)
+    (some_beside table g.M.Maps.Gives g.M.Maps.Finds g.met.M.Maps.some)
+    (given_beside table g.M.Maps.Gives g.M.Maps.Finds g.M.Maps.found g.met.M.Maps.given)
+    (same_beside table g.M.Maps.Gives g.M.Maps.Finds g.met.M.Maps.same) refl
     (omega (arith, read.2, c.loop-count.invariant.fits)) c.in-Some.ensures.ends c.loop-count.invariant.whole
 
 pub returns-in_default-read-clause-looked : goal.returns-in_default-read-clause-looked
 returns-in_default-read-clause-looked g c =
     let read = c.loop-count.invariant.read in
     let maps : c.maps-1.given.0 ≡ c.loop-count.rewriter.maps.now = search rules in
-    rw maps (maps_looked (place_at c.args.finder.now) g.M.Maps.Finds g.M.Maps.found c.args.maps.now _ read.0 _ _ _ _ _ _ read.3)
+    rw maps (maps_looked _ _ _ _ _ read.0 _ _ _ _ _ _ read.3)
 
 pub returns-then-count-most_bytes-clause-front : goal.returns-then-count-most_bytes-clause-front
 returns-then-count-most_bytes-clause-front g c =
+    let table = c.args.finder.now.table in
     let read = c.loop-count.invariant.read in
     let more = c.in-Ok.ensures.gives in
     let now : List ℕ = c.read.new.self.bytes in
     let window : c.read.new.self.bytes ≡ c.loop-count.window.bytes ++ more.more = ap (λ (s : WindowState). s.bytes) more.is in
-    let is = through_more (place_at c.args.finder.now) g.M.Maps.Finds g.M.Maps.found c.args.maps.now _ read.0 c.loop-count.window.bytes
-    more.more c.read.new.self.bytes _ _ _ _ _ window read.3 in
+    let is = through_more _ _ _ _ _ read.0 c.loop-count.window.bytes more.more now _ _ _ _ _ window read.3 in
     let longer = long_more read.0 c.loop-count.window.bytes more.more now window in
     let gives = gives_more _ _ _ read.0 c.loop-count.window.bytes more.more now window read.1 more.given in
-    too_much (place_at c.args.finder.now) g.M.Maps.Finds g.M.Maps.found c.args.maps.now c.args.most_bytes _ _ read.0 _ _ _ _ _ _ is
-    gives g.M.Maps.Gives g.met.M.Maps.some g.met.M.Maps.given g.met.M.Maps.same refl
+    too_much _ _ _ _ c.args.most_bytes _ _ read.0 _ _ _ _ _ _ is gives (GivesBeside table g.M.Maps.Gives)
+    (some_beside table g.M.Maps.Gives g.M.Maps.Finds g.met.M.Maps.some)
+    (given_beside table g.M.Maps.Gives g.M.Maps.Finds g.M.Maps.found g.met.M.Maps.given)
+    (same_beside table g.M.Maps.Gives g.M.Maps.Finds g.met.M.Maps.same) refl
     (omega (arith, longer, more.counted, read.2, c.loop-count.invariant.fits, c.if-count-most_bytes.true))
 
 pub returns-then-count-most_bytes-clause-looked : goal.returns-then-count-most_bytes-clause-looked
 returns-then-count-most_bytes-clause-looked g c =
     let read = c.loop-count.invariant.read in
     let maps : c.maps-then-count-most_bytes-1.given.0 ≡ c.loop-count.rewriter.maps.now = search rules in
-    rw maps (maps_looked (place_at c.args.finder.now) g.M.Maps.Finds g.M.Maps.found c.args.maps.now _ read.0 _ _ _ _ _ _ read.3)
+    rw maps (maps_looked _ _ _ _ _ read.0 _ _ _ _ _ _ read.3)
 
 pub returns-in_default-write_places-clause-front : goal.returns-in_default-write_places-clause-front
 returns-in_default-write_places-clause-front g c =
+    let table = c.args.finder.now.table in
     let read = c.loop-count.invariant.read in
     let more = c.in-Ok.ensures.gives in
     let now : List ℕ = c.read.new.self.bytes in
     let window : c.read.new.self.bytes ≡ c.loop-count.window.bytes ++ more.more = ap (λ (s : WindowState). s.bytes) more.is in
-    let is = through_more (place_at c.args.finder.now) g.M.Maps.Finds g.M.Maps.found c.args.maps.now _ read.0 c.loop-count.window.bytes
-    more.more c.read.new.self.bytes _ _ _ _ _ window read.3 in
+    let is = through_more _ _ _ _ _ read.0 c.loop-count.window.bytes more.more now _ _ _ _ _ window read.3 in
     let longer = long_more read.0 c.loop-count.window.bytes more.more now window in
     let gives = gives_more _ _ _ read.0 c.loop-count.window.bytes more.more now window read.1 more.given in
     let decided = rw c.bytes-bytes.ensures at c.decided_end-high.ensures in
-    let fails = rw c.bytes-bytes.ensures at c.in_default-write_places.ensures.front in
-    let passed =
-    subst (λ s. IsPassed (place_at s) now c.loop-count.from c.decided_end-high.result fails.to fails.parts) c.loop-count.invariant.over
-    fails.passed in
+    let failed = rw c.bytes-bytes.ensures at c.in_default-write_places.ensures.front in
+    let fails = fails_over g.W.ByteSink.seen _ _ c.loop-count.invariant.over _ _ _ _ _ g.M.Maps.Gives _ failed in
+    let all = through_shows_all _ _ _ _ _ read.0 _ is in
     let sink : c.output-1.given.0 ≡ c.write_places.new.output.sink.now = search rules in
-    rw sink (write_fails (place_at c.args.finder.now) g.M.Maps.Finds g.M.Maps.found c.args.maps.now c.args.most_bytes _ _ read.0 _ _ _ _ _ _ is
-    gives g.M.Maps.Gives g.met.M.Maps.some g.met.M.Maps.given g.met.M.Maps.same
+    rw sink (write_fails _ _ _ _ c.args.most_bytes _ _ read.0 _ _ _ _ _ _ is gives (GivesBeside table g.M.Maps.Gives)
+    (some_beside table g.M.Maps.Gives g.M.Maps.Finds g.met.M.Maps.some)
+    (given_beside table g.M.Maps.Gives g.M.Maps.Finds g.M.Maps.found g.met.M.Maps.given)
+    (same_beside table g.M.Maps.Gives g.M.Maps.Finds g.met.M.Maps.same)
     c.decided_end-high.result fails.to fails.parts fails.text _
-    (omega (arith, longer, more.counted, read.2, c.loop-count.invariant.fits, c.if-count-most_bytes.false)) passed fails.may
-    (through_shows (place_at c.args.finder.now) g.M.Maps.Finds g.M.Maps.found c.args.maps.now _ read.0 _ is c.in-Some.reach
-    c.decided_end-high.result c.in-Some.ensures.ends c.in-Some.ensures.reach decided.within decided.decided [])
-    c.loop-count.invariant.none fails.front)
+    (omega (arith, longer, more.counted, read.2, c.loop-count.invariant.fits, c.if-count-most_bytes.false)) fails.passed fails.may
+    (λ start least below. all start least (omega (arith, below, decided.within))) c.loop-count.invariant.none fails.front)
 
 pub returns-in_default-write_places-clause-looked :
     goal.returns-in_default-write_places-clause-looked
 returns-in_default-write_places-clause-looked g c =
     let read = c.loop-count.invariant.read in
     let maps : c.maps-in_default-write_places-1.given.0 ≡ c.write_places.new.self.maps.now = search rules in
-    rw maps (looked_both g.M.Maps.Finds _ _ _ (maps_looked (place_at c.args.finder.now) g.M.Maps.Finds g.M.Maps.found c.args.maps.now _
-    read.0 _ _ _ _ _ _ read.3)
-    c.in_default-write_places.ensures.looked)
+    rw maps (looked_both (FindsBeside c.args.finder.now.table g.M.Maps.Finds) _ _ _ (maps_looked _ _ _ _ _ read.0 _ _ _ _ _ _ read.3)
+    (subst (λ (s : MapsSeen). Looked (FindsBeside s.table g.M.Maps.Finds) c.loop-count.rewriter.maps.now c.write_places.new.self.maps.now)
+    c.loop-count.invariant.over c.in_default-write_places.ensures.looked))
 
 pub loop-count-preserved : goal.loop-count-preserved
 loop-count-preserved g c =
@@ -104,24 +120,23 @@ loop-count-preserved g c =
     let more = c.in-Ok.ensures.gives in
     let now : List ℕ = c.read.new.self.bytes in
     let window : c.read.new.self.bytes ≡ c.loop-count.window.bytes ++ more.more = ap (λ (s : WindowState). s.bytes) more.is in
-    let is = through_more (place_at c.args.finder.now) g.M.Maps.Finds g.M.Maps.found c.args.maps.now _ read.0 c.loop-count.window.bytes
-    more.more c.read.new.self.bytes _ _ _ _ _ window read.3 in
+    let is = through_more _ _ _ _ _ read.0 c.loop-count.window.bytes more.more now _ _ _ _ _ window read.3 in
     let longer = long_more read.0 c.loop-count.window.bytes more.more now window in
     let gives = gives_more _ _ _ read.0 c.loop-count.window.bytes more.more now window read.1 more.given in
     let decided = rw c.bytes-bytes.ensures at c.decided_end-high.ensures in
-    let writes = rw c.bytes-bytes.ensures at c.in-Ok-write_places.ensures.writes in
+    let goes_on : (c.in-Ok.count == 0) ≡ false = false_from_ne_true (c.in-Ok.count == 0) (λ on. c.if-count-eq0.false (eqb-true c.in-Ok.count 0 on)) in
     let to : ℕ = c.in-Ok-write_places.to in
-    let passed =
-    subst (λ s. IsPassed (place_at s) now c.loop-count.from c.decided_end-high.result to writes.parts) c.loop-count.invariant.over
-    writes.passed in
-    let took = rw c.loop-count.invariant.none at writes.taken in
+    let written = rw c.bytes-bytes.ensures at c.in-Ok-write_places.ensures.writes in
+    let writes = writes_over g.W.ByteSink.seen _ _ c.loop-count.invariant.over _ _ _ _ _ g.M.Maps.Finds g.M.Maps.found _ _ _ written in
+    let took =
+    subst (λ (l : List ℕ). Takes (g.W.ByteSink.seen c.loop-count.output).taken (g.W.ByteSink.seen c.write_places.new.output.sink.now).taken
+    (l ++ writes.text)) c.loop-count.invariant.none writes.taken in
     let cut : ℕ = c.saturating_sub-cut.result in
-    let through = through_cut (place_at c.args.finder.now) g.M.Maps.Finds g.M.Maps.found c.args.maps.now _ read.0 _
-    (through_written (place_at c.args.finder.now) g.M.Maps.Finds g.M.Maps.found c.args.maps.now _ read.0 _ is c.decided_end-high.result
-    to writes.parts
-    passed c.write_places.new.self.maps.now c.write_places.new.self.places c.write_places.new.self.mapped _ writes.text writes.steps took
-    (through_shows (place_at c.args.finder.now) g.M.Maps.Finds g.M.Maps.found c.args.maps.now _ read.0 _ is c.in-Some.reach
-    c.decided_end-high.result c.in-Some.ensures.ends c.in-Some.ensures.reach decided.within decided.decided)
+    let through = through_cut _ _ _ _ _ read.0 _
+    (through_written _ _ _ _ _ read.0 _ is c.decided_end-high.result to writes.parts writes.passed c.write_places.new.self.maps.now
+    c.write_places.new.self.places c.write_places.new.self.mapped _ writes.text writes.steps took
+    (through_shows _ _ _ _ _ read.0 _ is c.in-Some.reach c.decided_end-high.result c.in-Some.ensures.ends c.in-Some.ensures.reach decided.within
+    (decided.decided goes_on))
     writes.few_places writes.few_mapped) cut c.saturating_sub-cut.ensures in
     let same = cut_text read.0 now cut in
     let ends = ends_more read.0 c.loop-count.window.bytes more.more now window in
@@ -151,68 +166,38 @@ loop-count-preserved g c =
       output_works = c.in-Ok-write_places.ensures.no_failure ∙ c.loop-count.invariant.output_works;
     })
 
-pub returns-in_default-write_places-2-clause-front :
-    goal.returns-in_default-write_places-2-clause-front
-returns-in_default-write_places-2-clause-front g c =
+pub returns-then-count-eq0-clause-rewrites : goal.returns-then-count-eq0-clause-rewrites
+returns-then-count-eq0-clause-rewrites g c =
     let read = c.loop-count.invariant.read in
     let more = c.in-Ok.ensures.gives in
     let now : List ℕ = c.read.new.self.bytes in
     let window : c.read.new.self.bytes ≡ c.loop-count.window.bytes ++ more.more = ap (λ (s : WindowState). s.bytes) more.is in
-    let is = through_more (place_at c.args.finder.now) g.M.Maps.Finds g.M.Maps.found c.args.maps.now _ read.0 c.loop-count.window.bytes
-    more.more c.read.new.self.bytes _ _ _ _ _ window read.3 in
+    let is = through_more _ _ _ _ _ read.0 c.loop-count.window.bytes more.more now _ _ _ _ _ window read.3 in
     let longer = long_more read.0 c.loop-count.window.bytes more.more now window in
     let gives = gives_more _ _ _ read.0 c.loop-count.window.bytes more.more now window read.1 more.given in
-    let fails = rw c.bytes-bytes-2.ensures at c.in_default-write_places-2.ensures.front in
-    let passed =
-    subst (λ s. IsPassed (place_at s) now c.loop-count.from (length now) fails.to fails.parts) c.loop-count.invariant.over
-    fails.passed in
-    let sink : c.output-2-1.given.0 ≡ c.write_places-2.new.output.sink.now = search rules in
-    rw sink (write_fails (place_at c.args.finder.now) g.M.Maps.Finds g.M.Maps.found c.args.maps.now c.args.most_bytes _ _ read.0 _ _ _ _ _ _ is
-    gives g.M.Maps.Gives g.met.M.Maps.some g.met.M.Maps.given g.met.M.Maps.same
-    (length now) fails.to fails.parts fails.text _
-    (omega (arith, longer, more.counted, c.if-count-eq0.true, read.2, c.loop-count.invariant.fits)) passed fails.may
-    (through_shows_all (place_at c.args.finder.now) g.M.Maps.Finds g.M.Maps.found c.args.maps.now _ read.0 _ is)
-    c.loop-count.invariant.none fails.front)
+    let decided = rw c.bytes-bytes.ensures at c.decided_end-high.ensures in
+    let high : c.decided_end-high.result ≡ length now = decided.all (eq-eqb c.in-Ok.count 0 c.if-count-eq0.true) in
+    let to : ℕ = c.in-Ok-write_places.to in
+    let written = rw c.bytes-bytes.ensures at c.in-Ok-write_places.ensures.writes in
+    let writes = writes_over g.W.ByteSink.seen _ _ c.loop-count.invariant.over _ _ _ _ _ g.M.Maps.Finds g.M.Maps.found _ _ _ written in
+    let passed = subst (λ n. IsPassed (place_at c.args.finder.now) now c.loop-count.from n to writes.parts) high writes.passed in
+    let ends = ends_more read.0 c.loop-count.window.bytes more.more now window in
+    let counted : c.count_ends.result ≡ count_by is_end more.more =
+    c.count_ends.ensures.count
+    ∙ ap (λ w. count_by is_end (take (length w - (length w - c.in-Ok.count)) (drop (length w - c.in-Ok.count) w))) c.bytes-bytes.ensures
+    ∙ ap (count_by is_end) (last_bytes c.loop-count.window.bytes more.more now c.in-Ok.count window more.counted) in
+    let last = c.from.ensures ∙ byte_is c.has_open_line.result ∙ ap {B = ℕ} (λ b. cond b 1 0) (rw c.bytes-bytes.ensures at c.has_open_line.ensures) in
+    let sink : c.output-1.given.0 ≡ c.write_places.new.output.sink.now = search rules in
+    let maps : c.maps-then-count-eq0-1.given.0 ≡ c.write_places.new.self.maps.now = search rules in
+    rw (sink, maps) (rewrites _ _ _ _ c.args.most_bytes _ _ read.0 _ _ _ _ _ _ is gives to writes.parts writes.text _ _ _
+    (c.loop-count.ends + c.count_ends.result) c.from.result passed
+    writes.steps c.loop-count.invariant.none writes.taken (omega (arith, c.in-Ok-write_places.ensures.far, high)) (c.in-Ok.ensures.ends c.if-count-eq0.true)
+    (omega (arith, longer, more.counted, c.if-count-eq0.true, read.2, c.loop-count.invariant.fits)) (omega (arith, ends, counted, read.4)) last refl refl)
 
-pub returns-in_default-write_places-2-clause-looked :
-    goal.returns-in_default-write_places-2-clause-looked
-returns-in_default-write_places-2-clause-looked g c =
+pub returns-then-count-eq0-clause-looked : goal.returns-then-count-eq0-clause-looked
+returns-then-count-eq0-clause-looked g c =
     let read = c.loop-count.invariant.read in
-    let maps : c.maps-in_default-write_places-2-1.given.0 ≡ c.write_places-2.new.self.maps.now = search rules in
-    rw maps (looked_both g.M.Maps.Finds _ _ _ (maps_looked (place_at c.args.finder.now) g.M.Maps.Finds g.M.Maps.found c.args.maps.now _
-    read.0 _ _ _ _ _ _ read.3)
-    c.in_default-write_places-2.ensures.looked)
-
-pub returns-clause-rewrites : goal.returns-clause-rewrites
-returns-clause-rewrites g c =
-    let read = c.loop-count.invariant.read in
-    let more = c.in-Ok.ensures.gives in
-    let now : List ℕ = c.read.new.self.bytes in
-    let window : c.read.new.self.bytes ≡ c.loop-count.window.bytes ++ more.more = ap (λ (s : WindowState). s.bytes) more.is in
-    let is = through_more (place_at c.args.finder.now) g.M.Maps.Finds g.M.Maps.found c.args.maps.now _ read.0 c.loop-count.window.bytes
-    more.more c.read.new.self.bytes _ _ _ _ _ window read.3 in
-    let longer = long_more read.0 c.loop-count.window.bytes more.more now window in
-    let gives = gives_more _ _ _ read.0 c.loop-count.window.bytes more.more now window read.1 more.given in
-    let writes = rw c.bytes-bytes-2.ensures at c.in-Ok-write_places-2.ensures.writes in
-    let to : ℕ = c.in-Ok-write_places-2.field-0 in
-    let passed =
-    subst (λ s. IsPassed (place_at s) now c.loop-count.from (length now) to writes.parts) c.loop-count.invariant.over
-    writes.passed in
-    let far = rw c.bytes-bytes-2.ensures at c.in-Ok-write_places-2.ensures.far in
-    let last = c.from.ensures ∙ byte_is c.has_open_line.result ∙ ap {B = ℕ} (λ b. cond b 1 0) (rw c.bytes-bytes-2.ensures at c.has_open_line.ensures) in
-    let sink : c.output-2-1.given.0 ≡ c.write_places-2.new.output.sink.now = search rules in
-    let maps : c.maps-2-1.given.0 ≡ c.write_places-2.new.self.maps.now = search rules in
-    rw (sink, maps) (rewrites (place_at c.args.finder.now) g.M.Maps.Finds g.M.Maps.found c.args.maps.now c.args.most_bytes _ _ read.0 _ _
-    _ _ _ _ is gives
-    to writes.parts writes.text _ _ _ c.loop-count.ends c.from.result passed writes.steps c.loop-count.invariant.none writes.taken far
-    (c.in-Ok.ensures.ends c.if-count-eq0.true) (omega (arith, longer, more.counted, c.if-count-eq0.true, read.2, c.loop-count.invariant.fits))
-    (none_more read.0 c.loop-count.window.bytes more.more now c.loop-count.ends window (more.counted ∙ c.if-count-eq0.true) read.4)
-    last refl refl)
-
-pub returns-clause-looked : goal.returns-clause-looked
-returns-clause-looked g c =
-    let read = c.loop-count.invariant.read in
-    let maps : c.maps-2-1.given.0 ≡ c.write_places-2.new.self.maps.now = search rules in
-    rw maps (looked_both g.M.Maps.Finds _ _ _ (maps_looked (place_at c.args.finder.now) g.M.Maps.Finds g.M.Maps.found c.args.maps.now _
-    read.0 _ _ _ _ _ _ read.3)
-    c.in-Ok-write_places-2.ensures.looked)
+    let maps : c.maps-then-count-eq0-1.given.0 ≡ c.write_places.new.self.maps.now = search rules in
+    rw maps (looked_both (FindsBeside c.args.finder.now.table g.M.Maps.Finds) _ _ _ (maps_looked _ _ _ _ _ read.0 _ _ _ _ _ _ read.3)
+    (subst (λ (s : MapsSeen). Looked (FindsBeside s.table g.M.Maps.Finds) c.loop-count.rewriter.maps.now c.write_places.new.self.maps.now)
+    c.loop-count.invariant.over c.in-Ok-write_places.ensures.looked))

@@ -2,6 +2,7 @@ use Rattle.std.proofs.Common.{◌≡◌, ◌+◌, ◌-◌, ◌<◌, ◌≤◌, �
 use Rattle.smap_io.specs.Device.{Gives}
 use Rattle.smap_lines.specs.Lines.{has_line_end}
 use Rattle.smap_places.specs.PlaceAt.{place_at}
+use Rattle.smap_places.specs.PlacesBeside.{FindsBeside, found_beside}
 use Rattle.smap_places.specs.Private.Passage.{IsThrough}
 use Rattle.smap_places.proofs.CountLaws.{is_end}
 use Rattle.smap_places.proofs.rewriting.rewrite_places_over.Given as goal
@@ -11,7 +12,7 @@ abbrev pub invariant-loop-count : goal.invariant-loop-count
 invariant-loop-count g l = record {
   read : (front : List ℕ) × Gives (g.R.ByteSource.seen l.initial.input).left (g.R.ByteSource.seen l.input).left (front ++ l.window.bytes)
       × (length (front ++ l.window.bytes) ≡ l.total)
-      × IsThrough (place_at l.finder) g.M.Maps.Finds g.M.Maps.found l.initial.rewriter.maps.now
+      × IsThrough (place_at l.finder) (FindsBeside l.finder.table g.M.Maps.Finds) (found_beside l.finder.table g.M.Maps.found) l.initial.rewriter.maps.now
       (g.W.ByteSink.seen l.initial.output).taken front (record {
         window = l.window.bytes;
         from = l.from;

@@ -12,6 +12,7 @@ returns-in-Some c =
           here.2 c.loop-start.invariant
           (begun begins c.args.line.now c.loop-start.start (sym c.may_begin.ensures ∙ c.if-may_begin.true) ∙ sym c.in-Some.ensures.place),
       omega (arith, here.0, c.loop-start-test.true),
+      c.in-Some.ensures.map,
     )
 
 pub loop-start-preserved : goal.loop-start-preserved

@@ -15,4 +15,4 @@ returns c = weaker _ _ _ _ c.next_before.result c.next_before.ensures
       | inl inside ↦ none i least inside
       | inr past ↦ none_past (place_at c.args.self.now) c.args.text.now (ends_at_lines c.args.self.now).empty i past
     ])
-    (λ place is. is.0)
+    (λ place is. (is.0, is.2))

@@ -22,13 +22,13 @@ returns-in-Some c =
     (λ i late below _. none_between c.args.self.now c.self.inside.named c.self.inside.prefixes c.self.inside.longest known c.args.text.now
     c.loop-start.start c.in_ok-numbers.numbers near c.in_ok-numbers.ensures.first c.first_start-near.ensures.near i late below) in
     let none = none_joined begins c.args.text.now c.args.from near low c.args.high none_near
-    (λ i late below _. none_open c.args.self.now c.args.text.now near low c.in_ok-numbers.numbers c.barred-barred.result
-    (λ j after before. c.in_ok-numbers.ensures.first j (omega (arith, after, c.first_start-near.ensures.after)) before) c.barred-barred.ensures
+    (λ i late below _. none_open c.args.self.now c.args.text.now near low c.bars-queried.result.0 c.bars-queried.result.1 c.bars-queried.ensures.queries c.bars-queried.ensures.runs
     c.first_open-low.ensures.open i late below) in
     let high : c.in-Some.place.start < c.args.high = omega (arith, c.in-Some.ensures.1, c.min.ensures) in (
       next_from begins c.args.text.now c.args.from low c.in-Some.place (omega (arith, c.loop-start.invariant.low, c.first_start-near.ensures.after, c.first_open-low.ensures.after))
           (λ i least below. none i least below (omega (arith, below, c.in-Some.ensures.0.after, high))) c.in-Some.ensures.0,
       high,
+      c.in-Some.ensures.2,
     )
 
 pub loop-start-preserved : goal.loop-start-preserved
@@ -41,8 +41,7 @@ loop-start-preserved c =
     (λ i late below _. none_between c.args.self.now c.self.inside.named c.self.inside.prefixes c.self.inside.longest known c.args.text.now
     c.loop-start.start c.in_ok-numbers.numbers near c.in_ok-numbers.ensures.first c.first_start-near.ensures.near i late below) in
     let none = none_joined begins c.args.text.now c.args.from near low c.args.high none_near
-    (λ i late below _. none_open c.args.self.now c.args.text.now near low c.in_ok-numbers.numbers c.barred-barred.result
-    (λ j after before. c.in_ok-numbers.ensures.first j (omega (arith, after, c.first_start-near.ensures.after)) before) c.barred-barred.ensures
+    (λ i late below _. none_open c.args.self.now c.args.text.now near low c.bars-queried.result.0 c.bars-queried.result.1 c.bars-queried.ensures.queries c.bars-queried.ensures.runs
     c.first_open-low.ensures.open i late below) in
     record {
       low = omega (arith, c.loop-start.invariant.low, c.in_ok-numbers.ensures.low);
