@@ -1,1 +1,4 @@
 mod FitLaws
+mod JsonLaws
+mod MisfitLaws
+mod ReplyLaws

@@ -1,4 +1,5 @@
 pub mod Check
 pub mod Explain
 pub mod Lines
+pub mod Misfits
 pub mod Fit

@@ -126,7 +126,7 @@ fn checked_file<F: FileReader>(
 {
     match maps.files.read_file(alloc, number, path) {
         Ok(bytes) => answer_bytes(alloc, maps, &bytes, path, how),
-        Err(ReadFailure::Device) => Err(unread(alloc, maps.files, path, how)),
+        Err(ReadFailure::Device) => Err(unread(alloc, maps.files, path, how)?),
         Err(ReadFailure::Memory) => Err(Failure::Memory),
     }
 }
@@ -179,7 +179,7 @@ fn refused_reply(
     match how.form {
         FileForm::Object => object_reply(alloc, path, bytes, refused),
         FileForm::Counts | FileForm::Named => {
-            Err(line_failure(alloc, path, bytes, refused, how))
+            Err(line_failure(alloc, path, bytes, refused, how)?)
         }
     }
 }
@@ -218,19 +218,17 @@ fn line_failure(
     bytes: &[u8],
     refused: MapRefusal,
     how: Reporting,
-) -> Failure
-    ensures { OrMemory (λ report. (refused ≢ Memory)
-        × IsLineReported bytes.now path.now how.explain refused report) (failure_report result) }
+) -> Result<Failure, AllocError>
+    ensures reported { IfOk result (λ failure. IsLineReported bytes.now path.now how.explain refused
+        (failure_report failure)) }
+    ensures not_memory { IfOk result (λ _. refused ≢ Memory) }
 {
     let line = if how.explain {
-        why_line(alloc, path, bytes, refused)
+        why_line(alloc, path, bytes, refused)?
     } else {
-        refusal_line(alloc, path, refused)
+        refusal_line(alloc, path, refused)?
     };
-    match line {
-        Ok(line) => Failure::refusal(refused.code(), line),
-        Err(_) => Failure::Memory,
-    }
+    Ok(Failure::refusal(refused.code(), line))
 }
 
 // The line that reports a refusal, and the lines that say why.
@@ -251,18 +249,21 @@ fn why_line(
 }
 
 // That the file at a path can't be read and, where that is asked, why not.
-fn unread<F: FileReader>(alloc: Global, reader: &F, path: &str, how: Reporting) -> Failure
-    ensures { OrMemory (IsUnreadReported path.now how.explain) (failure_report result) }
+fn unread<F: FileReader>(
+    alloc: Global,
+    reader: &F,
+    path: &str,
+    how: Reporting,
+) -> Result<Failure, AllocError>
+    ensures { IfOk result (λ failure. IsUnreadReported path.now how.explain
+        (failure_report failure)) }
 {
     let line = if how.explain {
-        cause_line(alloc, path, reader.unread_cause(path))
+        cause_line(alloc, path, reader.unread_cause(path))?
     } else {
-        file_failed_line(alloc, path)
+        file_failed_line(alloc, path)?
     };
-    match line {
-        Ok(line) => Failure::Unreadable(line),
-        Err(_) => Failure::Memory,
-    }
+    Ok(Failure::Unreadable(line))
 }
 
 fn cause_line(alloc: Global, path: &str, cause: UnreadCause) -> Result<String, AllocError>

@@ -1,19 +1,24 @@
 //! Whether maps can be those of their generated files.
-ghost use Rattle.std.specs.Prelude.{◌≡◌, ◌+◌, ◌*◌, ◌<◌, ◌^◌, false, map, option_copied, string_bytes, IfOk};
+ghost use Rattle.std.specs.Prelude.{◌≡◌, ◌+◌, ◌*◌, ◌<◌, ◌^◌, ◌&&◌, false, not, map, option_copied, option_map, string_bytes, IfOk};
 ghost use Rattle.serde_json.specs.View.{view};
-ghost use Rattle.smap_check_answers.specs.Fit.{FitsPair, FitsText, fit_line, fit_report, fit_value, fits_line};
-ghost use Rattle.smap_check_answers.specs.Fit.{misfits_line, pairs_of};
+ghost use Rattle.smap_check_answers.specs.Fit.{FitsPair, FitsText, IsFitReported, IsWhyTold, fit_line, fit_value, fits_line};
+ghost use Rattle.smap_check_answers.specs.Fit.{misfits_line, pairs_of, place_value};
+ghost use Rattle.smap_command.specs.Options.{is_json};
+ghost use Rattle.smap_fit.specs.Fit.{fits};
 ghost use Rattle.smap_positions.specs.Json.{json_line};
+ghost use Rattle.smap_record.specs.Written.{value_of_text};
 ghost use Rattle.smap_replies.specs.InTurn.{ReportsEach};
 ghost use Rattle.smap_replies.specs.Outcome.{OrMemory, reply_report, report_of};
 ghost use Rattle.smap_replies.specs.Streams.{sinks_seen};
 
 use crate::lines::object_line;
+use crate::misfits::misfits_text;
 use serde_json::{Value, json};
 use smap_codes::Code;
-use smap_fit::{Fit, fit_of};
+use smap_command::{FitOptions, Form};
+use smap_fit::{Fit, best_shift, fit_of};
 use smap_io::ByteSink;
-use smap_record::MapFile;
+use smap_record::{MapFile, Mapping};
 use smap_replies::{DONE, Failure, FileReader, MapReader, Reply, read_map, read_text, report};
 use smap_text::shown;
 use std::alloc::{AllocError, Global};
@@ -27,21 +32,21 @@ pub fn answer_fit<F: FileReader, W: ByteSink, E: ByteSink>(
     alloc: Global,
     maps: &MapReader<'_, F>,
     paths: &[String],
-    json: bool,
+    options: FitOptions,
     output: &mut W,
     errors: &mut E,
     first: &mut Option<Code>,
 ) -> u8
     requires output_works { (W.seen output.old).failed ≡ false }
     ensures { ReportsEach (FitsPair (F.gives maps.now.files.now) (option_copied maps.now.base)
-        maps.now.interval json) 0 (pairs_of (map string_bytes paths.now)) result
+        maps.now.interval options) 0 (pairs_of (map string_bytes paths.now)) result
         (sinks_seen (W.seen output.old) (E.seen errors.old) first.old)
         (sinks_seen (W.seen output.new) (E.seen errors.new) first.new) }
 {
     let mut status = DONE;
     for number in 0..paths.len() / 2 {
         let (at, behind) = (2 * number, 2 * number + 1);
-        let outcome = fitted_pair(alloc, maps, number, &paths[at], &paths[behind], json);
+        let outcome = fitted_pair(alloc, maps, number, &paths[at], &paths[behind], options);
         status = status.max(report(&outcome, output, errors, first));
         if output.failed() {
             break;
@@ -57,14 +62,14 @@ fn fitted_pair<F: FileReader>(
     number: usize,
     path: &str,
     generated: &str,
-    json: bool,
+    options: FitOptions,
 ) -> Result<Reply, Failure>
     requires { 2 * number + 1 < 2 ^ 64 }
     ensures { OrMemory (FitsPair (F.gives maps.now.files.now) (option_copied maps.now.base)
-        maps.now.interval json number (path.now, generated.now)) (report_of result) }
+        maps.now.interval options number (path.now, generated.now)) (report_of result) }
 {
     let map = read_map(alloc, maps, 2 * number, path)?;
-    fitted_map(alloc, maps.files, &map, number, path, generated, json)
+    fitted_map(alloc, maps.files, &map, number, path, generated, options)
 }
 
 // What is said of the map of that pair.
@@ -75,29 +80,32 @@ fn fitted_map<F: FileReader>(
     number: usize,
     path: &str,
     generated: &str,
-    json: bool,
+    options: FitOptions,
 ) -> Result<Reply, Failure>
     requires { 2 * number + 1 < 2 ^ 64 }
-    ensures { OrMemory (FitsText (F.gives reader.now) json number (path.now, generated.now)
+    ensures { OrMemory (FitsText (F.gives reader.now) options number (path.now, generated.now)
         map.now.stated) (report_of result) }
 {
     let text = read_text(alloc, reader, 2 * number + 1, generated)?;
-    let fit = fit_of(alloc, map, &text);
-    let reply = fit_reply(alloc, path, generated, fit, json)?;
+    let reply = fit_reply(alloc, map, &text, path, generated, options)?;
     Ok(reply)
 }
 
+// What is said of a map and a text, which are called so.
 fn fit_reply(
     alloc: Global,
-    map: &str,
+    map: &MapFile,
+    text: &str,
+    path: &str,
     generated: &str,
-    fit: Fit,
-    json: bool,
+    options: FitOptions,
 ) -> Result<Reply, AllocError>
-    ensures { IfOk result (λ reply. reply_report reply
-        ≡ fit_report json map.now generated.now fit) }
+    ensures { IfOk result (λ reply. IsFitReported options path.now generated.now text.now
+        map.now.stated (reply_report reply)) }
 {
-    let line = fit_line(alloc, map, generated, fit, json)?;
+    let fit = fit_of(alloc, map, text)?;
+    let why = why_text(alloc, map, text, &fit, options.explain)?;
+    let line = fit_line(alloc, path, generated, fit, why.as_deref(), options.form)?;
     if fit.fits() {
         Ok(Reply::Text(line))
     } else {
@@ -105,30 +113,75 @@ fn fit_reply(
     }
 }
 
+// Why a map does not fit a text, where that is asked and it does not.
+fn why_text(
+    alloc: Global,
+    map: &MapFile,
+    text: &str,
+    fit: &Fit,
+    explain: bool,
+) -> Result<Option<String>, AllocError>
+    ensures { IfOk result (λ why. IsWhyTold (explain && not (fits fit.now)) text.now
+        map.now.stated fit.now (option_map string_bytes why)) }
+{
+    if !explain || fit.fits() {
+        return Ok(None);
+    }
+    let best = best_shift(alloc, map, text)?;
+    Ok(Some(misfits_text(alloc, text, fit, &best)?))
+}
+
 fn fit_line(
     alloc: Global,
     map: &str,
     generated: &str,
     fit: Fit,
-    json: bool,
+    why: Option<&str>,
+    form: Form,
 ) -> Result<String, AllocError>
     ensures { IfOk result (λ line. string_bytes line
-        ≡ fit_line json map.now generated.now fit) }
+        ≡ fit_line (is_json form) map.now generated.now fit (option_copied why.entry)) }
 {
-    if json {
-        object_line(fit_value(alloc, map, generated, fit)?.to_string(alloc)?)
-    } else if fit.fits() {
-        fits_line(alloc, map, fit)
-    } else {
-        misfits_line(alloc, map, generated, fit)
+    if form.is_json() {
+        return fit_object(alloc, map, generated, fit, why);
     }
+    let mut line = if fit.fits() {
+        fits_line(alloc, map, fit)?
+    } else {
+        misfits_line(alloc, map, generated, fit)?
+    };
+    line.push_str(why.unwrap_or(""))?;
+    Ok(line)
+}
+
+// The line as JSON.
+fn fit_object(
+    alloc: Global,
+    map: &str,
+    generated: &str,
+    fit: Fit,
+    why: Option<&str>,
+) -> Result<String, AllocError>
+    ensures { IfOk result (λ line. string_bytes line
+        ≡ json_line (fit_value map.now generated.now fit (option_copied why.entry))) }
+{
+    let value = fit_value(alloc, map, generated, fit, why)?;
+    let text = value.to_string(alloc)?;
+    let line = object_line(text)?;
+    Ok(line)
 }
 
 fn fits_line(alloc: Global, map: &str, fit: Fit) -> Result<String, AllocError>
     ensures { IfOk result (λ line. string_bytes line ≡ fits_line map.now fit) }
 {
-    let (map, mappings) = (shown(alloc, map)?, fit.mappings);
-    format!(in alloc; "{map}: fits, {mappings} mappings\n")
+    let map = shown(alloc, map)?;
+    let Fit {
+        mappings,
+        compared,
+        same,
+        ..
+    } = fit;
+    format!(in alloc; "{map}: fits, {mappings} mappings, {same} same of {compared}\n")
 }
 
 fn misfits_line(alloc: Global, map: &str, generated: &str, fit: Fit) -> Result<String, AllocError>
@@ -141,21 +194,61 @@ fn misfits_line(alloc: Global, map: &str, generated: &str, fit: Fit) -> Result<S
         mappings,
         past,
         inside,
+        ..
     } = fit;
     let of = format!(in alloc; "{inside} inside a word, of {mappings} mappings\n")?;
     format!(in alloc; "{map}: does not fit {generated}: {past} past the text, {of}")
 }
 
-fn fit_value(alloc: Global, map: &str, generated: &str, fit: Fit) -> Result<Value, AllocError>
-    ensures { IfOk result (λ value. view value ≡ fit_value map.now generated.now fit) }
+fn fit_value(
+    alloc: Global,
+    map: &str,
+    generated: &str,
+    fit: Fit,
+    why: Option<&str>,
+) -> Result<Value, AllocError>
+    ensures { IfOk result (λ value. view value
+        ≡ fit_value map.now generated.now fit (option_copied why.entry)) }
 {
     let fits = fit.fits();
+    let explanation = text_value(alloc, why)?;
+    let first_inside = place_value(alloc, fit.first_inside)?;
+    let first_past = place_value(alloc, fit.first_past)?;
     json!(in alloc; {
+        "compared": fit.compared,
+        "explanation": explanation,
+        "firstInside": first_inside,
+        "firstPast": first_past,
         "fits": fits,
         "generated": generated,
         "inside": fit.inside,
         "map": map,
         "mappings": fit.mappings,
-        "past": fit.past
+        "outside": fit.outside,
+        "past": fit.past,
+        "same": fit.same
     })
+}
+
+// A text, or null where there is none.
+fn text_value(alloc: Global, text: Option<&str>) -> Result<Value, AllocError>
+    ensures { IfOk result (λ value. view value ≡ value_of_text (option_copied text.entry)) }
+{
+    match text {
+        Some(text) => Value::try_from_str(alloc, text),
+        None => Ok(Value::Null),
+    }
+}
+
+// Where a mapping stands, by its line and column from 1; null where there is none.
+fn place_value(alloc: Global, mapping: Option<Mapping>) -> Result<Value, AllocError>
+    ensures { IfOk result (λ value. view value ≡ place_value mapping) }
+{
+    match mapping {
+        Some(mapping) => json!(in alloc; {
+            "column": u64::from(mapping.column) + 1,
+            "line": u64::from(mapping.line) + 1
+        }),
+        None => Ok(Value::Null),
+    }
 }

@@ -3,7 +3,7 @@
 //! ```text
 //! let options = CheckOptions::new(alloc);
 //! let status = answer_check(alloc, &maps, "app.js.map", &options, &mut output, &mut errors, &mut first);
-//! let status = answer_fit(alloc, &maps, &paths, false, &mut output, &mut errors, &mut first);
+//! let status = answer_fit(alloc, &maps, &paths, options, &mut output, &mut errors, &mut first);
 //! let outcome = answer_explain(alloc, Some("M14"));
 //! ```
 #![tactic(auto)]
@@ -12,6 +12,7 @@ mod check;
 mod explain;
 mod fit;
 mod lines;
+mod misfits;
 
 pub use check::answer_check;
 pub use explain::answer_explain;

@@ -4,6 +4,8 @@ use Rattle.smap_mappings.specs.declared.mapping.Mapping.{Mapping}
 use Rattle.smap_fit.specs.Fresh.{fresh}
 use Rattle.smap_fit.specs.Standing.{standing_in}
 use Rattle.smap_fit.specs.declared.standing.Standing.TheVariants.{Fits, PastText, InsideWord}
+use Rattle.smap_fit.specs.Agreement.{agreement_in}
+use Rattle.smap_fit.specs.declared.agreement.Agreement.TheVariants.{Outside, Same, Other}
 use Rattle.ucd_category.proofs.Computing.{ucd_category}
 
 -- `let ab=1` and an empty line
@@ -66,3 +68,27 @@ as_far_in_both_continues = refl
 
 further_in_one_does_not : fresh (moved 0 4 ∷ moved 1 6 ∷ moved 3 8 ∷ []) ≡ moved 0 4 ∷ moved 1 6 ∷ []
 further_in_one_does_not = refl
+
+-- ---- both texts
+
+the_same_word_is_same : agreement_in (Some (codes "ab=2")) two_lines 0 4 ≡ Same
+unfolding ucd_category
+the_same_word_is_same = refl
+
+a_longer_word_is_other : agreement_in (Some (codes "abc=2")) two_lines 0 4 ≡ Other
+unfolding ucd_category
+a_longer_word_is_other = refl
+
+the_same_character_is_same : agreement_in (Some (codes "=f()")) two_lines 0 6 ≡ Same
+unfolding ucd_category
+the_same_character_is_same = refl
+
+an_ended_line_has_nothing : agreement_in (Some []) two_lines 1 0 ≡ Other
+an_ended_line_has_nothing = refl
+
+nothing_generated_is_other : agreement_in None two_lines 0 4 ≡ Other
+unfolding ucd_category
+nothing_generated_is_other = refl
+
+past_the_content_is_outside : agreement_in (Some (codes "ab")) two_lines 0 9 ≡ Outside
+past_the_content_is_outside = refl

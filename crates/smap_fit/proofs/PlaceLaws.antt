@@ -1,81 +1,59 @@
--- A place in a text, line after line.
-use Rattle.std.proofs.Common.{◌≡◌, ◌+◌, ◌<◌, ℕ, Bool, true, false, nat_lt, zero, suc, List, [], ◌∷◌, length, drop, Option, None, Some, slice_get, inl, inr, refl, sym, ap, ◌∙◌, arith}
+-- A place in a text, and in one of some contents.
+use Rattle.std.proofs.Common.{◌≡◌, ℕ, List, Option, None, Some, option_and_then, slice_get, subst, sym, ap, ◌∙◌}
 use Rattle.std.specs.Option.{option_map_or}
 use Rattle.std.specs.Str.{chars}
-use Rattle.std.proofs.lemmas.Bool.Decides.{nat_tests}
-use Rattle.std.proofs.lemmas.List.{drop-drop, length-drop}
-use Rattle.std.proofs.lemmas.Option.{slice_get_past}
-use Rattle.smap_mappings.specs.Order.{IsAtOrBefore, IsInOrder}
-use Rattle.smap_mappings.specs.Range.{position_at}
-use Rattle.smap_mappings.specs.declared.mapping.Mapping.{Mapping}
-use Rattle.smap_text.specs.Lines.{lines_behind, lines_of}
-use Rattle.smap_fit.specs.Fit.{code_of, lines_in}
-use Rattle.smap_fit.specs.Private.Places.{IsLeft, IsPlace}
-use Rattle.smap_fit.specs.Standing.{standing_in, standing_on}
+use Rattle.smap_fit.specs.Agreement.{original_lines}
+use Rattle.smap_fit.specs.Private.Places.{IsLeft, IsOriginal, IsPlace}
+use Rattle.smap_fit.specs.Standing.{left_in, left_on, standing_in, standing_on}
 use Rattle.smap_fit.specs.declared.standing.Standing.TheVariants.{PastText}
 
--- ---- lines
+pub same_line : (a b : List ℕ) → Some a ≡ Some b → a ≡ b
+same_line a b is = cc
 
-slice_get_drop : (xs : List (List ℕ)) (n : ℕ) → slice_get xs n ≡ slice_get (drop n xs) 0
-slice_get_drop xs zero = refl
-slice_get_drop [] (suc n) = refl
-slice_get_drop (x ∷ xs) (suc n) = slice_get_drop xs n
+pub none_some : (whole : List ℕ) → None ≡ Some whole → ⊥
+none_some whole is = cc
 
-module _ (lines : List (List ℕ)) (line column : ℕ) (before : Option ℕ) (left : List ℕ) where
-  -- the line of a place is the one that it is in
-  pub line_of : (rest : Option (List ℕ)) (at : ℕ) (place : IsPlace lines line at before left rest) → standing_in lines line column ≡ standing_on None place.whole column
-  line_of rest at place =
-      ap (λ o. option_map_or (λ characters. standing_on None characters column) o PastText)
-      (slice_get_drop lines line ∙ ap (λ l. slice_get l 0) place.here)
+pub same_lines : (a b : List (List ℕ)) → Some a ≡ Some b → a ≡ b
+same_lines a b is = cc
 
-  pub next_line : (text first : List ℕ) (behind : Option ℕ) (start : List ℕ) (rest : Option (List ℕ)) → IsPlace lines line column before left (Some text)
-      → lines_of (chars text) ≡ chars first ∷ lines_behind rest → IsLeft (chars first) 0 behind (chars start) → IsPlace lines (line + 1) 0 behind start rest
-  next_line text first behind start rest place split is = record {
-    whole = chars first;
-    here = sym (drop-drop 1 line lines) ∙ ap (drop 1) place.here ∙ split;
-    passed = is;
-  }
+pub no_lines : (lines : List (List ℕ)) → None ≡ Some lines → ⊥
+no_lines lines is = cc
 
-  pub no_line : (asked : ℕ) → IsPlace lines line column before left None → line < asked → slice_get lines asked ≡ None
-  no_line asked place past =
-      slice_get_past lines asked (omega (arith, length-drop line lines, ap length place.here))
+-- ---- in a text
 
-pub first_place : (text code first : List ℕ) (before : Option ℕ) (left : List ℕ) (rest : Option (List ℕ)) → chars code ≡ code_of (chars text)
-    → lines_of (chars code) ≡ chars first ∷ lines_behind rest → IsLeft (chars first) 0 before (chars left) → IsPlace (lines_in text) 0 0 before left rest
-first_place text code first before left rest is split start = record {
-  whole = chars first;
-  here = sym (ap lines_of is) ∙ split;
-  passed = start;
-}
+module _ (lines : List (List ℕ)) (line column : ℕ) where
+  pub no_line : None ≡ slice_get lines line → PastText ≡ standing_in lines line column
+  no_line none = ap (λ o. option_map_or (λ characters. standing_on None characters column) o PastText) none
 
--- ---- order
+  pub no_text : None ≡ slice_get lines line → None ≡ left_in lines line column
+  no_text none = ap (option_and_then (λ characters. left_on characters column)) none
 
-pub not_before : (a b c : Mapping) → IsAtOrBefore a b → IsAtOrBefore b c → IsAtOrBefore a c
-not_before a b c (inl x) (inl y) = inl (omega arith)
-not_before a b c (inl x) (inr y) = inl (omega (arith, y.0))
-not_before a b c (inr x) (inl y) = inl (omega (arith, x.0))
-not_before a b c (inr x) (inr y) = inr (x.0 ∙ y.0, omega (arith, x.1, y.1))
+  pub on_line : (characters : List ℕ) → Some characters ≡ slice_get lines line → standing_on None characters column ≡ standing_in lines line column
+  on_line characters there = ap (λ o. option_map_or (λ characters. standing_on None characters column) o PastText) there
 
--- what stands at the first of some mappings in order, or before it, stands before the others
-pub in_order_behind : (a b : Mapping) (mappings : List Mapping) → IsAtOrBefore a b → IsInOrder (b ∷ mappings) → IsInOrder (a ∷ mappings)
-in_order_behind a b [] before order = tt
-in_order_behind a b (c ∷ mappings) before order = (not_before a b c before order.0, order.1)
+  pub text_on : (characters : List ℕ) → Some characters ≡ slice_get lines line → left_on characters column ≡ left_in lines line column
+  text_on characters there = ap (option_and_then (λ characters. left_on characters column)) there
 
-pub starts_in_order : (mappings : List Mapping) → IsInOrder mappings → IsInOrder (position_at 0 0 ∷ mappings)
-starts_in_order [] order = tt
-starts_in_order (m ∷ mappings) order = (first m, order)
-  where
-    first : (m : Mapping) → IsAtOrBefore (position_at 0 0) m
-    first m = by_line m.line refl
-      where
-        by_line : (n : ℕ) → m.line ≡ n → IsAtOrBefore (position_at 0 0) m
-        by_line zero is = inr (sym is, omega arith)
-        by_line (suc n) is = inl (omega arith)
+-- a place on a line that is there is one in the text
+pub kept : (lines : List (List ℕ)) (line there column : ℕ) (before : Option ℕ) (left characters : List ℕ) → line ≡ there
+    → Some characters ≡ slice_get lines there → IsLeft characters column before (chars left) → IsPlace lines line column before left
+kept lines line there column before left characters same is place = λ whole other.
+    subst (λ c. IsLeft c column before (chars left)) (same_line characters whole (is ∙ ap (slice_get lines) (sym same) ∙ other)) place
 
--- the start of the next line is not behind a position on a later one
-pub next_reached : (line asked column start : ℕ) → line < asked → start ≡ 0 → IsAtOrBefore (position_at (line + 1) start) (position_at asked column)
-next_reached line asked column start less is = by_line (nat_lt (line + 1) asked) refl
-  where
-    by_line : (b : Bool) → nat_lt (line + 1) asked ≡ b → IsAtOrBefore (position_at (line + 1) start) (position_at asked column)
-    by_line true past = inl (grind (arith, nat_tests))
-    by_line false past = inr (grind (arith, nat_tests), omega arith)
+-- a place in the text on that line is one in the line
+pub on_it : (lines : List (List ℕ)) (line there column : ℕ) (before : Option ℕ) (left characters : List ℕ) → line ≡ there
+    → slice_get lines there ≡ Some characters → IsPlace lines line column before left → IsLeft characters column before (chars left)
+on_it lines line there column before left characters same is place = place characters (ap (slice_get lines) same ∙ is)
+
+-- ---- in contents
+
+pub kept_in : (contents : List (Option (List (List ℕ)))) (source there line column : ℕ) (before : Option ℕ) (left : List ℕ) (lines : List (List ℕ))
+    → source ≡ there → Some lines ≡ original_lines contents there → IsPlace lines line column before left
+    → IsOriginal contents source line column before left
+kept_in contents source there line column before left lines same is place = λ whole other.
+    subst (λ l. IsPlace l line column before left) (same_lines lines whole (is ∙ ap (original_lines contents) (sym same) ∙ other)) place
+
+pub in_it : (contents : List (Option (List (List ℕ)))) (source there line column : ℕ) (before : Option ℕ) (left : List ℕ) (lines : List (List ℕ))
+    → source ≡ there → original_lines contents there ≡ Some lines → IsOriginal contents source line column before left
+    → IsPlace lines line column before left
+in_it contents source there line column before left lines same is place = place lines (ap (original_lines contents) same ∙ is)

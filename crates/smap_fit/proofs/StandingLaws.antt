@@ -1,5 +1,5 @@
 -- How a place stands in a line, character by character.
-use Rattle.std.proofs.Common.{◌≡◌, ◌+◌, ◌-◌, ◌<◌, ◌==◌, ℕ, Bool, true, false, cond, List, [], ◌∷◌, ◌++◌, Option, None, Some, nat_lt, refl, sym, ap, ◌∙◌, arith}
+use Rattle.std.proofs.Common.{◌≡◌, ◌+◌, ◌-◌, ◌<◌, ◌==◌, ℕ, Bool, true, false, cond, List, [], ◌∷◌, ◌++◌, Option, None, Some, nat_lt, zero-add, refl, sym, ap, ◌∙◌, arith}
 use Rattle.std.specs.List.{last_or, sum_by}
 use Rattle.std.specs.Option.{option_map_or}
 use Rattle.std.proofs.lemmas.Bool.{cond-false}
@@ -7,7 +7,7 @@ use Rattle.std.proofs.lemmas.Bool.Decides.{nat_tests}
 use Rattle.std.proofs.lemmas.List.Sums.{sum_by-cons}
 use Rattle.smap_text.specs.Units.{units_of}
 use Rattle.smap_fit.specs.Private.Places.{IsLeft}
-use Rattle.smap_fit.specs.Standing.{IsAtStart, goes_on, standing_in, standing_on}
+use Rattle.smap_fit.specs.Standing.{IsAtStart, goes_on, left_on, standing_in, standing_on}
 use Rattle.smap_fit.specs.declared.standing.Standing.TheVariants.{Fits, PastText, InsideWord}
 
 -- ---- past a character
@@ -34,11 +34,21 @@ stepped before c left units =
     cond-false _ _ _ (not_at (units_of c) units (some_units c)) ∙ cond-false _ _ _ (not_within (units_of c) units)
     ∙ ap (standing_on (Some c) left) (more (units_of c) units)
 
+stepped_text : (c : ℕ) (left : List ℕ) (units : ℕ) → left_on (c ∷ left) (units_of c + units) ≡ left_on left units
+stepped_text c left units =
+    cond-false _ _ _ (not_at (units_of c) units (some_units c)) ∙ cond-false _ _ _ (not_within (units_of c) units)
+    ∙ ap (left_on left) (more (units_of c) units)
+
+-- at a line's start all of it is left
+pub started : (line : List ℕ) → IsLeft line 0 None line
+started line = record { standing = λ units. ap (standing_on None line) (zero-add units); text = λ units. ap (left_on line) (zero-add units) }
+
 pub passed : (whole : List ℕ) (column : ℕ) (before : Option ℕ) (c : ℕ) (left : List ℕ) → IsLeft whole column before (c ∷ left)
     → IsLeft whole (column + units_of c) (Some c) left
-passed whole column before c left is units =
-    let further : column + units_of c + units ≡ column + (units_of c + units) = sum3 column (units_of c) units in
-    ap (standing_on None whole) further ∙ is (units_of c + units) ∙ stepped before c left units
+passed whole column before c left is = record {
+  standing = λ units. ap (standing_on None whole) (sum3 column (units_of c) units) ∙ is.standing (units_of c + units) ∙ stepped before c left units;
+  text = λ units. ap (left_on whole) (sum3 column (units_of c) units) ∙ is.text (units_of c + units) ∙ stepped_text c left units;
+}
   where
     sum3 : (a b c : ℕ) → a + b + c ≡ a + (b + c)
     sum3 a b c = omega arith
@@ -47,12 +57,20 @@ passed whole column before c left is units =
 
 module _ (whole : List ℕ) (at column : ℕ) (before : Option ℕ) (left : List ℕ) where
   here : (units : ℕ) → IsLeft whole at before left → at + units ≡ column → standing_on None whole column ≡ standing_on before left units
-  here units is same = ap (standing_on None whole) (sym same) ∙ is units
+  here units is same = ap (standing_on None whole) (sym same) ∙ is.standing units
+
+  here_text : (units : ℕ) → IsLeft whole at before left → at + units ≡ column → left_on whole column ≡ left_on left units
+  here_text units is same = ap (left_on whole) (sym same) ∙ is.text units
 
   pub ended : IsLeft whole at before left → left ≡ [] → at < column → PastText ≡ standing_on None whole column
   ended is none past =
       let some : (column - at == 0) ≡ false = grind (arith, nat_tests) in
       sym (here (column - at) is (omega arith) ∙ ap (λ l. standing_on before l (column - at)) none ∙ cond-false _ _ _ some)
+
+  pub ended_text : IsLeft whole at before left → left ≡ [] → at < column → None ≡ left_on whole column
+  ended_text is none past =
+      let some : (column - at == 0) ≡ false = grind (arith, nat_tests) in
+      sym (here_text (column - at) is (omega arith) ∙ ap (λ l. left_on l (column - at)) none ∙ cond-false _ _ _ some)
 
   pub between_units : (c : ℕ) (rest : List ℕ) → IsLeft whole at before left → left ≡ c ∷ rest → at < column → column - at < units_of c
       → InsideWord ≡ standing_on None whole column
@@ -63,6 +81,23 @@ module _ (whole : List ℕ) (at column : ℕ) (before : Option ℕ) (left : List
     where
       inside : (n u : ℕ) → n < u → cond (nat_lt n u) InsideWord (standing_on (Some c) rest (n - u)) ≡ InsideWord
       inside n u less = let is_less : nat_lt n u ≡ true = grind (arith, nat_tests) in rw is_less refl
+
+  pub between_units_text : (c : ℕ) (rest : List ℕ) → IsLeft whole at before left → left ≡ c ∷ rest → at < column → column - at < units_of c
+      → None ≡ left_on whole column
+  between_units_text c rest is first past within =
+      let some : (column - at == 0) ≡ false = grind (arith, nat_tests) in
+      sym (here_text (column - at) is (omega arith) ∙ ap (λ l. left_on l (column - at)) first ∙ cond-false _ _ _ some
+      ∙ inside (column - at) (units_of c) within)
+    where
+      inside : (n u : ℕ) → n < u → cond (nat_lt n u) None (left_on rest (n - u)) ≡ None
+      inside n u less = let is_less : nat_lt n u ≡ true = grind (arith, nat_tests) in rw is_less refl
+
+  pub reached_text : IsLeft whole at before left → at ≡ column → Some left ≡ left_on whole column
+  reached_text is same = sym (here_text 0 is (omega arith) ∙ all left)
+    where
+      all : (left : List ℕ) → left_on left 0 ≡ Some left
+      all [] = refl
+      all (c ∷ left) = refl
 
   pub reached : IsLeft whole at before left → at ≡ column → standing_on None whole column ≡ cond (goes_on before left) InsideWord Fits
   reached is same = here 0 is (omega arith) ∙ first left

@@ -1,5 +1,9 @@
 pub mod Words
+pub mod Lines
 pub mod Standing
 pub mod Fresh
+pub mod Agreement
+pub mod First
 pub mod Fit
+pub mod Shift
 pub mod Private

@@ -1,2 +1,3 @@
 -- What contracts of private functions alone cite.
 pub mod Places
+pub mod Texts

@@ -1,6 +1,6 @@
 -- How a place stands in a text. Lines and columns count from 0, columns in UTF-16 code units (ECMA-426, Mappings structure).
 -- A text is its lines here, and a line its characters.
-use Rattle.std.specs.Prelude.{◌≡◌, ℕ, ◌==◌, ◌-◌, ◌&&◌, Bool, false, not, List, [], ◌∷◌, ◌++◌, Option, None, Some, if◌then◌else◌, nat_lt, slice_get}
+use Rattle.std.specs.Prelude.{◌≡◌, ℕ, ◌==◌, ◌-◌, ◌&&◌, Bool, true, false, not, List, [], ◌∷◌, ◌++◌, Option, None, Some, if◌then◌else◌, nat_lt, option_and_then, slice_get}
 use Rattle.std.specs.List.{last_or, sum_by}
 use Rattle.std.specs.Option.{option_map_or}
 use Rattle.smap_text.specs.Units.{units_of}
@@ -30,6 +30,29 @@ standing_on before (c ∷ line) column =
 -- how a place stands in a text of these lines: that on a line which there is not is past the text
 abbrev pub standing_in : List (List ℕ) → (line column : ℕ) → Standing
 standing_in lines line column = option_map_or (λ characters. standing_on None characters column) (slice_get lines line) PastText
+
+abbrev pub is_past : Standing → Bool
+is_past Fits = false
+is_past PastText = true
+is_past InsideWord = false
+
+abbrev pub is_inside : Standing → Bool
+is_inside Fits = false
+is_inside PastText = false
+is_inside InsideWord = true
+
+-- ---- what is there
+
+-- what a line of these characters has from a column on; there is nothing past its end or inside a pair of units
+abbrev pub left_on : (line : List ℕ) (column : ℕ) → Option (List ℕ)
+left_on [] column = if column == 0 then Some [] else None
+left_on (c ∷ line) column =
+    if column == 0 then Some (c ∷ line)
+    else (if nat_lt column (units_of c) then None else left_on line (column - units_of c))
+
+-- what the line of a text has from a place on
+abbrev pub left_in : List (List ℕ) → (line column : ℕ) → Option (List ℕ)
+left_in lines line column = option_and_then (λ characters. left_on characters column) (slice_get lines line)
 
 -- ---- the same in other words
 

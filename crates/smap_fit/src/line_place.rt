@@ -1,11 +1,11 @@
 //! A place in a line.
-ghost use Rattle.std.specs.Prelude.{◌≡◌, ◌≤◌, List, ℕ, None};
+ghost use Rattle.std.specs.Prelude.{◌≡◌, ◌≤◌, List, ℕ, None, option_copied, option_map};
 ghost use Rattle.std.specs.Str.{chars};
 ghost use Rattle.smap_fit.specs.Private.Places.{IsLeft};
-ghost use Rattle.smap_fit.specs.Standing.{goes_on, is_substitution, standing_on};
+ghost use Rattle.smap_fit.specs.Standing.{goes_on, is_substitution, left_on, standing_on};
 
 use crate::characters::{split_character, units_of};
-use crate::standing::Standing;
+use crate::standing::{Spot, Standing};
 use crate::words::is_word_character;
 
 /// A place in a line: how many UTF-16 code units are before it, the character before it, and what is left behind it.
@@ -29,9 +29,9 @@ impl<'a> LinePlace<'a> {
         }
     }
 
-    /// How a column that is not before the place stands in its line. The place goes on to it, or to the last before it that
-    /// there is.
-    pub fn standing(&mut self, column: u32) -> Standing
+    /// How a column that is not before the place stands in its line, and what is there. The place goes on to it, or to the
+    /// last before it that there is.
+    pub fn standing(&mut self, column: u32) -> Spot<'a>
         requires { self.old.column ≤ column }
         ensures column { self.new.column ≤ column }
         ensures left { (whole : List ℕ)
@@ -39,24 +39,39 @@ impl<'a> LinePlace<'a> {
             → IsLeft whole self.new.column self.new.before (chars self.new.left.now) }
         ensures standing { (whole : List ℕ)
             → IsLeft whole self.old.column self.old.before (chars self.old.left.now)
-            → result ≡ standing_on None whole column }
+            → result.standing ≡ standing_on None whole column }
+        ensures text { (whole : List ℕ)
+            → IsLeft whole self.old.column self.old.before (chars self.old.left.now)
+            → option_map (λ text. chars text) (option_copied result.text) ≡ left_on whole column }
     {
         while self.column < column {
             let Some((character, left)) = split_character(self.left) else {
-                return Standing::PastText;
+                return Spot {
+                    standing: Standing::PastText,
+                    text: None,
+                };
             };
             let units = units_of(character);
             if column - self.column < units {
-                return Standing::InsideWord;
+                return Spot {
+                    standing: Standing::InsideWord,
+                    text: None,
+                };
             }
             self.column += units;
             self.before = Some(character);
             self.left = left;
         }
         if self.goes_on() {
-            Standing::InsideWord
+            Spot {
+                standing: Standing::InsideWord,
+                text: Some(self.left),
+            }
         } else {
-            Standing::Fits
+            Spot {
+                standing: Standing::Fits,
+                text: Some(self.left),
+            }
         }
     }
 

@@ -10,3 +10,10 @@ pub enum Standing {
     /// Between two characters of a word, or between the two units of a character.
     InsideWord,
 }
+
+/// How a place stands in a text, and what its line has from there on: nothing past the text or inside a pair of units.
+#[derive(Clone, Copy)]
+pub struct Spot<'a> {
+    pub standing: Standing,
+    pub text: Option<&'a str>,
+}

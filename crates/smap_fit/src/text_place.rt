@@ -1,103 +1,88 @@
 //! A place in a text.
-ghost use Rattle.std.specs.Prelude.{◌≡◌, ◌≤◌, List, ℕ, None, option_copied, slice_get};
-ghost use Rattle.std.specs.Bool.{OnFalse, OnTrue};
+ghost use Rattle.std.specs.Prelude.{◌≡◌, ◌≤◌, List, ℕ, Some, option_copied, option_map, slice_get};
+ghost use Rattle.std.specs.Bool.{OnTrue};
 ghost use Rattle.std.specs.Str.{chars};
-ghost use Rattle.smap_mappings.specs.Order.{IsAtOrBefore};
-ghost use Rattle.smap_mappings.specs.Range.{position_at};
-ghost use Rattle.smap_fit.specs.Fit.{code_of, lines_in};
-ghost use Rattle.smap_fit.specs.Private.Places.{IsPlace};
-ghost use Rattle.smap_fit.specs.Standing.{standing_in};
+ghost use Rattle.smap_fit.specs.Private.Places.{IsLeft, IsPlace};
+ghost use Rattle.smap_fit.specs.Private.Texts.{line_texts};
+ghost use Rattle.smap_fit.specs.Standing.{left_in, standing_in};
 
-use crate::characters::split_character;
 use crate::line_place::LinePlace;
-use crate::standing::Standing;
-use smap_text::split_line;
+use crate::standing::{Spot, Standing};
+use crate::text_lines::TextLines;
 
-/// A place in the code of a text, from which a walk goes on: the number of its line, from 0, the place in it, and what
-/// follows the line's end.
+/// A place in a text, from which a walk goes on along its line: the number of the line, from 0, and the place in it.
 #[derive(Drop)]
 pub struct TextPlace<'a> {
     pub line: u32,
     pub here: LinePlace<'a>,
-    pub rest: Option<&'a str>,
 }
 
 impl<'a> TextPlace<'a> {
-    /// The start of the code.
-    pub fn start(text: &'a str) -> Self
-        ensures line { result.line ≡ 0 }
-        ensures column { result.here.column ≡ 0 }
-        ensures place { IsPlace (lines_in text.now) 0 0 result.here.before
-            result.here.left.now (option_copied result.rest) }
+    /// The start of a text.
+    pub fn start(text: &TextLines<'a>) -> Self
+        ensures { IsPlace (line_texts text.now) result.line
+            result.here.column result.here.before result.here.left.now }
     {
-        let (line, rest) = split_line(code_of(text));
         TextPlace {
             line: 0,
-            here: LinePlace::start(line),
-            rest,
+            here: LinePlace::start(first_line(text)),
         }
     }
 
-    /// How a position that is not before the place stands in the text. The place goes on to it, or to the last before it
-    /// that there is.
-    pub fn standing(&mut self, line: u32, column: u32) -> Standing
-        requires { IsAtOrBefore
-            (position_at self.old.line self.old.here.column) (position_at line column) }
-        ensures reached { IsAtOrBefore
-            (position_at self.new.line self.new.here.column) (position_at line column) }
-        ensures place { (lines : List (List ℕ))
-            → IsPlace lines self.old.line self.old.here.column self.old.here.before
-            self.old.here.left.now (option_copied self.old.rest)
-            → IsPlace lines self.new.line self.new.here.column self.new.here.before
-            self.new.here.left.now (option_copied self.new.rest) }
-        ensures standing { (lines : List (List ℕ))
-            → IsPlace lines self.old.line self.old.here.column self.old.here.before
-            self.old.here.left.now (option_copied self.old.rest)
-            → result ≡ standing_in lines line column }
+    /// How a position stands in the text, and what is there. The place goes to it, or to the last before it on its line that
+    /// there is: along the line, or from its start where the place is on another or past the position.
+    pub fn spot(&mut self, text: &TextLines<'a>, line: u32, column: u32) -> Spot<'a>
+        requires { IsPlace (line_texts text.now) self.old.line
+            self.old.here.column self.old.here.before self.old.here.left.now }
+        ensures place { IsPlace (line_texts text.now) self.new.line
+            self.new.here.column self.new.here.before self.new.here.left.now }
+        ensures standing { result.standing ≡ standing_in (line_texts text.now) line column }
+        ensures text { option_map (λ text. chars text) (option_copied result.text)
+            ≡ left_in (line_texts text.now) line column }
     {
-        if self.reach_line(line) {
-            self.here.standing(column)
-        } else {
-            Standing::PastText
-        }
-    }
-
-    // Goes on to the start of this line, if there is one and the place is not on it.
-    fn reach_line(&mut self, line: u32) -> bool
-        requires { self.old.line ≤ line }
-        ensures reached { (column : ℕ)
-            → IsAtOrBefore (position_at self.old.line self.old.here.column) (position_at line column)
-            → IsAtOrBefore (position_at self.new.line self.new.here.column) (position_at line column) }
-        ensures line { OnTrue result (self.new.line ≡ line) }
-        ensures place { (lines : List (List ℕ))
-            → IsPlace lines self.old.line self.old.here.column self.old.here.before
-            self.old.here.left.now (option_copied self.old.rest)
-            → IsPlace lines self.new.line self.new.here.column self.new.here.before
-            self.new.here.left.now (option_copied self.new.rest) }
-        ensures none { (lines : List (List ℕ))
-            → IsPlace lines self.old.line self.old.here.column self.old.here.before
-            self.old.here.left.now (option_copied self.old.rest)
-            → OnFalse result (slice_get lines line ≡ None) }
-    {
-        while self.line < line {
-            let Some(text) = self.rest else {
-                return false;
+        let Some(characters) = text.line(line) else {
+            return Spot {
+                standing: Standing::PastText,
+                text: None,
             };
-            let (first, rest) = split_line(text);
-            self.line += 1;
-            self.here = LinePlace::start(first);
-            self.rest = rest;
+        };
+        self.reach(line, column, characters);
+        self.here.standing(column)
+    }
+
+    // Goes to the start of a line of these characters, unless the place is on it and not past the column.
+    fn reach(&mut self, line: u32, column: u32, characters: &'a str)
+        ensures line { self.new.line ≡ line }
+        ensures column { self.new.here.column ≤ column }
+        ensures left { (lines : List (List ℕ))
+            → slice_get lines line ≡ Some (chars characters.now)
+            → IsPlace lines self.old.line self.old.here.column self.old.here.before
+            self.old.here.left.now
+            → IsLeft (chars characters.now) self.new.here.column self.new.here.before
+            (chars self.new.here.left.now) }
+    {
+        if self.is_before(line, column) {
+            return;
         }
-        true
+        self.line = line;
+        self.here = LinePlace::start(characters);
+    }
+
+    // Whether the place is on this line, and not past the column.
+    fn is_before(&self, line: u32, column: u32) -> bool
+        ensures { OnTrue result ((self.now.line ≡ line) × (self.now.here.column ≤ column)) }
+    {
+        self.line == line && self.here.column <= column
     }
 }
 
-// The text without a byte order mark at its start, which engines pass over.
-fn code_of(text: &str) -> &str
-    ensures { chars result.now ≡ code_of (chars text.now) }
+// The first line of a text; nothing where there is none.
+fn first_line<'a>(text: &TextLines<'a>) -> &'a str
+    ensures { (whole : List ℕ) → slice_get (line_texts text.now) 0 ≡ Some whole
+        → chars result.now ≡ whole }
 {
-    match split_character(text) {
-        Some(('\u{FEFF}', code)) => code,
-        _ => text,
+    match text.line(0) {
+        Some(line) => line,
+        None => "",
     }
 }

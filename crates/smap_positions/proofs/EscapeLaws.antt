@@ -4,6 +4,7 @@ use Rattle.std.specs.Char.{digit_char, is_ascii_control}
 use Rattle.std.specs.List.{list_any}
 use Rattle.std.proofs.lemmas.Bool.{cond-false, cond-true, or_parts}
 use Rattle.std.proofs.lemmas.List.Concat.{flat_map_single}
+use Rattle.std.proofs.lemmas.Option.{cond_some}
 use Rattle.json.specs.Print.{escape, escape_byte, escape_letter}
 use Rattle.smap_text.specs.Shown.{shown, shown_byte}
 use Rattle.smap_positions.specs.Private.Escapes.{is_escaped, short_escape, shown_piece}
@@ -30,10 +31,6 @@ plain_text text none = sym (same_text shown_piece is_ascii_control plain_shown t
 
 -- ---- as JSON
 
-short_at : (byte letter found : ℕ) (has : Bool) → cond has (Some found) None ≡ Some letter → (has ≡ true) × (found ≡ letter)
-short_at byte letter found true is = (refl, cc)
-short_at byte letter found false is = cc
-
 none_at : (found : ℕ) (has : Bool) → cond has (Some found) None ≡ None → has ≡ false
 none_at found true is = cc
 none_at found false is = refl
@@ -41,7 +38,7 @@ none_at found false is = refl
 pub escaped_short : (byte letter : ℕ) → Some letter ≡ short_escape byte → 92 ∷ letter ∷ [] ≡ escape_byte byte
 unfolding escape_byte
 escaped_short byte letter is =
-    let at = short_at byte letter (escape_letter byte) (ltb 0 (escape_letter byte)) (sym is) in
+    let at = cond_some (ltb 0 (escape_letter byte)) (escape_letter byte) letter (sym is) in
     sym (cond-true (ltb 0 (escape_letter byte)) (92 ∷ escape_letter byte ∷ []) _ at.0 ∙ ap (λ l. 92 ∷ l ∷ []) at.1)
 
 pub escaped_number : (byte : ℕ) → None ≡ short_escape byte → ltb byte 32 ≡ true

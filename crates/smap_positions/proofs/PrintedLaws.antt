@@ -13,11 +13,6 @@ use Rattle.smap_record.specs.Record.{MapRecord}
 use Rattle.smap_positions.specs.Mappings.{is_on_line, printed_mapping, printed_mappings}
 use Rattle.smap_positions.specs.Private.Past.{is_past_line}
 
--- mappings in order are so without the first
-pub rest_in_order : (mapping : Mapping) (rest : List Mapping) → IsInOrder (mapping ∷ rest) → IsInOrder rest
-rest_in_order mapping [] order = tt
-rest_in_order mapping (next ∷ rest) order = order.1
-
 -- the next one stands past each line that the first stands past
 next_past : (line : ℕ) (a b : Mapping) → line < a.line → IsAtOrBefore a b → line < b.line
 next_past line a b past (inl below) = omega (arith, past, below)

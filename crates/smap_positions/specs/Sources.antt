@@ -1,8 +1,9 @@
 -- What `sources` prints of a map: each of its sources, and how much of the generated text it makes. Indices count from 0.
-use Rattle.std.specs.Prelude.{◌≡◌, ℕ, Bool, false, List, [], ◌∷◌, ◌++◌, Option, Some, None, codes, if◌then◌else◌, is_some, length, option_and_then, option_map, slice_get}
+use Rattle.std.specs.Prelude.{◌≡◌, ℕ, Bool, true, false, List, [], ◌∷◌, ◌++◌, Option, Some, None, codes, if◌then◌else◌, is_some, length, option_and_then, option_map, slice_get}
 use Rattle.std.specs.Fmt.{decimal}
 use Rattle.std.specs.List.{flat_map}
 use Rattle.serde_json.specs.Data.{Data, Members, boolean, object, no_members, member}
+use Rattle.smap_fit.specs.Fit.{fit_in, misfits}
 use Rattle.smap_index.specs.Parts.{joined}
 use Rattle.smap_record.specs.Record.{MapRecord}
 use Rattle.smap_record.specs.Sources.{StatedSource}
@@ -71,13 +72,30 @@ abbrev pub printed_totals : Form → (unmapped : ℕ) → (generated : Option (L
 printed_totals form unmapped None = []
 printed_totals form unmapped (Some text) = if is_json form then json_line (totals_value unmapped (length text)) else totals_lines unmapped (length text)
 
+-- how many mappings do not fit a generated text, where that is asked for and there is one
+abbrev pub misfits_in : (asked : Bool) → MapRecord → (generated : Option (List ℕ)) → Option ℕ
+misfits_in false stated generated = None
+misfits_in true stated None = None
+misfits_in true stated (Some text) = Some (misfits (fit_in text stated.sources (joined stated.parts)))
+
+abbrev pub misfits_line : ℕ → List ℕ
+misfits_line misfits = line_from (codes "misfits " ∷ decimal misfits ∷ [])
+
+abbrev pub misfits_value : ℕ → Data
+misfits_value misfits = object (member (codes "misfits") (count misfits) no_members)
+
+abbrev pub printed_misfits : Form → Option ℕ → List ℕ
+printed_misfits form None = []
+printed_misfits form (Some misfits) = if is_json form then json_line (misfits_value misfits) else misfits_line misfits
+
 -- the text for these rows of a map
-abbrev pub rows_text : Form → MapRecord → (generated : Option (List ℕ)) → List SourceRow → List ℕ
-rows_text form stated generated rows =
-    flat_map (printed_row form stated) rows ++ printed_totals form (unmapped_in (joined stated.parts) generated) generated
+abbrev pub rows_text : SourceOptions → MapRecord → (generated : Option (List ℕ)) → List SourceRow → List ℕ
+rows_text options stated generated rows =
+    flat_map (printed_row options.form stated) rows ++ printed_totals options.form (unmapped_in (joined stated.parts) generated) generated
+    ++ printed_misfits options.form (misfits_in options.fit stated generated)
 
 -- what is printed of the sources of a map: by index or, by their bytes, those with the most first
 pub record IsSourcesText (options : SourceOptions) (stated : MapRecord) (generated : Option (List ℕ)) (text : List ℕ) : Type 0 where
   pub rows : List SourceRow
   pub ordered : IsOrderedRows options.by_bytes (rows_of (joined stated.parts) generated (length stated.sources)) rows
-  pub printed : text ≡ rows_text options.form stated generated rows
+  pub printed : text ≡ rows_text options stated generated rows

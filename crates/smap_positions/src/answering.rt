@@ -29,7 +29,7 @@ pub struct PositionsSummary {
 /// output is not flushed.
 ///
 /// What became of each line that was read was written before more is read. All room is made before the first read, and no
-/// answer takes memory. The first failure ends it. What was written is then a front of what the bytes that were read
+/// answer takes memory. The first failure ends it. What was written is then the beginning of what the bytes that were read
 /// become; where a read failed, all of what the whole lines among them become; and where memory ran out, neither device
 /// was asked.
 pub fn answer_positions<R: ByteSource, W: ByteSink>(

@@ -25,7 +25,7 @@ use std::alloc::Global;
 ///
 /// It walks through the map's mappings and holds none of them. A room of 65,536 bytes is made before the first write, lines
 /// are gathered in it and written when it is full, and at the end, and no line takes memory. The first failure ends it, and
-/// then a front of the lines was written; where memory ran out, the output was not asked.
+/// then the beginning of the lines was written; where memory ran out, the output was not asked.
 pub fn print_mappings<W: ByteSink>(
     alloc: Global,
     map: &MapFile,

@@ -46,5 +46,7 @@ pub struct MappingsOptions {
 pub struct SourceOptions {
     /// Whether those that make the most bytes come first; else they stand by index.
     pub by_bytes: bool,
+    /// Whether it is said at the end how many mappings do not fit the generated file.
+    pub fit: bool,
     pub form: Form,
 }

@@ -7,6 +7,7 @@ ghost use Rattle.smap_positions.specs.Json.{json_line};
 ghost use Rattle.smap_positions.specs.Lines.{ignored_text};
 ghost use Rattle.smap_positions.specs.Private.Members.{row_front};
 ghost use Rattle.smap_positions.specs.Sources.{IsSourcesText, bytes_text, has_content, no_content_text};
+ghost use Rattle.smap_positions.specs.Sources.{misfits_in, misfits_line, misfits_value, printed_misfits};
 ghost use Rattle.smap_positions.specs.Sources.{printed_row, printed_totals, row_line, row_members, row_value};
 ghost use Rattle.smap_positions.specs.Sources.{totals_lines, totals_value};
 
@@ -17,13 +18,14 @@ use crate::options::SourceOptions;
 use crate::output::{Output, put_number};
 use crate::text_form::put_source;
 use smap_command::Form;
+use smap_fit::fit_of;
 use smap_record::{MapFile, SourceEntry, is_ignored, source_name};
 use smap_shares::{SourceRow, source_table};
 use std::alloc::{AllocError, Global};
 
 /// What is printed of the sources of a map, a line each as JSON or as text: its index, how many segments it has and, where
 /// the generated text is given, how many bytes of it the source makes; and then how many come from none, and how many there
-/// are.
+/// are. Where it is asked for, there is at last how many mappings do not fit that text.
 pub fn sources_text(
     alloc: Global,
     map: &MapFile,
@@ -34,10 +36,32 @@ pub fn sources_text(
         (option_copied generated.entry) text.items) }
 {
     let table = source_table(alloc, map, generated, options.by_bytes)?;
+    let misfits = misfits_in(alloc, map, generated, options.fit)?;
     let mut text = GrowingText::new(alloc);
     put_rows(map, &table.rows, options.form, &mut text);
     put_totals(table.unmapped, generated, options.form, &mut text);
+    put_misfits(misfits, options.form, &mut text);
     text.text()
+}
+
+// How many mappings do not fit the generated text, where that is asked for and it is given.
+fn misfits_in(
+    alloc: Global,
+    map: &MapFile,
+    generated: Option<&str>,
+    asked: bool,
+) -> Result<Option<u64>, AllocError>
+    ensures { IfOk result (λ misfits. misfits
+        ≡ misfits_in asked map.now.stated (option_copied generated.entry)) }
+{
+    if !asked {
+        return Ok(None);
+    }
+    let Some(text) = generated else {
+        return Ok(None);
+    };
+    let fit = fit_of(alloc, map, text)?;
+    Ok(Some(fit.misfits()))
 }
 
 // Puts the lines for rows of a map.
@@ -170,6 +194,34 @@ fn put_totals_object<O: Output>(unmapped: u64, total: u64, output: &mut O)
 {
     put_number(b"{\"total\":", total, output);
     put_number(b",\"unmapped\":", unmapped, output);
+    output.put(b"}");
+    output.put(b"\n");
+}
+
+// Puts how many mappings do not fit, where that is known.
+fn put_misfits<O: Output>(misfits: Option<u64>, form: Form, output: &mut O)
+    ensures { O.Puts output.old output.new (printed_misfits form misfits) }
+{
+    if let Some(misfits) = misfits {
+        if form.is_json() {
+            put_misfits_object(misfits, output)
+        } else {
+            put_misfits_line(misfits, output)
+        }
+    }
+}
+
+fn put_misfits_line<O: Output>(misfits: u64, output: &mut O)
+    ensures { O.Puts output.old output.new (misfits_line misfits) }
+{
+    put_number(b"misfits ", misfits, output);
+    output.put(b"\n");
+}
+
+fn put_misfits_object<O: Output>(misfits: u64, output: &mut O)
+    ensures { O.Puts output.old output.new (json_line (misfits_value misfits)) }
+{
+    put_number(b"{\"misfits\":", misfits, output);
     output.put(b"}");
     output.put(b"\n");
 }

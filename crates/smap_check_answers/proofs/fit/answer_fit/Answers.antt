@@ -16,7 +16,7 @@ loop-number-preserved g c =
     let between = sinks_seen (g.W.ByteSink.seen c.report.new.output) (g.E.ByteSink.seen c.report.new.errors) c.report.new.first in
     rw c.max-status.ensures (
       works,
-      goes_on (FitsPair (g.F.FileReader.gives c.args.maps.now.files.now) (option_copied c.args.maps.now.base) c.args.maps.now.interval c.args.json)
+      goes_on (FitsPair (g.F.FileReader.gives c.args.maps.now.files.now) (option_copied c.args.maps.now.base) c.args.maps.now.interval c.args.options)
           0 _ _ _ _ c.loop-number.number c.loop-number.status c.report.result before now between _ is c.loop-number.invariant.1
           (rw (c.deref.ensures, c.deref-in-loop-number.ensures) at c.fitted_pair-outcome.ensures) c.report.ensures works,
     )
@@ -26,7 +26,7 @@ returns-after-loop-number g c =
     let before = sinks_seen (g.W.ByteSink.seen c.args.output.now) (g.E.ByteSink.seen c.args.errors.now) c.args.first.now in
     let now = sinks_seen (g.W.ByteSink.seen c.loop-number.output) (g.E.ByteSink.seen c.loop-number.errors) c.loop-number.first in
     let none = no_pair string_bytes c.args.paths.now c.loop-number.number (omega (arith, c.loop-number-test.false)) in
-    all_reported (FitsPair (g.F.FileReader.gives c.args.maps.now.files.now) (option_copied c.args.maps.now.base) c.args.maps.now.interval c.args.json)
+    all_reported (FitsPair (g.F.FileReader.gives c.args.maps.now.files.now) (option_copied c.args.maps.now.base) c.args.maps.now.interval c.args.options)
     0 _ _ c.loop-number.number c.loop-number.status before now none c.loop-number.invariant.1
 
 pub returns-then-failed : goal.returns-then-failed
@@ -37,6 +37,6 @@ returns-then-failed g c =
     let before = sinks_seen (g.W.ByteSink.seen c.args.output.now) (g.E.ByteSink.seen c.args.errors.now) c.args.first.now in
     let now = sinks_seen (g.W.ByteSink.seen c.loop-number.output) (g.E.ByteSink.seen c.loop-number.errors) c.loop-number.first in
     let between = sinks_seen (g.W.ByteSink.seen c.report.new.output) (g.E.ByteSink.seen c.report.new.errors) c.report.new.first in
-    rw c.max-status.ensures (stops (FitsPair (g.F.FileReader.gives c.args.maps.now.files.now) (option_copied c.args.maps.now.base) c.args.maps.now.interval c.args.json)
+    rw c.max-status.ensures (stops (FitsPair (g.F.FileReader.gives c.args.maps.now.files.now) (option_copied c.args.maps.now.base) c.args.maps.now.interval c.args.options)
     0 _ _ _ _ c.loop-number.number c.loop-number.status c.report.result before now between _ is c.loop-number.invariant.1
     (rw (c.deref.ensures, c.deref-in-loop-number.ensures) at c.fitted_pair-outcome.ensures) c.report.ensures failed)

@@ -1,23 +1,22 @@
-use Rattle.std.proofs.Common.{◌≡◌, ◌+◌, ◌*◌, ap, inr, ◌∙◌}
+use Rattle.std.proofs.Common.{◌+◌, ◌*◌, inr, subst}
 use Rattle.std.specs.Prelude.{string_bytes}
 use Rattle.std.proofs.lemmas.Result.{err_from_is_err_and}
-use Rattle.smap_index.specs.Parts.{joined}
-use Rattle.smap_fit.specs.Fit.{fit_in}
+use Rattle.smap_replies.specs.Outcome.{reply_report}
 use Rattle.smap_replies.proofs.TextLaws.{no_text, of_text}
-use Rattle.smap_check_answers.specs.Fit.{fit_report}
+use Rattle.smap_check_answers.specs.Fit.{IsFitReported}
 use Rattle.smap_check_answers.proofs.fit.fitted_map.Goals as goal
 
 pub returns-in_err-text : goal.returns-in_err-text
 returns-in_err-text g c =
     let p = err_from_is_err_and c.from_residual.result c.from_residual.ensures.1 in
     rw (p.1, p.2) (no_text (g.F.FileReader.gives c.args.reader.now) (2 * c.args.number + 1) c.args.generated.now
-    (λ text report. report ≡ fit_report c.args.json c.args.path.now c.args.generated.now (fit_in text (joined c.args.map.now.stated.parts)))
+    (λ text. IsFitReported c.args.options c.args.path.now c.args.generated.now text c.args.map.now.stated)
     _ c.in_err-text.ensures.refused)
 
 pub returns : goal.returns
 returns g c =
-    let fit = c.fit_of-fit.ensures.counts ∙ ap (λ text. fit_in text (joined c.args.map.now.stated.parts)) c.deref.ensures in
     of_text (g.F.FileReader.gives c.args.reader.now) (2 * c.args.number + 1) c.args.generated.now (string_bytes c.in_ok-text.text)
-    (λ text report. report ≡ fit_report c.args.json c.args.path.now c.args.generated.now (fit_in text (joined c.args.map.now.stated.parts)))
+    (λ text. IsFitReported c.args.options c.args.path.now c.args.generated.now text c.args.map.now.stated)
     _ c.in_ok-text.ensures.read
-    (inr (c.in_ok-reply.ensures ∙ ap (fit_report c.args.json c.args.path.now c.args.generated.now) fit))
+    (inr (subst (λ text. IsFitReported c.args.options c.args.path.now c.args.generated.now text c.args.map.now.stated (reply_report c.in_ok-reply.reply))
+    c.deref.ensures c.in_ok-reply.ensures))

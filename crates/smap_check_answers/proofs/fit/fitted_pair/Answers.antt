@@ -20,5 +20,5 @@ pub returns : goal.returns
 returns g c =
     of_stated (g.F.FileReader.gives c.args.maps.now.files.now) (2 * c.args.number) c.args.path.now (option_copied c.args.maps.now.base)
     c.args.maps.now.interval c.in_ok-map.map.stated
-    (FitsText (g.F.FileReader.gives c.args.maps.now.files.now) c.args.json c.args.number (c.args.path.now, c.args.generated.now))
+    (FitsText (g.F.FileReader.gives c.args.maps.now.files.now) c.args.options c.args.number (c.args.path.now, c.args.generated.now))
     (report_of c.fitted_map.result) c.in_ok-map.ensures.read c.fitted_map.ensures

@@ -5,7 +5,8 @@ use Rattle.smap_lines.specs.Laws.Put.{fails_first, fails_second, puts_both, puts
 use Rattle.smap_mappings.specs.Order.{IsInOrder}
 use Rattle.smap_index.specs.Parts.{joined}
 use Rattle.smap_positions.specs.Mappings.{mappings_text, printed_mappings}
-use Rattle.smap_positions.proofs.PrintedLaws.{none_past, printed_first, rest_in_order}
+use Rattle.smap_positions.proofs.PrintedLaws.{none_past, printed_first}
+use Rattle.smap_index.proofs.ListLaws.{tail_in_order}
 use Rattle.smap_positions.proofs.mappings.put_mappings.Goals as goal
 
 pub loop-mapping-init : goal.loop-mapping-init
@@ -39,7 +40,7 @@ loop-mapping-preserved g c =
     record {
       can = tt;
       finite = tt;
-      ordered = rest_in_order c.in-Some.mapping _ (subst IsInOrder c.in-Some.ensures.steps so_far.ordered);
+      ordered = tail_in_order c.in-Some.mapping _ (subst IsInOrder c.in-Some.ensures.steps so_far.ordered);
       put = (
         _,
         puts_both so_far.put.1 c.in_ok-put_asked.ensures,
