@@ -6,7 +6,8 @@
  * A handle holds a map, a table, inner maps or bytes, or is empty. One set to {0}, or in C++ to {}, is empty. A call that fills a
  * handle wants it empty: what it held before is not freed. A call that takes one from a handle wants it full, unless it says
  * so. The pointer in a handle does not show whether it is empty: after it was freed, or a call took from it, the old one
- * stays there. Each handle is used by one call at a time; two threads may use two handles, each its own.
+ * stays there. Each handle is used by one call at a time; two threads may use two handles, each its own. A handle that is
+ * `const` in each of several calls may be used by all of them at once: they read what it leads to and change nothing.
  *
  * No pointer is null: of no bytes, give a pointer to anything and the length 0. Two pointers of a call lead to different
  * places. Set what a call writes to before: to {0} or {}, or to SMAP_TEXT and SMAP_SOURCE.
@@ -40,7 +41,7 @@ typedef struct smap_table { void *at; } smap_table;
 typedef struct smap_inners { void *at; } smap_inners;
 typedef struct smap_bytes { void *at; } smap_bytes;
 
-/* A text that is lent. It stays until the next call with the handle that lent it. */
+/* A text that is lent. It stays until the next call with the handle that lent it in which that is not `const`. */
 typedef struct smap_text { const uint8_t *bytes; size_t length; } smap_text;
 #ifdef __cplusplus
 #define SMAP_TEXT { reinterpret_cast<const uint8_t *>(""), 0 }
@@ -96,6 +97,15 @@ typedef struct smap_count {
     uint64_t sections, sources, names, segments, lines, checkpoints;
 } smap_count;
 
+/* How a map fits a generated file: its mappings, those that stand past the text or inside a word of it, of which the map of the
+ * file has none; and those whose source has content, those of them whose original place is past it, and those at which both
+ * texts show the same word or character. Of those past the text or inside a word, which only continues the one before it is
+ * not counted. `fits` is 1 where the map can be that of the file. */
+typedef struct smap_fit_count {
+    uint64_t mappings, past, inside, compared, outside, same;
+    uint32_t fits;
+} smap_fit_count;
+
 /* A source. `named`, `held` and `ignored` are 1 for yes: it has a name, the map holds its content, and the map says that
  * a debugger should pass over it. A text that there is not has length 0. */
 typedef struct smap_source_text {
@@ -107,6 +117,23 @@ typedef struct smap_source_text {
 /* What smap_compose_all leaves out of the map that it writes. With `prune`: sources and names that no mapping has, and of
  * those that are equal all but the first that a mapping has. With `no_content`: the contents of the sources. */
 typedef struct smap_compose_options { bool prune, no_content; } smap_compose_options;
+
+/* How a place is looked up in a table. With `after` the first mapping on the line at the position or after it answers. With
+ * `cut` a URL under which the table has no map has the one under it without its query and its fragment. */
+typedef struct smap_table_options { bool after, cut; } smap_table_options;
+
+/* Where a line of a source stands in its content, without its end: the byte at which it begins, and how many it has. Of more
+ * than 65,536 `length` counts those of the whole characters among so many, and `cut` is 1. */
+typedef struct smap_line_bytes { size_t start, length; uint32_t cut; } smap_line_bytes;
+
+/* The number of the first of some lines, and how many there are. */
+typedef struct smap_line_range { uint32_t first; size_t count; } smap_line_range;
+
+/* How a text is rewritten: `hide_ignored` drops the lines of frames from ignored sources, `anywhere` takes places in place of
+ * frames, and drops no line, and with `strip_ansi` the text is read without its control sequences: ESC, `[`, parameters and one
+ * letter or sign, as they colour a terminal; of more than 128 bytes none is one. With `cut` a frame whose URL is not in the table has
+ * the map under it without its query and its fragment. */
+typedef struct smap_rewrite_options { bool hide_ignored, anywhere, strip_ansi, cut; } smap_rewrite_options;
 
 /* What was in a trace: its lines, how many were frames, and how many of these were replaced and hidden. */
 typedef struct smap_trace_count { uint64_t lines, frames, mapped, hidden; } smap_trace_count;
@@ -136,13 +163,13 @@ uint32_t smap_refusal_explain(const uint8_t *bytes, size_t length, const smap_re
                               smap_bytes *text);
 
 /* Looks a generated position up: the last mapping on the line at the position or before it answers. Returns 0. */
-uint32_t smap_look_up(smap_map *map, uint32_t line, uint32_t column, smap_found *found);
+uint32_t smap_look_up(const smap_map *map, uint32_t line, uint32_t column, smap_found *found);
 
 /* The same in the other direction: the first mapping on the line at the position or after it answers. Returns 0. */
-uint32_t smap_look_up_from(smap_map *map, uint32_t line, uint32_t column, smap_found *found);
+uint32_t smap_look_up_from(const smap_map *map, uint32_t line, uint32_t column, smap_found *found);
 
 /* Looks `count` positions up as smap_look_up does. `places` is the length of `found`, which is `count` too. Returns 0. */
-uint32_t smap_look_up_many(smap_map *map, const smap_position *positions, size_t count, smap_found *found, size_t places);
+uint32_t smap_look_up_many(const smap_map *map, const smap_position *positions, size_t count, smap_found *found, size_t places);
 
 /* Hands out all mappings of the map in their order: `bytes` has one smap_mapping after another, 32 bytes each, which may be
  * read where they are lent. The bytes are freed by smap_bytes_free. */
@@ -163,16 +190,29 @@ uint32_t smap_encode_refusal_text(uint32_t refusal, smap_text *text);
 uint32_t smap_bytes_by_source(smap_map *map, const uint8_t *generated, size_t length, uint64_t *sources, size_t places,
                               uint64_t *unmapped, uint32_t *refusal);
 
-/* Lends what the program prints on this refusal of smap_bytes_by_source, "NotUtf8" or "TooLarge". Returns 1 for another number. */
+/* Says whether the map can be that of this generated file. Returns 1 as smap_bytes_by_source does. */
+uint32_t smap_fit(smap_map *map, const uint8_t *generated, size_t length, smap_fit_count *counts, uint32_t *refusal);
+
+/* Lends what the program prints on this refusal of both, "NotUtf8" or "TooLarge". Returns 1 for another number. */
 uint32_t smap_generated_refusal_text(uint32_t refusal, smap_text *text);
 
 /* Gives how much the map holds. Returns 0. */
-uint32_t smap_counts(smap_map *map, smap_count *counts);
+uint32_t smap_counts(const smap_map *map, smap_count *counts);
+
+/* Gives for how many bytes of memory the map counts: those of the texts that it holds, 160 for each section and each source, 40
+ * for each name, 32 for each checkpoint and 8 for each mapping. It takes about as much. Returns 0. */
+uint32_t smap_map_size(const smap_map *map, uint64_t *size);
 
 /* Lends source or name `index`, or the name of the generated file. Returns 1 where there is none. */
-uint32_t smap_source(smap_map *map, uint32_t index, smap_source_text *source);
-uint32_t smap_name(smap_map *map, uint32_t index, smap_text *name);
-uint32_t smap_file(smap_map *map, smap_text *file);
+uint32_t smap_source(const smap_map *map, uint32_t index, smap_source_text *source);
+uint32_t smap_name(const smap_map *map, uint32_t index, smap_text *name);
+uint32_t smap_file(const smap_map *map, smap_text *file);
+
+/* Gives where lines stand in the content of source `source`: line `line`, from 0, with up to `before` lines before it and up to
+ * `after` behind it. `places` is the length of `lines`, which is `before` + 1 + `after`; the first are written, and `range` says of
+ * which lines. They end in LF, CR LF, CR, U+2028 or U+2029. Returns 1 where there is no such source, or its content has no such line. */
+uint32_t smap_source_lines(const smap_map *map, uint32_t source, uint32_t line, uint32_t before, uint32_t after,
+                           smap_line_bytes *lines, size_t places, smap_line_range *range);
 
 /* Writes the map as the text of one regular map. Returns 1 where its mappings, as one text, would have more than
  * 67,108,864 bytes. The bytes are freed by smap_bytes_free. */
@@ -247,6 +287,14 @@ uint32_t smap_table_add(smap_table *table, const uint8_t *url, size_t url_length
 /* Lends what the program prints on this refusal of smap_table_add, "A1 BadUrl" or "A2 Twice". Returns 1 for another number. */
 uint32_t smap_table_refusal_text(uint32_t refusal, smap_text *text);
 
+/* Looks a generated position up in the map under this URL, as smap_look_up does, and lends the source that answers and the name
+ * of the mapping; what there is not has length 0. Returns 1 where the table has no such map. */
+uint32_t smap_table_look_up(const smap_table *table, const uint8_t *url, size_t url_length, uint32_t line, uint32_t column,
+                            const smap_table_options *options, smap_found *found, smap_source_text *source, smap_text *name);
+
+/* Lends a URL without its query and its fragment: what stands before its first `?` or `#`. It stays as long as the URL. Returns 0. */
+uint32_t smap_cut_url(const uint8_t *url, size_t length, smap_text *cut);
+
 /* Frees the table with its maps, and leaves its handle empty. */
 void smap_table_free(smap_table *table);
 
@@ -263,7 +311,12 @@ uint32_t smap_rewrite(smap_table *table, const uint8_t *trace, size_t length, bo
 uint32_t smap_rewrite_anywhere(smap_table *table, const uint8_t *text, size_t length, smap_bytes *bytes,
                                smap_trace_count *counts);
 
-/* Lends what the program prints on this refusal of both, which is 3: "X3 TooMuch". Returns 1 for another number. */
+/* Rewrites a text as the first of these two calls does, or with `anywhere` as the second. With `strip_ansi` it may have more
+ * bytes, if no more are left of it. */
+uint32_t smap_rewrite_with(smap_table *table, const uint8_t *text, size_t length, const smap_rewrite_options *options,
+                           smap_bytes *bytes, smap_trace_count *counts);
+
+/* Lends what the program prints on this refusal of the three, which is 3: "X3 TooMuch". Returns 1 for another number. */
 uint32_t smap_rewrite_refusal_text(uint32_t refusal, smap_text *text);
 
 /* Finds the URL of the next frame of a trace, from byte `from` on, at which a line begins: 0, or `next` of the frame

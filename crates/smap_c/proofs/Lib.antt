@@ -1,8 +1,11 @@
+pub mod CutLaws
 pub mod FirstLines
 pub mod FrameUrls
 pub mod Held
 pub mod Holders
+pub mod LineLaws
 pub mod Refusals
+pub mod SizeLaws
 pub mod StepLaws
 pub mod Values
 pub mod Walks

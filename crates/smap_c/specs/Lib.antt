@@ -1,8 +1,11 @@
 pub mod Composing
 pub mod Counts
 pub mod Encoding
+pub mod Fit
 pub mod Frames
 pub mod Inners
+pub mod Laws
+pub mod Lines
 pub mod Look
 pub mod Many
 pub mod Mappings
@@ -12,7 +15,9 @@ pub mod Read
 pub mod Reason
 pub mod Refusal
 pub mod Shares
+pub mod Size
 pub mod Steps
+pub mod TableLook
 pub mod Tables
 pub mod Report
 pub mod Texts

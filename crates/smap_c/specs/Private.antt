@@ -2,5 +2,6 @@
 pub mod Base
 pub mod FirstLine
 pub mod Lending
+pub mod Lines
 pub mod Places
 pub mod Rewriting

@@ -1,5 +1,5 @@
 -- A refusal of a map as numbers: its own, that of its fault or of why no index is built, and its parts.
-use Rattle.std.specs.Prelude.{ℕ, ◌==◌, List, [], ◌∷◌, Option, find, option_map, if◌then◌else◌}
+use Rattle.std.specs.Prelude.{ℕ, ◌==◌, [], ◌∷◌, Option, find, option_map, if◌then◌else◌}
 use Rattle.smap_codes.specs.Codes.{number_of}
 use Rattle.smap_codes.specs.declared.code.Code.TheVariants.{M14, M15}
 use Rattle.smap_mappings.specs.Codes.{kind_code}

@@ -1,10 +1,13 @@
 //! The URLs that the frames of a trace name.
 ghost use Rattle.std.specs.Prelude.{◌≡◌, ◌≢◌, ◌<◌, ◌⊎◌, None, Some, length, option_map};
+ghost use Rattle.smap_locations.specs.Paths.{without_query};
 ghost use Rattle.smap_c.specs.Frames.{named_url, next_frame_url};
 ghost use Rattle.smap_c.specs.Private.FirstLine.{IsFirstLine};
 
 use crate::status::{DONE, REFUSED};
+use crate::texts::Text;
 use memchr::memchr;
+use smap_locations::without_query;
 use smap_trace::frame;
 
 /// Where the URL of a frame stands in a trace, in bytes from 0.
@@ -63,4 +66,15 @@ fn first_line(text: &[u8]) -> (&[u8], usize)
         Some(end) => (&text[..end], end + 1),
         None => (text, text.len()),
     }
+}
+
+/// Lends a URL without its query and its fragment: what stands before its first `?` or `#`. Under that the program looks for
+/// the map of a URL for which no file is named.
+#[unsafe(no_mangle)]
+pub extern "C" fn smap_cut_url<'a>(url: &'a [u8], cut: &mut Text<'a>) -> u32
+    ensures cut { cut.new.text.now ≡ without_query url.now }
+    ensures status { result ≡ 0 }
+{
+    cut.text = without_query(url);
+    DONE
 }

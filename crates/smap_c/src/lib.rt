@@ -17,10 +17,13 @@
 mod bytes;
 mod composing;
 mod counts;
+mod cut_maps;
 mod encoding;
+mod fit;
 mod frames;
 mod handles;
 mod inners;
+mod lines;
 mod look_up;
 mod loose;
 mod many;
@@ -30,8 +33,10 @@ mod reason;
 mod refusal;
 mod report;
 mod shares;
+mod size;
 mod status;
 mod steps;
+mod table_look_up;
 mod tables;
 #[cfg(test)]
 mod tests;

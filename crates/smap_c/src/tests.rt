@@ -4,7 +4,9 @@ ghost use Rattle.std.specs.Prelude.{◌≡◌, IfOk, IsSome};
 mod composing;
 mod encoding;
 mod explaining;
+mod fit;
 mod mappings;
+mod places;
 mod shares;
 
 use crate::bytes::Bytes;

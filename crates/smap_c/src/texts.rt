@@ -1,10 +1,12 @@
 //! The texts of a map, lent.
 ghost use Rattle.std.specs.Prelude.{◌≡◌, IfSome, IsSome, MatchOption, slice_get};
+ghost use Rattle.smap_record.specs.Sources.{source_of};
+ghost use Rattle.smap_c.specs.TableLook.{IsNoSource};
 ghost use Rattle.smap_c.specs.Texts.{IsReported};
 
 use crate::handles::MapHandle;
 use crate::status::{DONE, REFUSED};
-use smap_record::SourceName;
+use smap_record::SourceEntry;
 
 /// A text in UTF-8.
 #[repr(C)]
@@ -42,20 +44,42 @@ pub extern "C" fn smap_source<'a>(
 {
     match map.lend().source(index) {
         Some(entry) => {
-            source.name = match &entry.name {
-                Some(name) => name.text().as_bytes(),
-                None => &[],
-            };
-            source.content = match &entry.content {
-                Some(content) => content.as_bytes(),
-                None => &[],
-            };
-            source.named = u32::from(entry.name.is_some());
-            source.held = u32::from(entry.content.is_some());
-            source.ignored = u32::from(entry.ignored);
+            *source = reported(entry);
             DONE
         }
         None => REFUSED,
+    }
+}
+
+// What is said of a source.
+pub(crate) fn reported(entry: &SourceEntry) -> Source<'_>
+    ensures { IsReported (source_of entry.now) result }
+{
+    Source {
+        name: match &entry.name {
+            Some(name) => name.text().as_bytes(),
+            None => &[],
+        },
+        content: match &entry.content {
+            Some(content) => content.as_bytes(),
+            None => &[],
+        },
+        named: u32::from(entry.name.is_some()),
+        held: u32::from(entry.content.is_some()),
+        ignored: u32::from(entry.ignored),
+    }
+}
+
+// What is said of no source.
+pub(crate) fn no_source<'a>() -> Source<'a>
+    ensures { IsNoSource result }
+{
+    Source {
+        name: &[],
+        content: &[],
+        named: 0,
+        held: 0,
+        ignored: 0,
     }
 }
 

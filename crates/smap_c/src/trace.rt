@@ -4,16 +4,20 @@ ghost use Rattle.smap_lines.specs.Limits.{most_text_bytes};
 ghost use Rattle.smap_places.specs.PlacesRewritten.{place_counts, placed_text};
 ghost use Rattle.smap_trace.specs.Rewriting.{counts_seen as summary_seen};
 ghost use Rattle.smap_trace.specs.Rewritten.{counts_of, rewritten};
-ghost use Rattle.smap_c.specs.Trace.{counts_seen};
-ghost use Rattle.smap_c.specs.Private.Rewriting.{fault_status};
+ghost use Rattle.smap_c.specs.Trace.{counts_seen, counts_with, text_read, text_with};
+ghost use Rattle.smap_c.specs.Private.Rewriting.{IsRewritten, IsTooMuch, fault_status};
 
+use crate::cut_maps::CutMaps;
 use crate::handles::{BytesHandle, TableHandle};
 use crate::status::{DONE, NO_MEMORY, REFUSED};
 use crate::written::hand_out;
 use smap_io::{ByteSink, ByteSource, DeviceFault};
 use smap_lines::MOST_TEXT_BYTES;
 use smap_places::rewrite_places;
-use smap_trace::{RewriteFault, Summary, rewrite};
+use smap_sequences::WithoutSequences;
+use smap_trace::{
+    Hiding, RewriteFault, RewriteOptions as FrameOptions, Summary, Table, rewrite, rewrite_over,
+};
 use std::alloc::Global;
 
 /// What was in a trace that was rewritten, or in a text whose places were.
@@ -98,6 +102,20 @@ impl ByteSink for Output {
     }
 }
 
+/// How a text is rewritten.
+#[repr(C)]
+#[derive(Clone, Copy)]
+pub struct RewriteOptions {
+    /// Whether the lines of frames are dropped whose original is in an ignored source.
+    pub hide_ignored: bool,
+    /// Whether places are rewritten wherever they stand, in place of frames. Then no line is dropped.
+    pub anywhere: bool,
+    /// Whether the text is read without the control sequences by which a terminal is told of colours and the like (ECMA-48).
+    pub strip_ansi: bool,
+    /// Whether a frame whose URL is not in the table has the map under it without its query and its fragment.
+    pub cut: bool,
+}
+
 /// Rewrites a trace: a frame whose URL is in the table and whose place has an original gets it in its place, and every
 /// other byte stays. With `hide_ignored` the lines of frames whose original is in an ignored source are dropped. A
 /// trace of more than 1,073,741,824 bytes is refused. `bytes` and `counts` are written where the trace was rewritten.
@@ -121,10 +139,13 @@ pub extern "C" fn smap_rewrite(
         × (result ≢ 0 → (bytes.new.held ≡ bytes.old.held) × (counts.new ≡ counts.old)) }
     ensures status { (result ≡ 0) ⊎ (result ≡ 1) ⊎ (result ≡ 3) }
 {
-    let mut input = Input { left: trace };
-    let mut output = Output::new(alloc);
-    let outcome = rewrite(alloc, &mut input, &mut output, table.lend(), hide_ignored);
-    reported(alloc, outcome, output.bytes, bytes, counts)
+    let options = RewriteOptions {
+        hide_ignored,
+        anywhere: false,
+        strip_ansi: false,
+        cut: false,
+    };
+    smap_rewrite_with(alloc, table, trace, &options, bytes, counts)
 }
 
 /// Rewrites a text: a place `URL:line:column`, wherever it stands in a line, whose URL is in the table and which has an
@@ -149,16 +170,105 @@ pub extern "C" fn smap_rewrite_anywhere(
         × (result ≢ 0 → (bytes.new.held ≡ bytes.old.held) × (counts.new ≡ counts.old)) }
     ensures status { (result ≡ 0) ⊎ (result ≡ 1) ⊎ (result ≡ 3) }
 {
-    let mut input = Input { left: text };
+    let options = RewriteOptions {
+        hide_ignored: false,
+        anywhere: true,
+        strip_ansi: false,
+        cut: false,
+    };
+    smap_rewrite_with(alloc, table, text, &options, bytes, counts)
+}
+
+/// Rewrites a text as `smap_rewrite` does or, with `anywhere`, as `smap_rewrite_anywhere`. With `strip_ansi` it is read without
+/// its control sequences, and no more than 1,073,741,824 bytes may be left of it; with `cut` a frame whose URL is not in the
+/// table has the map under it without its query and its fragment.
+#[unsafe(no_mangle)]
+pub extern "C" fn smap_rewrite_with(
+    alloc: Global,
+    table: &mut TableHandle,
+    text: &[u8],
+    options: &RewriteOptions,
+    bytes: &mut BytesHandle,
+    counts: &mut TraceCounts,
+) -> u32
+    requires { IsSome table.old.held }
+    ensures text { IfSome table.old.held (λ maps.
+        result ≡ 0 → bytes.new.held ≡ Some (text_with options.now text.now maps)) }
+    ensures counts { IfSome table.old.held (λ maps.
+        result ≡ 0 → counts_seen counts.new ≡ counts_with options.now text.now maps) }
+    ensures refused { result ≡ 1 → most_text_bytes < length (text_read options.now text.now) }
+    ensures fits { result ≡ 0 → length (text_read options.now text.now) ≤ most_text_bytes }
+    ensures stays { (table.new.held ≡ table.old.held)
+        × (result ≢ 0 → (bytes.new.held ≡ bytes.old.held) × (counts.new ≡ counts.old)) }
+    ensures status { (result ≡ 0) ⊎ (result ≡ 1) ⊎ (result ≡ 3) }
+{
+    let input = Input { left: text };
     let mut output = Output::new(alloc);
-    let outcome = rewrite_places(
-        alloc,
-        &mut input,
-        &mut output,
-        table.lend(),
-        MOST_TEXT_BYTES,
-    );
+    let outcome = if options.strip_ansi {
+        rewrite_stripped(alloc, table.lend(), input, options, &mut output)
+    } else {
+        rewrite_input(alloc, table.lend(), input, options, &mut output)
+    };
     reported(alloc, outcome, output.bytes, bytes, counts)
+}
+
+// Rewrites a text as it is, into an output that has nothing yet.
+fn rewrite_input(
+    alloc: Global,
+    table: &Table,
+    mut input: Input<'_>,
+    options: &RewriteOptions,
+    output: &mut Output,
+) -> Result<Summary, RewriteFault>
+    requires strips { options.now.strip_ansi ≡ false }
+    requires empty { (output.old.bytes.items ≡ []) × (output.old.failed ≡ false) }
+    ensures rewritten { IfOk result
+        (IsRewritten options.now input.entry.left.now table.now output.new.bytes.items) }
+    ensures refused { IfErr result (IsTooMuch options.now input.entry.left.now) }
+{
+    if options.anywhere {
+        rewrite_places(alloc, &mut input, output, table, MOST_TEXT_BYTES)
+    } else if options.cut {
+        let mut maps = CutMaps(table);
+        let by_frames = FrameOptions {
+            hiding: Hiding::only_ignored(options.hide_ignored),
+            most: MOST_TEXT_BYTES,
+        };
+        let counts = rewrite_over(alloc, &mut input, output, &mut maps, by_frames)?;
+        Ok(counts.summary)
+    } else {
+        rewrite(alloc, &mut input, output, table, options.hide_ignored)
+    }
+}
+
+// Rewrites a text without its control sequences, into an output that has nothing yet.
+fn rewrite_stripped(
+    alloc: Global,
+    table: &Table,
+    input: Input<'_>,
+    options: &RewriteOptions,
+    output: &mut Output,
+) -> Result<Summary, RewriteFault>
+    requires strips { options.now.strip_ansi ≡ true }
+    requires empty { (output.old.bytes.items ≡ []) × (output.old.failed ≡ false) }
+    ensures rewritten { IfOk result
+        (IsRewritten options.now input.entry.left.now table.now output.new.bytes.items) }
+    ensures refused { IfErr result (IsTooMuch options.now input.entry.left.now) }
+{
+    let mut text = WithoutSequences::new(input);
+    if options.anywhere {
+        rewrite_places(alloc, &mut text, output, table, MOST_TEXT_BYTES)
+    } else if options.cut {
+        let mut maps = CutMaps(table);
+        let by_frames = FrameOptions {
+            hiding: Hiding::only_ignored(options.hide_ignored),
+            most: MOST_TEXT_BYTES,
+        };
+        let counts = rewrite_over(alloc, &mut text, output, &mut maps, by_frames)?;
+        Ok(counts.summary)
+    } else {
+        rewrite(alloc, &mut text, output, table, options.hide_ignored)
+    }
 }
 
 // Hands out what was written and says what was counted, where a text was rewritten; and its status.

@@ -1,5 +1,5 @@
 -- How the fields of `Inners` are seen, and what they keep to.
-use Rattle.std.specs.Prelude.{ℕ, ◌<◌, ◌^◌, length, option_map}
+use Rattle.std.specs.Prelude.{◌<◌, ◌^◌, length, option_map}
 use Rattle.smap_c.specs.Inners.{Places, maps_held}
 use Rattle.smap_c.specs.declared.inners.Inners.TheInside.{Inside}
 
