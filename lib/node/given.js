@@ -47,6 +47,13 @@ function interval(value) {
   return Math.min(Math.max(whole(value, 'interval'), 0), MOST);
 }
 
+// A number from 0, up to a greatest.
+function count(value, what, most) {
+  if (!Number.isInteger(value)) throw new TypeError(`\`${what}\` must be a whole number, and not ${typeof value === 'number' ? value : kind(value)}`);
+  if (value < 0 || value > most) throw new RangeError(`\`${what}\` must be 0 to ${most}, and not ${value}`);
+  return value;
+}
+
 // Lines from 1 and columns from 0 in turn.
 function positions(value) {
   if (!isUint32Array(value)) throw new TypeError('`positions` must be a Uint32Array');
@@ -133,4 +140,4 @@ function options(value, ...known) {
   return value;
 }
 
-module.exports = { boolean, bytes, callable, column, interval, line, lineFromZero, mapBytes, mapUrl, options, positions, source, steady, text, utf8 };
+module.exports = { boolean, bytes, callable, column, count, interval, line, lineFromZero, mapBytes, mapUrl, options, positions, source, steady, text, utf8 };

@@ -94,6 +94,18 @@ export interface BytesBySource {
   unmapped: number;
 }
 
+/** How a map fits a generated file: it can be its map where no mapping stands past the text or inside a word of it. */
+export interface Fit {
+  fits: boolean;
+  mappings: number;
+  past: number;
+  inside: number;
+  /** The mappings whose source has content; of these, those past the content, and those that show the same in both texts. */
+  compared: number;
+  outside: number;
+  same: number;
+}
+
 /** A source map that was read. A TraceMap that is given is itself. */
 export class TraceMap implements SourceMapMembers {
   /** `mapUrl` is the URL or path at which the map stands; a checkpoint is made at every `interval`-th segment of a line. The
@@ -112,10 +124,16 @@ export class TraceMap implements SourceMapMembers {
   /** The names of the sources. */
   resolvedSources: (string | null)[];
   readonly sourceEntries: SourceEntry[];
+  /** About how many bytes of memory the map takes. */
+  readonly nbytes: number;
+  /** Where a generated position comes from, or null where no mapping answers that has an original. */
+  placeAt(line: number, column: number): Place | null;
   /** Each mapping in its order. */
   mappings(): IterableIterator<EachMapping>;
   /** The bytes of the generated file by the source that they come from. */
   bytesBySource(generated: string | Uint8Array): BytesBySource;
+  /** Whether the map can be that of the generated file. */
+  fit(generated: string | Uint8Array): Fit;
   /** The text of one regular map that states the same. */
   write(): Buffer;
   /** What `encodedMap` gives. */
@@ -139,6 +157,27 @@ export interface Needle {
   column: number;
   bias?: 1 | -1;
 }
+
+/** Where a place of a generated file comes from. The line counts from 1 and the column from 0; `index` is the source's number. */
+export interface Place {
+  source: string | null;
+  line: number;
+  column: number;
+  name: string | null;
+  ignored: boolean;
+  index: number;
+}
+
+/** A line of a source, and those before and after it. */
+export interface Context {
+  before: string[];
+  line: string;
+  after: string[];
+}
+
+/** The line, from 1, of the source of this number, from 0, with up to so many lines before and after it, 2 if not given; or null where its
+ * content has no such line. Of a line those characters are given that stand in its first 65,536 bytes. */
+export function sourceContext(map: TraceMap, index: number, line: number, before?: number, after?: number): Context | null;
 
 export type OriginalMapping =
   | { source: string | null; line: number; column: number; name: string | null }
@@ -224,22 +263,66 @@ export class Table {
   readonly refusals: Refusal[];
   /** Those of the last text that `rewrite` rewrote over this table. */
   readonly counts: TraceCounts | null;
+  /** Where a place in the file of a URL comes from, by the map under it or else under it without query and fragment. */
+  lookUp(url: string, line: number, column: number): Place | null;
   close(): void;
   [Symbol.dispose](): void;
 }
 
-/** With `anywhere` each place URL:line:column is replaced, wherever it stands; it excludes `hideIgnored`. */
+export interface MapsOptions {
+  /** As a table's. One of the two is wanted. */
+  load?: (url: string) => Given | null | undefined;
+  loadAsync?: (url: string) => Promise<Given | null | undefined>;
+  /** For how many bytes of memory maps count at most, or one by itself. */
+  maxBytes: number;
+  refused?: (url: string, error: unknown) => void;
+  /** So many promises are waited for at once, 8 if not given. */
+  atOnce?: number;
+}
+
+/** Maps by URL within a bound of memory: what was longest not asked for goes first. */
+export class Maps {
+  constructor(options: MapsOptions);
+  /** Those of URLs with this prefix, which ends in `/`, in a folder: that of PREFIXjs/app.js is js/app.js.map. */
+  static folder(prefix: string, root: string, options: Pick<MapsOptions, 'maxBytes' | 'refused'>): Maps;
+  maxBytes: number;
+  /** For how many bytes what is kept counts, and how many maps are kept. */
+  readonly nbytes: number;
+  readonly size: number;
+  readonly refusals: Refusal[];
+  readonly counts: TraceCounts | null;
+  /** Whether it is known what map this URL has, or that it has none. */
+  has(url: string): boolean;
+  get(url: string): TraceMap | null;
+  lookUp(url: string, line: number, column: number): Place | null;
+  context(url: string, index: number, line: number, before?: number, after?: number): Context | null;
+  /** Puts a map under this very URL. */
+  add(url: string, map: Given): void;
+  /** Drops what is kept of a URL. */
+  discard(url: string): void;
+  /** Asks for the maps of these URLs that are not known. */
+  load(urls: Iterable<string>): Promise<void>;
+  close(): void;
+}
+
+/** With `anywhere` each place URL:line:column is replaced, wherever it stands; it excludes `hideIgnored`. With `stripAnsi` the text is
+ * read without the control sequences that colour a terminal. */
 export interface RewriteOptions {
   hideIgnored?: boolean;
   anywhere?: boolean;
+  stripAnsi?: boolean;
 }
 
-export function rewrite(table: Table, trace: string | Uint8Array, options?: RewriteOptions): Buffer;
+export function rewrite(table: Table | Maps, trace: string | Uint8Array, options?: RewriteOptions): Buffer;
+/** The same, once the maps are there that the trace names. */
+export function rewriteAsync(maps: Maps, trace: string | Uint8Array, options?: RewriteOptions): Promise<Buffer>;
+/** The URLs and paths for whose maps a loader would be asked, each once. */
+export function frameUrls(trace: string | Uint8Array, options?: { anywhere?: boolean }): string[];
 
 /** Rewrites what is written to it, line by line. At most an unfinished line is held back. The table stays open. A map that is not
  * read for an error is an event `refused`, or where none listens told as the table tells it. */
 export class RewriteStream extends Transform {
-  constructor(table: Table, options?: RewriteOptions);
+  constructor(table: Table | Maps, options?: RewriteOptions);
   on(event: 'refused', listener: (url: string, error: unknown) => void): this;
   on(event: string | symbol, listener: (...args: any[]) => void): this;
   /** Those of all that was rewritten so far. */

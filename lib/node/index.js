@@ -1,6 +1,7 @@
 'use strict';
 // Source maps of ECMA-426 over the library libsmap, with the calls of @jridgewell/trace-mapping: lines from 1 and columns
 // from 0, in UTF-16 code units. index.d.ts has the types.
+const { Maps, frameUrls, rewriteAsync, sourceContext } = require('./cache.js');
 const { compose, composeAll } = require('./composing.js');
 const { TraceMap } = require('./map.js');
 const { Refused } = require('./refused.js');
@@ -32,6 +33,7 @@ module.exports = {
   FlattenMap,
   GREATEST_LOWER_BOUND,
   LEAST_UPPER_BOUND,
+  Maps,
   Refused,
   RewriteStream,
   Table,
@@ -43,13 +45,16 @@ module.exports = {
   eachMapping,
   encodedMap,
   encodedMappings,
+  frameUrls,
   isIgnored,
   lookUpMany,
   originalPositionFor,
   presortedDecodedMap,
   rewrite,
+  rewriteAsync,
   sourceContent,
   sourceContentFor,
+  sourceContext,
   sourceName,
   traceSegment,
 };

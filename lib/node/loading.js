@@ -4,7 +4,6 @@ const addon = require('./addon.js');
 const { refusedText } = require('./refused.js');
 const { BEFORE, BEHIND, MOST_BYTES, besidePlaces, cut, isLocation, ofFrames } = require('./urls.js');
 
-const LF = 10;
 // So many places are tried at once.
 const MOST_PARTS = 1 << 16;
 const POSITION = /^:\d+:\d+/;
@@ -17,17 +16,24 @@ function ask(table, bytes, places, tell) {
     const url = bytes.toString('latin1', start, end);
     if (table.known.get(url)) continue;
     const short = cut(url);
-    if (!table.known.has(short)) {
-      if (!isLocation(short)) continue;
-      // It may rewrite over this table itself.
-      table.known.set(short, false);
-      table.known.set(short, isLoaded(table, short, tell));
-    }
-    if (short === url || !table.known.get(short)) continue;
+    if (!askFor(table, short, tell)) continue;
+    // The library itself leaves the query of a frame's URL out.
+    if (!places || short === url || !table.known.get(short)) continue;
     const position = POSITION.exec(bytes.toString('latin1', end, end + BEHIND));
     if (position) parts.push({ begin: start + short.length, end, place: short + position[0] });
   }
   return parts;
+}
+
+// Asks for the map of a URL without query and fragment, where it was not asked for. Whether that was done, now or before.
+function askFor(table, url, tell = (named, error) => table.tell(named, error)) {
+  const short = cut(url);
+  if (table.known.has(short)) return true;
+  if (!isLocation(short) || !table.load) return false;
+  // It may rewrite over this table itself.
+  table.known.set(short, false);
+  table.known.set(short, isLoaded(table, short, tell));
+  return true;
 }
 
 // Whether the loader gives a map of this URL, which the table takes. An error is told. A URL that is not UTF-8 has no map.
@@ -47,9 +53,9 @@ function isLoaded(table, key, tell) {
 }
 
 // The text of these bytes, with its numbers of lines, frames or places, mapped and hidden ones.
-function rewritten(handle, bytes, { places, hide }) {
+function rewritten(handle, bytes, { places, hide, cut: isCut = false }) {
   const numbers = new Float64Array(4);
-  const text = addon.rewrite(handle, bytes, places, hide, numbers);
+  const text = addon.rewrite(handle, bytes, places, hide, isCut, numbers);
   if (text === null) throw refusedText();
   return { text, numbers };
 }
@@ -65,7 +71,7 @@ function without(bytes, parts) {
 function withOriginal(handle, parts, how) {
   if (!parts.length) return parts;
   if (parts.length > MOST_PARTS) return halvesOf(parts).flatMap((half) => withOriginal(handle, half, how));
-  const lines = parts.map(({ place }) => (how.places ? place : `@${place}`));
+  const lines = parts.map(({ place }) => place);
   const reported = rewritten(handle, Buffer.from(lines.map((line) => `${line}\n\n`).join(''), 'latin1'), how);
   const count = answered(reported);
   if (count === 0 || count === parts.length) return count ? parts : [];
@@ -84,17 +90,10 @@ function withOriginal(handle, parts, how) {
 
 const halvesOf = (list) => [list.slice(0, list.length >> 1), list.slice(list.length >> 1)];
 
-// The bytes that say what becomes of the frames or places of the first and the last of these parts, and of those between.
-function around(bytes, parts, { places }) {
-  const [{ begin }, { end }] = [parts[0], parts[parts.length - 1]];
-  if (places) return [Math.max(0, begin - MOST_BYTES - BEFORE), end + BEHIND];
-  return [bytes.lastIndexOf(LF, begin) + 1, bytes.indexOf(LF, end) + 1 || bytes.length];
-}
-
-// Those of the parts without which a frame or a place more is replaced where it stands.
+// Those of the parts without which a place more is replaced where it stands.
 function needless(handle, bytes, parts, how) {
   if (!parts.length) return parts;
-  const [from, to] = around(bytes, parts, how);
+  const [from, to] = [Math.max(0, parts[0].begin - MOST_BYTES - BEFORE), parts[parts.length - 1].end + BEHIND];
   const moved = parts.map(({ begin, end }) => ({ begin: begin - from, end: end - from }));
   const text = bytes.subarray(from, to);
   const gained = answered(rewritten(handle, without(text, moved), how)) - answered(rewritten(handle, text, how));
@@ -103,7 +102,7 @@ function needless(handle, bytes, parts, how) {
   return halvesOf(parts).flatMap((half) => needless(handle, bytes, half, how));
 }
 
-// The text of these bytes, where each of the parts is left out that keeps a frame or a place from being replaced.
+// The text of these bytes, where each of the parts is left out that keeps a place from being replaced.
 function cutAndRewritten(handle, bytes, parts, how) {
   const whole = rewritten(handle, bytes, how);
   if (!parts.length) return whole;
@@ -113,8 +112,8 @@ function cutAndRewritten(handle, bytes, parts, how) {
   // A place may be none where it stands.
   const short = answered(tried) - answered(whole) === left.length ? tried : over(needless(handle, bytes, left, how));
   // What has a map and no original is a place, too.
-  if (how.places && left.length < parts.length) short.numbers[1] = over(parts).numbers[1];
+  if (left.length < parts.length) short.numbers[1] = over(parts).numbers[1];
   return short;
 }
 
-module.exports = { ask, cutAndRewritten };
+module.exports = { ask, askFor, cutAndRewritten };

@@ -51,6 +51,13 @@ function readAtPath(bytes, path, interval) {
   return read(renamed(bytes, names.map((name) => besideMap(path, name))), '', interval, path);
 }
 
+// That a map stands at this URL, or at none where it is no URL: a path is none here.
+class Under {
+  constructor(url) {
+    this.url = url;
+  }
+}
+
 // The names of the sources of a map.
 function namesOf(handle) {
   return Array.from({ length: addon.counts(handle).sources }, (_, index) => addon.sourceName(handle, index));
@@ -160,7 +167,8 @@ class TraceMap {
       return map;
     }
     const bytes = given.mapBytes(map);
-    const handle = readAt(bytes, given.mapUrl(mapUrl), given.interval(interval));
+    const isUnder = mapUrl instanceof Under;
+    const handle = isUnder ? standingAt(bytes, mapUrl.url) : readAt(bytes, given.mapUrl(mapUrl), given.interval(interval));
     const outline = outlineOf(bytes);
     // The text of no lines is that of one line without segments.
     if (Array.isArray(map.mappings) && map.mappings.length === 0) outline.least = 0;
@@ -175,6 +183,30 @@ class TraceMap {
 
   get counts() {
     return addon.counts(open(this));
+  }
+
+  // About how many bytes of memory the map takes.
+  get nbytes() {
+    return addon.size(open(this));
+  }
+
+  // Where a generated position comes from, the line from 1 and the column from 0: {source, line, column, name, ignored, index}, or null
+  // where no mapping answers that has an original.
+  placeAt(line, column) {
+    const lookUp = open(this);
+    const { room } = addon;
+    [room[0], room[1], room[2]] = [given.line(line), given.column(column), 0];
+    lookUp();
+    if (room[3] !== 2) return null;
+    const [index, line0, column0, isNamed, name] = room.subarray(5, 10);
+    return {
+      source: this.sourceAt(index),
+      line: line0 + 1,
+      column: column0,
+      name: isNamed ? this.nameAt(name) : null,
+      ignored: addon.isIgnored(lookUp, index),
+      index,
+    };
   }
 
   // All sources, each {name, content, ignored}.
@@ -213,6 +245,15 @@ class TraceMap {
     return { sources, unmapped };
   }
 
+  // How the map fits the generated file: whether it can be its map, and the counts that say so.
+  fit(generated) {
+    const counts = new Float64Array(7);
+    const refusal = addon.fit(open(this), given.bytes(generated, 'generated'), counts);
+    if (refusal !== undefined) throw refusedGenerated(refusal);
+    const [mappings, past, inside, compared, outside, same, fits] = counts;
+    return { fits: fits === 1, mappings, past, inside, compared, outside, same };
+  }
+
   // The text of one regular map that states the same, as a Buffer.
   write() {
     const text = addon.write(open(this));
@@ -240,4 +281,4 @@ class TraceMap {
   }
 }
 
-module.exports = { DISPOSE, TraceMap, empty, encodedMappings, linesOf, namesOf, once, open, read, standingAt, withMappings };
+module.exports = { DISPOSE, TraceMap, Under, empty, encodedMappings, linesOf, namesOf, once, open, read, standingAt, withMappings };

@@ -3,13 +3,22 @@
 const { Transform } = require('stream');
 const { steady } = require('./given.js');
 const { refusedText } = require('./refused.js');
-const { counted, open, rewriting, rewritten } = require('./table.js');
+const { checked, counted, rewriting, rewritten, stripped } = require('./table.js');
 
 const LF = 10;
 // A line with more bytes is no frame.
 const MOST_LINE = 65536;
 // A text with more bytes is not rewritten.
 const MOST_TEXT = 1073741824;
+// A control sequence has at most so many bytes. It begins with this one.
+const [MOST_SEQUENCE, ESCAPE] = [128, 27];
+
+// Where what may become a control sequence begins at the end of these bytes.
+function openFrom(bytes) {
+  const at = bytes.lastIndexOf(ESCAPE);
+  if (at < 0 || bytes.length - at >= MOST_SEQUENCE) return bytes.length;
+  return /^\x1b(?:\[[0-?]*[ -/]*)?$/.test(bytes.toString('latin1', at)) ? at : bytes.length;
+}
 
 // Rewrites what is written to it as `rewrite` does the whole, in parts that end where a line does. At most an unfinished line is
 // held back, and of one that can be no frame nothing. What is passed on or held back is copied, as its writer may use its place
@@ -23,11 +32,14 @@ class RewriteStream extends Transform {
   #pieces = [];
   #length = 0;
   #isPassed = false;
+  // Whether control sequences are left out, and what may become one.
+  #strips;
+  #held = Buffer.alloc(0);
 
   constructor(table, options) {
     super();
-    open(table);
-    [this.#table, this.#how] = [table, rewriting(options)];
+    const { strip, ...how } = rewriting(options);
+    [this.#table, this.#how, this.#strips] = [checked(table), how, strip];
   }
 
   get counts() {
@@ -35,11 +47,22 @@ class RewriteStream extends Transform {
   }
 
   _transform(chunk, encoding, done) {
-    this.#reported(() => this.#take(steady(chunk)), done);
+    this.#reported(() => this.#take(this.#strips ? this.#stripped(steady(chunk)) : steady(chunk)), done);
   }
 
   _flush(done) {
-    this.#reported(() => this.#put(this.#pieces), done);
+    this.#reported(() => {
+      this.#take(this.#held);
+      this.#put(this.#pieces);
+    }, done);
+  }
+
+  // The bytes that came, without control sequences and what may become one.
+  #stripped(chunk) {
+    const bytes = this.#held.length ? Buffer.concat([this.#held, chunk]) : chunk;
+    const end = openFrom(bytes);
+    this.#held = Buffer.from(bytes.subarray(end));
+    return stripped(bytes.subarray(0, end));
   }
 
   #reported(call, done) {

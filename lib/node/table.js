@@ -2,25 +2,37 @@
 // Stack traces and other texts, rewritten over a table of maps.
 const addon = require('./addon.js');
 const given = require('./given.js');
-const { ask, cutAndRewritten } = require('./loading.js');
+const { ask, askFor, cutAndRewritten } = require('./loading.js');
 const { DISPOSE, TraceMap, empty, open: openMap, standingAt } = require('./map.js');
-const { refusedUrl } = require('./refused.js');
+const { refusedText, refusedUrl } = require('./refused.js');
 
 // So many of the maps that were refused are remembered.
 const MOST_REFUSALS = 100;
+
+// What is told of maps that are not read: to a function, or else kept.
+class Told {
+  constructor(refused) {
+    this.refused = given.callable(refused, 'refused');
+    this.refusals = [];
+  }
+
+  tell(url, error) {
+    if (this.refused) this.refused(url, error);
+    else if (this.refusals.length < MOST_REFUSALS) this.refusals.push({ url, error });
+  }
+}
 
 // Maps, each under the URL that frames name: an object or pairs of a URL and a map's text, Uint8Array or TraceMap. A
 // TraceMap that is given is closed: the table has it then. `load` is asked for the map of each URL or path that is not among
 // them, without query and fragment, once, when a frame or a place first names it, and gives null or undefined where there is
 // none. What it throws, and why its map is refused, is told to `refused`, or else kept in `refusals`, of which there are 100
 // at most; the frames stay. It is freed as a TraceMap is.
-class Table {
+class Table extends Told {
   constructor(maps, options) {
     const { load, refused } = given.options(options, 'load', 'refused');
+    super(refused);
     if (typeof maps !== 'object' || maps === null) throw new TypeError('`maps` must be an object or pairs of a URL and a map');
     this.load = given.callable(load, 'load');
-    this.refused = given.callable(refused, 'refused');
-    this.refusals = [];
     // Whether URLs that were named have a map here, by a character for each of their bytes.
     this.known = new Map();
     this.counts = null;
@@ -42,10 +54,16 @@ class Table {
     if (isRead) empty(map);
   }
 
-  // Tells of a map that is not read.
-  tell(url, error) {
-    if (this.refused) this.refused(url, error);
-    else if (this.refusals.length < MOST_REFUSALS) this.refusals.push({ url, error });
+  // Where a place in the file of a URL comes from, the line from 1 and the column from 0, by the map under it or else under it without
+  // query and fragment: {source, line, column, name, ignored, index}, or null. The loader is asked as for a frame.
+  lookUp(url, line, column) {
+    const bytes = given.utf8(given.text(url, 'url'), '`url`');
+    const named = bytes.toString('latin1');
+    if (this.load && !this.known.get(named)) askFor(this, named);
+    const found = addon.tableLookUp(open(this), bytes, given.line(line), given.column(column));
+    if (found === null) return null;
+    const [source, line0, column0, name, ignored, index] = found;
+    return { source, line: line0 + 1, column: column0, name, ignored, index };
   }
 
   close() {
@@ -64,19 +82,40 @@ function open(table) {
   return table.handle;
 }
 
-// What `rewrite` and a stream are asked: whether lines of ignored sources are hidden, and whether places anywhere are rewritten.
-function rewriting(options) {
-  const { hideIgnored = false, anywhere = false } = given.options(options, 'hideIgnored', 'anywhere');
-  const [hide, places] = [given.boolean(hideIgnored, 'hideIgnored'), given.boolean(anywhere, 'anywhere')];
-  if (hide && places) throw new Error('`hideIgnored` with `anywhere`');
-  return { hide, places };
+// Whether these are Maps, which have tables of their own.
+const areMaps = (table) => table instanceof Told && typeof table.rewritten === 'function';
+
+// A table that is open, or Maps.
+function checked(table) {
+  if (!areMaps(table)) open(table);
+  return table;
 }
 
-// The text of these bytes, and how many lines, frames or places it had, and how many were mapped and hidden.
+// What `rewrite` and a stream are asked: whether lines of ignored sources are hidden, whether places anywhere are rewritten, and whether
+// the text is read without the control sequences that colour a terminal.
+function rewriting(options) {
+  const { hideIgnored = false, anywhere = false, stripAnsi = false } = given.options(options, 'hideIgnored', 'anywhere', 'stripAnsi');
+  const [hide, places] = [given.boolean(hideIgnored, 'hideIgnored'), given.boolean(anywhere, 'anywhere')];
+  if (hide && places) throw new Error('`hideIgnored` with `anywhere`');
+  return { hide, places, strip: given.boolean(stripAnsi, 'stripAnsi') };
+}
+
+// The bytes without control sequences.
+function stripped(bytes) {
+  const text = addon.stripped(bytes);
+  if (text === null) throw refusedText();
+  return text;
+}
+
+// The text of these bytes, and how many lines, frames or places it had, and how many were mapped and hidden. What is named is looked for
+// in what is read.
 function rewritten(table, bytes, how, tell = (url, error) => table.tell(url, error)) {
+  const read = how.strip ? stripped(bytes) : bytes;
+  if (areMaps(table)) return table.rewritten(read, how);
   open(table);
-  const parts = table.load ? ask(table, bytes, how.places, tell) : [];
-  return cutAndRewritten(open(table), bytes, parts, how);
+  const cut = Boolean(table.load || table.isCut);
+  const parts = cut ? ask(table, read, how.places, tell) : [];
+  return cutAndRewritten(open(table), read, parts, { ...how, cut });
 }
 
 function counted([lines, frames, mapped, hidden], { places }) {
@@ -86,11 +125,11 @@ function counted([lines, frames, mapped, hidden], { places }) {
 // The trace with each frame that has an original in its place, as a Buffer; with `anywhere` each place URL:line:column,
 // wherever it stands. `table.counts` then says how many lines, frames or places it had, and how many were mapped and hidden.
 function rewrite(table, trace, options) {
-  open(table);
+  checked(table);
   const how = rewriting(options);
   const { text, numbers } = rewritten(table, given.bytes(trace, 'trace'), how);
   table.counts = counted(numbers, how);
   return text;
 }
 
-module.exports = { Table, counted, open, rewrite, rewriting, rewritten };
+module.exports = { Table, Told, checked, counted, rewrite, rewriting, rewritten, stripped };

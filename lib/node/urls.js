@@ -22,6 +22,11 @@ function isLocation(text) {
   return /\.(?:[cm]?js|bundle)$/.test(text) && !text.split(/[\\/]/).some((piece) => piece === '' || piece === '..');
 }
 
+// Whether this is a path that leads nowhere but into the folder in which it begins, as the program says.
+function isPlain(text) {
+  return !/[\x00-\x1f\x7f\\:]|\p{Surrogate}/u.test(text) && !text.split('/').some((piece) => piece === '' || piece === '.' || piece === '..');
+}
+
 // Where a URL or a path may begin that ends here, before the place in it; not before the least byte.
 function begin(text, least, end) {
   let at = end;
@@ -60,4 +65,4 @@ function* ofFrames(bytes) {
   while (addon.nextFrameUrl(bytes, numbers)) yield [numbers[0], numbers[0] + numbers[1]];
 }
 
-module.exports = { BEFORE, BEHIND, MOST_BYTES, besidePlaces, cut, isLocation, ofFrames };
+module.exports = { BEFORE, BEHIND, MOST_BYTES, besidePlaces, cut, isLocation, isPlain, ofFrames };

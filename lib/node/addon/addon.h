@@ -94,11 +94,11 @@ void drop_addon(napi_env env, void *data, void *hint);
 typedef napi_value call(napi_env env, napi_callback_info info);
 call close_map, close_table, close_inners;
 /* look_up.c */
-call look_up, look_up_many, bytes_by_source;
+call look_up, look_up_many, bytes_by_source, fit;
 /* mappings.c */
 call mappings, encode;
 /* map.c */
-call read_map, counts, source_name, source_content, is_ignored, name, file, write_map;
+call read_map, counts, size, source_name, source_content, source_lines, is_ignored, name, file, write_map;
 /* members.c */
 call members;
 /* refusals.c */
@@ -107,6 +107,6 @@ call rewrite_refusal_text, write_refusal_text, encode_refusal_text;
 /* compose.c */
 call compose, new_inners, put_inner, next_inner, inner_name, compose_all;
 /* table.c */
-call new_table, add, rewrite, next_frame_url;
+call new_table, add, table_look_up, rewrite, stripped, next_frame_url;
 
 #endif

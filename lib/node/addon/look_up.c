@@ -1,4 +1,4 @@
-/* Look-ups in a map, singly and many at once, and the bytes of a file by source. */
+/* Look-ups in a map, singly and many at once, the bytes of a file by source, and how a map fits a file. */
 #include "addon.h"
 #include <stdlib.h>
 #include <string.h>
@@ -64,4 +64,24 @@ napi_value bytes_by_source(napi_env env, napi_callback_info info) {
     free(reported);
     if (status == SMAP_REFUSED) return number(env, why);
     return array ? array : refuse(env, "out of memory");
+}
+
+/* fit(map, generated, counts): into a Float64Array of seven places the counts, in their order, and 1 where the map fits; or the
+ * number of the refusal. */
+napi_value fit(napi_env env, napi_callback_info info) {
+    napi_value words[WORDS];
+    const uint8_t *generated;
+    size_t length;
+    uint32_t why = 0;
+    if (!words_of(env, info, 3, words)) return NULL;
+    struct held *held = map_of(env, words[0]);
+    double *counts = doubles_of(env, words[2], 7);
+    if (!held || !counts || !bytes_of(env, words[1], &generated, &length)) return NULL;
+    smap_fit_count fit = {0};
+    uint32_t status = smap_fit(&held->map, generated, length, &fit, &why);
+    if (status == SMAP_NO_MEMORY) return refuse(env, "out of memory");
+    if (status == SMAP_REFUSED) return number(env, why);
+    const uint64_t all[] = {fit.mappings, fit.past, fit.inside, fit.compared, fit.outside, fit.same, fit.fits};
+    for (size_t i = 0; i < 7; i++) counts[i] = (double)all[i];
+    return NULL;
 }

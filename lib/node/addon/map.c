@@ -56,6 +56,17 @@ napi_value counts(napi_env env, napi_callback_info info) {
     return result;
 }
 
+/* size(map): about how many bytes of memory it takes. */
+napi_value size(napi_env env, napi_callback_info info) {
+    napi_value words[WORDS];
+    uint64_t bytes = 0;
+    if (!words_of(env, info, 1, words)) return NULL;
+    struct held *held = map_of(env, words[0]);
+    if (!held) return NULL;
+    smap_map_size(&held->map, &bytes);
+    return number(env, (double)bytes);
+}
+
 /* The source of a call's second argument. */
 static bool source_of(napi_env env, napi_callback_info info, smap_source_text *source) {
     napi_value words[WORDS];
@@ -86,6 +97,32 @@ napi_value is_ignored(napi_env env, napi_callback_info info) {
     napi_value ignored;
     if (!source_of(env, info, &source) || napi_get_boolean(env, source.ignored != 0, &ignored) != napi_ok) return NULL;
     return ignored;
+}
+
+/* sourceLines(map, index, line, before, after): the lines around this line of a source, with before them the place of it among them; or
+ * null. */
+napi_value source_lines(napi_env env, napi_callback_info info) {
+    napi_value words[WORDS], list = NULL;
+    smap_source_text source = SMAP_SOURCE;
+    uint32_t index, line, before, after;
+    if (!words_of(env, info, 5, words) || !source_of(env, info, &source)) return NULL;
+    struct held *held = map_of(env, words[0]);
+    if (!number_of(env, words[1], &index) || !number_of(env, words[2], &line)) return NULL;
+    if (!number_of(env, words[3], &before) || !number_of(env, words[4], &after)) return NULL;
+    size_t places = (size_t)before + 1 + after;
+    smap_line_bytes *lines = calloc(places, sizeof *lines);
+    smap_line_range range = {0};
+    if (!lines) return refuse(env, "out of memory");
+    bool is = smap_source_lines(&held->map, index, line, before, after, lines, places, &range) == SMAP_DONE;
+    if (is && napi_create_array_with_length(env, range.count + 1, &list) == napi_ok) {
+        napi_set_element(env, list, 0, number(env, line - range.first));
+        for (uint32_t i = 0; i < range.count; i++) {
+            napi_value text = string(env, (smap_text){source.content.bytes + lines[i].start, lines[i].length});
+            if (text) napi_set_element(env, list, i + 1, text);
+        }
+    }
+    free(lines);
+    return is ? list : null(env);
 }
 
 napi_value name(napi_env env, napi_callback_info info) {

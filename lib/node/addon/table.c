@@ -35,24 +35,24 @@ napi_value add(napi_env env, napi_callback_info info) {
     return refuse(env, "out of memory");
 }
 
-/* rewrite(table, text, anywhere, hideIgnored, numbers): the text, with its four counts in the numbers, or null where it is
+/* rewrite(table, text, anywhere, hideIgnored, cut, numbers): the text, with its four counts in the numbers, or null where it is
  * refused. */
 napi_value rewrite(napi_env env, napi_callback_info info) {
     napi_value words[WORDS];
     const uint8_t *text;
     size_t length;
-    bool anywhere, hide;
-    if (!words_of(env, info, 5, words)) return NULL;
+    smap_rewrite_options options = {0};
+    if (!words_of(env, info, 6, words)) return NULL;
     struct held *table = held_of(env, words[0], TABLE);
     if (!table || !bytes_of(env, words[1], &text, &length)) return NULL;
-    if (napi_get_value_bool(env, words[2], &anywhere) != napi_ok || napi_get_value_bool(env, words[3], &hide) != napi_ok)
-        return refuse_type(env, "no boolean");
-    double *numbers = doubles_of(env, words[4], 4);
+    bool *const given[] = {&options.anywhere, &options.hide_ignored, &options.cut};
+    for (int i = 0; i < 3; i++)
+        if (napi_get_value_bool(env, words[2 + i], given[i]) != napi_ok) return refuse_type(env, "no boolean");
+    double *numbers = doubles_of(env, words[5], 4);
     if (!numbers) return NULL;
     smap_bytes bytes = {0};
     smap_trace_count count = {0};
-    uint32_t status = anywhere ? smap_rewrite_anywhere(&table->table, text, length, &bytes, &count)
-                               : smap_rewrite(&table->table, text, length, hide, &bytes, &count);
+    uint32_t status = smap_rewrite_with(&table->table, text, length, &options, &bytes, &count);
     if (status == SMAP_REFUSED) return null(env);
     if (status != SMAP_DONE) return refuse(env, "out of memory");
     numbers[0] = (double)count.lines;
@@ -60,6 +60,53 @@ napi_value rewrite(napi_env env, napi_callback_info info) {
     numbers[2] = (double)count.mapped;
     numbers[3] = (double)count.hidden;
     return buffer(env, &bytes);
+}
+
+/* stripped(text): the text without control sequences, as a Buffer, or null where it has too many bytes. It is rewritten over no map. */
+napi_value stripped(napi_env env, napi_callback_info info) {
+    napi_value words[WORDS];
+    const uint8_t *text;
+    size_t length;
+    if (!words_of(env, info, 1, words) || !bytes_of(env, words[0], &text, &length)) return NULL;
+    smap_table table = {0};
+    if (smap_table_new(&table) != SMAP_DONE) return refuse(env, "out of memory");
+    const smap_rewrite_options options = {.strip_ansi = true};
+    smap_bytes bytes = {0};
+    smap_trace_count count = {0};
+    uint32_t status = smap_rewrite_with(&table, text, length, &options, &bytes, &count);
+    smap_table_free(&table);
+    if (status == SMAP_DONE) return buffer(env, &bytes);
+    return status == SMAP_REFUSED ? null(env) : refuse(env, "out of memory");
+}
+
+/* tableLookUp(table, url, line, column): what the map under the URL, or under it without query and fragment, answers, as a list of the
+ * source's name, line, column, the name, whether it is ignored, and the source's number; or null. */
+napi_value table_look_up(napi_env env, napi_callback_info info) {
+    napi_value words[WORDS], list, ignored;
+    const uint8_t *url;
+    size_t length;
+    uint32_t line, column;
+    if (!words_of(env, info, 4, words)) return NULL;
+    struct held *table = held_of(env, words[0], TABLE);
+    if (!table || !bytes_of(env, words[1], &url, &length)) return NULL;
+    if (!number_of(env, words[2], &line) || !number_of(env, words[3], &column)) return NULL;
+    const smap_table_options options = {.after = false, .cut = true};
+    smap_found found = {0};
+    smap_source_text source = SMAP_SOURCE;
+    smap_text name = SMAP_TEXT;
+    uint32_t status = smap_table_look_up(&table->table, url, length, line, column, &options, &found, &source, &name);
+    if (status != SMAP_DONE || found.kind != 2) return null(env);
+    napi_get_boolean(env, source.ignored != 0, &ignored);
+    const napi_value parts[] = {
+        source.named ? string(env, source.name) : null(env), number(env, found.line), number(env, found.column),
+        found.named ? string(env, name) : null(env), ignored, number(env, found.source),
+    };
+    if (napi_create_array_with_length(env, 6, &list) != napi_ok) return refuse(env, "out of memory");
+    for (uint32_t i = 0; i < 6; i++) {
+        if (!parts[i]) return NULL;
+        napi_set_element(env, list, i, parts[i]);
+    }
+    return list;
 }
 
 /* nextFrameUrl(trace, numbers): whether a frame follows byte numbers[2]; then where its URL stands, its length, and where the

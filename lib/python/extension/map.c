@@ -47,7 +47,7 @@ static PyObject *map_read(PyObject *self, PyObject *words) {
     return status == SMAP_DONE ? none() : PyErr_NoMemory();
 }
 
-typedef uint32_t look_up_call(smap_map *, uint32_t, uint32_t, smap_found *);
+typedef uint32_t look_up_call(const smap_map *, uint32_t, uint32_t, smap_found *);
 
 static PyObject *looked_up(PyObject *self, PyObject *words, PyObject *named, const char *format, look_up_call *call) {
     static char *names[] = {"line", "column", NULL};
@@ -185,6 +185,46 @@ static PyObject *map_file(PyObject *self, void *unused) {
     return text_if(is, text);
 }
 
+static PyObject *map_nbytes(PyObject *self, void *unused) {
+    (void)unused;
+    struct held *held = (struct held *)self;
+    if (!ready(&held, 1)) return NULL;
+    uint64_t size = 0;
+    smap_map_size(&held->map, &size);
+    return PyLong_FromUnsignedLongLong(size);
+}
+
+/* These lines of a content as a list. */
+static PyObject *texts_of(smap_text content, const smap_line_bytes *lines, size_t count) {
+    PyObject *list = PyList_New((Py_ssize_t)count);
+    for (size_t i = 0; list && i < count; i++) {
+        PyObject *text = text_if(true, (smap_text){content.bytes + lines[i].start, lines[i].length});
+        if (text) PyList_SetItem(list, (Py_ssize_t)i, text);
+        else Py_CLEAR(list);
+    }
+    return list;
+}
+
+/* The lines around a line of a source, and at which of them it stands, or None. */
+static PyObject *map_lines(PyObject *self, PyObject *words) {
+    struct held *held = (struct held *)self;
+    PyObject *source, *line;
+    unsigned int index, number, before, after;
+    if (!PyArg_ParseTuple(words, "OOII", &source, &line, &before, &after)) return NULL;
+    if (!index_of(source, "a source", &index) || !place_of(line, "line", &number) || !ready(&held, 1)) return NULL;
+    smap_source_text text = SMAP_SOURCE;
+    if (smap_source(&held->map, index, &text) != SMAP_DONE) return PyErr_Format(PyExc_IndexError, "no source %S", source);
+    size_t places = (size_t)before + 1 + after;
+    smap_line_bytes *lines = calloc(places, sizeof *lines);
+    if (!lines) return PyErr_NoMemory();
+    smap_line_range range = {0};
+    bool is = smap_source_lines(&held->map, index, number, before, after, lines, places, &range) == SMAP_DONE;
+    PyObject *list = is ? texts_of(text.content, lines, range.count) : NULL;
+    free(lines);
+    if (!is) return none();
+    return list ? Py_BuildValue("NI", list, number - range.first) : NULL;
+}
+
 static PyObject *map_written(PyObject *self, PyObject *unused) {
     (void)unused;
     struct held *held = (struct held *)self;
@@ -226,6 +266,24 @@ static PyObject *map_bytes_by_source(PyObject *self, PyObject *data) {
     return PyErr_Occurred() ? NULL : PyErr_NoMemory();
 }
 
+static PyObject *map_fit(PyObject *self, PyObject *data) {
+    struct held *held = (struct held *)self;
+    struct given given;
+    if (!bytes_of(data, &given) || !ready(&held, 1)) return NULL;
+    smap_fit_count fit = {0};
+    uint32_t refusal = 0;
+    begin(held);
+    PyThreadState *state = let_go(given.steady);
+    uint32_t status = smap_fit(&held->map, given.bytes, given.length, &fit, &refusal);
+    come_back(state);
+    end(held);
+    if (status == SMAP_NO_MEMORY) return PyErr_NoMemory();
+    if (status == SMAP_REFUSED) return PyLong_FromUnsignedLong(refusal);
+    return Py_BuildValue("NKKKKKK", PyBool_FromLong(fit.fits), (unsigned long long)fit.mappings, (unsigned long long)fit.past,
+                         (unsigned long long)fit.inside, (unsigned long long)fit.compared, (unsigned long long)fit.outside,
+                         (unsigned long long)fit.same);
+}
+
 #define WITH_NAMES(call) ((PyCFunction)(void (*)(void))(call))
 
 static PyMethodDef map_methods[] = {
@@ -248,15 +306,18 @@ static PyMethodDef map_methods[] = {
      "name($self, index)\n--\n\nThis name, from 0, and None for None, as an answer without a name has it. Raises `IndexError` "
      "where there is none."},
     {"_read", map_read, METH_VARARGS, NULL},
+    {"_lines", map_lines, METH_VARARGS, NULL},
     {"_look_up_many", map_look_up_many, METH_VARARGS, NULL},
     {"_written", map_written, METH_NOARGS, NULL},
     {"_bytes_by_source", map_bytes_by_source, METH_O, NULL},
+    {"_fit", map_fit, METH_O, NULL},
     {NULL, NULL, 0, NULL},
 };
 
 static PyGetSetDef map_properties[] = {
     {"counts", map_counts, NULL, "How much the map holds.", NULL},
     {"closed", held_closed, NULL, "Whether the map is closed.", NULL},
+    {"nbytes", map_nbytes, NULL, "About how many bytes of memory the map takes.", NULL},
     {"file", map_file, NULL, "The name of the generated file, where the map has one, or None.", NULL},
     {NULL, NULL, NULL, NULL, NULL},
 };

@@ -62,19 +62,40 @@ static PyObject *rewritten(uint32_t status, smap_bytes *bytes, const smap_trace_
 static PyObject *table_rewrite(PyObject *self, PyObject *words) {
     struct held *held = (struct held *)self;
     PyObject *data;
-    int hide_ignored, anywhere;
+    int hide_ignored, anywhere, strip_ansi, cut;
     struct given given;
-    if (!PyArg_ParseTuple(words, "Opp", &data, &hide_ignored, &anywhere) || !bytes_of(data, &given)) return NULL;
+    if (!PyArg_ParseTuple(words, "Opppp", &data, &hide_ignored, &anywhere, &strip_ansi, &cut) || !bytes_of(data, &given)) return NULL;
     if (!ready(&held, 1)) return NULL;
     smap_bytes bytes = {0};
     smap_trace_count count = {0};
     begin(held);
     PyThreadState *state = let_go(given.steady);
-    uint32_t status = anywhere ? smap_rewrite_anywhere(&held->table, given.bytes, given.length, &bytes, &count)
-                               : smap_rewrite(&held->table, given.bytes, given.length, hide_ignored, &bytes, &count);
+    const smap_rewrite_options options = {hide_ignored, anywhere, strip_ansi, cut};
+    uint32_t status = smap_rewrite_with(&held->table, given.bytes, given.length, &options, &bytes, &count);
     come_back(state);
     end(held);
     return rewritten(status, &bytes, &count);
+}
+
+/* What the map under a URL, or under it without query and fragment, answers: where the place comes from, or None. */
+static PyObject *table_look_up(PyObject *self, PyObject *words) {
+    struct held *held = (struct held *)self;
+    PyObject *data, *given_line, *given_column;
+    struct given url;
+    uint32_t line, column;
+    if (!PyArg_ParseTuple(words, "OOO", &data, &given_line, &given_column) || !bytes_of(data, &url)) return NULL;
+    if (!place_of(given_line, "line", &line) || !place_of(given_column, "column", &column) || !ready(&held, 1)) return NULL;
+    const smap_table_options options = {false, true};
+    smap_found found = {0};
+    smap_source_text source = SMAP_SOURCE;
+    smap_text name = SMAP_TEXT;
+    uint32_t status = smap_table_look_up(&held->table, url.bytes, url.length, line, column, &options, &found, &source, &name);
+    if (status != SMAP_DONE || found.kind != 2) return none();
+    PyObject *items[] = {
+        text_if(source.named, source.name), PyLong_FromUnsignedLong(found.line), PyLong_FromUnsignedLong(found.column),
+        text_if(found.named, name), PyBool_FromLong(source.ignored), PyLong_FromUnsignedLong(found.source),
+    };
+    return tuple_of(place_class, 6, items);
 }
 
 /* Puts a URL into the dict, and where it begins into its list, if it has a query or a fragment. */
@@ -113,6 +134,7 @@ static PyMethodDef table_methods[] = {
     {"close", table_close, METH_NOARGS, "close($self)\n--\n\nFrees the maps."},
     {"_put", table_put, METH_VARARGS, NULL},
     {"_rewrite", table_rewrite, METH_VARARGS, NULL},
+    {"_look_up", table_look_up, METH_VARARGS, NULL},
     {NULL, NULL, 0, NULL},
 };
 

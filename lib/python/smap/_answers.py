@@ -1,6 +1,6 @@
 """What the library answers. The extension makes these tuples itself."""
 
-from typing import NamedTuple, Optional
+from typing import List, NamedTuple, Optional
 
 
 class Answer(NamedTuple):
@@ -32,6 +32,26 @@ class Source(NamedTuple):
     ignored: bool
 
 
+class Place(NamedTuple):
+    """Where a place of a generated file comes from: the name of the source, where the map has it, line and column in it, the name of
+    the mapping, whether a debugger passes over the source, and its number."""
+
+    source: Optional[str]
+    line: int
+    column: int
+    name: Optional[str]
+    ignored: bool
+    index: int
+
+
+class Context(NamedTuple):
+    """A line of a source, and those before and after it."""
+
+    before: List[str]
+    line: str
+    after: List[str]
+
+
 class Counts(NamedTuple):
     """How much a map holds. `lines` are the generated lines that hold a mapping."""
 
@@ -41,6 +61,19 @@ class Counts(NamedTuple):
     segments: int
     lines: int
     checkpoints: int
+
+
+class Fit(NamedTuple):
+    """How a map fits a generated file, and whether it can be its map: then no mapping stands past the text or inside a word of
+    it. Of the mappings whose source has content, `outside` are past it, and `same` show the same in both texts."""
+
+    fits: bool
+    mappings: int
+    past: int
+    inside: int
+    compared: int
+    outside: int
+    same: int
 
 
 class Refusal(NamedTuple):

@@ -12,6 +12,9 @@ if TYPE_CHECKING:
 # The greatest number of 32 bits. No map has a line, a column, a source or a name of this number or a greater one.
 MOST = 2**32 - 1
 
+# So many lines may be asked for before one and after it.
+MOST_LINES = 65535
+
 # What a buffer of numbers says of its bytes' order where it is this machine's.
 _NATIVE = "@=" + ("<" if sys.byteorder == "little" else ">")
 
@@ -52,6 +55,14 @@ def interval(value: Any) -> int:
     return min(max(whole(value, "interval"), 0), MOST)
 
 
+def count(value: Any, what: str) -> int:
+    """How many lines are wanted."""
+    number = whole(value, what)
+    if not 0 <= number <= MOST_LINES:
+        raise ValueError(f"{what} is {number}: it is 0 to {MOST_LINES}")
+    return number
+
+
 def file_bytes(data: Any, what: str) -> Held:
     """The bytes of a file: those that are given, which are not copied, a text in UTF-8, or those of the file at a path."""
     if isinstance(data, os.PathLike):
@@ -69,6 +80,15 @@ def path_hint(data: Any) -> str:
     """What is said of a text that is no JSON, where it looks like a path."""
     is_path = isinstance(data, str) and 0 < len(data) <= 4096 and "\n" not in data and "{" not in data
     return "  a str is the text of a map: `SourceMap.from_file` reads the file at a path\n" if is_path else ""
+
+
+def is_utf8(data: bytes) -> bool:
+    """Whether these bytes are a text."""
+    try:
+        data.decode()
+    except UnicodeDecodeError:
+        return False
+    return True
 
 
 def trace_bytes(data: Any) -> Held:

@@ -40,7 +40,8 @@ def ask(known: Dict[bytes, bool], held: Held, anywhere: bool, is_loaded: Callabl
             # It may rewrite over the same maps itself.
             known[short] = False
             known[short] = is_loaded(short)
-        if short == url or not known[short]:
+        if not anywhere or short == url or not known[short]:
+            # The library itself leaves the query of a frame's URL out.
             continue
         for start in starts:
             end = start + len(url)
@@ -56,30 +57,30 @@ def _named(held: Held, anywhere: bool) -> Iterable[Tuple[bytes, List[int]]]:
     return ((bytes(held[begin:end]), [begin]) for begin, end in beside_places(held))
 
 
-def cut_and_rewritten(rewrite: Rewrite, held: Held, parts: List[Part], anywhere: bool) -> Rewritten:
-    """The rewritten text, where each of the parts is left out that keeps a frame or a place from being replaced."""
-    whole = _whole(rewrite, held)
+def cut_and_rewritten(rewrite: Rewrite, held: Held, parts: List[Part]) -> Rewritten:
+    """The rewritten text, where each of the parts is left out that keeps a place from being replaced."""
+    whole = made(rewrite, held)
     if not parts:
         return whole
     text = bytes(held)
-    left = _with_original(rewrite, parts, anywhere)
-    short = _whole(rewrite, _without(text, left)) if left else whole
+    left = _with_original(rewrite, parts)
+    short = made(rewrite, _without(text, left)) if left else whole
     if _answered(short) - _answered(whole) != len(left):
         # A place may be none where it stands.
-        short = _whole(rewrite, _without(text, _needless(rewrite, text, left, anywhere)))
+        short = made(rewrite, _without(text, _needless(rewrite, text, left)))
     rewritten, (lines, places, mapped, hidden) = short
-    if anywhere and len(left) < len(parts):
+    if len(left) < len(parts):
         # What has a map and no original is a place, too.
-        places = _whole(rewrite, _without(text, parts))[1][1]
+        places = made(rewrite, _without(text, parts))[1][1]
     return rewritten, (lines, places, mapped, hidden)
 
 
 # Those of the parts whose places are replaced or hidden, in lines of their own with an empty one behind each.
-def _with_original(rewrite: Rewrite, parts: List[Part], anywhere: bool) -> List[Part]:
+def _with_original(rewrite: Rewrite, parts: List[Part]) -> List[Part]:
     if not parts:
         return []
-    lines = [part.place if anywhere else b"@" + part.place for part in parts]
-    reported = _whole(rewrite, b"".join(line + b"\n\n" for line in lines))
+    lines = [part.place for part in parts]
+    reported = made(rewrite, b"".join(line + b"\n\n" for line in lines))
     count = _answered(reported)
     if count in (0, len(parts)):
         return parts if count else []
@@ -95,31 +96,23 @@ def _with_original(rewrite: Rewrite, parts: List[Part], anywhere: bool) -> List[
         return changed
     # What is replaced by the same text is known by its number alone.
     middle = 0 if changed else len(others) // 2
-    some = (_with_original(rewrite, half, anywhere) for half in (others[:middle], others[middle:]))
+    some = (_with_original(rewrite, half) for half in (others[:middle], others[middle:]))
     return sorted(sum(some, changed))
 
 
-# Those of the parts without which a frame or a place more is replaced where it stands.
-def _needless(rewrite: Rewrite, text: bytes, parts: List[Part], anywhere: bool) -> List[Part]:
+# Those of the parts without which a place more is replaced where it stands.
+def _needless(rewrite: Rewrite, text: bytes, parts: List[Part]) -> List[Part]:
     if not parts:
         return []
-    begin, end = _around(text, parts, anywhere)
+    begin, end = max(0, parts[0].begin - MOST_BYTES - _BEFORE), parts[-1].end + _BEHIND
     moved = [part._replace(begin=part.begin - begin, end=part.end - begin) for part in parts]
-    gained = _answered(_whole(rewrite, _without(text[begin:end], moved))) - _answered(_whole(rewrite, text[begin:end]))
+    gained = _answered(made(rewrite, _without(text[begin:end], moved))) - _answered(made(rewrite, text[begin:end]))
     if gained == len(parts):
         return parts
     if gained <= 0 or len(parts) == 1:
         return []
     middle = len(parts) // 2
-    return _needless(rewrite, text, parts[:middle], anywhere) + _needless(rewrite, text, parts[middle:], anywhere)
-
-
-# The bytes that say what becomes of the frames or places of the first and the last of these parts, and of those between.
-def _around(text: bytes, parts: List[Part], anywhere: bool) -> Tuple[int, int]:
-    first, last = parts[0].begin, parts[-1].end
-    if anywhere:
-        return max(0, first - MOST_BYTES - _BEFORE), last + _BEHIND
-    return text.rfind(b"\n", 0, first) + 1, text.find(b"\n", last) + 1 or len(text)
+    return _needless(rewrite, text, parts[:middle]) + _needless(rewrite, text, parts[middle:])
 
 
 def _without(text: bytes, parts: List[Part]) -> bytes:
@@ -128,7 +121,7 @@ def _without(text: bytes, parts: List[Part]) -> bytes:
     return b"".join(text[end:begin] for end, begin in zip(ends, begins))
 
 
-def _whole(rewrite: Rewrite, held: Held) -> Rewritten:
+def made(rewrite: Rewrite, held: Held) -> Rewritten:
     reported = rewrite(held)
     if reported is None:
         raise refused_text()

@@ -6,7 +6,7 @@ from pathlib import Path
 from typing import Iterable, List, Optional, Tuple, Type, TypeVar, Union
 
 from . import _given, _smap
-from ._answers import Mapping, Source
+from ._answers import Context, Fit, Mapping, Place, Source
 from ._paths import placed
 from ._reported import (BAD_BASE, Refused, refused_base, refused_composition, refused_encoding, refused_generated,
                         refused_map, refused_writing)
@@ -87,6 +87,23 @@ class SourceMap(_smap.Map):
             return "<SourceMap closed>"
         return f"<SourceMap file={self.file!r} sources={self.counts.sources} segments={self.counts.segments}>"
 
+    def place(self, line: int, column: int) -> Optional[Place]:
+        """Where a generated position comes from, or None where no mapping answers that has an original."""
+        answer = self.look_up(line, column)
+        if answer is None or answer.source is None or answer.line is None or answer.column is None:
+            return None
+        return Place(self.source_name(answer.source), answer.line, answer.column, self.name(answer.name),
+                     self.is_ignored(answer.source), answer.source)
+
+    def context(self, source: int, line: int, before: int = 2, after: int = 2) -> Optional[Context]:
+        """A line of this source with up to so many lines before and after it, at most 65,535 each, or None where its content has no
+        such line. Of a line those characters are given that stand in its first 65,536 bytes."""
+        given = self._lines(source, line, _given.count(before, "before"), _given.count(after, "after"))
+        if given is None:
+            return None
+        lines, at = given
+        return Context(lines[:at], lines[at], lines[at + 1:])
+
     @property
     def ignore_list(self) -> List[int]:
         """The numbers of the sources that a debugger should pass over."""
@@ -110,6 +127,14 @@ class SourceMap(_smap.Map):
         if isinstance(reported, int):
             raise refused_generated(reported, _given.file_name(generated))
         return reported
+
+    def fit(self, generated: _given.FileData) -> Fit:
+        """Whether the map can be that of the generated file, which is given as a map is: then no mapping stands past the text
+        or inside a word of it. Raises `Refused` where the file is not UTF-8 or too large."""
+        reported = self._fit(_given.file_bytes(generated, "a generated file"))
+        if isinstance(reported, int):
+            raise refused_generated(reported, _given.file_name(generated))
+        return Fit(*reported)
 
     def write(self) -> bytes:
         """The map as the text of one regular map."""

@@ -5,9 +5,11 @@ from collections.abc import Mapping as AnyMapping
 from typing import Callable, Dict, List, Mapping, Optional, Tuple, Union
 
 from . import _given, _smap
-from ._loading import Part, ask, cut_and_rewritten
+from ._answers import Place
+from ._loading import Part, ask, cut_and_rewritten, made
 from ._maps import SourceMap
 from ._reported import refused_url
+from ._urls import cut, is_location
 
 # What a table takes under a URL.
 Given = Union[_given.FileData, SourceMap]
@@ -15,6 +17,31 @@ Load = Callable[[str], Optional[Given]]
 
 # So many of the maps that were refused are remembered.
 _MOST_REFUSALS = 100
+
+
+def stripped(trace: _given.Trace) -> bytes:
+    """A text without its control sequences. It is made first, over no map, since what is named is looked for in it."""
+    return made(lambda some: _smap.Table()._rewrite(some, False, False, True, False), _given.trace_bytes(trace))[0]
+
+
+class Told:
+    """What is told of maps that are not read: to a function, or else kept."""
+
+    def __init__(self, refused: Optional[Callable[[str, Exception], object]]) -> None:
+        if refused is not None and not callable(refused):
+            raise TypeError(f"refused is a function, not {type(refused).__name__}")
+        self._refused = refused
+        self.refusals: List[Tuple[str, Exception]] = []
+
+    def tell(self, url: str, error: Exception) -> None:
+        if self._refused is not None:
+            self._refused(url, error)
+        elif len(self.refusals) < _MOST_REFUSALS:
+            # Tracebacks would hold the text.
+            held: Optional[BaseException] = error
+            while held is not None:
+                held.__traceback__, held = None, held.__context__
+            self.refusals.append((url, error))
 
 
 class Rewriter(_smap.Table):
@@ -31,16 +58,14 @@ class Rewriter(_smap.Table):
         stay."""
         self._asking = threading.RLock()
         self._load = load
-        self._refused = refused
+        self._told = Told(refused)
         # Whether URLs that were named have a map here.
         self._known: Dict[bytes, bool] = {}
-        self.refusals: List[Tuple[str, Exception]] = []
         self.counts: Dict[str, int] = {}
         if not isinstance(maps, AnyMapping):
             raise TypeError(f"maps are a dict of URLs and maps, not {type(maps).__name__}")
-        for name, given in (("load", load), ("refused", refused)):
-            if given is not None and not callable(given):
-                raise TypeError(f"{name} is a function, not {type(given).__name__}")
+        if load is not None and not callable(load):
+            raise TypeError(f"load is a function, not {type(load).__name__}")
         try:
             for url, given_map in maps.items():
                 self._add(_given.text(url, "a URL"), given_map)
@@ -70,19 +95,14 @@ class Rewriter(_smap.Table):
                 return False
             self._add(url, given)
         except Exception as error:
-            self._tell(url, error)
+            self._told.tell(url, error)
             return False
         return True
 
-    def _tell(self, url: str, error: Exception) -> None:
-        if self._refused is not None:
-            self._refused(url, error)
-        elif len(self.refusals) < _MOST_REFUSALS:
-            # Tracebacks would hold the text.
-            held: Optional[BaseException] = error
-            while held is not None:
-                held.__traceback__, held = None, held.__context__
-            self.refusals.append((url, error))
+    @property
+    def refusals(self) -> List[Tuple[str, Exception]]:
+        """What went wrong, where no function is told."""
+        return self._told.refusals
 
     def __repr__(self) -> str:
         return f"<Rewriter {'closed' if self.closed else f'maps={sum(self._known.values())}'}>"
@@ -93,16 +113,29 @@ class Rewriter(_smap.Table):
     def __exit__(self, *_: object) -> None:
         self.close()
 
-    def rewrite(self, trace: _given.Trace, hide_ignored: bool = False, anywhere: bool = False) -> bytes:
+    def look_up(self, url: str, line: int, column: int) -> Optional[Place]:
+        """Where a place in the file of a URL comes from, by the map under it or else under it without query and fragment; or None where
+        there is no such map, or that has no original. The loader is asked as for a frame."""
+        bytes_in = _given.text(url, "a URL").encode(errors="surrogatepass")
+        if self._load is not None and not self._known.get(bytes_in):
+            with self._asking:
+                short = cut(bytes_in)
+                if short not in self._known and is_location(short):
+                    self._known[short] = False
+                    self._known[short] = self._is_loaded(short)
+        return self._look_up(bytes_in, line, column)
+
+    def rewrite(self, trace: _given.Trace, hide_ignored: bool = False, anywhere: bool = False, strip_ansi: bool = False) -> bytes:
         """The trace with each frame that has an original in its place; `counts` then has its lines, its frames, and how
         many were mapped and hidden. With `anywhere` each place URL:line:column is replaced, wherever it stands, and
-        `counts` has lines, places and mapped."""
+        `counts` has lines, places and mapped. With `strip_ansi` the text is read without the control sequences that colour a
+        terminal."""
         if hide_ignored and anywhere:
             raise ValueError("hide_ignored with anywhere")
-        held = _given.trace_bytes(trace)
+        held = stripped(trace) if strip_ansi else _given.trace_bytes(trace)
         parts = self._ask(held, bool(anywhere))
         text, (lines, places, mapped, hidden) = cut_and_rewritten(
-            lambda some: self._rewrite(some, bool(hide_ignored), bool(anywhere)), held, parts, bool(anywhere))
+            lambda some: self._rewrite(some, bool(hide_ignored), bool(anywhere), False, self._load is not None), held, parts)
         self.counts = {"lines": lines, "places": places, "mapped": mapped} if anywhere else {
             "lines": lines, "frames": places, "mapped": mapped, "hidden": hidden}
         return text

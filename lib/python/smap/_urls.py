@@ -32,6 +32,13 @@ def is_location(text: bytes) -> bool:
     return bool(_SCRIPT.search(text)) and not {b"", b".."} & set(re.split(rb"[\\/]", text))
 
 
+def is_plain(path: str) -> bool:
+    """Whether this is a path that leads nowhere but into the folder in which it begins, as the program says."""
+    if any(sign < " " or sign in "\x7f\\:" or "\ud800" <= sign <= "\udfff" for sign in path):
+        return False
+    return not {"", ".", ".."} & set(path.split("/"))
+
+
 def beside_places(text: Held) -> Iterator[Tuple[int, int]]:
     """Where the URLs and paths begin and end that may stand before places anywhere in a text. The library says which do."""
     least = 0

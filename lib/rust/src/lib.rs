@@ -33,7 +33,7 @@ mod token;
 
 pub use compose::ComposeOptions;
 pub use error::{Code, Error, Reason, Refused};
-pub use map::{BytesBySource, SourceMap};
+pub use map::{BytesBySource, Fit, SourceMap};
 pub use reading::ReadOptions;
 pub use table::{Table, TraceCounts};
 pub use token::{Mappings, Token};

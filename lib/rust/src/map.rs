@@ -223,6 +223,27 @@ impl SourceMap {
         Ok(BytesBySource { sources, unmapped })
     }
 
+    /// Whether the map can be that of a generated file.
+    ///
+    /// ```
+    /// # let map = smap::SourceMap::from_slice(br#"{"version":3,"sources":["a.ts"],"mappings":"EAAA"}"#)?;
+    /// assert!(map.fit("//f()")?.fits);
+    /// assert_eq!(map.fit("f")?.past, 1);
+    /// # Ok::<(), smap::Error>(())
+    /// ```
+    pub fn fit(&self, generated: impl AsRef<[u8]>) -> Result<Fit, Error> {
+        let counts = self.map.fit(generated.as_ref())?;
+        Ok(Fit {
+            fits: counts.fits != 0,
+            mappings: counts.mappings,
+            past: counts.past,
+            inside: counts.inside,
+            compared: counts.compared,
+            outside: counts.outside,
+            same: counts.same,
+        })
+    }
+
     pub(crate) fn of(map: library::Map) -> SourceMap {
         let mut sources = Vec::new();
         while let Some(source) = map.source(sources.len() as u32) {
@@ -275,4 +296,32 @@ pub struct BytesBySource {
     pub sources: Vec<u64>,
     /// From none.
     pub unmapped: u64,
+}
+
+/// How a map fits a generated file: it can be its map where no mapping stands past the text or
+/// inside a word of it.
+///
+/// ```
+/// # let map = smap::SourceMap::from_slice(br#"{"version":3,"sources":["a.ts"],"mappings":"EAAA"}"#)?;
+/// let fit = map.fit("//f()")?;
+/// assert_eq!((fit.mappings, fit.past + fit.inside), (1, 0));
+/// # Ok::<(), smap::Error>(())
+/// ```
+#[derive(Clone, Copy, Debug, PartialEq, Eq)]
+#[non_exhaustive]
+pub struct Fit {
+    /// Whether the map can be that of the file.
+    pub fits: bool,
+    /// How many mappings the map has.
+    pub mappings: u64,
+    /// Those past the text.
+    pub past: u64,
+    /// Those inside a word of it.
+    pub inside: u64,
+    /// Those whose source has content.
+    pub compared: u64,
+    /// Those of them whose original place is past the content.
+    pub outside: u64,
+    /// Those of them at which both texts show the same word or character.
+    pub same: u64,
 }

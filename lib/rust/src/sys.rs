@@ -108,6 +108,18 @@ pub struct smap_count {
 }
 
 #[repr(C)]
+#[derive(Default)]
+pub struct smap_fit_count {
+    pub mappings: u64,
+    pub past: u64,
+    pub inside: u64,
+    pub compared: u64,
+    pub outside: u64,
+    pub same: u64,
+    pub fits: u32,
+}
+
+#[repr(C)]
 pub struct smap_source_text {
     pub name: smap_text,
     pub content: smap_text,
@@ -120,6 +132,33 @@ pub struct smap_source_text {
 pub struct smap_compose_options {
     pub prune: bool,
     pub no_content: bool,
+}
+
+#[repr(C)]
+pub struct smap_table_options {
+    pub after: bool,
+    pub cut: bool,
+}
+
+#[repr(C)]
+pub struct smap_line_bytes {
+    pub start: usize,
+    pub length: usize,
+    pub cut: u32,
+}
+
+#[repr(C)]
+pub struct smap_line_range {
+    pub first: u32,
+    pub count: usize,
+}
+
+#[repr(C)]
+pub struct smap_rewrite_options {
+    pub hide_ignored: bool,
+    pub anywhere: bool,
+    pub strip_ansi: bool,
+    pub cut: bool,
 }
 
 #[repr(C)]
@@ -158,15 +197,20 @@ extern "C" {
         reason: *mut smap_reason,
         text: *mut smap_bytes,
     ) -> u32;
-    pub fn smap_look_up(map: *mut smap_map, line: u32, column: u32, found: *mut smap_found) -> u32;
+    pub fn smap_look_up(
+        map: *const smap_map,
+        line: u32,
+        column: u32,
+        found: *mut smap_found,
+    ) -> u32;
     pub fn smap_look_up_from(
-        map: *mut smap_map,
+        map: *const smap_map,
         line: u32,
         column: u32,
         found: *mut smap_found,
     ) -> u32;
     pub fn smap_look_up_many(
-        map: *mut smap_map,
+        map: *const smap_map,
         positions: *const smap_position,
         count: usize,
         found: *mut smap_found,
@@ -189,11 +233,29 @@ extern "C" {
         unmapped: *mut u64,
         refusal: *mut u32,
     ) -> u32;
+    pub fn smap_fit(
+        map: *mut smap_map,
+        generated: *const u8,
+        length: usize,
+        counts: *mut smap_fit_count,
+        refusal: *mut u32,
+    ) -> u32;
     pub fn smap_generated_refusal_text(refusal: u32, text: *mut smap_text) -> u32;
-    pub fn smap_counts(map: *mut smap_map, counts: *mut smap_count) -> u32;
-    pub fn smap_source(map: *mut smap_map, index: u32, source: *mut smap_source_text) -> u32;
-    pub fn smap_name(map: *mut smap_map, index: u32, name: *mut smap_text) -> u32;
-    pub fn smap_file(map: *mut smap_map, file: *mut smap_text) -> u32;
+    pub fn smap_counts(map: *const smap_map, counts: *mut smap_count) -> u32;
+    pub fn smap_map_size(map: *const smap_map, size: *mut u64) -> u32;
+    pub fn smap_source(map: *const smap_map, index: u32, source: *mut smap_source_text) -> u32;
+    pub fn smap_name(map: *const smap_map, index: u32, name: *mut smap_text) -> u32;
+    pub fn smap_file(map: *const smap_map, file: *mut smap_text) -> u32;
+    pub fn smap_source_lines(
+        map: *const smap_map,
+        source: u32,
+        line: u32,
+        before: u32,
+        after: u32,
+        lines: *mut smap_line_bytes,
+        places: usize,
+        range: *mut smap_line_range,
+    ) -> u32;
     pub fn smap_map_write(map: *mut smap_map, bytes: *mut smap_bytes) -> u32;
     pub fn smap_compose(
         outer: *mut smap_map,
@@ -239,6 +301,18 @@ extern "C" {
         refusal: *mut u32,
     ) -> u32;
     pub fn smap_table_refusal_text(refusal: u32, text: *mut smap_text) -> u32;
+    pub fn smap_table_look_up(
+        table: *const smap_table,
+        url: *const u8,
+        url_length: usize,
+        line: u32,
+        column: u32,
+        options: *const smap_table_options,
+        found: *mut smap_found,
+        source: *mut smap_source_text,
+        name: *mut smap_text,
+    ) -> u32;
+    pub fn smap_cut_url(url: *const u8, length: usize, cut: *mut smap_text) -> u32;
     pub fn smap_table_free(table: *mut smap_table);
     pub fn smap_rewrite(
         table: *mut smap_table,
@@ -252,6 +326,14 @@ extern "C" {
         table: *mut smap_table,
         text: *const u8,
         length: usize,
+        bytes: *mut smap_bytes,
+        counts: *mut smap_trace_count,
+    ) -> u32;
+    pub fn smap_rewrite_with(
+        table: *mut smap_table,
+        text: *const u8,
+        length: usize,
+        options: *const smap_rewrite_options,
         bytes: *mut smap_bytes,
         counts: *mut smap_trace_count,
     ) -> u32;

@@ -245,6 +245,21 @@ fn the_bytes_of_a_generated_file_are_those_of_its_sources() {
 }
 
 #[test]
+fn a_map_is_put_to_a_generated_file() {
+    let map =
+        read(r#"{"version":3,"sources":["a"],"sourcesContent":["let ab"],"mappings":"AAAA,IAAI"}"#);
+    let fit = map.fit("var ab").expect("a fit");
+    assert_eq!((fit.fits, fit.mappings), (true, 2));
+    assert_eq!((fit.past, fit.inside), (0, 0));
+    assert_eq!((fit.compared, fit.outside, fit.same), (2, 0, 1));
+    let error = map.fit(b"\xff").expect_err("no UTF-8");
+    assert_eq!(
+        (error.to_string().as_str(), error.code()),
+        ("NotUtf8", None)
+    );
+}
+
+#[test]
 fn threads_hand_maps_to_one_another() {
     let map = read(TWO_LINES);
     let there = std::thread::spawn(move || {

@@ -156,6 +156,18 @@ impl Map {
         Ok((sources, unmapped))
     }
 
+    /// How the map fits the generated file.
+    pub(crate) fn fit(&self, generated: &[u8]) -> Result<sys::smap_fit_count, Error> {
+        let mut counts = sys::smap_fit_count::default();
+        let mut refusal = 0;
+        let status = unsafe {
+            let (bytes, length) = (generated.as_ptr(), generated.len());
+            sys::smap_fit(self.handle(), bytes, length, &mut counts, &mut refusal)
+        };
+        done(status, || Refused::generated(refusal))?;
+        Ok(counts)
+    }
+
     /// What this map and that of one of its sources come to.
     pub(crate) fn composed(&self, source: u32, inner: &Map) -> Result<Bytes, Error> {
         if ptr::eq(self, inner) {

@@ -192,8 +192,13 @@ fn sizes_and_offsets_are_those_of_the_c_compiler() {
         smap_encode_refusal: number mapping;
         smap_position: line column;
         smap_count: sections sources names segments lines checkpoints;
+        smap_fit_count: mappings past inside compared outside same fits;
         smap_source_text: name content named held ignored;
         smap_compose_options: prune no_content;
+        smap_table_options: after cut;
+        smap_line_bytes: start length cut;
+        smap_line_range: first count;
+        smap_rewrite_options: hide_ignored anywhere strip_ansi cut;
         smap_trace_count: lines frames mapped hidden;
         smap_frame_url: start length next;
     };
