@@ -1,8 +1,8 @@
-// What the page holds: the generated text, its map, and what smap says of how many bytes each source makes.
+// What the page holds: the generated text, its map, and what smap says of how many bytes each source makes and how the map fits.
 import { elementOf } from './elements.js';
 import { decodeMappings } from './map.js';
 import { Text } from './text.js';
-export { fileName, generated, map, owned, record };
+export { fileName, fit, generated, map, owned, record };
 
 // What an element holds: JSON, compressed, in Base64.
 async function held(id) {
@@ -27,6 +27,7 @@ const [facts, record, text] = await Promise.all(['the-facts', 'the-map', 'the-te
 const fileName = facts.name;
 // The bytes of each source, by index, those that are unmapped, and all.
 const owned = facts.bytes;
+const { fit } = facts;
 const generated = new Text(text);
 const map = decodeMappings(record.mappings);
 record.mappings = '';

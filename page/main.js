@@ -6,6 +6,7 @@ import { elementOf } from './elements.js';
 import { listenToFrames } from './frames.js';
 import { fileName, generated, map, owned } from './held.js';
 import { lineOf, mappingAt } from './map.js';
+import { showMisfits } from './misfits.js';
 import { drawView, go, openFromList, see, step, wrap } from './moves.js';
 import { WELCOME, answerOf, report } from './report.js';
 import { bytesOf, contentOf, isIgnored, many, nameOf, ranked, share } from './sources.js';
@@ -37,6 +38,7 @@ function start() {
   areas.show(treeOf(sources, owned.unmapped));
   panes.generated.show(generated);
   showOpen();
+  showMisfits();
   // Both panes show the first place of the largest source.
   if (ranked.length > 0) openFromList(ranked[0]);
   if (state.asked) state.asked.note = WELCOME;

@@ -9,7 +9,7 @@ from pages import Checks, Page, asked, colour, focus, is_seen, let_go, opened, p
 from texts import try_positions
 
 MOST_SECONDS = 3
-GROUNDS = ["paper", "ground", "gutter", "hover", "chosen"]
+GROUNDS = ["paper", "ground", "gutter", "hover", "chosen", "warning"]
 
 
 def try_hostile(browser: browsers.Browser, page: Page, checks: Checks) -> None:

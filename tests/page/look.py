@@ -16,6 +16,7 @@ import files
 from eyes import try_neighbours
 from finding import try_find, try_find_large, try_find_strange
 from guards import try_contrast, try_hostile, try_large
+from misfits import try_misfits
 from pages import Checks, Page, asked, opened, press_button
 from texts import PASTE, try_bytes, try_field, try_frames, try_keys, try_marks, try_opened, try_pointing, try_positions, try_preview
 from views import NARROW, try_filter, try_folders, try_hash, try_hidden, try_labels, try_line, try_none, try_room
@@ -73,6 +74,9 @@ def keep_views(browser: browsers.Browser, pages: Dict[str, Page], to: Path, sche
     keep(browser, to, f"{start}-bundle-unwrapped.png", checks)
     press_button(browser, "#see-areas")
     keep(browser, to, f"{start}-bundle-areas.png", checks)
+    opened(browser, pages["swapped"])
+    press_button(browser, "#misfits-first")
+    keep(browser, to, f"{start}-swapped.png", checks)
     opened(browser, pages["bundle"])
     try_contrast(browser, pages["bundle"], checks)
     try_neighbours(browser, pages["bundle"], checks)
@@ -113,6 +117,7 @@ def main() -> int:
             "placed": Page(program, files.placed(folder), folder),
             "empty": Page(program, files.empty(folder), folder),
             "bundle": Page(program, files.bundle(folder, examples, SIZE), folder),
+            "swapped": Page(program, (examples / "receipt.min.js.map", examples / "preset-react.js"), folder),
         }
         pictures.mkdir(parents=True, exist_ok=True)
         for kind in [one for one in (browsers.Chromium, browsers.Firefox) if not words[3:] or one.name in words[3:]]:
@@ -149,6 +154,8 @@ def main() -> int:
                 opened(browser, pages["placed"])
                 for tried in (try_folders, try_room, try_line, try_filter):
                     tried(browser, pages["placed"], checks)
+                checks.about = f"{kind.name}, swapped"
+                try_misfits(browser, pages["swapped"], pages["receipt"], checks)
                 checks.insist("what the browser complains of", browser.complaints(), [])
                 checks.about = f"{kind.name}, hostile"
                 opened(browser, pages["hostile"])
