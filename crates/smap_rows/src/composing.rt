@@ -72,16 +72,7 @@ fn composed_map(
     inner: &MapFile,
 ) -> Result<MapFile, RowFault> {
     let interval = row.number(6)?;
-    let Ok(composed) = compose(row.alloc(), outer, source, inner) else {
-        return Err(RowFault::Refused);
-    };
-    match MapFile::read_owned(
-        row.alloc(),
-        composed.write_owned(row.alloc())?,
-        None,
-        interval,
-    ) {
-        Ok(map) => Ok(map),
-        Err(_) => Err(RowFault::Refused),
-    }
+    let composed = compose(row.alloc(), outer, source, inner).map_err(|_| RowFault::Refused)?;
+    let bytes = composed.write_owned(row.alloc())?;
+    MapFile::read_owned(row.alloc(), bytes, None, interval).map_err(|_| RowFault::Refused)
 }

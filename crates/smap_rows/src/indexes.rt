@@ -6,13 +6,7 @@ use crate::row::{Row, number_in};
 use crate::texts::{packed, put_held};
 use smap_index::{Index, Part};
 use smap_mappings::Meter;
-
-/// The two look-ups.
-#[derive(Clone, Copy)]
-pub enum Direction {
-    Before,
-    After,
-}
+use smap_positions::Direction;
 
 // The index of a row's text, with checkpoints at its interval.
 fn index_of(row: &Row<'_>) -> Result<Index, RowFault> {
@@ -24,10 +18,7 @@ fn index_of(row: &Row<'_>) -> Result<Index, RowFault> {
         source_base: 0,
         name_base: 0,
     })?;
-    match Index::build(row.alloc(), parts, row.number(2)?) {
-        Ok(index) => Ok(index),
-        Err(_) => Err(RowFault::Refused),
-    }
+    Index::build(row.alloc(), parts, row.number(2)?).map_err(|_| RowFault::Refused)
 }
 
 /// A text and an interval: the mappings of its index, and how many checkpoints that has.
@@ -48,8 +39,8 @@ pub fn look_up(row: &Row<'_>, answer: &mut Answer, way: Direction) -> Result<(),
         let (line, column) = position_in(position)?;
         let mut meter = Meter::new(row.alloc());
         let found = match way {
-            Direction::Before => index.look_up(line, column, &mut meter),
-            Direction::After => index.look_up_from(line, column, &mut meter),
+            Direction::AtOrBefore => index.look_up(line, column, &mut meter),
+            Direction::AtOrAfter => index.look_up_from(line, column, &mut meter),
         };
         are_few = are_few && is_few(&meter, index.checkpoints(), interval);
         if !text.is_empty() {

@@ -1,5 +1,5 @@
-//! Lists of mappings, and answers of look-ups, as texts: the numbers of a mapping from 0, as far as it has them, with a comma
-//! between two, and a blank between two mappings.
+//! Lists of mappings, and answers of look-ups, as texts: the numbers of a mapping from 0, as far as it has them, with a
+//! comma between two, and a blank between two mappings.
 use crate::fault::RowFault;
 use crate::row::number_in;
 use smap_index::Answer;

@@ -1,17 +1,18 @@
 //! Each position of a map.
 use crate::answer::Answer;
 use crate::fault::RowFault;
-use crate::indexes::{Direction, is_few};
+use crate::indexes::is_few;
 use crate::lists::answer_text;
 use crate::maps::map_of;
 use crate::row::Row;
 use smap_index::Answer as Found;
 use smap_mappings::Meter;
+use smap_positions::Direction;
 use smap_record::MapFile;
 use std::alloc::Global;
 
-/// A map, an interval, a line and a column from 0: what answers at each position up to these, in both directions. Of each line
-/// that stands from its first column on, where it changes, and behind that in the other direction.
+/// A map, an interval, a line and a column from 0: what answers at each position up to these, in both directions. Of each
+/// line that stands from its first column on, where it changes, and behind that in the other direction.
 pub fn answer(row: &Row<'_>, answer: &mut Answer) -> Result<(), RowFault> {
     let interval = row.number(2)?;
     let map = map_of(row, 1, interval)?;
@@ -30,13 +31,13 @@ fn put_line(
     most_column: u32,
     interval: u32,
 ) -> Result<(), RowFault> {
-    for way in [Direction::Before, Direction::After] {
+    for way in [Direction::AtOrBefore, Direction::AtOrAfter] {
         let mut changes = Changes::new(alloc);
         for column in 0..=most_column {
             let mut meter = Meter::new(alloc);
             let found = match way {
-                Direction::Before => map.look_up(line, column, &mut meter),
-                Direction::After => map.look_up_from(line, column, &mut meter),
+                Direction::AtOrBefore => map.look_up(line, column, &mut meter),
+                Direction::AtOrAfter => map.look_up_from(line, column, &mut meter),
             };
             changes.put(column, &found, is_few(&meter, map.checkpoints(), interval))?;
         }

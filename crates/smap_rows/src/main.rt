@@ -3,7 +3,8 @@
 //! A row is a call and its fields, with a TAB between two, and its answer has as many fields as the call gives, so that line
 //! N of standard output answers line N of standard input. `tests/vectors/README.md` has the calls. A line that begins with
 //! `#` is written as it is. A field of a row that is `%K` stands for 1, 2, 3, 64 and 4096 in turn; what comes of each is
-//! written once where it is the same for all, and else one behind another. A line that is no row ends the run, with status 1.
+//! written once where it is the same for all, and else one behind another. A line that is no row ends the run, with
+//! status 1.
 #![tactic(auto)]
 
 mod answer;
@@ -29,13 +30,13 @@ mod usage;
 
 use answer::Answer;
 use fault::RowFault;
-use indexes::Direction;
 use row::{EACH, Row};
 use smap_io::{ByteSink, FromStd, read_all, write_all};
+use smap_positions::Direction;
 use std::process::ExitCode;
 
 // How many bytes all rows have at most.
-const MOST_BYTES: usize = 67_108_864;
+const MOST_ROWS_BYTES: usize = 67_108_864;
 
 const INTERVALS: [u32; 5] = [1, 2, 3, 64, 4_096];
 
@@ -49,7 +50,7 @@ fn main(rt: HostRuntime) -> ExitCode {
 
 // Answers each row of standard input. The first that is none is reported where its answer would stand.
 fn answer_rows<W: ByteSink>(rt: &HostRuntime, output: &mut W) -> Result<(), RowFault> {
-    let bytes = read_all(rt.alloc(), &mut FromStd::new(rt.stdin()), MOST_BYTES)?;
+    let bytes = read_all(rt.alloc(), &mut FromStd::new(rt.stdin()), MOST_ROWS_BYTES)?;
     let Ok(rows) = str::from_utf8(&bytes) else {
         return Err(RowFault::NotText);
     };
@@ -121,8 +122,8 @@ fn answer_row(row: &Row<'_>, answer: &mut Answer) -> Result<(), RowFault> {
         "next" => texts::next(row, answer),
         "encode" => texts::encode_list(row, answer),
         "index" => indexes::index(row, answer),
-        "look_up" => indexes::look_up(row, answer, Direction::Before),
-        "look_up_from" => indexes::look_up(row, answer, Direction::After),
+        "look_up" => indexes::look_up(row, answer, Direction::AtOrBefore),
+        "look_up_from" => indexes::look_up(row, answer, Direction::AtOrAfter),
         "look_ups" => look_ups::answer(row, answer),
         "resolve" => sources::answer(row, answer),
         "line_at" => contents::line(row, answer),

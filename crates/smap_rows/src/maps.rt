@@ -18,10 +18,8 @@ pub fn map_at(
     base: Option<&Url>,
     interval: u32,
 ) -> Result<MapFile, RowFault> {
-    match MapFile::read_owned(row.alloc(), row.bytes(number)?, base, interval) {
-        Ok(map) => Ok(map),
-        Err(_) => Err(RowFault::Refused),
-    }
+    let bytes = row.bytes(number)?;
+    MapFile::read_owned(row.alloc(), bytes, base, interval).map_err(|_| RowFault::Refused)
 }
 
 /// A map, an interval, and a base or none: its mappings, file, sources, contents and names, or why it is refused. It is read

@@ -4,8 +4,8 @@ use crate::fault::RowFault;
 use crate::row::Row;
 use smap_arguments::{Usage, parse};
 use smap_command::{
-    CheckOptions, Command, Form, FurtherOptions, USUAL_CACHE_BYTES, USUAL_LIMIT_BYTES, Url,
-    WriteOptions,
+    CheckOptions, Command, FitOptions, Form, FurtherOptions, USUAL_CACHE_BYTES, USUAL_LIMIT_BYTES,
+    Url, WriteOptions,
 };
 use std::alloc::{AllocError, Global};
 
@@ -50,7 +50,7 @@ fn command_text(alloc: Global, command: &Command) -> Result<String, AllocError> 
             let code = code.as_deref().unwrap_or("all");
             format!(in alloc; "explain {code}")
         }
-        Command::Fit { paths, form } => fitting_text(alloc, paths, *form),
+        Command::Fit { paths, options } => fitting_text(alloc, paths, *options),
         Command::Lookup { .. } => lookup_text(alloc, command),
         Command::Positions { .. } => positions_text(alloc, command),
         Command::Mappings { .. } | Command::Sources { .. } | Command::SourceContent { .. } =>
@@ -140,9 +140,13 @@ fn checking_text(
     Ok(text)
 }
 
-fn fitting_text(alloc: Global, paths: &[String], form: Form) -> Result<String, AllocError> {
-    let json = form_text(form);
-    let mut text = format!(in alloc; "fit{json}")?;
+fn fitting_text(
+    alloc: Global,
+    paths: &[String],
+    options: FitOptions,
+) -> Result<String, AllocError> {
+    let (json, explain) = (form_text(options.form), explain_text(options.explain));
+    let mut text = format!(in alloc; "fit{json}{explain}")?;
     for path in paths {
         text.push_str(&format!(in alloc; " [{path}]")?)?;
     }
@@ -174,13 +178,17 @@ fn listing_text(alloc: Global, command: &Command) -> Result<String, AllocError> 
             base,
             generated,
             by_bytes,
+            fit,
             form,
         } => {
             let (base, json) = (base_text(base), form_text(*form));
-            let order = flag_text(*by_bytes, " by bytes");
+            let (order, fit) = (
+                flag_text(*by_bytes, " by bytes"),
+                flag_text(*fit, " with fit"),
+            );
             match generated {
-                Some(file) => format!(in alloc; "sources {path} of {file}{base}{order}{json}"),
-                None => format!(in alloc; "sources {path}{base}{order}{json}"),
+                Some(file) => format!(in alloc; "sources {path} of {file}{base}{order}{fit}{json}"),
+                None => format!(in alloc; "sources {path}{base}{order}{fit}{json}"),
             }
         }
         Command::SourceContent { path, source } => format!(in alloc; "content {source} of {path}"),
@@ -210,15 +218,17 @@ fn rewriting_text(
         let text = format!(in alloc; "rewrite{base} every {interval}{hiding}{stripped}")?;
         return with_pairs(alloc, text, None, maps);
     }
-    let (anywhere, summary) = (
-        flag_text(options.anywhere, " anywhere"),
-        flag_text(options.summary, " in sum"),
-    );
     let cache_bytes = options.cache_bytes.unwrap_or(USUAL_CACHE_BYTES);
     let limit_bytes = options.limit_bytes.unwrap_or(USUAL_LIMIT_BYTES);
-    let text = format!(in alloc;
-        "from{base} every {interval} cache {cache_bytes} limit {limit_bytes}{hiding}{stripped}{anywhere}{summary}"
+    let mut text = format!(in alloc;
+        "from{base} every {interval} cache {cache_bytes} limit {limit_bytes}{hiding}{stripped}"
     )?;
+    for hidden in &options.hide {
+        text.push_str(&format!(in alloc; " hiding <{hidden}>")?)?;
+    }
+    text.push_str(flag_text(options.anywhere, " anywhere"))?;
+    text.push_str(flag_text(options.summary, " in sum"))?;
+    text.push_str(explain_text(options.explain))?;
     with_pairs(alloc, text, options.list.as_deref(), maps)
 }
 

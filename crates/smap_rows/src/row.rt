@@ -109,16 +109,10 @@ impl<'a> Row<'a> {
 }
 
 fn as_text(bytes: Vec<u8>) -> Result<String, RowFault> {
-    match String::from_utf8(bytes) {
-        Ok(text) => Ok(text),
-        Err(_) => Err(RowFault::NotText),
-    }
+    String::from_utf8(bytes).map_err(|_| RowFault::NotText)
 }
 
 /// The number that a text is.
 pub fn number_in(text: &str) -> Result<u32, RowFault> {
-    match text.parse() {
-        Ok(number) => Ok(number),
-        Err(_) => Err(RowFault::BadNumber),
-    }
+    text.parse().map_err(|_| RowFault::BadNumber)
 }

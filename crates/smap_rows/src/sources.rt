@@ -20,8 +20,5 @@ pub fn answer(row: &Row<'_>, answer: &mut Answer) -> Result<(), RowFault> {
 
 fn name_of(row: &Row<'_>) -> Result<SourceName, RowFault> {
     let (root, source, base) = (row.text_or_none(1)?, row.text(2)?, row.url_or_none(3)?);
-    match resolve(row.alloc(), root.as_deref(), &source, base.as_ref()) {
-        Ok(name) => Ok(name),
-        Err(_) => Err(RowFault::Memory),
-    }
+    resolve(row.alloc(), root.as_deref(), &source, base.as_ref()).map_err(|_| RowFault::Memory)
 }

@@ -21,10 +21,7 @@ pub fn check(row: &Row<'_>, answer: &mut Answer) -> Result<(), RowFault> {
 
 /// The text of a row, which may name as many sources and names as indices can.
 pub fn packed(row: &Row<'_>, number: usize) -> Result<PackedText, RowFault> {
-    match PackedText::check(row.text(number)?, 2147483648, 2147483648) {
-        Ok(packed) => Ok(packed),
-        Err(_) => Err(RowFault::Refused),
-    }
+    PackedText::check(row.text(number)?, 2147483648, 2147483648).map_err(|_| RowFault::Refused)
 }
 
 /// Adds how many mappings there are, how many lines that hold one, and the mappings.

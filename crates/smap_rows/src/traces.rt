@@ -54,8 +54,8 @@ fn put_outcome(
     answer.put(output.bytes())
 }
 
-/// An input, an output, `hide` or `show`, an interval, a trace, and the URLs and maps of a table: the lines, frames, replaced
-/// and hidden frames, and what the trace becomes.
+/// An input, an output, `hide` or `show`, an interval, a trace, and the URLs and maps of a table: the lines, frames,
+/// replaced and hidden frames, and what the trace becomes.
 pub fn frames(row: &Row<'_>, answer: &mut Answer) -> Result<(), RowFault> {
     let is_hiding = row.field(3)? == "hide";
     let table = table_of(row, 6, row.number(4)?)?;

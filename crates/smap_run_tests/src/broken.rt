@@ -77,8 +77,8 @@ impl io::Write for Broken {
     }
 }
 
-/// What a command line leaves over these files and this input, over a reader and a writer that move so many bytes a call each,
-/// of which these calls break off.
+/// What a command line leaves over these files and this input, over a reader and a writer that move so many bytes a call
+/// each, of which these calls break off.
 pub fn left_broken(
     alloc: Global,
     files: &[(&str, &str)],

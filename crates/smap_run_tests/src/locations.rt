@@ -143,3 +143,102 @@ fn each_url_and_each_prefix_has_its_length(rt: HostRuntime) -> Result<(), AllocE
     assert!(&rt; !locations.has_folder(b"https://a.test/js"));
     Ok(())
 }
+
+const PATTERNS: [(&str, &str); 5] = [
+    ("app.js", "app.map"),
+    ("js/app.js", "longer.map"),
+    ("/js/v2/", "maps/"),
+    ("\\dist\\", "dist/"),
+    ("b.js?v=2", "b.map"),
+];
+
+// A URL, and the path that a pattern gives, or none; and the text under which its map is remembered.
+const PATTERN_ROWS: [(&str, &str, &str); 14] = [
+    ("https://a.test/app.js", "app.map", "https://a.test/app.js"),
+    (
+        "https://a.test/app.js?v=3",
+        "app.map",
+        "https://a.test/app.js",
+    ),
+    ("app.js#x", "app.map", "app.js"),
+    ("C:\\app.js", "app.map", "C:\\app.js"),
+    ("https://a.test/xapp.js", "", "https://a.test/xapp.js"),
+    (
+        "https://a.test/js/app.js",
+        "longer.map",
+        "https://a.test/js/app.js",
+    ),
+    // The longer text decides.
+    (
+        "https://a.test/js/v2/app.js",
+        "maps/app.js.map",
+        "https://a.test/js/v2/app.js",
+    ),
+    ("/js/v2/d/b.js?v=3", "maps/d/b.js.map", "/js/v2/d/b.js"),
+    (
+        "/js/v2/js/v2/c.js",
+        "maps/js/v2/c.js.map",
+        "/js/v2/js/v2/c.js",
+    ),
+    ("/js/v2/../c.js", "", "/js/v2/../c.js"),
+    (
+        "C:\\x\\dist\\a\\b.js",
+        "dist/a/b.js.map",
+        "C:\\x\\dist\\a\\b.js",
+    ),
+    ("C:\\x\\dist\\..\\b.js", "", "C:\\x\\dist\\..\\b.js"),
+    (
+        "https://a.test/b.js?v=2",
+        "b.map",
+        "https://a.test/b.js?v=2",
+    ),
+    ("https://a.test/b.js?v=3", "", "https://a.test/b.js"),
+];
+
+// Five patterns; or none of them, where one was refused.
+fn patterns(alloc: Global) -> Result<Locations, AllocError> {
+    let mut locations = Locations::new(alloc);
+    for (text, path) in PATTERNS {
+        let text = Vec::from_slice(alloc, text.as_bytes())?;
+        if locations
+            .add_pattern(text, String::from_str(alloc, path)?)
+            .is_err()
+        {
+            return Ok(Locations::new(alloc));
+        }
+    }
+    Ok(locations)
+}
+
+#[test]
+fn each_url_has_its_pattern(rt: HostRuntime) -> Result<(), AllocError> {
+    let locations = patterns(rt.alloc())?;
+    for (url, path, key) in PATTERN_ROWS {
+        match locations.path_for(rt.alloc(), url.as_bytes())? {
+            Some(found) => assert_eq!(&rt; found.as_str(), path),
+            None => assert_eq!(&rt; "", path),
+        }
+        assert_eq!(&rt; locations.key_for(url.as_bytes()), key.as_bytes());
+    }
+    Ok(())
+}
+
+#[test]
+fn a_pattern_is_refused(rt: HostRuntime) -> Result<(), AllocError> {
+    let alloc = rt.alloc();
+    let mut locations = patterns(alloc)?;
+    let file = locations.add_pattern(Vec::from_slice(alloc, b"/js/v2/")?, text(alloc, "a.map")?);
+    assert!(&rt; matches!(file, Err(LocationRefusal::Twice)));
+    let folder = locations.add_pattern(Vec::from_slice(alloc, b"dist")?, text(alloc, "maps/")?);
+    assert!(&rt; matches!(folder, Err(LocationRefusal::NoFolder)));
+    let all = locations.add_pattern(Vec::new(alloc), text(alloc, "maps/")?);
+    assert!(&rt; matches!(all, Err(LocationRefusal::NoFolder)));
+    assert!(&rt;
+        locations
+            .add_pattern(Vec::new(alloc), text(alloc, "all.map")?)
+            .is_ok()
+    );
+    assert!(&rt; locations.has_pattern(b""));
+    assert!(&rt; !locations.has_pattern(b"app"));
+    Ok(())
+}

@@ -121,8 +121,39 @@ fn each_url_has_its_map(rt: HostRuntime) -> Result<(), Fail> {
     Ok(())
 }
 
+// URLs, and how many maps were asked for with them.
+const OF_PATTERN: [(&str, u64); 4] = [
+    ("https://a.test/app.js?v=1", 1),
+    ("https://a.test/app.js?v=2", 1),
+    ("https://a.test/app.js", 1),
+    ("https://b.test/app.js", 2),
+];
+
+#[test]
+fn a_pattern_is_read_once_for_a_cut_url(rt: HostRuntime) -> Result<(), Fail> {
+    let alloc = rt.alloc();
+    let words = words(alloc)?;
+    let mut locations = Locations::new(alloc);
+    assert!(&rt; add_list(alloc, &mut locations, &words, "*\tall.map\n").is_ok());
+    let mut cache = MapCache::new(alloc, 1_000_000);
+    let mut loader = Named { asked: 0 };
+    for (url, asked) in OF_PATTERN {
+        let mut maps = StoredMaps {
+            alloc,
+            words: &words,
+            locations: &locations,
+            cache: &mut cache,
+            loader: &mut loader,
+        };
+        maps.find(url.as_bytes());
+        assert!(&rt; maps.map_for(url.as_bytes()).is_some());
+        assert_eq!(&rt; loader.asked, asked);
+    }
+    Ok(())
+}
+
 // A list, and the first line that is refused.
-const REFUSED: [(&str, u64, ListFault); 8] = [
+const REFUSED: [(&str, u64, ListFault); 11] = [
     ("#\nhttps://a.test/a.js a.map\n", 2, ListFault::NoTab),
     ("https://a.test/js\tmaps/\n", 1, ListFault::NoFolder),
     ("\tmaps/\n", 1, ListFault::NoFolder),
@@ -135,6 +166,9 @@ const REFUSED: [(&str, u64, ListFault); 8] = [
         ListFault::Twice,
     ),
     ("https://a.test/word.js\ta.map", 1, ListFault::Twice),
+    ("*\ta.map\n*\tb.map", 2, ListFault::Twice),
+    ("*dist\tmaps/", 1, ListFault::NoFolder),
+    ("*a\rb\ta.map", 1, ListFault::BadUrl),
 ];
 
 #[test]
