@@ -24,7 +24,14 @@ function pairOf(file) {
   if (generated === undefined) return [];
   const map = JSON.parse(fs.readFileSync(file, 'utf8'));
   if (map.sections !== undefined) return [];
-  return [{ name: file, map, text: fs.readFileSync(generated, 'utf8') }];
+  return [{ name: file, map, text: fs.readFileSync(generated, 'utf8'), next: nextOf(generated) }];
+}
+
+// The text of the next release, of what builds.js built.
+function nextOf(generated) {
+  const folder = path.dirname(generated);
+  const next = path.join(folder, '..', 'second', path.basename(generated));
+  return path.basename(folder) === 'first' && fs.existsSync(next) ? fs.readFileSync(next, 'utf8') : undefined;
 }
 
 function withColumnsMoved(map) {
@@ -32,11 +39,24 @@ function withColumnsMoved(map) {
   return { ...map, mappings: codec.encode(lines) };
 }
 
+// The text with a statement more, before what the middle one of the mappings stands at.
+function withStatement({ map, text }) {
+  const places = codec.decode(map.mappings).flatMap((line, number) => line.map(([column]) => [number, column]));
+  if (places.length === 0) return text;
+  const [number, column] = places[places.length >> 1];
+  const lines = text.split('\n');
+  lines[number] = `${lines[number].slice(0, column)}console.log(1);${lines[number].slice(column)}`;
+  return lines.join('\n');
+}
+
 const DAMAGES = {
   right: (pair) => pair,
   'the text of another pair': (pair, i, pairs) => ({ ...pair, text: pairs[(i + (pairs.length >> 1)) % pairs.length].text }),
+  'the text of the next pair': (pair, i, pairs) => ({ ...pair, text: pairs[(i + 1) % pairs.length].text }),
+  'the text of another release': (pair) => (pair.next === undefined || pair.next === pair.text ? undefined : { ...pair, text: pair.next }),
   'a line put before the text': (pair) => ({ ...pair, text: `/* a banner */\n${pair.text}` }),
   'each column one too large': (pair) => ({ ...pair, map: withColumnsMoved(pair.map) }),
+  '`console.log(1);` put in': (pair) => ({ ...pair, text: withStatement(pair) }),
 };
 
 // What the program says of pairs, which are written into a folder.
@@ -65,16 +85,17 @@ function main() {
   let alarms = 0;
   try {
     for (const [damage, damaged] of Object.entries(DAMAGES)) {
-      const those = pairs.map(damaged);
+      const those = pairs.map(damaged).filter((pair) => pair !== undefined);
+      if (those.length === 0) continue;
       const own = those.map(({ map, text }) => fitOf(map, text));
       const said = counted(program, folder, those);
       own.forEach((counts, i) => {
-        const { mappings, past, inside, fits } = said[i] ?? {};
-        const same = mappings === counts.mappings && past === counts.past && inside === counts.inside && fits === !isMisfit(counts);
-        if (!same) console.log(`${pairs[i].name}: ${damage}: ${JSON.stringify(counts)}, and smap ${JSON.stringify(said[i])}`);
+        const { fits, ...others } = said[i] ?? {};
+        const same = Object.keys(counts).every((key) => counts[key] === others[key]) && fits === !isMisfit(counts);
+        if (!same) console.log(`${those[i].name}: ${damage}: ${JSON.stringify(counts)}, and smap ${JSON.stringify(said[i])}`);
         differences += same ? 0 : 1;
-        if (damage === 'right' && isMisfit(counts)) {
-          console.log(`${pairs[i].name}: is right, and does not fit: ${JSON.stringify(counts)}`);
+        if (damage === 'right' && isMisfit(said[i] ?? counts)) {
+          console.log(`${those[i].name}: is right, and does not fit: ${JSON.stringify(counts)}`);
           alarms += 1;
         }
       });

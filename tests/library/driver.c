@@ -96,7 +96,7 @@ static void report(smap_map *map, const smap_found *found) {
     }
 }
 
-static void look(smap_map *map, uint32_t (*call)(smap_map *, uint32_t, uint32_t, smap_found *)) {
+static void look(smap_map *map, uint32_t (*call)(const smap_map *, uint32_t, uint32_t, smap_found *)) {
     smap_position position;
     while (scanf("%u %u", &position.line, &position.column) == 2) {
         smap_found found = {0};
@@ -201,6 +201,19 @@ static void bytes_by_source(const char *path, const char *generated) {
     for (uint64_t i = 0; i < count.sources; i++) printf("%llu ", (unsigned long long)sources[i]);
     printf("%llu\n", (unsigned long long)unmapped);
     free(sources);
+    free(text);
+    smap_map_free(&map);
+}
+
+static void fitted(const char *path, const char *generated) {
+    smap_map map = opened(path);
+    size_t length;
+    uint8_t *text = bytes_in(generated, &length);
+    smap_fit_count fit = {0};
+    uint32_t why = 0;
+    if (smap_fit(&map, text, length, &fit, &why) != SMAP_DONE) fail("not counted");
+    const uint64_t counts[] = {fit.fits, fit.mappings, fit.past, fit.inside, fit.compared, fit.outside, fit.same};
+    for (size_t i = 0; i < 7; i++) printf("%llu%c", (unsigned long long)counts[i], i < 6 ? ' ' : '\n');
     free(text);
     smap_map_free(&map);
 }
@@ -493,6 +506,8 @@ int main(int count, char **words) {
         mappings(words[2]);
     } else if (!strcmp(command, "bytes") && count > 3) {
         bytes_by_source(words[2], words[3]);
+    } else if (!strcmp(command, "fit") && count > 3) {
+        fitted(words[2], words[3]);
     } else if (!strcmp(command, "version")) {
         version();
     } else if (!strcmp(command, "show")) {

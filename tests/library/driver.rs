@@ -108,6 +108,15 @@ fn bytes_by_source(map: &str, generated: &str) -> Done {
     Ok(())
 }
 
+fn fitted(map: &str, generated: &str) -> Done {
+    let fit = opened(map)?.fit(fs::read(generated)?)?;
+    let counts = [fit.mappings, fit.past, fit.inside, fit.compared, fit.outside, fit.same];
+    print!("{}", u32::from(fit.fits));
+    counts.iter().for_each(|count| print!(" {count}"));
+    println!();
+    Ok(())
+}
+
 fn options(less: &str) -> ComposeOptions {
     ComposeOptions {
         prune: matches!(less, "prune" | "both"),
@@ -228,6 +237,7 @@ fn main() -> Done {
         ["refuse", ref paths @ ..] => refuse(paths),
         ["why", path] => why(path),
         ["bytes", map, generated] => bytes_by_source(map, generated),
+        ["fit", map, generated] => fitted(map, generated),
         ["version", _] => Ok(print!("{}", smap::version())),
         ["show", map] => Ok(stdout().write_all(&opened(map)?.to_vec()?)?),
         ["compose", outer, source, inner] => compose(outer, source, inner),

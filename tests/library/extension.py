@@ -155,6 +155,7 @@ def threads():
             "composing all": lambda: compose_all(source_map, {0: inner}), "rewriting": lambda: rewriter.rewrite(trace),
             "looking many up": lambda: source_map.look_up_many(positions), "listing": source_map.mappings,
             "counting bytes": lambda: source_map.bytes_by_source(b"\n" * 20000000),
+            "fitting": lambda: source_map.fit(b"\n" * 20000000),
         }.items():
             steps, still = steps_beside(call)
             same(steps > 50 and still < 0.9, True, f"{steps} steps beside {what}, and none for {still} of the time")
@@ -228,6 +229,7 @@ def memory():
         "a name": lambda: source_map.name(0), "a file": lambda: source_map.file, "lists": lambda: (source_map.sources, source_map.names),
         "mappings": lambda: list(source_map.mappings()), "mappings that are left": lambda: next(source_map.mappings()),
         "bytes": lambda: source_map.bytes_by_source("abc"), "refused bytes": lambda: refused(lambda: source_map.bytes_by_source(b"\xff")),
+        "a fit": lambda: source_map.fit("abc"), "a refused fit": lambda: refused(lambda: source_map.fit(b"\xff")),
         "writing": source_map.write, "composing": lambda: compose(source_map, 0, other),
         "a refused composition": lambda: refused(lambda: compose(source_map, 1, other)),
         "composing all": lambda: compose_all(source_map, {0: other}),

@@ -200,6 +200,11 @@ static void generated_files(void) {
     insist(smap_bytes_by_source(&map, zeros, most_generated_bytes, &source, 1, &unmapped, &why) == SMAP_DONE, "the longest file");
     insist(why == 1 && source == most_generated_bytes && unmapped == 0, "its bytes");
     insist(smap_bytes_by_source(&map, zeros, 0, &source, 1, &unmapped, &why) == SMAP_DONE && source == 0 && unmapped == 0, "no file");
+    smap_fit_count fit = {.mappings = 9};
+    insist(smap_fit(&map, zeros, most_generated_bytes + 1, &fit, &why) == SMAP_REFUSED && why == 2, "a file that is too long for a fit");
+    insist(smap_fit(&map, (const uint8_t *)"\xff", 1, &fit, &why) == SMAP_REFUSED && why == 1, "a file that is no text for a fit");
+    insist(fit.mappings == 9, "no counts");
+    insist(smap_fit(&map, zeros, most_generated_bytes, &fit, &why) == SMAP_DONE && fit.past == 1 && fit.inside == 0, "a fit of the longest file");
     smap_map_free(&map);
 }
 

@@ -85,6 +85,7 @@ static smap_refusal refusal;
 static smap_reason reason;
 static smap_trace_count count;
 static uint64_t by_source[8], unmapped;
+static smap_fit_count fit;
 static smap_encode_refusal encode_refusal;
 static uint32_t why, next_source;
 
@@ -115,6 +116,7 @@ static uint32_t bytes_call(void) {
     if (held.sources > 8) fail("a map", "has too many sources");
     return smap_bytes_by_source(&outer, trace, sizeof trace - 1, by_source, held.sources, &unmapped, &why);
 }
+static uint32_t fit_call(void) { return smap_fit(&outer, trace, sizeof trace - 1, &fit, &why); }
 static uint32_t compose_call(void) { return smap_compose(&outer, 0, &inner, &bytes, &why); }
 static uint32_t inners_call(void) { return smap_inners_new(&outer, &made_inners); }
 /* The places of all sources have maps: these are composed, and the first source behind them is asked for. */
@@ -128,6 +130,10 @@ static uint32_t add_call(void) { return smap_table_add(&table, url, sizeof url -
 static uint32_t twice_call(void) { return smap_table_add(&table, base, sizeof base - 1, &made, &why); }
 static uint32_t rewrite_call(void) { return smap_rewrite(&table, trace, sizeof trace - 1, false, &bytes, &count); }
 static uint32_t anywhere_call(void) { return smap_rewrite_anywhere(&table, trace, sizeof trace - 1, &bytes, &count); }
+static uint32_t with_call(void) {
+    const smap_rewrite_options options = {.strip_ansi = true, .cut = true};
+    return smap_rewrite_with(&table, trace, sizeof trace - 1, &options, &bytes, &count);
+}
 
 /* Which handle a call fills, if it fills one; or it takes the map from `made`, and gives it back where it refuses. */
 enum handle { FILLS_MAP, FILLS_TABLE, FILLS_INNERS, FILLS_BYTES, FILLS_NONE, TAKES_MAP };
@@ -146,6 +152,7 @@ static const struct call {
     {"smap_map_mappings", mappings_call, SMAP_DONE, FILLS_BYTES},
     {"smap_encode", encode_call, SMAP_DONE, FILLS_BYTES},
     {"smap_bytes_by_source", bytes_call, SMAP_DONE, FILLS_NONE},
+    {"smap_fit", fit_call, SMAP_DONE, FILLS_NONE},
     {"smap_compose", compose_call, SMAP_DONE, FILLS_BYTES},
     {"smap_inners_new", inners_call, SMAP_DONE, FILLS_INNERS},
     {"smap_inners_next", next_call, SMAP_DONE, FILLS_NONE},
@@ -155,6 +162,7 @@ static const struct call {
     {"smap_table_add of what is refused", twice_call, SMAP_REFUSED, TAKES_MAP},
     {"smap_rewrite", rewrite_call, SMAP_DONE, FILLS_BYTES},
     {"smap_rewrite_anywhere", anywhere_call, SMAP_DONE, FILLS_BYTES},
+    {"smap_rewrite_with", with_call, SMAP_DONE, FILLS_BYTES},
 };
 
 /* What handed-out bytes say, which are freed. */
@@ -285,12 +293,18 @@ static void free_calls(void) {
     smap_count counts = {0};
     smap_source_text source = SMAP_SOURCE;
     smap_text text = SMAP_TEXT;
+    uint64_t size = 0;
+    smap_line_bytes line = {0};
+    smap_line_range range = {0};
+    const smap_table_options options = {.cut = true};
     asked = 0;
     refuses_all = true;
     uint32_t statuses = smap_look_up(&outer, 0, 0, &found) | smap_look_up_from(&outer, 0, 0, &found) |
                         smap_look_up_many(&outer, &position, 1, &found, 1) | smap_counts(&outer, &counts) |
                         smap_source(&outer, 0, &source) | smap_name(&outer, 0, &text) | smap_bytes_text(&bytes, &text) |
-                        smap_version(&text);
+                        smap_version(&text) | smap_map_size(&outer, &size) | smap_cut_url(url, sizeof url - 1, &text);
+    uint32_t lines = smap_source_lines(&outer, 0, 0, 0, 0, &line, 1, &range);
+    uint32_t place = smap_table_look_up(&table, url, sizeof url - 1, 0, 0, &options, &found, &source, &text);
     uint32_t file = smap_file(&outer, &text);
     uint32_t source_asked = 77;
     statuses |= smap_inners_next(&outer, &inners, &source_asked, &why) | smap_inners_name(&outer, &inners, source_asked, &text);
@@ -300,7 +314,7 @@ static void free_calls(void) {
     smap_table_free(&table);
     smap_bytes_free(&bytes);
     refuses_all = false;
-    if (statuses != SMAP_DONE || file == SMAP_NO_MEMORY) fail("free calls", "another status");
+    if (statuses != SMAP_DONE || file == SMAP_NO_MEMORY || lines == SMAP_NO_MEMORY || place != SMAP_REFUSED) fail("free calls", "another status");
     if (asked != 0) fail("free calls", "memory is asked for");
     if (live != 0) fail("free calls", "leaks");
 }

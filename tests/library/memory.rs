@@ -43,6 +43,7 @@ fn main() -> Result<(), Box<dyn std::error::Error>> {
     count += refused("mappings", || map.mappings().map(|mappings| mappings.count()));
     count += refused("a text", || map.to_vec());
     count += refused("bytes", || map.bytes_by_source("f()"));
+    count += refused("a fit", || map.fit("f()"));
     count += refused("two maps", || outer.compose(0, &map));
     count += refused("one map", || map.compose(0, &map));
     count += refused("all maps", || {

@@ -422,6 +422,19 @@ function bytes() {
   for (const bad of [7, null, undefined, {}, [text]]) refuses('TypeError', () => map.bytesBySource(bad), /`generated` must be a text or a Uint8Array/);
 }
 
+// How maps fit texts, by hand: `let` is not `var`, the second line's place is past the content, and the third source has none.
+function fit() {
+  const lines = [[[0, 0, 0, 0], [4, 0, 0, 4]], [[0, 0, 1, 0], [2, 1, 0, 0]]];
+  const map = new smap.TraceMap({ version: 3, sources: ['a.js', 'b.js'], sourcesContent: ['let ab'], names: [], mappings: lines });
+  const counts = { mappings: 4, past: 0, inside: 0, compared: 3, outside: 1, same: 1 };
+  for (const given of ['var ab\n ;x', Buffer.from('var ab\n ;x')]) same(map.fit(given), { fits: true, ...counts });
+  same(map.fit('var ab\nabc'), { fits: false, ...counts, inside: 1 });
+  same(map.fit(''), { fits: false, ...counts, past: 2, same: 0 });
+  refuses('Refused', () => map.fit(Buffer.of(97, 255)), 'refused: NotUtf8', { number: 1 });
+  refuses('Refused', () => map.fit(Buffer.alloc(67108865, 'x')), 'refused: TooLarge', { number: 2 });
+  for (const bad of [7, null, undefined, {}]) refuses('TypeError', () => map.fit(bad), /`generated` must be a text or a Uint8Array/);
+}
+
 // Bytes that another thread could change are copied, for each call that reads some.
 function shared() {
   const sharing = (text) => {
@@ -792,7 +805,7 @@ function closed() {
     () => smap.lookUpMany(map, new Uint32Array(2)), () => smap.sourceContentFor(map, 'a.js'), () => smap.isIgnored(map, 'a.js')];
   for (const member of ['version', 'names', 'sources', 'sourceRoot', 'sourcesContent', 'ignoreList', 'resolvedSources', 'sourceEntries']) calls.push(() => map[member]);
   for (const call of ['eachMapping', 'decodedMappings', 'encodedMappings', 'encodedMap', 'traceSegment']) calls.push(() => smap[call](map, 0, 0));
-  calls.push(() => map.mappings(), () => map.bytesBySource(''), () => new smap.TraceMap(map));
+  calls.push(() => map.mappings(), () => map.bytesBySource(''), () => map.fit(''), () => new smap.TraceMap(map));
   for (const call of calls) refuses('Error', call, 'the map is closed');
   // What was begun goes on.
   const other = new smap.TraceMap(small);
@@ -828,6 +841,7 @@ spellings();
 ownMembers();
 decodedMaps();
 bytes();
+fit();
 shared();
 intervals();
 compositions(process.argv[2]);

@@ -12,7 +12,7 @@ import tempfile
 from array import array
 from pathlib import Path
 
-from smap import Answer, Mapping, Refused, Rewriter, SourceMap, _smap, compose, compose_all, encode
+from smap import Answer, Fit, Mapping, Refused, Rewriter, SourceMap, _smap, compose, compose_all, encode
 from smap._answers import Refusal
 from smap._reported import refused_map
 
@@ -598,6 +598,23 @@ def generated(folder):
     with SourceMap('{"version":3,"sources":[],"mappings":""}') as empty:
         same(empty.bytes_by_source("ä"), ([], 2))
     refuses(ValueError, lambda: empty.bytes_by_source("ä"), "the map is closed")
+    refuses(ValueError, lambda: empty.fit("ä"), "the map is closed")
+
+
+def fits(folder):
+    # `let` is not `var`, the place of the second line's first mapping is past the content, and the second source has none.
+    text = "var ab\n ;x"
+    path = folder / "fit.js"
+    path.write_text(text, encoding="utf-8")
+    with SourceMap('{"version":3,"sources":["a","b"],"sourcesContent":["let ab"],"mappings":"AAAA,IAAI;AACJ,ECDA"}') as made:
+        for given in (text, text.encode(), path):
+            same(made.fit(given), (True, 4, 0, 0, 3, 1, 1))
+        same(made.fit("var ab\nabc"), Fit(fits=False, mappings=4, past=0, inside=1, compared=3, outside=1, same=1))
+        same(made.fit(""), (False, 4, 2, 0, 3, 1, 0))
+        refuses(Refused, lambda: made.fit(b"\xff"), args=("refused: NotUtf8",), number=1)
+        refuses(Refused, lambda: made.fit(b"a" * (2**26 + 1)), args=("refused: TooLarge",), number=2)
+        for given in (7, None, ["a"]):
+            refuses(TypeError, lambda: made.fit(given), "a generated file is bytes, a str or a Path")
 
 
 def kinds():
@@ -645,6 +662,7 @@ if __name__ == "__main__":
         maps(Path(made))
         reasons(Path(made))
         generated(Path(made))
+        fits(Path(made))
     bases()
     intervals()
     compositions(Path(sys.argv[1]))

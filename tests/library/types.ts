@@ -1,8 +1,8 @@
 // What tests/try-library gives to tsc --strict: the types of the library in node, as a script uses them.
 import {
-  AnyMap, EachMapping, EncodedSourceMap, FlattenMap, GREATEST_LOWER_BOUND, LEAST_UPPER_BOUND, Refused, RewriteStream, SourceMapSegment, Table, TraceMap, compose,
-  composeAll, decodedMap, decodedMappings, eachMapping, encodedMap, encodedMappings, isIgnored, lookUpMany, originalPositionFor, presortedDecodedMap,
-  rewrite, sourceContent, sourceContentFor, sourceName, traceSegment,
+  AnyMap, Context, EachMapping, EncodedSourceMap, Fit, FlattenMap, GREATEST_LOWER_BOUND, LEAST_UPPER_BOUND, Maps, Place, Refused, RewriteStream, SourceMapSegment, Table, TraceMap, compose,
+  composeAll, decodedMap, decodedMappings, eachMapping, encodedMap, encodedMappings, frameUrls, isIgnored, lookUpMany, originalPositionFor, presortedDecodedMap,
+  rewrite, rewriteAsync, sourceContent, sourceContentFor, sourceContext, sourceName, traceSegment,
 } from 'smap';
 
 const object = { version: 3, sources: ['a.js', null], names: [], mappings: [[[0, 0, 0, 0]]] };
@@ -31,6 +31,7 @@ map.sourceRoot = undefined;
 map.sources = first;
 const saved: EncodedSourceMap = map.toJSON();
 const { sources, unmapped } = map.bytesBySource('x');
+const { fits, past, inside, same }: Fit = map.fit('x');
 const total: number = sources.reduce((sum, bytes) => sum + bytes, unmapped) + map.counts.segments;
 
 const made: Uint8Array[] = [compose(map, 0, others[0]), composeAll(map, { 'a.js': others[1] }, { load: (source) => source, prune: true }), map.write()];
@@ -40,9 +41,15 @@ made.push(rewrite(table, 'f@a.js:1:1', { hideIgnored: true }));
 const stream: RewriteStream = new RewriteStream(table, { anywhere: true });
 const places: number = 'places' in stream.counts ? stream.counts.places : stream.counts.frames;
 stream.on('refused', (url: string, error: unknown) => names.push(url, String(error))).end('x');
+const place: Place | null = table.lookUp('https://e.test/a.js?v=3', 1, 0);
+const context: Context | null = sourceContext(map, place ? place.index : 0, 1, 3);
+const kept = new Maps({ load: () => null, loadAsync: async (url) => `{"file":"${url}"}`, maxBytes: map.nbytes, atOnce: 4 });
+const inFolder: Maps = Maps.folder('https://e.test/', '.', { maxBytes: 1 });
+const waiting: Promise<Buffer> = rewriteAsync(kept, 'x', { stripAnsi: true });
+names.push(...frameUrls('x', { anywhere: true }), context ? context.before.join(context.line) : '', String(inFolder.get('x')));
 table[Symbol.dispose]();
 map.close();
-export const all = [line, original, answers, columns, lines, text, written, list, names, content, ignored, total, made, places, saved, new Refused('x').number];
+export const all = [fits, past + inside + same, waiting, kept.lookUp('x', 1, 0), kept.load(['x']), line, original, answers, columns, lines, text, written, list, names, content, ignored, total, made, places, saved, new Refused('x').number];
 
 // What no call takes.
 // @ts-expect-error
@@ -51,6 +58,8 @@ new TraceMap(7);
 rewrite(table, 'x', { anyWhere: true });
 // @ts-expect-error
 new RewriteStream(table, { highWaterMark: 1 });
+// @ts-expect-error
+new Maps({ load: () => null });
 // @ts-expect-error
 composeAll(map, {}, { pruned: true });
 // @ts-expect-error

@@ -279,7 +279,8 @@ const TAKING = [
   },
   {
     call: 'run fit as JSON',
-    answer: '1|{"fits":false,"generated":"g.js","inside":1,"map":"m.map","mappings":2,"past":0}/|',
+    answer:
+      '0|{"compared":1,"firstInside":null,"firstPast":null,"fits":true,"generated":"g.js","inside":0,"map":"m.map","mappings":1,"outside":0,"past":0,"same":0}/|',
     memory: NO_ROOM,
   },
   { call: 'run sources', answer: `0|${BY_BYTES}|`, memory: NO_ROOM },

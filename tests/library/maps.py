@@ -1,0 +1,235 @@
+"""Maps by URL, context, and control sequences in Python: maps.py FOLDER, where FOLDER is empty and may be written to."""
+
+import asyncio
+import json
+import sys
+import threading
+from pathlib import Path
+
+from smap import Context, Maps, Place, Refused, Rewriter, SourceMap, frame_urls
+
+reported = 0
+
+
+def insist(what, given, wanted):
+    global reported
+    if given != wanted:
+        sys.exit(f"maps: {what}: {given!r:.300} in place of {wanted!r:.300}")
+    reported += 1
+
+
+def raises(what, error, call, *words, **named):
+    try:
+        call(*words, **named)
+    except error as raised:
+        insist(what, type(raised) is error or isinstance(raised, error), True)
+    else:
+        sys.exit(f"maps: {what}: nothing is raised")
+
+
+def text_of(name, content="one\r\ntwo\nthree\rfour\u2028five", more=""):
+    return json.dumps({"version": 3, "sources": [name, None], "sourcesContent": [content, None], "names": ["n"],
+                       "mappings": "AAAA,IACCA,E;AAEA" + more, "ignoreList": [0]})
+
+
+def contexts():
+    with SourceMap(text_of("a.ts")) as source_map:
+        insist("a line", source_map.context(0, 1), Context(["one"], "two", ["three", "four"]))
+        insist("the first", source_map.context(0, 0, 5, 1), Context([], "one", ["two"]))
+        insist("the last", source_map.context(0, 4, 1, 9), Context(["four"], "five", []))
+        insist("one alone", source_map.context(0, 2, 0, 0), Context([], "three", []))
+        insist("all", source_map.context(0, 2, 65535, 65535), Context(["one", "two"], "three", ["four", "five"]))
+        insist("no line", source_map.context(0, 5), None)
+        insist("no content", source_map.context(1, 0), None)
+        insist("a line past all", source_map.context(0, 2**40), None)
+        raises("no source", IndexError, source_map.context, 2, 0)
+        raises("a line below 0", ValueError, source_map.context, 0, -1)
+        raises("too many", ValueError, source_map.context, 0, 1, 65536)
+        raises("less than none", ValueError, source_map.context, 0, 1, 0, -1)
+        raises("a text for a number", TypeError, source_map.context, 0, 1, "2")
+        insist("a place", source_map.place(0, 4), Place("a.ts", 1, 1, "n", True, 0))
+        insist("a place without a name", source_map.place(0, 0), Place("a.ts", 0, 0, None, True, 0))
+        insist("a place without an original", source_map.place(0, 6), None)
+        insist("no place", source_map.place(7, 0), None)
+    with SourceMap(text_of("a.ts", "x" * 65535 + "\u20ac")) as source_map:
+        insist("a long line", source_map.context(0, 0), Context([], "x" * 65535, []))
+    large, small = SourceMap(text_of("a.ts", "x" * 100000)), SourceMap(text_of("a.ts", ""))
+    insist("how large a map is", large.nbytes - small.nbytes, 100000)
+    large.close()
+    raises("a closed one", ValueError, lambda: large.nbytes)
+
+
+def bounded():
+    asked = []
+
+    def load(url):
+        asked.append(url)
+        return text_of(f"{url[-4]}.ts") if url.endswith(".js") else None
+
+    one = SourceMap._under("https://e.test/a.js", text_of("a.ts")).nbytes + len("https://e.test/a.js") + 128
+    maps = Maps(load, max_bytes=3 * one + one // 2)
+    for name in "abcabca":
+        place = maps.look_up(f"https://e.test/{name}.js?v={len(asked)}#x", 0, 4)
+        insist("a place", place, Place(f"https://e.test/{name}.ts", 1, 1, "n", True, 0))
+    insist("what was asked for", asked, [f"https://e.test/{name}.js" for name in "abc"])
+    insist("what is kept", (len(maps), maps.nbytes <= maps.max_bytes), (3, True))
+    maps.look_up("https://e.test/d.js", 0, 0)
+    maps.look_up("https://e.test/a.js", 0, 0)
+    maps.look_up("https://e.test/c.js", 0, 0)
+    insist("what goes first", asked[3:], ["https://e.test/d.js"])
+    maps.look_up("https://e.test/b.js", 0, 0)
+    insist("what went", asked[4:], ["https://e.test/b.js"])
+    insist("what has none", [maps.get(url) for url in ("https://e.test/x.css", "[native code]", "../../x.js", "")], [None] * 4)
+    insist("what is asked for", asked[5:], ["https://e.test/x.css"])
+    insist("what is known", ["https://e.test/x.css?1" in maps, "https://e.test/y.js" in maps], [True, False])
+    maps.get("https://e.test/x.css")
+    insist("once", len(asked), 6)
+    maps.discard("https://e.test/x.css?2")
+    maps.get("https://e.test/x.css")
+    insist("again", len(asked), 7)
+    # One that was given out stays open.
+    kept = maps.get("https://e.test/b.js")
+    for name in "efghi":
+        maps.get(f"https://e.test/{name}.js")
+    insist("one that was given out", (kept.closed, kept.place(0, 0).line), (False, 0))
+    maps.add("https://e.test/b.js?7", text_of("own.ts"))
+    insist("one that was added", maps.look_up("https://e.test/b.js?7", 0, 0).source, "https://e.test/own.ts")
+    insist("beside it", maps.look_up("https://e.test/b.js?8", 0, 0).source, "https://e.test/b.ts")
+    alone = Maps(load, max_bytes=0)
+    for name in "abab":
+        insist("one by itself", (alone.look_up(f"https://e.test/{name}.js", 0, 0).source, len(alone)), (f"https://e.test/{name}.ts", 1))
+    raises("no function", TypeError, Maps, 7, max_bytes=1)
+    raises("no bound", TypeError, Maps, load, max_bytes="7")
+    raises("a bound below 0", ValueError, Maps, load, max_bytes=-1)
+    raises("a refused map", Refused, maps.add, "https://e.test/z.js", "{}")
+
+
+def refusals():
+    def load(url):
+        if "raises" in url:
+            raise OSError("no")
+        return '{"version":3,"sources":[],"mappings":"AAAA"}'
+
+    maps = Maps(load, max_bytes=10000)
+    insist("what is wrong", [maps.get("https://e.test/raises.js"), maps.get("https://e.test/bad.js")], [None, None])
+    insist("what is kept of it", [(url, type(error)) for url, error in maps.refusals], [("https://e.test/raises.js", OSError), ("https://e.test/bad.js", Refused)])
+    told = []
+    maps = Maps(load, max_bytes=10000, refused=lambda url, error: told.append(url))
+    maps.get("https://e.test/bad.js")
+    maps.get("https://e.test/bad.js")
+    insist("what is told", (told, maps.refusals), (["https://e.test/bad.js"], []))
+
+
+def folders(folder):
+    (folder / "maps/js").mkdir(parents=True)
+    (folder / "maps/js/a.js.map").write_text(text_of("a.ts"))
+    (folder / "out.map").write_text(text_of("out.ts"))
+    (folder / "maps/bad.js.map").write_text("{")
+    (folder / "maps/dir.js.map").mkdir()
+    maps = Maps.folder("https://e.test/", folder / "maps", max_bytes=1 << 20)
+    insist("a file", maps.look_up("https://e.test/js/a.js?x", 0, 0).source, "https://e.test/js/a.ts")
+    for url in ("../out", "js/../../out", "/js/a.js", "js//a.js", "./js/a.js", "js\\a.js", "c:/a.js", "js/%2e%2e/out", "", "js/", "js/a\x00.js", "a\x7f"):
+        insist(f"no file for {url!r}", maps.get(f"https://e.test/{url}"), None)
+    insist("nothing went wrong", maps.refusals, [])
+    insist("another prefix", maps.get("https://other.test/js/a.js"), None)
+    insist("wrong ones", [maps.get(f"https://e.test/{name}.js") for name in ("bad", "dir")], [None, None])
+    insist("what is kept of them", [url for url, _ in maps.refusals], ["https://e.test/bad.js", "https://e.test/dir.js"])
+    raises("no prefix", ValueError, Maps.folder, "https://e.test", folder, max_bytes=1)
+
+
+TRACE = "Error: x\n    at f (https://e.test/a.js:1:5)\n    at https://e.test/b.js?v=1:1:1\n    at g (https://e.test/none.css:1:1)\n" \
+    "    at eval ([native code]:1:1)\n    at h (https://e.test/a.js#x:1:5)\n"
+WANTED = "Error: x\n    at f (https://e.test/a.ts:2:2)\n    at https://e.test/b.ts:1:1\n    at g (https://e.test/none.css:1:1)\n" \
+    "    at eval ([native code]:1:1)\n    at h (https://e.test/a.ts:2:2)\n"
+
+
+def rewriting():
+    insist("the URLs of frames", frame_urls(TRACE), ["https://e.test/a.js", "https://e.test/b.js", "https://e.test/none.css"])
+    insist("the URLs of places", frame_urls("{https://e.test/a.js?x:1:2} at https://e.test/a.js:1:3", anywhere=True), ["https://e.test/a.js"])
+    insist("of nothing", frame_urls(b""), [])
+    asked = []
+
+    def load(url):
+        asked.append(url)
+        return text_of(f"{url[-4]}.ts") if url.endswith(".js") else None
+
+    for bound in (1 << 20, 0, 600):
+        maps = Maps(load, max_bytes=bound)
+        insist("a trace", maps.rewrite(TRACE).decode(), WANTED)
+        insist("its counts", maps.counts, {"lines": 6, "frames": 5, "mapped": 3, "hidden": 0})
+        insist("hidden", maps.rewrite(TRACE, hide_ignored=True).decode().count("\n"), 3)
+        insist("places", maps.rewrite(TRACE, anywhere=True).decode(), WANTED)
+        insist("coloured", maps.rewrite(TRACE.replace("https", "\x1b[1mhttps").replace("js", "js\x1b[0m"), strip_ansi=True).decode(), WANTED)
+        insist("no trace", (maps.rewrite(b""), maps.counts["lines"]), (b"", 0))
+        many = "".join(f"    at f (https://e.test/{name}.js:1:5)\n" for name in "abcdefgh" * 3)
+        insist("many maps", maps.rewrite(many).decode(), many.replace("js:1:5", "ts:2:2"))
+        insist("the bound", maps.nbytes <= max(bound, 1000), True)
+    maps = Maps(load, max_bytes=1 << 20)
+    maps.add("https://e.test/a.js", text_of("own.ts"))
+    insist("what was added", maps.rewrite("    at f (https://e.test/a.js:1:5)\n"), b"    at f (https://e.test/own.ts:2:2)\n")
+    rewriter = Rewriter({"https://e.test/a.js": text_of("a.ts")})
+    insist("one place", rewriter.look_up("https://e.test/a.js?v=1", 0, 4), Place("https://e.test/a.ts", 1, 1, "n", True, 0))
+    insist("no map", rewriter.look_up("https://e.test/b.js", 0, 4), None)
+    insist("no mapping", rewriter.look_up("https://e.test/a.js", 9, 4), None)
+    insist("coloured", rewriter.rewrite(b"\x1b[31m    at f (https://e.test/\x1b[1ma.js:1:5)\x1b[0m", strip_ansi=True), b"    at f (https://e.test/a.ts:2:2)")
+    raises("a line below 0", ValueError, rewriter.look_up, "https://e.test/a.js", -1, 0)
+    asked.clear()
+    loading = Rewriter({}, load=load)
+    insist("one that is loaded", [loading.look_up("https://e.test/c.js?1", 0, 0).source for _ in range(2)], ["https://e.test/c.ts"] * 2)
+    insist("what is asked for", asked, ["https://e.test/c.js"])
+
+
+async def fetched():
+    async def fetch(url):
+        await asyncio.sleep(0)
+        return text_of(f"{url[-4]}.ts") if url.endswith(".js") else None
+
+    urls = frame_urls(TRACE)
+    found = dict(zip(urls, await asyncio.gather(*map(fetch, urls))))
+    with Rewriter({}, load=found.get) as rewriter:
+        insist("maps that are waited for", rewriter.rewrite(TRACE).decode(), WANTED)
+
+
+def threads():
+    maps = Maps(lambda url: text_of(f"{url[-4]}.ts") if url.endswith(".js") else None, max_bytes=3000)
+    wrong = []
+
+    def work(seed):
+        for i in range(2000):
+            name = "abcdefgh"[(seed + i * 7) % 8]
+            place = maps.look_up(f"https://e.test/{name}.js", 0, 4)
+            if place != Place(f"https://e.test/{name}.ts", 1, 1, "n", True, 0):
+                wrong.append(place)
+            if i % 500 == 0 and maps.rewrite(TRACE).decode() != WANTED:
+                wrong.append("a trace")
+
+    several = [threading.Thread(target=work, args=(seed,)) for seed in range(4)]
+    for thread in several:
+        thread.start()
+    for thread in several:
+        thread.join()
+    insist("four threads", wrong, [])
+    insist("the bound", maps.nbytes <= 3000, True)
+    # Four threads, one map.
+    source_map = SourceMap(text_of("a.ts"))
+    found = [0] * 4
+
+    def look(seed):
+        found[seed] = sum(source_map.place(0, column % 6).line for column in range(20000))
+
+    several = [threading.Thread(target=look, args=(seed,)) for seed in range(4)]
+    for thread in several:
+        thread.start()
+    for thread in several:
+        thread.join()
+    insist("four threads in one map", found, [found[0]] * 4)
+
+
+contexts()
+bounded()
+refusals()
+folders(Path(sys.argv[1]))
+rewriting()
+asyncio.run(fetched())
+threads()
+print("maps", reported)
