@@ -1,10 +1,8 @@
 -- Worked examples of the definitions: each holds by computing both sides.
-use Rattle.std.proofs.Common.{◌≡◌, ℕ, List, [], ◌∷◌, Option, Some, None, codes, refl}
+use Rattle.std.proofs.Common.{◌≡◌, ℕ, List, [], ◌∷◌, Option, Some, None, refl}
 use Rattle.smap_mappings.specs.declared.mapping.Mapping.{Mapping}
 use Rattle.smap_index.specs.Answer.{answer_at_or_before}
 use Rattle.smap_compose.specs.Follow.{CountedMappings, followed}
-use Rattle.smap_compose.specs.InnerNames.{text_from}
-use Rattle.smap_resolve.specs.SourceName.Name.{kept}
 
 mapped_at : ℕ → ℕ → ℕ → ℕ → ℕ → Option ℕ → Mapping
 mapped_at line column source original_line original_column name =
@@ -70,25 +68,3 @@ others_stay :
     ≡ of_two_sources 0 (unmapped_at 0 0 ∷ mapped_at 0 1 0 3 3 None ∷ mapped_at 0 1 0 3 3 None ∷ [])
 unfolding answer_at_or_before of_one_source of_two_sources mapped_at unmapped_at
 others_stay = refl
-
--- ---- names of the sources of an inner map
-
--- a relative path goes on from the folder of the outer source
-goes_on_from_folder : text_from (Some (kept (codes "build/a.js"))) (codes "../src/a.ts") ≡ codes "src/a.ts"
-goes_on_from_folder = refl
-
-stops_at_root : text_from (Some (kept (codes "/build/a.js"))) (codes "../../a.ts") ≡ codes "/a.ts"
-stops_at_root = refl
-
--- from a URL without its scheme, whose host stays
-stays_on_host : text_from (Some (kept (codes "//host/a.js"))) (codes "../src/a.ts") ≡ codes "//host/src/a.ts"
-stays_on_host = refl
-
-goes_on_behind_host : text_from (Some (kept (codes "//host/js/build/a.js"))) (codes "../src/a.ts") ≡ codes "//host/js/src/a.ts"
-goes_on_behind_host = refl
-
-has_no_host : text_from (Some (kept (codes "///a/b.js"))) (codes "../../c.ts") ≡ codes "///c.ts"
-has_no_host = refl
-
-has_no_path : text_from (Some (kept (codes "//host"))) (codes "a.ts") ≡ codes "//host/a.ts"
-has_no_path = refl

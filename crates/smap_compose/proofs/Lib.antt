@@ -16,5 +16,3 @@ pub mod MovedLaws
 pub mod PartsLaws
 pub mod GivenLaws
 pub mod PrunedLaws
-pub mod PathPieceLaws
-pub mod PathLaws

@@ -13,7 +13,7 @@ use Rattle.smap_record.specs.Record.{MapRecord}
 use Rattle.smap_record.specs.Sources.{StatedSource}
 use Rattle.smap_compose.specs.Composition.{inner_lists, mappings_of_map, names_within, sources_below, sources_within}
 use Rattle.smap_compose.specs.FollowAll.{inner_names, inner_sources}
-use Rattle.smap_compose.specs.InnerNames.{name_from_outer, source_from}
+use Rattle.smap_names.specs.InnerNames.{name_from_outer, source_from}
 use Rattle.smap_compose.specs.Inners.{stated_inners}
 use Rattle.smap_compose.proofs.ListLaws.{from_place}
 

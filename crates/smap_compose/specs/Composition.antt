@@ -11,7 +11,7 @@ use Rattle.smap_record.specs.Refusals.{unless}
 use Rattle.smap_record.specs.Sources.{StatedSource}
 use Rattle.smap_compose.specs.Follow.{CountedMappings, followed}
 use Rattle.smap_compose.specs.FollowAll.{followed_all}
-use Rattle.smap_compose.specs.InnerNames.{source_from}
+use Rattle.smap_names.specs.InnerNames.{source_from}
 use Rattle.smap_compose.specs.declared.refusal.ComposeRefusal.{ComposeRefusal}
 use Rattle.smap_compose.specs.declared.refusal.ComposeRefusal.TheVariants.{SourceIndex, TooLarge}
 

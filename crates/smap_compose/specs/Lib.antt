@@ -1,6 +1,5 @@
 pub mod Follow
 pub mod FollowAll
-pub mod InnerNames
 pub mod Inners
 pub mod Composition
 pub mod Pruned

@@ -4,7 +4,6 @@ ghost use Rattle.std.specs.List.{All};
 ghost use Rattle.smap_compose.specs.Composition.{Composition};
 ghost use Rattle.smap_compose.specs.Follow.{CountedMappings, answer_with_origin, followed, with_origin};
 ghost use Rattle.smap_compose.specs.FollowAll.{followed_all, followed_in_turn};
-ghost use Rattle.smap_compose.specs.InnerNames.{ends_in_name, is_rooted, path_from, pieces_from, IsWithoutDetours};
 ghost use Rattle.smap_compose.specs.Pruned.{named_answer, pruned};
 ghost use Rattle.smap_index.specs.Answer.{answer_at_or_before};
 ghost use Rattle.smap_mappings.specs.Within.{IsWithin};
@@ -43,16 +42,4 @@ pub fn pruned_maps_answer_alike()
         All (IsWithin (length whole.sources) (length whole.names)) whole.mappings →
         named_answer (pruned whole) (answer_at_or_before (pruned whole).mappings line column)
         ≡ named_answer whole (answer_at_or_before whole.mappings line column) }
-{}
-
-/// A path that goes on from a file has no piece that is empty or `.`, and `..` only in front; from the root it has none.
-pub fn paths_go_on_without_detours()
-    ensures { (file text : List ℕ) → IsWithoutDetours (is_rooted file) (pieces_from file text) }
-{}
-
-/// Going on from a file by a path to another, and from there by a further path, is going on once by both.
-pub fn going_on_twice_is_going_on_by_both()
-    ensures { (file first second : List ℕ) →
-        is_rooted first ≡ false → ends_in_name first ≡ true →
-        path_from (path_from file first) second ≡ path_from file (path_from first second) }
 {}

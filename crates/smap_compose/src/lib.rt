@@ -12,7 +12,6 @@
 mod composed;
 mod composing;
 mod follow;
-mod inner_names;
 pub mod laws;
 mod left;
 mod left_out;

@@ -10,7 +10,11 @@ use Rattle.std.proofs.lemmas.List.FromFn.{length-enumerate_from}
 use Rattle.std.proofs.lemmas.Option.{slice_get-map}
 use Rattle.url.specs.Parts.{Parts}
 use Rattle.smap_resolve.specs.SourceName.{Name, source_name}
-use Rattle.smap_record.specs.Sources.{StatedSource, StatedSources, source_at, sources_with, sources_stated}
+use Rattle.smap_record.specs.Sources.{StatedSource, StatedSources, source_at, source_of, sources_with, sources_stated, with_name, with_name_at}
+use Rattle.smap_record.specs.declared.entry.SourceEntry.{SourceEntry}
+use Rattle.smap_resolve.specs.SourceName.{name_of}
+use Rattle.smap_resolve.specs.declared.source_name.SourceName.{SourceName}
+use Rattle.std.proofs.Common.{Some, ◌≤◌, slice_set, get_or}
 use Rattle.smap_record.specs.Private.Seen.{texts_seen, sources_seen}
 use Rattle.smap_record.specs.declared.section.SectionSources.{SectionSources}
 
@@ -71,3 +75,19 @@ length-all_sources base (sources ∷ all) =
     ∙ ap (λ n. n + length (flat_map (sources_stated base) (map sources_seen all))) (length-sources_stated base sources)
     ∙ ap (λ n. length sources.texts.items + n) (length-all_sources base all)
     ∙ sym (sum_by-cons (λ (s : SectionSources). length s.texts.items) sources all)
+
+-- an entry that has another name stands for the source with that name
+pub one_named : (l : List SourceEntry) (i : ℕ) (e : SourceEntry) (n : SourceName) → e ≡ get_or l i e
+    → map source_of (slice_set l i (record { name = Some n; content = e.content; ignored = e.ignored })) ≡ with_name_at (map source_of l) i (name_of n)
+unfolding with_name_at
+one_named [] zero e n is = refl
+one_named [] (suc i) e n is = refl
+one_named (x ∷ l) zero e n is = ap (λ y. with_name (name_of n) (source_of y) ∷ map source_of l) is
+one_named (x ∷ l) (suc i) e n is = ap (λ rest. source_of x ∷ rest) (one_named l i e n is)
+
+-- past the end no source is named
+pub none_named : (l : List StatedSource) (i : ℕ) (n : Name) → length l ≤ i → with_name_at l i n ≡ l
+unfolding with_name_at
+none_named [] i n past = refl
+none_named (x ∷ l) zero n past = absurd (omega (arith, past))
+none_named (x ∷ l) (suc i) n past = ap (λ rest. x ∷ rest) (none_named l i n (omega (arith, past)))

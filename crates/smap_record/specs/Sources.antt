@@ -1,5 +1,5 @@
 -- The sources of a section (ECMA-426, Source map format and Resolving sources), as contracts compare them.
-use Rattle.std.specs.Prelude.{◌≡◌, ℕ, List, Option, Bool, true, false, is_some, map, option_map, slice_get, string_bytes, unwrap_or}
+use Rattle.std.specs.Prelude.{◌≡◌, ℕ, zero, suc, List, [], ◌∷◌, Option, Some, Bool, true, false, is_some, map, option_map, slice_get, string_bytes, unwrap_or}
 use Rattle.std.specs.List.{enumerate_from, list_any}
 use Rattle.std.specs.Option.{option_flatten}
 use Rattle.url.specs.Parts.{Parts}
@@ -43,3 +43,13 @@ sources_stated base stated = sources_with base stated stated.texts
 -- one of these sources has a name
 abbrev pub NamesASource : List StatedSource → Type 0
 NamesASource sources = list_any (λ (source : StatedSource). is_some source.name) sources ≡ true
+
+-- a source with another name
+abbrev pub with_name : Name → StatedSource → StatedSource
+with_name name source = record { name = Some name; content = source.content; ignored = source.ignored }
+
+-- the same sources, of which that of number i, from 0, has another name, where there is one
+unfoldable pub with_name_at : List StatedSource → (i : ℕ) → Name → List StatedSource
+with_name_at [] i name = []
+with_name_at (source ∷ rest) zero name = with_name name source ∷ rest
+with_name_at (source ∷ rest) (suc i) name = source ∷ with_name_at rest i name

@@ -7,6 +7,7 @@ ghost use Rattle.smap_mappings.specs.Limits.{most_text_bytes};
 ghost use Rattle.smap_mappings.specs.Meter.{HasRoom};
 ghost use Rattle.smap_mappings.specs.Order.{IsInOrder};
 ghost use Rattle.smap_mappings.specs.Within.{IsWithin};
+ghost use Rattle.smap_resolve.specs.SourceName.{name_of};
 ghost use Rattle.smap_index.specs.Answer.{neighbours};
 ghost use Rattle.smap_index.specs.Parts.{bytes_in, joined};
 ghost use Rattle.smap_index.specs.Marks.{marks, used_lines_in, HasFewMarksOnEachLine};
@@ -14,7 +15,7 @@ ghost use Rattle.smap_record.specs.Limits.{most_file_bytes};
 ghost use Rattle.smap_record.specs.MapFile.{IsAnswerWithin, IsMapOf, IsRefusalOf};
 ghost use Rattle.smap_record.specs.ReadBack.{ReadsBackAs};
 ghost use Rattle.smap_record.specs.Record.{answer_of_map, answer_of_map_from, record_in, record_of};
-ghost use Rattle.smap_record.specs.Sources.{source_of};
+ghost use Rattle.smap_record.specs.Sources.{source_of, with_name_at};
 ghost use Rattle.smap_record.specs.Written.{written};
 ghost use Rattle.smap_record.specs.declared.refusal.MapRefusal.TheVariants as refusals;
 
@@ -29,6 +30,7 @@ use crate::write::{WriteRefusal, write_copied};
 use serde_json::{Map, Value};
 use smap_index::{Answer, Index, JoinedMappings, Neighbours};
 use smap_mappings::{Mapping, Meter};
+use smap_resolve::SourceName;
 use std::alloc::{AllocError, Global};
 use std::marker::Model;
 use url::Url;
@@ -136,6 +138,18 @@ impl MapFile {
         match self.names.get(i as usize) {
             Some(name) => Some(name.as_str()),
             None => None,
+        }
+    }
+
+    /// Gives source `i`, from 0, another name, where there is one. All else stays as it was. The call takes no memory.
+    pub fn rename_source(&mut self, i: u32, name: SourceName)
+        ensures renamed { self.new.stated.sources ≡ with_name_at self.old.stated.sources i (name_of name) }
+        ensures parts { self.new.stated.parts ≡ self.old.stated.parts }
+        ensures others { (self.new.stated.names ≡ self.old.stated.names)
+            × (self.new.stated.file ≡ self.old.stated.file) × (self.new.k ≡ self.old.k) }
+    {
+        if let Some(source) = self.sources.get_mut(i as usize) {
+            source.name = Some(name);
         }
     }
 

@@ -6,7 +6,7 @@ use Rattle.smap_record.specs.Sources.{source_of}
 use Rattle.smap_compose.specs.declared.listing.LentSource.{LentSource}
 use Rattle.smap_compose.specs.Composition.{inner_lists, sources_below, sources_within}
 use Rattle.smap_compose.specs.FollowAll.{inner_sources}
-use Rattle.smap_compose.specs.InnerNames.{source_from}
+use Rattle.smap_names.specs.InnerNames.{source_from}
 use Rattle.smap_compose.specs.Inners.{stated_inners}
 use Rattle.smap_compose.specs.Private.Listing.{lent_source}
 use Rattle.smap_compose.proofs.ListLaws.{drop_past, none_past}

@@ -1,0 +1,4 @@
+pub mod Paths
+pub mod InnerNames
+pub mod ByPath
+pub mod Private
