@@ -1,0 +1,4 @@
+pub mod Generated
+pub mod Originals
+pub mod Laws
+pub mod Private
