@@ -6,7 +6,7 @@ use Rattle.smap_locations.specs.ListLine.{is_folder}
 use Rattle.smap_by_text.specs.ByText.{value_under}
 use Rattle.smap_locations.specs.Named.{Named, twice}
 use Rattle.smap_locations.specs.Paths.{map_path, without_query}
-use Rattle.smap_locations.specs.Patterns.{needs_query, path_by_patterns}
+use Rattle.smap_locations.specs.Patterns.{has_in_text, needs_query, path_by_patterns}
 use Rattle.smap_locations.specs.declared.refusal.LocationRefusal.{LocationRefusal}
 use Rattle.smap_locations.specs.declared.refusal.LocationRefusal.TheVariants.{NoFolder}
 
@@ -40,6 +40,10 @@ path_for locations url =
     or_else (value_under url locations.files)
     (or_else (value_under (without_query url) locations.files)
     (or_else (path_in_folders locations.folders (without_query url)) (path_by_patterns locations.patterns url (without_query url))))
+
+-- a pattern has the URL, and not by an empty text
+abbrev pub has_pattern_in_text : LocationsSeen → (url : List ℕ) → Bool
+has_pattern_in_text locations url = list_any (has_in_text url (without_query url)) locations.patterns
 
 -- what is named for a URL is so with its query and its fragment
 abbrev pub is_whole : LocationsSeen → (url : List ℕ) → Bool

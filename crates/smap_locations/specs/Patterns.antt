@@ -110,6 +110,10 @@ path_by_patterns patterns url short = path_of short (deciding url short None pat
 abbrev pub needs_query : (url short : List ℕ) → (pattern : List ℕ × List ℕ) → Bool
 needs_query url short (text, path) = not (is_folder path) && has_ending text url && not (has_ending text short)
 
+-- in a text that is no trace a pattern has the URLs that it has by its own text, which is not empty: `12:30:45` is a time of day
+abbrev pub has_in_text : (url short : List ℕ) → (pattern : List ℕ × List ℕ) → Bool
+has_in_text url short pattern = not (length pattern.0 == 0) && has_url pattern url short
+
 -- ---- what is added
 
 abbrev pub has_text : (text : List ℕ) → (pattern : List ℕ × List ℕ) → Bool

@@ -21,5 +21,5 @@ pub use list_line::{entry_of_line, is_folder, is_rule, pattern_text};
 pub use locations::Locations;
 pub use named::NamedPaths;
 pub use paths::without_query;
-pub use pieces::ends_in_separator;
+pub use pieces::{ends_in_separator, is_separator};
 pub use refusal::{ListFault, ListRefusal, LocationRefusal};

@@ -1,7 +1,7 @@
 //! The files and the folders that maps are in.
-ghost use Rattle.std.specs.Prelude.{◌≡◌, ◌++◌, ◌∷◌, [], is_some, string_bytes, option_map, MatchOption};
+ghost use Rattle.std.specs.Prelude.{◌≡◌, ◌==◌, ◌++◌, ◌∷◌, [], is_some, not, string_bytes, option_map, MatchOption};
 ghost use Rattle.std.specs.Prelude.{OnErr, OnOk, IfErr, IfOk, IsErrAnd, length, map};
-ghost use Rattle.smap_locations.specs.Locations.{key_for, path_for, path_in_folders, prefix_refusal};
+ghost use Rattle.smap_locations.specs.Locations.{has_pattern_in_text, key_for, path_for, path_in_folders, prefix_refusal};
 ghost use Rattle.smap_locations.specs.Patterns.{has_text, pattern_refusal};
 ghost use Rattle.std.specs.List.{list_any};
 ghost use Rattle.smap_by_text.specs.ByText.{IsWith, value_under};
@@ -129,6 +129,20 @@ impl Locations {
         ensures { result ≡ list_any (has_text text.now) self.now.patterns }
     {
         self.patterns.has_text(text)
+    }
+
+    /// Whether there is a pattern.
+    pub fn has_patterns(&self) -> bool
+        ensures { result ≡ not (length self.now.patterns == 0) }
+    {
+        !self.patterns.is_empty()
+    }
+
+    /// Whether a pattern is for a URL that stands in a text, where none has it by an empty text.
+    pub fn has_pattern_in_text(&self, url: &[u8]) -> bool
+        ensures { result ≡ has_pattern_in_text self.now url.now }
+    {
+        self.patterns.has_in_text(url, without_query(url))
     }
 
     /// The path of the file that has a URL's map, where there is one: what is named for the URL, or for it without its query

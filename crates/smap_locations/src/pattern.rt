@@ -2,7 +2,7 @@
 ghost use Rattle.std.specs.Prelude.{◌≡◌, option_map, string_bytes, IfOk};
 ghost use Rattle.smap_locations.specs.ListLine.{is_folder};
 ghost use Rattle.smap_locations.specs.PatternSeen.{pattern_seen};
-ghost use Rattle.smap_locations.specs.Patterns.{comes_before, has_text, has_url, needs_query, path_by, with_slashes};
+ghost use Rattle.smap_locations.specs.Patterns.{comes_before, has_in_text, has_text, has_url, needs_query, path_by, with_slashes};
 
 use crate::list_line::is_folder;
 use crate::paths::map_path;
@@ -26,6 +26,13 @@ impl Pattern {
         } else {
             has_ending(&self.text, url) || has_ending(&self.text, short)
         }
+    }
+
+    /// Whether it is for a URL, which is `short` without its query and its fragment, and has a text that is not empty.
+    pub fn has_in_text(&self, url: &[u8], short: &[u8]) -> bool
+        ensures { result ≡ has_in_text url.now short.now (pattern_seen self.now) }
+    {
+        !self.text.is_empty() && self.has_url(url, short)
     }
 
     /// Whether it is for a URL, and not for what that is without its query and its fragment.

@@ -1,9 +1,9 @@
 //! The patterns of URLs.
-ghost use Rattle.std.specs.Prelude.{◌≡◌, ◌++◌, ◌∷◌, [], None, map, option_map, string_bytes, MatchOption};
+ghost use Rattle.std.specs.Prelude.{◌≡◌, ◌==◌, ◌++◌, ◌∷◌, [], None, length, map, option_map, string_bytes, MatchOption};
 ghost use Rattle.std.specs.Prelude.{OnErr, OnOk, IfErr, IfOk, IsErrAnd};
 ghost use Rattle.std.specs.List.{list_any};
 ghost use Rattle.smap_locations.specs.PatternSeen.{pattern_seen};
-ghost use Rattle.smap_locations.specs.Patterns.{deciding, has_text, is_better, needs_query, path_by_patterns, pattern_refusal};
+ghost use Rattle.smap_locations.specs.Patterns.{deciding, has_in_text, has_text, is_better, needs_query, path_by_patterns, pattern_refusal};
 ghost use Rattle.smap_locations.specs.declared.refusal.LocationRefusal.TheVariants.{Memory};
 
 use crate::list_line::is_folder;
@@ -64,6 +64,22 @@ impl Patterns {
         ensures { result ≡ list_any (has_text text.now) self.now }
     {
         self.all.iter().any(|pattern| pattern.has_text(text))
+    }
+
+    /// Whether there is none.
+    pub fn is_empty(&self) -> bool
+        ensures { result ≡ length self.now == 0 }
+    {
+        self.all.is_empty()
+    }
+
+    /// Whether one whose text is not empty is for a URL, which is `short` without its query and its fragment.
+    pub fn has_in_text(&self, url: &[u8], short: &[u8]) -> bool
+        ensures { result ≡ list_any (has_in_text url.now short.now) self.now }
+    {
+        self.all
+            .iter()
+            .any(|pattern| pattern.has_in_text(url, short))
     }
 
     /// Whether one is for a URL, and not for what that is without its query and its fragment, which is `short`.

@@ -60,8 +60,8 @@ pub fn ends_in_separator(text: &[u8]) -> bool
     text.ends_with(b"/") || text.ends_with(b"\\")
 }
 
-// Whether a byte is `/` or `\`.
-fn is_separator(byte: u8) -> bool
+/// Whether a byte is `/` or `\`.
+pub fn is_separator(byte: u8) -> bool
     ensures { result ≡ is_separator byte }
 {
     byte == b'/' || byte == b'\\'

@@ -6,7 +6,8 @@ use Rattle.smap_record.specs.Record.{MapRecord}
 use Rattle.smap_trace.specs.MapsOf.{MapsByUrl}
 use Rattle.smap_by_text.specs.ByText.{value_under}
 use Rattle.smap_store.specs.Cache.{Kept}
-use Rattle.smap_store.specs.Stored.{StoredSeen, or_map}
+use Rattle.smap_store.specs.Fileless.{known_of}
+use Rattle.smap_store.specs.Stored.{StoredSeen, or_other}
 
 -- ---- the maps of files
 
@@ -19,9 +20,9 @@ abbrev pub by_path : MapsByPath → (url : List ℕ) (path : Option (List ℕ)) 
 by_path load url None = None
 by_path load url (Some path) = load url path
 
--- the map of each URL: that of the table, where it has one, and else that of its file
+-- the map of each URL: the one that it is known to have, and else that of its file
 abbrev pub stored_maps : MapsByPath → (words : List (List ℕ × MapRecord)) (locations : LocationsSeen) → MapsByUrl
-stored_maps load words locations url = or_map (value_under url words) (by_path load (key_for locations url) (path_for locations url))
+stored_maps load words locations url = or_other (known_of words locations url) (by_path load (key_for locations url) (path_for locations url))
 
 -- the store is over this table and these files, and what is remembered under each text is what its file gives
 pub record IsRight {L : Type 0} (load : MapsByPath) (table : List (List ℕ × MapRecord)) (places : LocationsSeen) (maps : StoredSeen L) : Type 0 where

@@ -1,5 +1,6 @@
 pub mod Loaded
 pub mod Cache
+pub mod Fileless
 pub mod Stored
 pub mod StoredMaps
 pub mod ByPath

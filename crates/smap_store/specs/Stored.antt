@@ -1,21 +1,23 @@
--- Where the map of a URL is found (this project's own): among those of a table; else among those that are remembered, under
--- the text that stands for the URL; else in its file, which is then read, and what came of that is remembered.
+-- Where the map of a URL is found (this project's own): among those of a table; else, where a file is asked for, among those
+-- that are remembered, under the text that stands for the URL; else in its file, which is then read, and what came of that is
+-- remembered.
 use Rattle.std.specs.Prelude.{◌≡◌, ◌⊎◌, ℕ, List, Option, Some, None, MatchOption}
 use Rattle.std.specs.Option.{IsSomeAnd}
 use Rattle.smap_locations.specs.Locations.{LocationsSeen, key_for, path_for}
 use Rattle.smap_record.specs.Record.{MapRecord}
 use Rattle.smap_by_text.specs.ByText.{value_under}
 use Rattle.smap_store.specs.Cache.{CacheSeen, Kept, Remembers, short}
+use Rattle.smap_store.specs.Fileless.{known_of}
 
 -- the map that is remembered, where one is
 abbrev pub map_in : Option Kept → Option MapRecord
 map_in None = None
 map_in (Some one) = one.found
 
--- the map of a table, where it has one, and else another
-abbrev pub or_map : Option MapRecord → (other : Option MapRecord) → Option MapRecord
-or_map None other = other
-or_map (Some stated) other = Some stated
+-- the map that a URL is known to have, or that it has none; and else another
+abbrev pub or_other : (known : Option (Option MapRecord)) → (other : Option MapRecord) → Option MapRecord
+or_other None other = other
+or_other (Some known) other = known
 
 -- maps that are found there: in a table, and else in files, by what is remembered of these and by what reads them
 pub record StoredSeen (L : Type 0) : Type 0 where
@@ -61,25 +63,26 @@ module _ {L : Type 0} where
   abbrev pub Recalls : LoadsStep L → (old : StoredSeen L) (url : List ℕ) (new : StoredSeen L) → Type 0
   Recalls Loads old url new = MatchOption (value_under url old.cache.kept) (Asks Loads old url new) (λ one. Untouched old new)
 
-  -- what is found under a URL: what the table has, and else what is remembered
+  -- what is found under a URL: what it is known to have, and else what is remembered
   abbrev pub found_in : StoredSeen L → (url : List ℕ) → Option MapRecord
-  found_in maps url = or_map (value_under url maps.words) (map_in (value_under (key_for maps.locations url) maps.cache.kept))
+  found_in maps url =
+      or_other (known_of maps.words maps.locations url) (map_in (value_under (key_for maps.locations url) maps.cache.kept))
 
   -- how the maps stand after the map of a URL was looked for
   pub record FindsIn (Loads : LoadsStep L) (old : StoredSeen L) (url : List ℕ) (new : StoredSeen L) : Type 0 where
     pub words : new.words ≡ old.words
     pub locations : new.locations ≡ old.locations
-    pub steps : MatchOption (value_under url old.words) (Recalls Loads old (key_for old.locations url) new) (λ stated. Untouched old new)
+    pub steps : MatchOption (known_of old.words old.locations url) (Recalls Loads old (key_for old.locations url) new) (λ known. Untouched old new)
 
   -- what may come for a URL of this path: none, where it has no path, or else where there is not enough memory
   abbrev pub MayCome : LoadsMay L → (loader : L) (url : List ℕ) (path : Option (List ℕ)) → (found : Option MapRecord) → Type 0
   MayCome MayLoad loader url None found = found ≡ None
   MayCome MayLoad loader url (Some path) found = (found ≡ None) ⊎ MayLoad loader url path found
 
-  -- what may be found for a URL from now on: what the table has; else what is remembered, or what may come
+  -- what may be found for a URL from now on: what it is known to have; else what is remembered, or what may come
   abbrev pub GivesIn : LoadsMay L → StoredSeen L → (url : List ℕ) → (found : Option MapRecord) → Type 0
   GivesIn MayLoad maps url found =
       let key = key_for maps.locations url in
-      MatchOption (value_under url maps.words)
+      MatchOption (known_of maps.words maps.locations url)
       (IsSomeAnd (value_under key maps.cache.kept) (λ one. found ≡ one.found) ⊎ MayCome MayLoad maps.loader key (path_for maps.locations url) found)
-      (λ stated. found ≡ Some stated)
+      (λ known. found ≡ known)

@@ -12,6 +12,7 @@
 #![tactic(auto)]
 
 mod cache;
+mod fileless;
 mod list;
 mod loader;
 mod stored;

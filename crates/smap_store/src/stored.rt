@@ -1,10 +1,12 @@
 //! Maps that are read when they are named.
-ghost use Rattle.std.specs.Prelude.{◌≡◌, None};
+ghost use Rattle.std.specs.Prelude.{◌≡◌, None, option_map};
 ghost use Rattle.smap_by_text.specs.ByText.{value_under};
+ghost use Rattle.smap_store.specs.Fileless.{known_of};
 ghost use Rattle.smap_store.specs.Stored.{Asks};
 ghost use Rattle.smap_store.specs.StoredMaps.{IsSameStore, stored_seen};
 
 use crate::cache::MapCache;
+use crate::fileless::asks_no_file;
 use crate::loader::MapLoader;
 use smap_locations::Locations;
 use smap_record::MapFile;
@@ -24,6 +26,20 @@ pub struct StoredMaps<'s, 'c, L: MapLoader> {
 }
 
 impl<L: MapLoader> StoredMaps<'_, '_, L> {
+    // What is known of a URL before any file is asked for: its map, or that it has none.
+    fn known(&self, url: &[u8]) -> Option<Option<&MapFile>>
+        ensures { option_map (λ known. option_map (λ map. map.now.stated) known) result
+            ≡ known_of self.now.words.now self.now.locations.now url.now }
+    {
+        if let Some(map) = self.words.map_for(url) {
+            return Some(Some(map));
+        }
+        if asks_no_file(self.locations, url) {
+            return Some(None);
+        }
+        None
+    }
+
     // Asks for the map of a URL that is not remembered, and remembers what came.
     fn ask(&mut self, url: &[u8])
         requires { value_under url.now self.old.cache.now.kept ≡ None }
@@ -59,7 +75,7 @@ impl<L: MapLoader> Maps for StoredMaps<'_, '_, L> {
     ghost found = { λ maps. found_in (stored_seen maps) };
 
     fn find(&mut self, url: &[u8]) {
-        if self.words.map_for(url).is_some() {
+        if self.known(url).is_some() {
             return;
         }
         let key = self.locations.key_for(url);
@@ -69,8 +85,8 @@ impl<L: MapLoader> Maps for StoredMaps<'_, '_, L> {
     }
 
     fn map_for(&self, url: &[u8]) -> Option<&MapFile> {
-        if let Some(map) = self.words.map_for(url) {
-            return Some(map);
+        if let Some(known) = self.known(url) {
+            return known;
         }
         let key = self.locations.key_for(url);
         match self.cache.recall(key) {

@@ -9,9 +9,10 @@ use Rattle.smap_by_text.specs.ByText.{value_under}
 use Rattle.smap_by_text.specs.Laws.ByText.{IsOf}
 use Rattle.smap_store.specs.ByPath.{IsGood, IsRight, MapsByPath, by_path, stored_maps}
 use Rattle.smap_store.specs.Cache.{CacheSeen, Keeps, Kept, Remembers, counted, kept_of, one_more}
+use Rattle.smap_store.specs.Fileless.{known_of}
 use Rattle.smap_store.specs.Laws.Kept.{other_remembered, own_remembered}
 use Rattle.smap_store.specs.Loaded.{record_in}
-use Rattle.smap_store.specs.Stored.{Asks, Comes, FindsIn, LoadsStep, Recalls, StoredSeen, Untouched, found_in, map_in, or_map}
+use Rattle.smap_store.specs.Stored.{Asks, Comes, FindsIn, LoadsStep, Recalls, StoredSeen, Untouched, found_in, map_in, or_other}
 
 -- nothing is remembered at first
 pub right_start : {L : Type 0} (load : MapsByPath) (maps : StoredSeen L) → maps.cache.kept ≡ [] → IsRight load maps.words maps.locations maps
@@ -66,13 +67,13 @@ module _ {L : Type 0} (Loads : LoadsStep L) (Good : L → Type 0) (load : MapsBy
   recalls_good old new key None asks good = asks_good old new key asks good
   recalls_good old new key (Some one) same good = untouched_good old new same good
 
-  steps_good : (old new : StoredSeen L) (key : List ℕ) (words : Option MapRecord)
-      → MatchOption words (Recalls Loads old key new) (λ stated. Untouched old new) → IsGood Good new → IsGood Good old
+  steps_good : (old new : StoredSeen L) (key : List ℕ) (known : Option (Option MapRecord))
+      → MatchOption known (Recalls Loads old key new) (λ known. Untouched old new) → IsGood Good new → IsGood Good old
   steps_good old new key None recalls good = recalls_good old new key (value_under key old.cache.kept) recalls good
-  steps_good old new key (Some stated) same good = untouched_good old new same good
+  steps_good old new key (Some known) same good = untouched_good old new same good
 
   pub good_before : (old new : StoredSeen L) (url : List ℕ) → FindsIn Loads old url new → IsGood Good new → IsGood Good old
-  good_before old new url finds good = steps_good old new (key_for old.locations url) (value_under url old.words) finds.steps good
+  good_before old new url finds good = steps_good old new (key_for old.locations url) (known_of old.words old.locations url) finds.steps good
 
   -- ---- what is found is the map of the file, and what is remembered stays right
 
@@ -116,25 +117,25 @@ module _ {L : Type 0} (Loads : LoadsStep L) (Good : L → Type 0) (load : MapsBy
       untouched_kept old new untouched kept,
     )
 
-    -- where the table has a map, that is found, and else that of the file
-    found_right : (old new : StoredSeen L) (key : List ℕ) (stated : Option MapRecord)
-        → MatchOption stated (Recalls Loads old key new) (λ stated. Untouched old new) → IsGood Good new → old.locations ≡ locations → AllKept old
-        → (or_map stated (map_in (value_under key new.cache.kept)) ≡ or_map stated (by_path load key (path_for locations key))) × AllKept new
+    -- where a URL is known to have a map or none, that is found, and else that of the file
+    found_right : (old new : StoredSeen L) (key : List ℕ) (known : Option (Option MapRecord))
+        → MatchOption known (Recalls Loads old key new) (λ known. Untouched old new) → IsGood Good new → old.locations ≡ locations → AllKept old
+        → (or_other known (map_in (value_under key new.cache.kept)) ≡ or_other known (by_path load key (path_for locations key))) × AllKept new
     found_right old new key None recalls good same kept = recalled_kept old new key (value_under key old.cache.kept) refl recalls good same kept
-    found_right old new key (Some stated) untouched good same kept = (refl, untouched_kept old new untouched kept)
+    found_right old new key (Some known) untouched good same kept = (refl, untouched_kept old new untouched kept)
 
     pub right_after : (old new : StoredSeen L) (url : List ℕ) → FindsIn Loads old url new → IsGood Good new → IsRight load words locations old
         → (found_in new url ≡ stored_maps load words locations url) × IsRight load words locations new
     right_after old new url finds good right =
         let key = key_for locations url in
         let P : List (List ℕ × MapRecord) × LocationsSeen → Type 0 = λ (w, l).
-        MatchOption (value_under url w) (Recalls Loads old (key_for l url) new) (λ stated. Untouched old new) in
+        MatchOption (known_of w l url) (Recalls Loads old (key_for l url) new) (λ known. Untouched old new) in
         let both : ◌≡◌ {A = List (List ℕ × MapRecord) × LocationsSeen} (old.words, old.locations) (words, locations) =
         λ i. (right.words i, right.locations i) in
-        let all = found_right old new key (value_under url words) (subst P both finds.steps) good right.locations right.kept in
+        let all = found_right old new key (known_of words locations url) (subst P both finds.steps) good right.locations right.kept in
         let new_words : new.words ≡ words = finds.words ∙ right.words in
         let new_locations : new.locations ≡ locations = finds.locations ∙ right.locations in (
-          (λ i. or_map (value_under url (new_words i)) (map_in (value_under (key_for (new_locations i) url) new.cache.kept)))
-              ∙ all.0 ∙ ap (λ path. or_map (value_under url words) (by_path load key path)) (path_of_key locations url),
+          (λ i. or_other (known_of (new_words i) (new_locations i) url) (map_in (value_under (key_for (new_locations i) url) new.cache.kept)))
+              ∙ all.0 ∙ ap (λ path. or_other (known_of words locations url) (by_path load key path)) (path_of_key locations url),
           record { words = new_words; locations = new_locations; kept = all.1 },
         )

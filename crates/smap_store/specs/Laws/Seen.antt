@@ -6,6 +6,7 @@ use Rattle.smap_locations.specs.Locations.{key_for, path_for}
 use Rattle.smap_record.specs.Record.{MapRecord}
 use Rattle.smap_by_text.specs.ByText.{value_under}
 use Rattle.smap_store.specs.Cache.{Kept}
+use Rattle.smap_store.specs.Fileless.{known_of}
 use Rattle.smap_store.specs.Stored.{Asks, Comes, FindsIn, GivesIn, LoadsMay, LoadsStep, MayCome, Recalls, StoredSeen, Untouched}
 
 module _ {L N : Type 0} (see : L → N) where
@@ -38,16 +39,17 @@ module _ {L N : Type 0} (see : L → N) where
     recalls_seen old new loads url None asks = asks_seen old new loads url asks
     recalls_seen old new loads url (Some one) same = untouched_seen old new same
 
-    steps_seen : (old new : StoredSeen L) (loads : StepSeen old.loader new.loader) (url : List ℕ) (words : Option MapRecord) → MatchOption words (Recalls Loads old url new) (λ _. Untouched old new)
-        → MatchOption words (Recalls Seen (see_store old) url (see_store new)) (λ _. Untouched (see_store old) (see_store new))
+    steps_seen : (old new : StoredSeen L) (loads : StepSeen old.loader new.loader) (url : List ℕ) (known : Option (Option MapRecord))
+        → MatchOption known (Recalls Loads old url new) (λ _. Untouched old new)
+        → MatchOption known (Recalls Seen (see_store old) url (see_store new)) (λ _. Untouched (see_store old) (see_store new))
     steps_seen old new loads url None recalls = recalls_seen old new loads url (value_under url old.cache.kept) recalls
-    steps_seen old new loads url (Some stated) same = untouched_seen old new same
+    steps_seen old new loads url (Some known) same = untouched_seen old new same
 
     pub finds_seen : (old new : StoredSeen L) (loads : StepSeen old.loader new.loader) (url : List ℕ) → FindsIn Loads old url new → FindsIn Seen (see_store old) url (see_store new)
     finds_seen old new loads url is = record {
       words = is.words;
       locations = is.locations;
-      steps = steps_seen old new loads (key_for old.locations url) (value_under url old.words) is.steps;
+      steps = steps_seen old new loads (key_for old.locations url) (known_of old.words old.locations url) is.steps;
     }
 
   module _ (MayLoad : LoadsMay L) (MaySeen : LoadsMay N) (maps : StoredSeen L)
@@ -66,11 +68,11 @@ module _ {L N : Type 0} (see : L → N) where
     by_cache_seen url key found (inl is) = inl is
     by_cache_seen url key found (inr is) = inr (come_seen key (path_for maps.locations url) found is)
 
-    gives_for : (url : List ℕ) (found : Option MapRecord) (words : Option MapRecord)
-        → MatchOption words (ByCache MayLoad maps.loader url (key_for maps.locations url) found) (λ stated. found ≡ Some stated)
-        → MatchOption words (ByCache MaySeen (see maps.loader) url (key_for maps.locations url) found) (λ stated. found ≡ Some stated)
+    gives_for : (url : List ℕ) (found : Option MapRecord) (known : Option (Option MapRecord))
+        → MatchOption known (ByCache MayLoad maps.loader url (key_for maps.locations url) found) (λ known. found ≡ known)
+        → MatchOption known (ByCache MaySeen (see maps.loader) url (key_for maps.locations url) found) (λ known. found ≡ known)
     gives_for url found None is = by_cache_seen url (key_for maps.locations url) found is
-    gives_for url found (Some stated) is = is
+    gives_for url found (Some known) is = is
 
     pub gives_seen : (url : List ℕ) (found : Option MapRecord) → GivesIn MayLoad maps url found → GivesIn MaySeen (see_store maps) url found
-    gives_seen url found is = gives_for url found (value_under url maps.words) is
+    gives_seen url found is = gives_for url found (known_of maps.words maps.locations url) is

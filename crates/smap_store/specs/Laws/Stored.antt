@@ -8,9 +8,10 @@ use Rattle.smap_record.specs.Record.{MapRecord}
 use Rattle.smap_by_text.specs.ByText.{value_under}
 use Rattle.smap_by_text.specs.Laws.ByText.{IsOf}
 use Rattle.smap_store.specs.Cache.{CacheSeen, Keeps, Kept, Remembers, counted, kept_of}
+use Rattle.smap_store.specs.Fileless.{known_of}
 use Rattle.smap_store.specs.Laws.Kept.{other_remembered, own_remembered}
 use Rattle.smap_store.specs.Loaded.{record_in}
-use Rattle.smap_store.specs.Stored.{Asks, Comes, FindsIn, GivesIn, LoadsMay, LoadsStep, MayCome, Recalls, StoredSeen, Untouched, found_in, map_in, or_map}
+use Rattle.smap_store.specs.Stored.{Asks, Comes, FindsIn, GivesIn, LoadsMay, LoadsStep, MayCome, Recalls, StoredSeen, Untouched, found_in, map_in, or_other}
 
 found_of : (came : Option (MapRecord × ℕ)) → (kept_of came).found ≡ record_in came
 found_of None = refl
@@ -49,9 +50,9 @@ module _ {L : Type 0} (Loads : LoadsStep L) where
   recalled old url new None is (inl asked) =
       inr (record { absent = is; came = asked.came; comes = asked.comes; kept = kept_after old.cache url asked.came new.cache asked.remembered })
 
-  moved : (old : StoredSeen L) (url : List ℕ) (new : StoredSeen L) (words : Option MapRecord)
-      → MatchOption words (Recalls Loads old url new) (λ stated. Untouched old new) → Moves old url new
-  moved old url new (Some stated) same = inl (record { kept = ap (λ cache. cache.kept) same.cache; loader = same.loader })
+  moved : (old : StoredSeen L) (url : List ℕ) (new : StoredSeen L) (known : Option (Option MapRecord))
+      → MatchOption known (Recalls Loads old url new) (λ known. Untouched old new) → Moves old url new
+  moved old url new (Some known) same = inl (record { kept = ap (λ cache. cache.kept) same.cache; loader = same.loader })
   moved old url new None recalls = recalled old url new (value_under url old.cache.kept) refl recalls
 
 module _ {L : Type 0} (MayLoad : LoadsMay L) where
@@ -59,14 +60,14 @@ module _ {L : Type 0} (MayLoad : LoadsMay L) where
   none_may loader url None found is = is
   none_may loader url (Some path) found is = inl is
 
-  some_for : (maps : StoredSeen L) (url : List ℕ) (path : Option (List ℕ)) (words : Option MapRecord) → (found : Option MapRecord) ×
-      MatchOption words (IsSomeAnd (value_under (key_for maps.locations url) maps.cache.kept) (λ one. found ≡ one.found)
-      ⊎ MayCome MayLoad maps.loader (key_for maps.locations url) path found) (λ stated. found ≡ Some stated)
+  some_for : (maps : StoredSeen L) (url : List ℕ) (path : Option (List ℕ)) (known : Option (Option MapRecord)) → (found : Option MapRecord) ×
+      MatchOption known (IsSomeAnd (value_under (key_for maps.locations url) maps.cache.kept) (λ one. found ≡ one.found)
+      ⊎ MayCome MayLoad maps.loader (key_for maps.locations url) path found) (λ known. found ≡ known)
   some_for maps url path None = (None, inr (none_may maps.loader (key_for maps.locations url) path None refl))
-  some_for maps url path (Some stated) = (Some stated, refl)
+  some_for maps url path (Some known) = (known, refl)
 
   pub some_in : (maps : StoredSeen L) (url : List ℕ) → (found : Option MapRecord) × GivesIn MayLoad maps url found
-  some_in maps url = some_for maps url (path_for maps.locations url) (value_under url maps.words)
+  some_in maps url = some_for maps url (path_for maps.locations url) (known_of maps.words maps.locations url)
 
   module _ (Loads : LoadsStep L)
       (given : (loader after : L) (url path : List ℕ) (came : Option (MapRecord × ℕ)) → Loads loader url path came after
@@ -111,18 +112,18 @@ module _ {L : Type 0} (MayLoad : LoadsMay L) where
         let P : Option (List ℕ) → Type 0 = λ path. MayCome MayLoad old.loader (key_for old.locations url) path found in
         inr (subst P (path_of_key old.locations url) (came_found old new (key_for old.locations url) found came finds))
 
-    given_for : (old new : StoredSeen L) (url : List ℕ) (found : Option MapRecord) (words : Option MapRecord)
-        → Moves Loads old (key_for old.locations url) new → found ≡ or_map words (map_in (value_under (key_for old.locations url) new.cache.kept))
-        → MatchOption words (ByCache old (key_for old.locations url) (path_for old.locations url) found) (λ stated. found ≡ Some stated)
+    given_for : (old new : StoredSeen L) (url : List ℕ) (found : Option MapRecord) (known : Option (Option MapRecord))
+        → Moves Loads old (key_for old.locations url) new → found ≡ or_other known (map_in (value_under (key_for old.locations url) new.cache.kept))
+        → MatchOption known (ByCache old (key_for old.locations url) (path_for old.locations url) found) (λ known. found ≡ known)
     given_for old new url found None moves finds = found_by old new url found moves finds
-    given_for old new url found (Some stated) moves finds = finds
+    given_for old new url found (Some known) moves finds = finds
 
     pub given_in : (old new : StoredSeen L) (url : List ℕ) → FindsIn Loads old url new → GivesIn MayLoad old url (found_in new url)
     given_in old new url finds =
-        let is : found_in new url ≡ or_map (value_under url old.words) (map_in (value_under (key_for old.locations url) new.cache.kept)) =
-        λ i. or_map (value_under url (finds.words i)) (map_in (value_under (key_for (finds.locations i) url) new.cache.kept)) in
-        given_for old new url (found_in new url) (value_under url old.words)
-        (moved Loads old (key_for old.locations url) new (value_under url old.words) finds.steps) is
+        let is : found_in new url ≡ or_other (known_of old.words old.locations url) (map_in (value_under (key_for old.locations url) new.cache.kept)) =
+        λ i. or_other (known_of (finds.words i) (finds.locations i) url) (map_in (value_under (key_for (finds.locations i) url) new.cache.kept)) in
+        given_for old new url (found_in new url) (known_of old.words old.locations url)
+        (moved Loads old (key_for old.locations url) new (known_of old.words old.locations url) finds.steps) is
 
     module _ (same : (loader after : L) (url path other other_path : List ℕ) (came : Option (MapRecord × ℕ)) (more : Option MapRecord)
         → Loads loader url path came after → MayLoad after other other_path more → MayLoad loader other other_path more) where
@@ -181,17 +182,17 @@ module _ {L : Type 0} (MayLoad : LoadsMay L) where
           subst P (path_of_key old.locations url)
           (cache_before old new key (key_for old.locations url) more (value_under (key_for old.locations url) new.cache.kept) moves refl is)
 
-      gives_before : (old new : StoredSeen L) (key url : List ℕ) (more : Option MapRecord) (words : Option MapRecord) → Moves Loads old key new
-          → MatchOption words (ByCache new (key_for old.locations url) (path_for old.locations url) more) (λ stated. more ≡ Some stated)
-          → MatchOption words (ByCache old (key_for old.locations url) (path_for old.locations url) more) (λ stated. more ≡ Some stated)
+      gives_before : (old new : StoredSeen L) (key url : List ℕ) (more : Option MapRecord) (known : Option (Option MapRecord)) → Moves Loads old key new
+          → MatchOption known (ByCache new (key_for old.locations url) (path_for old.locations url) more) (λ known. more ≡ known)
+          → MatchOption known (ByCache old (key_for old.locations url) (path_for old.locations url) more) (λ known. more ≡ known)
       gives_before old new key url more None moves is = by_cache_before old new key url more moves is
-      gives_before old new key url more (Some stated) moves is = is
+      gives_before old new key url more (Some known) moves is = is
 
       pub same_in : (old new : StoredSeen L) (url other : List ℕ) (more : Option MapRecord) → FindsIn Loads old url new
           → GivesIn MayLoad new other more → GivesIn MayLoad old other more
       same_in old new url other more finds gives =
           let P : List (List ℕ × MapRecord) × LocationsSeen → Type 0 = λ (words, locations).
-          MatchOption (value_under other words) (ByCache new (key_for locations other) (path_for locations other) more) (λ stated. more ≡ Some stated) in
+          MatchOption (known_of words locations other) (ByCache new (key_for locations other) (path_for locations other) more) (λ known. more ≡ known) in
           let both : _ ≡ _ = λ i. (finds.words i, finds.locations i) in
-          gives_before old new (key_for old.locations url) other more (value_under other old.words)
-          (moved Loads old (key_for old.locations url) new (value_under url old.words) finds.steps) (subst P both gives)
+          gives_before old new (key_for old.locations url) other more (known_of old.words old.locations other)
+          (moved Loads old (key_for old.locations url) new (known_of old.words old.locations url) finds.steps) (subst P both gives)
