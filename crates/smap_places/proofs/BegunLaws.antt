@@ -1,9 +1,9 @@
--- Where no place begins in a line, and which is the next, whatever says which place begins a text.
-use Rattle.std.proofs.Common.{◌≡◌, ◌+◌, ◌<◌, ◌≤◌, inl, inr, ℕ, Bool, true, false, cond, List, [], length, drop, Option, Some, None, refl, ap, ◌∙◌, arith}
+-- Where no place begins in a line, and which is the next, whatever says which place begins a text behind others.
+use Rattle.std.proofs.Common.{◌≡◌, ◌+◌, ◌<◌, ◌≤◌, inl, inr, ℕ, Bool, true, false, cond, List, [], length, drop, Option, Some, None, refl, reverse, sym, take, ap, ◌∙◌, arith}
 use Rattle.std.proofs.lemmas.Bool.{cases_lt, cond-true, cond-false}
 use Rattle.std.proofs.lemmas.List.{drop_all}
 use Rattle.smap_places.specs.PlaceSeen.{IsNext, place_seen}
-use Rattle.smap_places.specs.Places.{PlaceUrl, begun_at, may_begin}
+use Rattle.smap_places.specs.Places.{PlaceUrl, begun_at, following, may_begin}
 use Rattle.smap_places.specs.declared.place.FoundPlace.{FoundPlace}
 
 both_none : (t : Bool) → ◌≡◌ {A = Option PlaceUrl} (cond t None None) None
@@ -11,20 +11,22 @@ both_none true = refl
 both_none false = refl
 
 module _ (begins : List ℕ → Option PlaceUrl) (line : List ℕ) where
-  pub not_begun : (start : ℕ) → begins (drop start line) ≡ None → begun_at begins line start ≡ None
-  unfolding begun_at
+  pub not_begun : (start : ℕ) → begins (drop start line) ≡ None → begun_at (following begins) line start ≡ None
+  unfolding begun_at following
   not_begun start none = ap (λ o. cond (may_begin line start) o None) none ∙ both_none (may_begin line start)
 
-  pub not_begun_within : (start : ℕ) → may_begin line start ≡ false → begun_at begins line start ≡ None
-  unfolding begun_at
+  pub not_begun_within : (start : ℕ) → may_begin line start ≡ false → begun_at (following begins) line start ≡ None
+  unfolding begun_at following
   not_begun_within start off = cond-false (may_begin line start) _ None off
 
-  pub begun : (start : ℕ) → may_begin line start ≡ true → begun_at begins line start ≡ begins (drop start line)
-  unfolding begun_at
+  pub begun : (start : ℕ) → may_begin line start ≡ true → begun_at (following begins) line start ≡ begins (drop start line)
+  unfolding begun_at following
   begun start on = cond-true (may_begin line start) _ None on
 
-  pub none_past : begins [] ≡ None → (i : ℕ) → length line ≤ i → begun_at begins line i ≡ None
-  none_past empty i past = not_begun i (ap begins (drop_all i line past) ∙ empty)
+module _ (begins : List ℕ → List ℕ → Option PlaceUrl) (line : List ℕ) where
+  pub none_past : ((before : List ℕ) → begins before [] ≡ None) → (i : ℕ) → length line ≤ i → begun_at begins line i ≡ None
+  unfolding begun_at
+  none_past empty i past = ap (begins (reverse (take i line))) (drop_all i line past) ∙ empty (reverse (take i line))
 
   -- none begins before one byte, and none from there on: below a third one
   pub none_joined : (from start low high : ℕ) → ((i : ℕ) → from ≤ i → i < start → i < high → begun_at begins line i ≡ None)
@@ -62,4 +64,15 @@ module _ (begins : List ℕ → Option PlaceUrl) (line : List ℕ) where
     within = within;
     here = ap (λ k. begun_at begins line k) at_start ∙ here;
     first = λ i early below. before i early (omega (arith, below, at_start));
+  }
+
+-- where two begin the same places
+module _ (one other : List ℕ → List ℕ → Option PlaceUrl) (line : List ℕ) (same : (i : ℕ) → begun_at one line i ≡ begun_at other line i) where
+  pub same_next : (from : ℕ) (place : FoundPlace) → IsNext one line from place → IsNext other line from place
+  same_next from place is = record {
+    after = is.after;
+    some = is.some;
+    within = is.within;
+    here = sym (same place.start) ∙ is.here;
+    first = λ i least below. sym (same i) ∙ is.first i least below;
   }

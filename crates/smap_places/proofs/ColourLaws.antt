@@ -40,7 +40,7 @@ escape_more : (bytes more : List ℕ) → 0 < length bytes → is_escape (bytes 
 escape_more [] more some = absurd (omega (arith, some))
 escape_more (byte ∷ bytes) more some = refl
 
-colour_more : (many : ℕ) (bytes more : List ℕ) → many < length bytes → begins_colour many (bytes ++ more) ≡ begins_colour many bytes
+pub colour_more : (many : ℕ) (bytes more : List ℕ) → many < length bytes → begins_colour many (bytes ++ more) ≡ begins_colour many bytes
 unfolding begins_colour
 colour_more zero bytes more many = refl
 colour_more (suc n) [] more many = absurd (omega (arith, many))
@@ -54,3 +54,22 @@ follow_more bytes more (inl none) = ap (λ l. may_follow (bytes ++ l)) none ∙ 
 follow_more [] more (inr many) = absurd (omega (arith, many))
 follow_more (byte ∷ bytes) more (inr many) =
     ap (λ b. not (is_word byte) || byte == 109 && b) (colour_more 33 bytes more (omega (arith, many)))
+
+-- ---- what stands before an LF decides nothing behind it
+
+escape_line : (bytes rest : List ℕ) → is_escape (bytes ++ 10 ∷ rest) ≡ is_escape bytes
+escape_line [] rest = refl
+escape_line (byte ∷ bytes) rest = refl
+
+pub colour_line : (many : ℕ) (bytes rest : List ℕ) → begins_colour many (bytes ++ 10 ∷ rest) ≡ begins_colour many bytes
+unfolding begins_colour
+colour_line zero bytes rest = refl
+colour_line (suc many) [] rest = refl
+colour_line (suc many) (byte ∷ bytes) rest =
+    ap (λ b. cond (byte == 91) b (is_parameter byte && begins_colour many (bytes ++ 10 ∷ rest))) (escape_line bytes rest)
+    ∙ ap (λ b. cond (byte == 91) (is_escape bytes) (is_parameter byte && b)) (colour_line many bytes rest)
+
+pub follow_line : (bytes rest : List ℕ) → may_follow (bytes ++ 10 ∷ rest) ≡ may_follow bytes
+unfolding may_follow
+follow_line [] rest = refl
+follow_line (byte ∷ bytes) rest = ap (λ b. not (is_word byte) || byte == 109 && b) (colour_line 33 bytes rest)

@@ -1,30 +1,24 @@
 -- A text that is cut at an LF: its parts are those of what stands before it, the LF, and those of what stands behind it.
-use Rattle.std.proofs.Common.{◌≡◌, ◌==◌, ◌&&◌, ◌||◌, ◌+◌, ◌-◌, ◌≤◌, ℕ, zero, suc, Bool, true, false, cond, not, List, [], ◌∷◌, ◌++◌, length, take, drop, Option}
-use Rattle.std.proofs.Common.{Some, None, refl, sym, ap, ◌∙◌, arith, append_assoc, inl, inr, length-drop, reverse, ⊎_elim}
+use Rattle.std.proofs.Common.{◌≡◌, ◌+◌, ◌-◌, ◌≤◌, ℕ, zero, suc, List, [], ◌∷◌, ◌++◌, length, take, drop, Option}
+use Rattle.std.proofs.Common.{Some, None, refl, sym, ap, ◌∙◌, arith, append_assoc, reverse, ⊎_elim}
 use Rattle.std.proofs.Math.Seq.{drop-append-add, take-append-add}
-use Rattle.std.proofs.lemmas.Bool.{cases_lt}
 use Rattle.std.proofs.lemmas.Grind.{flat_map-append}
 use Rattle.std.proofs.lemmas.List.{drop-append-le, drop_all, reverse-append, take-append-le}
 use Rattle.smap_lines.specs.Lines.{IsWholeLines}
 use Rattle.smap_record.specs.Record.{MapRecord}
 use Rattle.smap_places.specs.PlaceAt.{table_alone, table_place_at}
-use Rattle.smap_places.specs.Places.{Part, PlaceUrl, begins_colour, begun_at, found, is_escape, is_parameter, is_word, may_begin, may_follow, other}
+use Rattle.smap_places.specs.Places.{Part, PlaceUrl, begun_at, found, other}
 use Rattle.smap_places.specs.Places.{parts_by, parts_from, parts_of}
 use Rattle.smap_places.specs.PlacesRewritten.{maps_of, part_text, parts_text, placed_text}
 use Rattle.smap_places.specs.PlacesNear.{EndsAtLines}
-use Rattle.smap_places.proofs.FinderLaws.{ends_at_lines}
+use Rattle.smap_places.proofs.PatternLaws.{place_ends}
 
 -- ---- a place has no more bytes than the text that it begins
 
-if_so : (t : Bool) (o : Option PlaceUrl) (place : PlaceUrl) → cond t o None ≡ Some place → o ≡ Some place
-if_so true o place is = is
-if_so false o place is = cc
-
-begun_size : (begins : List ℕ → Option PlaceUrl) → EndsAtLines begins → (text : List ℕ) (start : ℕ) (place : PlaceUrl)
+begun_size : (begins : List ℕ → List ℕ → Option PlaceUrl) → EndsAtLines begins → (text : List ℕ) (start : ℕ) (place : PlaceUrl)
     → begun_at begins text start ≡ Some place → place.size ≤ length (drop start text)
 unfolding begun_at
-begun_size begins ends text start place is =
-    ends.sized (drop start text) place (if_so (may_begin text start) (begins (drop start text)) place is)
+begun_size begins ends text start place is = ends.sized (reverse (take start text)) (drop start text) place is
 
 next_drop : (start byte : ℕ) (bytes text : List ℕ) → drop start text ≡ byte ∷ bytes → drop (suc start) text ≡ bytes
 next_drop zero byte bytes [] is = cc
@@ -32,26 +26,7 @@ next_drop zero byte bytes (first ∷ text) is = cc
 next_drop (suc start) byte bytes [] is = cc
 next_drop (suc start) byte bytes (first ∷ text) is = next_drop start byte bytes text is
 
--- ---- what stands before an LF decides nothing behind it
-
-escape_line : (bytes rest : List ℕ) → is_escape (bytes ++ 10 ∷ rest) ≡ is_escape bytes
-escape_line [] rest = refl
-escape_line (byte ∷ bytes) rest = refl
-
-colour_line : (many : ℕ) (bytes rest : List ℕ) → begins_colour many (bytes ++ 10 ∷ rest) ≡ begins_colour many bytes
-unfolding begins_colour
-colour_line zero bytes rest = refl
-colour_line (suc many) [] rest = refl
-colour_line (suc many) (byte ∷ bytes) rest =
-    ap (λ b. cond (byte == 91) b (is_parameter byte && begins_colour many (bytes ++ 10 ∷ rest))) (escape_line bytes rest)
-    ∙ ap (λ b. cond (byte == 91) (is_escape bytes) (is_parameter byte && b)) (colour_line many bytes rest)
-
-follow_line : (bytes rest : List ℕ) → may_follow (bytes ++ 10 ∷ rest) ≡ may_follow bytes
-unfolding may_follow
-follow_line [] rest = refl
-follow_line (byte ∷ bytes) rest = ap (λ b. not (is_word byte) || byte == 109 && b) (colour_line 33 bytes rest)
-
-module _ (begins : List ℕ → Option PlaceUrl) (ends : EndsAtLines begins) (line rest : List ℕ) where
+module _ (begins : List ℕ → List ℕ → Option PlaceUrl) (ends : EndsAtLines begins) (line rest : List ℕ) where
   abbrev whole : List ℕ
   whole = line ++ 10 ∷ rest
 
@@ -60,20 +35,16 @@ module _ (begins : List ℕ → Option PlaceUrl) (ends : EndsAtLines begins) (li
   begun_before : (start : ℕ) → start ≤ length line → begun_at begins whole start ≡ begun_at begins line start
   unfolding begun_at
   begun_before start within =
-      ap (λ b. cond b (begins (drop start whole)) None) (ap (λ l. may_follow (reverse l)) (take-append-le start line (10 ∷ rest) within))
-      ∙ ap (λ o. cond (may_begin line start) o None)
-      (ap begins (drop-append-le start line (10 ∷ rest) within) ∙ ends.line (drop start line) rest)
-
-  off_none : (t : Bool) → ◌≡◌ {A = Option PlaceUrl} (cond t None None) None
-  off_none true = refl
-  off_none false = refl
+      ap (λ l. begins (reverse l) (drop start whole)) (take-append-le start line (10 ∷ rest) within)
+      ∙ ap (begins (reverse (take start line))) (drop-append-le start line (10 ∷ rest) within)
+      ∙ ends.line (reverse (take start line)) (drop start line) rest
 
   none_at_end : begun_at begins whole (length line) ≡ None
   unfolding begun_at
   none_at_end =
       let past : drop (length line) line ≡ [] = drop_all (length line) line (omega arith) in
       begun_before (length line) (omega arith)
-      ∙ ap (λ o. cond (may_begin line (length line)) o None) (ap begins past ∙ ends.empty) ∙ off_none (may_begin line (length line))
+      ∙ ap (begins (reverse (take (length line) line))) past ∙ ends.empty (reverse (take (length line) line))
 
   -- ---- and behind it
 
@@ -84,11 +55,9 @@ module _ (begins : List ℕ → Option PlaceUrl) (ends : EndsAtLines begins) (li
       let back : drop (length line + suc start) whole ≡ drop start rest = drop-append-add line (10 ∷ rest) (suc start) in
       let apart : line ++ 10 ∷ take start rest ≡ (line ++ 10 ∷ []) ++ take start rest = sym (append_assoc line (10 ∷ []) (take start rest)) in
       let turned : reverse (line ++ 10 ∷ []) ≡ 10 ∷ reverse line = reverse-append line (10 ∷ []) in
-      let follow : may_follow (reverse (take (length line + suc start) whole)) ≡ may_follow (reverse (take start rest)) =
-      ap (λ l. may_follow (reverse l)) (front ∙ apart) ∙ ap may_follow (reverse-append (line ++ 10 ∷ []) (take start rest))
-      ∙ ap (λ l. may_follow (reverse (take start rest) ++ l)) turned ∙ follow_line (reverse (take start rest)) (reverse line) in
-      ap (λ b. cond b (begins (drop (length line + suc start) whole)) None) follow
-      ∙ ap (λ t. cond (may_begin rest start) (begins t) None) back
+      let before : reverse (take (length line + suc start) whole) ≡ reverse (take start rest) ++ 10 ∷ reverse line =
+      ap reverse (front ∙ apart) ∙ reverse-append (line ++ 10 ∷ []) (take start rest) ∙ ap (λ l. reverse (take start rest) ++ l) turned in
+      (λ i. begins (before i) (back i)) ∙ ends.front (reverse (take start rest)) (reverse line) (drop start rest)
 
   behind : (bytes : List ℕ) (start within : ℕ) → parts_from begins whole (length line + suc start) within bytes ≡ parts_from begins rest start within bytes
   behind [] start within = refl
@@ -144,7 +113,7 @@ module _ (begins : List ℕ → Option PlaceUrl) (ends : EndsAtLines begins) (li
 
 -- ---- the law
 
-pub no_parts : (begins : List ℕ → Option PlaceUrl) → parts_of begins [] ≡ []
+pub no_parts : (begins : List ℕ → List ℕ → Option PlaceUrl) → parts_of begins [] ≡ []
 unfolding parts_of
 no_parts begins = refl
 
@@ -152,7 +121,7 @@ module _ (table : List (List ℕ × MapRecord)) where
   pub text_cut : (line rest : List ℕ) → placed_text (line ++ 10 ∷ rest) table ≡ placed_text line table ++ 10 ∷ placed_text rest table
   unfolding placed_text
   text_cut line rest =
-      ap (parts_text (maps_of table)) (parts_cut (table_place_at table) (ends_at_lines (table_alone table)) line rest)
+      ap (parts_text (maps_of table)) (parts_cut (table_place_at table) (place_ends (table_alone table)) line rest)
       ∙ flat_map-append (part_text (maps_of table)) (parts_of (table_place_at table) line) (other 10 ∷ parts_of (table_place_at table) rest)
 
   pub none_placed : placed_text [] table ≡ []

@@ -1,6 +1,6 @@
 -- Which place begins a text over named URLs and prefixes whose lengths are known.
 use Rattle.std.proofs.Common.{◌≡◌, ◌==◌, ◌&&◌, ◌||◌, cond, map, nat_le, ◌+◌, ◌<◌, ◌≤◌, ◌⊎◌, inl, inr, ℕ, zero, suc, Bool, true, false, not, List, [], ◌∷◌, ◌++◌}
-use Rattle.std.proofs.Common.{length, max, take, drop, IfSome, IsSomeAnd, Option, Some, None, is_some, refl, subst, sym, ap, ◌∙◌, arith}
+use Rattle.std.proofs.Common.{length, max, take, drop, IfSome, IsSomeAnd, Option, Some, None, is_some, refl, sym, ap, ◌∙◌, arith}
 use Rattle.std.proofs.Common.{length-append, length-drop}
 use Rattle.std.proofs.lemmas.Bool.{cases_lt, false_from_ne_true}
 use Rattle.std.proofs.lemmas.List.{drop-append-le, drop-drop, drop_all, length-take, length-take-le, take-append-le}
@@ -14,8 +14,7 @@ use Rattle.smap_record.specs.Record.{MapRecord}
 use Rattle.smap_places.specs.Candidates.{candidate_at, greatest, has_named, has_prefix, named_bytes, own_bytes, place_of, place_of_bytes, prefix_bytes}
 use Rattle.smap_places.specs.Candidates.{query_length, run_end, run_length, url_bytes, url_end, with_run}
 use Rattle.smap_places.specs.Places.{PlaceUrl, begun_at, numbers_after}
-use Rattle.smap_places.specs.PlacesNear.{DecidedWithin, EndsAtLines}
-use Rattle.smap_places.specs.PlaceAt.{MapsSeen, is_named, is_prefix, place_at, table_alone, table_place_at}
+use Rattle.smap_places.specs.PlaceAt.{MapsSeen, exact_at, is_named, is_prefix, table_alone}
 use Rattle.smap_places.specs.Private.Finder.{HasLengths, IsBarred, IsLongest, IsOpen, IsUnqueried, KnowsLengths, is_among}
 use Rattle.smap_places.specs.declared.lengths.Lengths.{Lengths}
 use Rattle.smap_places.proofs.BegunLaws.{not_begun}
@@ -220,7 +219,7 @@ own_few named end run most few run_few = go (nat_le run end)
     go true = few
     go false = run_few
 
-place_same : (one other : List ℕ) (n end : ℕ) → take n one ≡ take n other → numbers_after (drop end one) ≡ numbers_after (drop end other)
+pub place_same : (one other : List ℕ) (n end : ℕ) → take n one ≡ take n other → numbers_after (drop end one) ≡ numbers_after (drop end other)
     → place_of_bytes one n end ≡ place_of_bytes other n end
 place_same one other n zero urls numbers = refl
 place_same one other n (suc end) urls numbers =
@@ -234,7 +233,7 @@ abbrev size_or : Option PlaceUrl → ℕ
 size_or None = 0
 size_or (Some place) = place.size
 
-place_size : (text : List ℕ) (n end : ℕ) (place : PlaceUrl) → place_of_bytes text n end ≡ Some place → place.size ≤ length text
+pub place_size : (text : List ℕ) (n end : ℕ) (place : PlaceUrl) → place_of_bytes text n end ≡ Some place → place.size ≤ length text
 place_size text n zero place is = cc
 place_size text n (suc end) place is = go (numbers_after (drop (suc end) text)) refl is
   where
@@ -276,7 +275,7 @@ module _ (named prefixes : List ℕ → Bool) where
         run_inside text (prefix_bytes prefixes text) (greatest_within (has_prefix prefixes text) (length text)),
       )
 
-  candidate_line : (line rest : List ℕ) → candidate_at named prefixes (line ++ 10 ∷ rest) ≡ candidate_at named prefixes line
+  pub candidate_line : (line rest : List ℕ) → candidate_at named prefixes (line ++ 10 ∷ rest) ≡ candidate_at named prefixes line
   candidate_line line rest =
       let bytes : ℕ = named_bytes named line in
       let prefix : ℕ = prefix_bytes prefixes line in
@@ -290,13 +289,13 @@ module _ (named prefixes : List ℕ → Bool) where
         ap numbers_after (drop-append-le n line (10 ∷ rest) small) ∙ numbers_line (drop n line) rest,
       ))
 
-  pub candidate_ends : EndsAtLines (candidate_at named prefixes)
+  pub candidate_empty : candidate_at named prefixes [] ≡ None
   unfolding candidate_at
-  candidate_ends = record {
-    empty = refl;
-    sized = λ text place is. place_size text (url_bytes named prefixes text) (url_end named prefixes text) place is;
-    line = candidate_line;
-  }
+  candidate_empty = refl
+
+  pub candidate_size : (text : List ℕ) (place : PlaceUrl) → candidate_at named prefixes text ≡ Some place → place.size ≤ length text
+  unfolding candidate_at
+  candidate_size text place is = place_size text (url_bytes named prefixes text) (url_end named prefixes text) place is
 
   -- without numbers after a URL, no place begins
   pub none_at_all : (text : List ℕ) → ((bytes : ℕ) → 1 ≤ bytes → numbers_after (drop bytes text) ≡ None) → candidate_at named prefixes text ≡ None
@@ -326,7 +325,8 @@ module _ (named prefixes : List ℕ → Bool) where
     none_near text none =
         place_none text (url_bytes named prefixes text) (url_end named prefixes text) (λ some. none (url_end named prefixes text) some (end_few text))
 
-    pub candidate_reach : DecidedWithin (candidate_at named prefixes) (longest + 23)
+    pub candidate_reach : (text later : List ℕ) → longest + 23 ≤ length text
+        → candidate_at named prefixes (text ++ later) ≡ candidate_at named prefixes text
     candidate_reach text later long =
         let bytes : ℕ = named_bytes named text in
         let prefix : ℕ = prefix_bytes prefixes text in
@@ -356,41 +356,37 @@ abbrev or_zero : Option ℕ → ℕ
 or_zero None = 0
 or_zero (Some n) = n
 
-pub ends_at_lines : (maps : MapsSeen) → EndsAtLines (place_at maps)
-ends_at_lines maps = candidate_ends (is_named maps) (is_prefix maps)
-
 -- none begins where no numbers stand after
 pub none_behind : (maps : MapsSeen) (line : List ℕ) (start : ℕ) → ((i : ℕ) → start + 1 ≤ i → numbers_after (drop i line) ≡ None)
-    → (i : ℕ) → start ≤ i → begun_at (place_at maps) line i ≡ None
+    → (i : ℕ) → start ≤ i → begun_at (exact_at maps) line i ≡ None
 none_behind maps line start none i least =
-    not_begun (place_at maps) line i
+    not_begun (candidate_at (is_named maps) (is_prefix maps)) line i
     (none_at_all (is_named maps) (is_prefix maps) (drop i line)
     (λ bytes some. ap numbers_after (drop-drop bytes i line) ∙ none (i + bytes) (omega (arith, least, some))))
 
 module _ (maps : MapsSeen) (urls folders : Lengths) (longest : Option ℕ) (known : KnowsLengths urls folders longest maps) where
-  pub decided_reach : (bytes : ℕ) (reach : Option ℕ) → longest ≡ Some bytes → IfSome reach (λ n. n ≡ bytes + 23)
-      → IfSome reach (DecidedWithin (place_at maps))
-  decided_reach bytes reach some is = go longest known.longest some reach is
+  -- what stands behind so many bytes decides nothing
+  pub exact_reach : (bytes : ℕ) → longest ≡ Some bytes → (text later : List ℕ) → bytes + 23 ≤ length text
+      → candidate_at (is_named maps) (is_prefix maps) (text ++ later) ≡ candidate_at (is_named maps) (is_prefix maps) text
+  exact_reach bytes is text later long = go longest known.longest is
     where
-      go : (most : Option ℕ) → IfSome most (IsLongest urls.greatest folders.greatest) → most ≡ Some bytes → (reach : Option ℕ)
-          → IfSome reach (λ n. n ≡ bytes + 23) → IfSome reach (DecidedWithin (place_at maps))
-      go most few some None is = tt
-      go None few some (Some n) is = cc
-      go (Some most) few some (Some n) is =
-          let same : most + 23 ≡ n = ap (λ o. or_zero o + 23) some ∙ sym is in
-          let P : ℕ → Type 0 = λ reach. DecidedWithin (place_at maps) reach in
-          subst P same (candidate_reach (is_named maps) (is_prefix maps) urls folders known.named known.prefixes most few)
+      go : (most : Option ℕ) → IfSome most (IsLongest urls.greatest folders.greatest) → most ≡ Some bytes
+          → candidate_at (is_named maps) (is_prefix maps) (text ++ later) ≡ candidate_at (is_named maps) (is_prefix maps) text
+      go None few is = cc
+      go (Some most) few is =
+          let same : most ≡ bytes = ap (λ o. or_zero o) is in
+          candidate_reach (is_named maps) (is_prefix maps) urls folders known.named known.prefixes most few text later (omega (arith, long, same))
 
   -- none begins too far before the numbers
   pub none_between : (line : List ℕ) (start numbers low : ℕ) → ((i : ℕ) → start + 1 ≤ i → i < numbers → numbers_after (drop i line) ≡ None)
-      → (start < low → IsSomeAnd longest (λ bytes. low + bytes ≤ numbers)) → (i : ℕ) → start ≤ i → i < low → begun_at (place_at maps) line i ≡ None
+      → (start < low → IsSomeAnd longest (λ bytes. low + bytes ≤ numbers)) → (i : ℕ) → start ≤ i → i < low → begun_at (exact_at maps) line i ≡ None
   none_between line start numbers low none near i least below = go longest known.longest (near (omega (arith, least, below)))
     where
       go : (most : Option ℕ) → IfSome most (IsLongest urls.greatest folders.greatest) → IsSomeAnd most (λ bytes. low + bytes ≤ numbers)
-          → begun_at (place_at maps) line i ≡ None
+          → begun_at (exact_at maps) line i ≡ None
       go None few far = absurd far
       go (Some most) few far =
-          not_begun (place_at maps) line i
+          not_begun (candidate_at (is_named maps) (is_prefix maps)) line i
           (none_near (is_named maps) (is_prefix maps) urls folders known.named known.prefixes most few (drop i line)
           (λ bytes some within. ap numbers_after (drop-drop bytes i line) ∙ none (i + bytes) (omega (arith, least, some)) (omega (arith, below, within, far))))
 
@@ -424,9 +420,9 @@ module _ (maps : MapsSeen) (line : List ℕ) (near first queried barred : ℕ) (
         absurd (cc (ap is_some none, named_behind (is_named maps) (drop i line) named_there on))
   ]
 
-  pub none_open : begun_at (place_at maps) line i ≡ None
+  pub none_open : begun_at (exact_at maps) line i ≡ None
   none_open =
-      not_begun (place_at maps) line i
+      not_begun (candidate_at (is_named maps) (is_prefix maps)) line i
       (no_candidate (is_named maps) (is_prefix maps) (drop i line) (run_none (drop i line) named_there none_named)
       (run_none (drop i line) prefix_there no_run))
 
@@ -481,7 +477,7 @@ module _ (table : List (List ℕ × MapRecord)) (text : List ℕ) where
   ]
 
   -- where no front of a text is a URL of the table, no place begins it
-  pub none_known : ((bytes : ℕ) → is_some (value_under (take bytes text) table) ≡ false) → table_place_at table text ≡ None
+  pub none_known : ((bytes : ℕ) → is_some (value_under (take bytes text) table) ≡ false) → candidate_at named prefixes text ≡ None
   none_known none =
       no_candidate named prefixes text
       (run_none text (named_bytes named text) (λ some. elim (greatest_passes (has_named named text) (length text)) [

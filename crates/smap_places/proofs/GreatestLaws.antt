@@ -1,5 +1,5 @@
 -- The greatest number that passes a test, and how it is found among numbers.
-use Rattle.std.proofs.Common.{◌≡◌, ◌==◌, ◌||◌, ◌+◌, ◌<◌, ◌≤◌, ◌⊎◌, inl, inr, ℕ, zero, suc, Bool, true, false, cond, List, [], ◌∷◌, get_or, length, take}
+use Rattle.std.proofs.Common.{◌≡◌, ◌==◌, ◌||◌, ◌+◌, ◌-◌, ◌<◌, ◌≤◌, ◌⊎◌, inl, inr, ℕ, zero, suc, Bool, true, false, cond, List, [], ◌∷◌, get_or, length, take}
 use Rattle.std.proofs.Common.{refl, sym, ap, ◌∙◌, arith}
 use Rattle.std.proofs.lemmas.Bool.{cases_lt, cond-false, cond-true, eq-eqb, eqb-true, false_from_ne_true}
 use Rattle.std.proofs.lemmas.List.{take_all}
@@ -35,6 +35,15 @@ module _ (test : ℕ → Bool) where
       at_end : (most ≡ 0) ⊎ (test most ≡ true) → most ≡ suc n → greatest test (suc n) ≡ most
       at_end (inl zero_is) is = absurd (omega (arith, zero_is, is))
       at_end (inr on) is = cond-true (test (suc n)) (suc n) (greatest test n) (ap test (sym is) ∙ on) ∙ sym is
+
+  pub greatest_here : (n : ℕ) → test n ≡ true → greatest test n ≡ n
+  greatest_here zero on = refl
+  greatest_here (suc n) on = cond-true (test (suc n)) (suc n) (greatest test n) on
+
+  pub greatest_below : (n : ℕ) → 0 < n → test n ≡ false → greatest test n ≡ greatest test (n - 1)
+  greatest_below zero some off = absurd (omega (arith, some))
+  greatest_below (suc n) some off =
+      let less : n ≡ suc n - 1 = omega arith in cond-false (test (suc n)) (suc n) (greatest test n) off ∙ ap (greatest test) less
 
 -- two tests that agree up to a number, where the first passes none above
 pub greatest_each : (one other : ℕ → Bool) (m : ℕ) → ((n : ℕ) → n ≤ m → one n ≡ other n) → greatest one m ≡ greatest other m

@@ -15,6 +15,10 @@ pub mod PartStepLaws
 pub mod BesideLaws
 pub mod PassageLaws
 pub mod FinderLaws
+pub mod PatternExamples
+pub mod PatternUrlLaws
+pub mod PatternLaws
+pub mod PatternFindLaws
 pub mod CutLaws
 pub mod ThroughLaws
 pub mod RewritingLaws

@@ -1,6 +1,6 @@
 -- Where no numbers stand in a line, and how many bytes they are.
 use Rattle.std.proofs.Common.{◌≡◌, ◌==◌, ◌+◌, ◌-◌, ◌<◌, ◌≤◌, inl, inr, ℕ, true, false, List, [], ◌∷◌, length, drop, get_or, Option, Some, None}
-use Rattle.std.proofs.Common.{is_some, refl, sym, ap, ◌∙◌, arith, length-drop}
+use Rattle.std.proofs.Common.{is_some, refl, ap, ◌∙◌, arith, length-drop}
 use Rattle.std.proofs.lemmas.Bool.{cases_lt, cond-false, false_from_ne_true}
 use Rattle.std.proofs.lemmas.List.{drop_all, drop_more, get_or-drop}
 use Rattle.smap_places.specs.Places.{number_after, numbers_after, with_column, with_line}

@@ -8,14 +8,16 @@ use Rattle.std.proofs.lemmas.Bool.{false_from_ne_true}
 use Rattle.smap_by_text.specs.ByText.{value_under}
 use Rattle.smap_places.proofs.BegunLaws.{not_begun}
 use Rattle.smap_places.proofs.FinderLaws.{none_known}
+use Rattle.smap_places.proofs.PatternLaws.{exact_begun}
 use Rattle.smap_record.specs.Record.{MapRecord}
-use Rattle.smap_places.specs.PlaceAt.{table_place_at}
+use Rattle.smap_places.specs.Candidates.{candidate_at}
+use Rattle.smap_places.specs.PlaceAt.{is_named, is_prefix, table_alone, table_place_at}
 use Rattle.smap_places.specs.Places.{Part, PlaceUrl, begun_at, found, other, parts_by, parts_from, parts_of}
 use Rattle.smap_places.specs.PlaceSeen.{NoNext}
 use Rattle.smap_places.specs.PlacesRewritten.{maps_of, parts_text, placed_text, replacement}
 use Rattle.smap_places.specs.Private.PlaceRewriter.{parts_at}
 
-module _ (begins : List ℕ → Option PlaceUrl) (line : List ℕ) where
+module _ (begins : List ℕ → List ℕ → Option PlaceUrl) (line : List ℕ) where
   pub from_start : parts_of begins line ≡ parts_at begins line 0
   unfolding parts_of
   from_start = refl
@@ -82,7 +84,7 @@ others_text maps (byte ∷ bytes) parts = ap (λ text. byte ∷ text) (others_te
 
 -- ---- where no place begins any more
 
-module _ (begins : List ℕ → Option PlaceUrl) (maps : List ℕ → Option MapRecord) (line : List ℕ) where
+module _ (begins : List ℕ → List ℕ → Option PlaceUrl) (maps : List ℕ → Option MapRecord) (line : List ℕ) where
   module _ (from : ℕ) (within : from ≤ length line) (none : NoNext begins line from) where
     last_parts : parts_at begins line from ≡ map other (drop from line) ++ []
     last_parts =
@@ -119,9 +121,10 @@ pub without_urls : (table : List (List ℕ × MapRecord)) (text : List ℕ)
     → ((url before after : List ℕ) → is_some (value_under url table) ≡ true → text ≢ before ++ url ++ after) → placed_text text table ≡ text
 unfolding placed_text
 without_urls table text none =
-    let unknown : (start : ℕ) → table_place_at table (drop start text) ≡ None = λ start. none_known table (drop start text) (λ bytes.
+    let unknown : (start : ℕ) → candidate_at (is_named (table_alone table)) (is_prefix (table_alone table)) (drop start text) ≡ None = λ start. none_known table (drop start text) (λ bytes.
     false_from_ne_true _ (λ some. none (take bytes (drop start text)) (take start text) (drop bytes (drop start text)) some
     (sym (take-append-drop start text) ∙ ap (λ rest. take start text ++ rest) (sym (take-append-drop bytes (drop start text)))
     ∙ sym (append_assoc (take start text) (take bytes (drop start text)) (drop bytes (drop start text)))))) in
     ap (parts_text (maps_of table)) (from_start (table_place_at table) text)
-    ∙ last_text (table_place_at table) (maps_of table) text 0 (omega arith) (λ start _. not_begun (table_place_at table) text start (unknown start))
+    ∙ last_text (table_place_at table) (maps_of table) text 0 (omega arith) (λ start _. exact_begun (table_alone table) refl text start
+    ∙ not_begun (candidate_at (is_named (table_alone table)) (is_prefix (table_alone table))) text start (unknown start))

@@ -24,7 +24,7 @@ use Rattle.smap_places.proofs.PartStepLaws.{IsGiven, IsSame, Steps, became_may, 
 
 -- ---- in a text that a window shows
 
-module _ (begins : List ℕ → Option PlaceUrl) (before window later : List ℕ) where
+module _ (begins : List ℕ → List ℕ → Option PlaceUrl) (before window later : List ℕ) where
   abbrev whole : List ℕ
   whole = before ++ (window ++ later)
 
@@ -60,7 +60,7 @@ module _ (begins : List ℕ → Option PlaceUrl) (before window later : List ℕ
 
 -- ---- from one byte of a window to another
 
-module _ (begins : List ℕ → Option PlaceUrl) (window : List ℕ) (high : ℕ) where
+module _ (begins : List ℕ → List ℕ → Option PlaceUrl) (window : List ℕ) (high : ℕ) where
   pub passed_none : (from : ℕ) → from ≤ length window → IsPassed begins window from high from []
   passed_none from within = record { least = omega arith; within = within; passed = λ before later shows. refl }
 
@@ -110,7 +110,7 @@ abbrev pub place_text : (window : List ℕ) → (to : ℕ) → FoundPlace → (s
 place_text window to place stated =
     slice_range window to place.start ++ unwrap_or (replacement stated (place_seen place)) (slice_range window place.start place.end)
 
-module _ {M W : Type 0} (begins : List ℕ → Option PlaceUrl) (Finds : M → (url : List ℕ) → M → Type 0) (under : M → (url : List ℕ) → Option MapRecord)
+module _ {M W : Type 0} (begins : List ℕ → List ℕ → Option PlaceUrl) (Finds : M → (url : List ℕ) → M → Type 0) (under : M → (url : List ℕ) → Option MapRecord)
     (seen : W → SinkSeen) (old : PlaceRewriter M) (before : LineOutput W) (window : List ℕ) (from high : ℕ) where
   pub record IsDone (new : PlaceRewriter M) (after : LineOutput W) (to : ℕ) : Type 0 where
     pub parts : List Part

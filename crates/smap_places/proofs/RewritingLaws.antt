@@ -76,7 +76,7 @@ no_end_left now high to cut far within none =
     ap has_line_end (drop-drop (to - cut) cut now ∙ ap (λ n. drop n now) (one ∙ sym two) ∙ sym (drop-drop (to - high) high now))
     ∙ no_end_further (to - high) (drop high now) none
 
-module _ {M : Type 0} (begins : List ℕ → Option PlaceUrl) (Finds : M → (url : List ℕ) → M → Type 0) (under : M → (url : List ℕ) → Option MapRecord)
+module _ {M : Type 0} (begins : List ℕ → List ℕ → Option PlaceUrl) (Finds : M → (url : List ℕ) → M → Type 0) (under : M → (url : List ℕ) → Option MapRecord)
     (old : M) (before : Option (List ℕ)) (front : List ℕ) where
   abbrev pub Through : (window : List ℕ) (from : ℕ) (maps : M) (places mapped : ℕ) (taken : Option (List ℕ)) → Type 0
   Through window from maps places mapped taken = IsThrough begins Finds under old before front (record {
@@ -102,7 +102,7 @@ module _ {M : Type 0} (begins : List ℕ → Option PlaceUrl) (Finds : M → (ur
 
 -- ---- how it ends
 
-module _ {M : Type 0} (begins : List ℕ → Option PlaceUrl) (Finds : M → (url : List ℕ) → M → Type 0) (under : M → (url : List ℕ) → Option MapRecord)
+module _ {M : Type 0} (begins : List ℕ → List ℕ → Option PlaceUrl) (Finds : M → (url : List ℕ) → M → Type 0) (under : M → (url : List ℕ) → Option MapRecord)
     (old : M) (most_bytes : ℕ) (before after : DevicesSeen) (front window : List ℕ) (from : ℕ) (maps : M) (places mapped : ℕ) (taken : Option (List ℕ))
     (is : Through begins Finds under old before.output.taken front window from maps places mapped taken)
     (read : Gives before.input.left after.input.left (front ++ window)) where

@@ -1,6 +1,6 @@
 -- A text on its way through a window: what was written is what its bytes became, however far it is.
 use Rattle.std.proofs.Common.{◌≡◌, ◌==◌, ◌||◌, ◌+◌, ◌-◌, ◌<◌, ◌≤◌, ◌⊎◌, ℕ, zero, suc, Bool, true, false, cond, List, [], ◌∷◌, ◌++◌, length, take}
-use Rattle.std.proofs.Common.{drop, Option}
+use Rattle.std.proofs.Common.{drop, Option, reverse}
 use Rattle.std.proofs.Common.{Some, None, refl, sym, ap, subst, ◌∙◌, arith, append_assoc, append-nil, inl, inr, length-append, length-drop, count_by, ⊎_elim}
 use Rattle.std.specs.List.{list_any}
 use Rattle.std.proofs.Math.Bool.{or-true}
@@ -13,14 +13,14 @@ use Rattle.smap_lines.specs.Lines.{IsWholeLines, has_line_end, lines_with_ends}
 use Rattle.smap_lines.specs.Laws.Put.{takes_both, takes_none}
 use Rattle.smap_record.specs.Record.{MapRecord}
 use Rattle.smap_places.specs.Places.{Part, PlaceUrl, begun_at, found, other, parts_by, parts_from, parts_of}
-use Rattle.smap_places.specs.PlacesNear.{DecidedWithin, EndsAtLines}
+use Rattle.smap_places.specs.PlacesNear.{DecidedWithin, EndsAtLines, KnownWithin}
 use Rattle.smap_places.specs.PlacesOver.{MayBecome, PlacesNow, places_start}
 use Rattle.smap_places.specs.Private.LineEnds.{has_open_line}
 use Rattle.smap_places.specs.Private.Passage.{IsThrough, Passage, passage_now}
 use Rattle.smap_places.specs.Private.PlaceRewriter.{IsPassed, Shows, parts_at}
 use Rattle.smap_places.proofs.CountLaws.{is_end, lines_counted, open_later}
 use Rattle.smap_places.proofs.CutLaws.{no_parts, parts_cut}
-use Rattle.smap_places.proofs.NearLaws.{line_on, window_shows}
+use Rattle.smap_places.proofs.NearLaws.{known_further, line_on, window_shows}
 use Rattle.smap_places.proofs.PartLaws.{from_start}
 use Rattle.smap_places.proofs.PartStepLaws.{IsGiven, IsSame, Steps, became_may, looked_before, may_apart, may_both, may_wider, some_text, steps_behind}
 use Rattle.smap_places.proofs.PartStepLaws.{steps_both, steps_looked}
@@ -43,7 +43,7 @@ before_last (part ∷ parts) rest (first ∷ front) more none is =
     let deeper = before_last parts rest front more none tail in
     (deeper.0, (λ i. head i ∷ deeper.1 i))
 
-module _ (begins : List ℕ → Option PlaceUrl) where
+module _ (begins : List ℕ → List ℕ → Option PlaceUrl) where
   none_by : (text : List ℕ) (byte : ℕ) (after : ℕ → List Part) (o : Option PlaceUrl) → (byte == 10) ≡ false
       → ((within : ℕ) → list_any is_lf (after within) ≡ false) → list_any is_lf (parts_by text byte after o) ≡ false
   none_by text byte after None off none = ap (λ b. b || list_any is_lf (after 0)) off ∙ none 0
@@ -57,7 +57,7 @@ module _ (begins : List ℕ → Option PlaceUrl) where
       (or_parts (byte == 10) (has_line_end bytes) none).0
       (λ within. none_from text bytes (suc start) within (or_parts (byte == 10) (has_line_end bytes) none).1)
 
-module _ {M : Type 0} (begins : List ℕ → Option PlaceUrl) (Finds : M → (url : List ℕ) → M → Type 0)
+module _ {M : Type 0} (begins : List ℕ → List ℕ → Option PlaceUrl) (Finds : M → (url : List ℕ) → M → Type 0)
     (under : M → (url : List ℕ) → Option MapRecord) (old : M) where
   -- ---- the beginning, and bytes that are read
 
@@ -99,25 +99,35 @@ module _ {M : Type 0} (begins : List ℕ → Option PlaceUrl) (Finds : M → (ur
 
     -- ---- what the window shows
 
-    known_at : (start : ℕ) → now.from ≤ start → (front ≡ []) ⊎ (35 ≤ start)
-    known_at start least = ⊎_elim (λ (none : front ≡ []). inl none) (λ (many : 35 ≤ now.from). inr (omega (arith, many, least))) is.known
+    known_from : (start : ℕ) → now.from ≤ start → (front ≡ []) ⊎ ((0 < now.from) × KnownWithin begins now.from)
+        → (front ≡ []) ⊎ ((0 < start) × KnownWithin begins start)
+    known_from start least (inl none) = inl none
+    known_from start least (inr known) = inr (omega (arith, known.0, least), known_further begins now.from start least known.1)
+
+    known_at : (start : ℕ) → now.from ≤ start → (front ≡ []) ⊎ ((0 < start) × KnownWithin begins start)
+    known_at start least = known_from start least is.known
+
+    enough_at : (start : ℕ) → (front ≡ []) ⊎ ((0 < start) × KnownWithin begins start) → (front ≡ []) ⊎ KnownWithin begins start
+    enough_at start (inl none) = inl none
+    enough_at start (inr known) = inr known.1
 
     pub through_shows : (reach high : ℕ) → EndsAtLines begins → DecidedWithin begins reach → high ≤ length now.window →
         ((start : ℕ) → now.from ≤ start → start < high → (start + reach ≤ length now.window) ⊎ (has_line_end (drop start now.window) ≡ true)) →
         (later : List ℕ) → Shows begins front now.window later now.from high
     through_shows reach high ends reaches within decided later start least below =
-        window_shows begins front now.window later start (omega (arith, below, within)) (known_at start least)
+        window_shows begins front now.window later start (omega (arith, below, within)) (enough_at start (known_at start least))
         (⊎_elim
         (λ (long : start + reach ≤ length now.window).
-        reaches (drop start now.window) later (omega (arith, long, length-drop start now.window)))
-        (λ (has : has_line_end (drop start now.window) ≡ true). line_on begins ends (drop start now.window) later has)
+        reaches (reverse (take start now.window)) (drop start now.window) later (omega (arith, long, length-drop start now.window)))
+        (λ (has : has_line_end (drop start now.window) ≡ true).
+        line_on begins ends (reverse (take start now.window)) (drop start now.window) later has)
         (decided start least below))
 
     -- all of it, where nothing is still to come
     pub through_shows_all : Shows begins front now.window [] now.from (length now.window)
     through_shows_all start least below =
-        window_shows begins front now.window [] start (omega (arith, below)) (known_at start least)
-        (ap begins (append-nil (drop start now.window)))
+        window_shows begins front now.window [] start (omega (arith, below)) (enough_at start (known_at start least))
+        (ap (begins (reverse (take start now.window))) (append-nil (drop start now.window)))
 
     -- ---- more of it is passed
 
@@ -182,7 +192,7 @@ module _ {M : Type 0} (begins : List ℕ → Option PlaceUrl) (Finds : M → (ur
 
     -- ---- the bytes that nothing hangs on any more are let go
 
-    pub through_cut : (count : ℕ) → count ≡ now.from - 35 → IsThrough begins Finds under old before (front ++ take count now.window) (record {
+    pub through_cut : (kept count : ℕ) → 0 < kept → KnownWithin begins kept → count ≡ now.from - kept → IsThrough begins Finds under old before (front ++ take count now.window) (record {
       window = drop count now.window;
       from = now.from - count;
       maps = now.maps;
@@ -190,7 +200,7 @@ module _ {M : Type 0} (begins : List ℕ → Option PlaceUrl) (Finds : M → (ur
       mapped = now.mapped;
       taken = now.taken;
     })
-    through_cut count count_is =
+    through_cut kept count some known count_is =
         let size : length (front ++ take count now.window) ≡ length front + count =
         length-append front (take count now.window) ∙ ap (λ n. length front + n) (length-take-le count now.window (omega (arith, count_is, is.within))) in
         let at : length (front ++ take count now.window) + (now.from - count) ≡ length front + now.from = omega (arith, size, count_is) in
@@ -198,7 +208,7 @@ module _ {M : Type 0} (begins : List ℕ → Option PlaceUrl) (Finds : M → (ur
           parts = is.parts;
           text = is.text;
           within = omega (arith, is.within, length-drop count now.window);
-          known = known_then (cases_lt now.from 35);
+          known = known_then is.known (cases_lt now.from kept);
           cut = λ later.
               let same : (front ++ take count now.window) ++ (drop count now.window ++ later) ≡ front ++ (now.window ++ later) =
               append_assoc front (take count now.window) (drop count now.window ++ later)
@@ -212,14 +222,15 @@ module _ {M : Type 0} (begins : List ℕ → Option PlaceUrl) (Finds : M → (ur
           few_mapped = omega (arith, is.few_mapped, at);
         }
       where
-        known_then : (now.from < 35) ⊎ (35 ≤ now.from) → (front ++ take count now.window ≡ []) ⊎ (35 ≤ now.from - count)
-        known_then (inl few) =
-            let zero_is : count ≡ 0 = omega (arith, count_is, few) in
-            ⊎_elim
-            (λ (none : front ≡ []). inl (ap (λ n. front ++ take n now.window) zero_is ∙ append-nil front ∙ none))
-            (λ (many : 35 ≤ now.from). absurd (omega (arith, many, few)))
-            is.known
-        known_then (inr many) = inr (omega (arith, many, count_is))
+        known_then : (front ≡ []) ⊎ ((0 < now.from) × KnownWithin begins now.from) → (now.from < kept) ⊎ (kept ≤ now.from)
+            → (front ++ take count now.window ≡ []) ⊎ ((0 < now.from - count) × KnownWithin begins (now.from - count))
+        known_then known_now (inr many) =
+            let same : kept ≡ now.from - count = omega (arith, many, count_is) in inr (omega (arith, same, some), subst (KnownWithin begins) same known)
+        known_then (inl none) (inl few) =
+            let zero_is : count ≡ 0 = omega (arith, count_is, few) in inl (ap (λ n. front ++ take n now.window) zero_is ∙ append-nil front ∙ none)
+        known_then (inr known_now) (inl few) =
+            let same : now.from ≡ now.from - count = omega (arith, count_is, few) in
+            inr (omega (arith, same, known_now.0), subst (KnownWithin begins) same known_now.1)
 
     -- ---- a call fails
 
@@ -295,7 +306,7 @@ module _ {M : Type 0} (begins : List ℕ → Option PlaceUrl) (Finds : M → (ur
         go : (window : List ℕ) → now.window ≡ window → has_open_line (front ++ now.window) ≡ has_open_line now.window
         go [] empty = ⊎_elim
             (λ (none : front ≡ []). ap (λ l. has_open_line (l ++ now.window)) none)
-            (λ (many : 35 ≤ now.from). absurd (omega (arith, many, is.within, ap length empty)))
+            (λ (many : (0 < now.from) × KnownWithin begins now.from). absurd (omega (arith, many.0, is.within, ap length empty)))
             is.known
         go (byte ∷ window) some = open_later front now.window (omega (arith, ap length some))
 

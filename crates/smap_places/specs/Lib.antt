@@ -5,6 +5,7 @@ pub mod PlacesNear
 pub mod PlacesOver
 pub mod PlacesBeside
 pub mod Candidates
+pub mod PatternUrl
 pub mod PlaceAt
 pub mod PlacesRewritten
 pub mod PlacesRewriting

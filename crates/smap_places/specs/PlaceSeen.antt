@@ -19,7 +19,7 @@ abbrev pub HasMap : List (List ℕ × MapRecord) → FoundPlace → Type 0
 HasMap table place = option_map (λ file. file.now.stated) place.map ≡ value_under place.url.now table
 
 -- it is the first of a text's places that begin at byte `from` or after it
-pub record IsNext (begins : List ℕ → Option PlaceUrl) (text : List ℕ) (from : ℕ) (place : FoundPlace) : Type 0 where
+pub record IsNext (begins : List ℕ → List ℕ → Option PlaceUrl) (text : List ℕ) (from : ℕ) (place : FoundPlace) : Type 0 where
   pub after : from ≤ place.start
   pub some : place.start < place.end
   pub within : place.end ≤ length text
@@ -27,9 +27,9 @@ pub record IsNext (begins : List ℕ → Option PlaceUrl) (text : List ℕ) (fro
   pub first : (start : ℕ) → from ≤ start → start < place.start → begun_at begins text start ≡ None
 
 -- no place begins there
-abbrev pub NoNext : (begins : List ℕ → Option PlaceUrl) → (text : List ℕ) → (from : ℕ) → Type 0
+abbrev pub NoNext : (begins : List ℕ → List ℕ → Option PlaceUrl) → (text : List ℕ) → (from : ℕ) → Type 0
 NoNext begins text from = (start : ℕ) → from ≤ start → begun_at begins text start ≡ None
 
 -- no place begins from one byte on and before another
-abbrev pub NoneBetween : (begins : List ℕ → Option PlaceUrl) → (text : List ℕ) → (low high : ℕ) → Type 0
+abbrev pub NoneBetween : (begins : List ℕ → List ℕ → Option PlaceUrl) → (text : List ℕ) → (low high : ℕ) → Type 0
 NoneBetween begins text low high = (start : ℕ) → low ≤ start → start < high → begun_at begins text start ≡ None

@@ -69,9 +69,13 @@ may_follow (byte ∷ bytes) = not (is_word byte) || byte == 109 && begins_colour
 abbrev pub may_begin : (text : List ℕ) → (start : ℕ) → Bool
 may_begin text start = may_follow (reverse (take start text))
 
--- the place that begins at this byte of a text, but for those before it, where `begins` says which one begins a text
-unfoldable pub begun_at : (begins : List ℕ → Option PlaceUrl) → (text : List ℕ) → (start : ℕ) → Option PlaceUrl
-begun_at begins text start = if may_begin text start then begins (drop start text) else None
+-- the place that begins a text, where one may begin behind what stands before it, the last byte first
+unfoldable pub following : (begins : List ℕ → Option PlaceUrl) → (before text : List ℕ) → Option PlaceUrl
+following begins before text = if may_follow before then begins text else None
+
+-- the place that begins at this byte of a text, but for those before it, where `begins` says which one begins a text behind others
+unfoldable pub begun_at : (begins : List ℕ → List ℕ → Option PlaceUrl) → (text : List ℕ) → (start : ℕ) → Option PlaceUrl
+begun_at begins text start = begins (reverse (take start text)) (drop start text)
 
 -- a byte of a text that belongs to no place, or a place with its bytes
 pub data Part : Type 0 where
@@ -84,12 +88,12 @@ parts_by text byte after None = other byte ∷ after 0
 parts_by text byte after (Some place) = found place (take place.size text) ∷ after (place.size - 1)
 
 -- the parts of the bytes of a text that stand from `start` on, of which the first so many belong to a place before them
-abbrev pub parts_from : (begins : List ℕ → Option PlaceUrl) → (text : List ℕ) → (start within : ℕ) → (rest : List ℕ) → List Part
+abbrev pub parts_from : (begins : List ℕ → List ℕ → Option PlaceUrl) → (text : List ℕ) → (start within : ℕ) → (rest : List ℕ) → List Part
 parts_from begins text start within [] = []
 parts_from begins text start (suc within) (byte ∷ rest) = parts_from begins text (suc start) within rest
 parts_from begins text start zero (byte ∷ rest) =
     parts_by (byte ∷ rest) byte (λ within. parts_from begins text (suc start) within rest) (begun_at begins text start)
 
 -- a text, cut into its places and the bytes between them
-unfoldable pub parts_of : (begins : List ℕ → Option PlaceUrl) → (text : List ℕ) → List Part
+unfoldable pub parts_of : (begins : List ℕ → List ℕ → Option PlaceUrl) → (text : List ℕ) → List Part
 parts_of begins text = parts_from begins text 0 0 text

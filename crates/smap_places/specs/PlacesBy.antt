@@ -13,7 +13,7 @@ use Rattle.smap_places.specs.PlacesRewritten.{is_place, is_replaced, parts_text}
 
 -- all that the input had, which is at most so many bytes, was read, and what its parts become over the maps was written,
 -- and nothing else; and its lines, its places and those that are replaced were counted
-pub record RewritesPlacesBy (maps : List ℕ → Option MapRecord) (begins : List ℕ → Option PlaceUrl) (most_bytes : ℕ) (before after : DevicesSeen)
+pub record RewritesPlacesBy (maps : List ℕ → Option MapRecord) (begins : List ℕ → List ℕ → Option PlaceUrl) (most_bytes : ℕ) (before after : DevicesSeen)
     (summary : Summary) : Type 0 where
   pub bytes : List ℕ
   pub read : Gives before.input.left after.input.left bytes

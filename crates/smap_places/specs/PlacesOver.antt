@@ -40,7 +40,7 @@ PartStep Finds under old (found place bytes) new = PlaceStep Finds under old pla
 -- all that the input had, which is at most so many bytes, was read, and what its parts became one after another was written,
 -- and nothing else
 pub record RewritesPlacesOver {M : Type 0} (Finds : M → (url : List ℕ) → M → Type 0) (under : M → (url : List ℕ) → Option MapRecord)
-    (begins : List ℕ → Option PlaceUrl) (most_bytes : ℕ) (before after : DevicesSeen) (old new : M) (summary : Summary) : Type 0 where
+    (begins : List ℕ → List ℕ → Option PlaceUrl) (most_bytes : ℕ) (before after : DevicesSeen) (old new : M) (summary : Summary) : Type 0 where
   pub bytes : List ℕ
   pub last : PlacesNow M
   pub read : Gives before.input.left after.input.left bytes
@@ -65,7 +65,7 @@ MayBecome Allows (part ∷ parts) text = (first : List ℕ) × (rest : List ℕ)
 
 -- these bytes were read, and a front of a text that they may become was written; they are more than so many where that is
 -- the fault, and only there; where a read failed, all of a text that their whole lines may become
-pub record RewritesPlacesFrontOver (Allows : (url : List ℕ) → Option MapRecord → Type 0) (begins : List ℕ → Option PlaceUrl) (most_bytes : ℕ)
+pub record RewritesPlacesFrontOver (Allows : (url : List ℕ) → Option MapRecord → Type 0) (begins : List ℕ → List ℕ → Option PlaceUrl) (most_bytes : ℕ)
     (before after : DevicesSeen) (fault : LineFault) : Type 0 where
   pub bytes : List ℕ
   pub written : List ℕ

@@ -2,6 +2,9 @@
 ghost use Rattle.std.specs.Prelude.{◌≡◌, ◌≤◌, length, reverse};
 ghost use Rattle.smap_places.specs.Places.{begins_colour, is_escape, is_parameter, is_word, may_begin};
 
+/// How many bytes decide at most whether an `m` ends a colour.
+pub const MOST_COLOUR: usize = 34;
+
 /// Whether a place may begin at a byte of a text, of which that byte and those after it are not asked.
 #[tactic(auto, unfolding(crate::specs::Places::may_follow))]
 pub fn may_begin(text: &[u8], start: usize) -> bool
@@ -14,9 +17,9 @@ pub fn may_begin(text: &[u8], start: usize) -> bool
     }
 }
 
-// Whether a text ends in ESC, `[` and the parameters of a colour, which are at most 32 bytes.
+/// Whether a text ends in ESC, `[` and the parameters of a colour, which are at most 32 bytes.
 #[tactic(auto, unfolding(crate::specs::Places::begins_colour))]
-fn ends_colour(text: &[u8]) -> bool
+pub fn ends_colour(text: &[u8]) -> bool
     ensures { result ≡ begins_colour 33 (reverse text.now) }
 {
     let mut rest = text;

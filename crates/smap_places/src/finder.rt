@@ -1,17 +1,18 @@
 //! The places in a text.
 ghost use Rattle.std.specs.Prelude.{◌≡◌, ◌<◌, ◌≤◌, ◌+◌, ℕ, IfOk, IfSome, IsSomeAnd, MatchOption, None, drop, is_some, length};
-ghost use Rattle.std.specs.Prelude.{max, option_map};
+ghost use Rattle.std.specs.Prelude.{max, option_map, true};
 ghost use Rattle.smap_lines.specs.Lines.{has_line_end};
-ghost use Rattle.smap_places.specs.Candidates.{has_named, has_prefix, named_bytes, own_bytes, place_of_bytes, prefix_bytes, run_end};
+ghost use Rattle.smap_places.specs.Candidates.{candidate_at, has_named, has_prefix, named_bytes, own_bytes, place_of_bytes, prefix_bytes, run_end};
 ghost use Rattle.smap_places.specs.Places.{numbers_after};
-ghost use Rattle.smap_places.specs.PlaceAt.{is_named, is_prefix, place_at};
+ghost use Rattle.smap_places.specs.PlaceAt.{exact_at, is_named, is_prefix, place_at};
 ghost use Rattle.smap_places.specs.PlaceSeen.{HasMap, IsNext, NoNext, NoneBetween, place_seen};
-ghost use Rattle.smap_places.specs.PlacesNear.{DecidedWithin, EndsAtLines};
+ghost use Rattle.smap_places.specs.PlacesNear.{DecidedWithin, EndsAtLines, KnownWithin};
 ghost use Rattle.smap_places.specs.Private.Finder.{HasOwnMap, IsBarred, IsLongest, IsOpen, IsUnqueried};
 
-use crate::begins::may_begin;
+use crate::begins::{MOST_COLOUR, may_begin};
 use crate::lengths::Lengths;
 use crate::numbers::{MOST_NUMBERS, find_numbers, numbers_after};
+use crate::pattern_url::url_start;
 use crate::place::{FoundPlace, FoundUrl};
 use crate::runs::{MOST_RUN, barred_end, has_query_between, query_length, run_length};
 use memchr::memchr;
@@ -22,8 +23,9 @@ use std::alloc::{AllocError, Global};
 use std::marker::Model;
 
 /// Finds the places of a text whose URLs have a map in a table or a file that is named for them, also where a query or a
-/// fragment follows, or stand behind the prefix of a folder. Of two URLs that begin at one byte the longer is taken. The map of a URL that the table has comes with the
-/// place; which maps those of files and folders have is not its matter.
+/// fragment follows, or stand behind the prefix of a folder; and, where no such place begins before its numbers, those whose URLs a
+/// pattern has. Of two URLs that begin at one byte the longer is taken. The map of a URL that the table has comes with the
+/// place; which maps those of files, folders and patterns have is not its matter.
 #[derive(Drop)]
 pub struct PlaceFinder<'t> {
     table: &'t Table,
@@ -80,7 +82,25 @@ impl<'t> PlaceFinder<'t> {
         ensures reaches { IfSome result (DecidedWithin (place_at self.now)) }
         ensures some { IfSome result (λ reach. 0 < reach) }
     {
-        self.longest?.checked_add(MOST_NUMBERS + 1)
+        let bytes = self.longest?.checked_add(MOST_NUMBERS + 1)?;
+        if self.locations.has_patterns() {
+            bytes.checked_add(MOST_RUN)
+        } else {
+            Some(bytes)
+        }
+    }
+
+    /// How many bytes before the beginning of a place decide which it is, at most.
+    pub(crate) fn kept(&self) -> usize
+        ensures kept { KnownWithin (place_at self.now) result }
+        ensures some { 0 < result }
+        ensures few { result ≤ 2082 }
+    {
+        if self.locations.has_patterns() {
+            MOST_RUN + MOST_COLOUR
+        } else {
+            MOST_COLOUR + 1
+        }
     }
 
     /// The first place of a text that begins at byte `from` or after it. What stands before `from` is asked only for
@@ -106,6 +126,102 @@ impl<'t> PlaceFinder<'t> {
         requires high { high ≤ length text.now }
         ensures { MatchOption result (NoneBetween (place_at self.now) text.now from high)
             (λ place. IsNext (place_at self.now) text.now from place × (place.start < high) ×
+            HasMap self.now.table place) }
+    {
+        if self.locations.has_patterns() {
+            self.next_of_all(text, from, high)
+        } else {
+            self.next_exact(text, from, high)
+        }
+    }
+
+    // The same where there are patterns.
+    fn next_of_all<'l>(
+        &self,
+        text: &'l [u8],
+        from: usize,
+        high: usize,
+    ) -> Option<FoundPlace<'l, 't>>
+        requires from { from ≤ length text.now }
+        requires high { high ≤ length text.now }
+        ensures { MatchOption result (NoneBetween (place_at self.now) text.now from high)
+            (λ place. IsNext (place_at self.now) text.now from place × (place.start < high) ×
+            HasMap self.now.table place) }
+    {
+        let mut start = from;
+        while start < high {
+            let numbers = find_numbers(text, start + 1)?;
+            if let Some(place) = self.next_at(text, start, numbers) {
+                return if place.start < high {
+                    Some(place)
+                } else {
+                    None
+                };
+            }
+            start = numbers;
+        }
+        None
+    }
+
+    // The first place that begins at byte `from` or after it, and before these numbers, which are the first that stand after it.
+    fn next_at<'l>(&self, text: &'l [u8], from: usize, numbers: usize) -> Option<FoundPlace<'l, 't>>
+        requires from { from < numbers }
+        requires numbers { numbers < length text.now }
+        requires some { is_some (numbers_after (drop numbers text.now)) ≡ true }
+        requires none { (i : ℕ) → from < i → i < numbers → numbers_after (drop i text.now) ≡ None }
+        ensures { MatchOption result (NoneBetween (place_at self.now) text.now from numbers)
+            (λ place. IsNext (place_at self.now) text.now from place × (place.start < numbers) ×
+            HasMap self.now.table place) }
+    {
+        match self.next_exact(text, from, numbers) {
+            Some(place) => Some(place),
+            None => self.place_of_pattern(text, from, numbers),
+        }
+    }
+
+    // The place with the URL of a pattern that ends at these numbers, where it begins at byte `from` or after it. No place with
+    // another URL begins there before the numbers.
+    fn place_of_pattern<'l>(
+        &self,
+        text: &'l [u8],
+        from: usize,
+        numbers: usize,
+    ) -> Option<FoundPlace<'l, 't>>
+        requires from { from < numbers }
+        requires numbers { numbers < length text.now }
+        requires some { is_some (numbers_after (drop numbers text.now)) ≡ true }
+        requires none { (i : ℕ) → from < i → i < numbers → numbers_after (drop i text.now) ≡ None }
+        requires free { NoneBetween (exact_at self.now) text.now from numbers }
+        ensures { MatchOption result (NoneBetween (place_at self.now) text.now from numbers)
+            (λ place. IsNext (place_at self.now) text.now from place × (place.start < numbers) ×
+            HasMap self.now.table place) }
+    {
+        let start = url_start(text, numbers);
+        if start < from {
+            return None;
+        }
+        if numbers <= start {
+            return None;
+        }
+        let url = &text[start..numbers];
+        if !self.locations.has_pattern_in_text(url) {
+            return None;
+        }
+        let found = FoundUrl {
+            bytes: numbers - start,
+            end: numbers - start,
+            map: self.table.map_for(url),
+        };
+        self.place_with(text, start, found)
+    }
+
+    // The first place of a text with a URL that is named or behind a prefix that begins at byte `from` or after it, and before
+    // byte `high`.
+    fn next_exact<'l>(&self, text: &'l [u8], from: usize, high: usize) -> Option<FoundPlace<'l, 't>>
+        requires from { from ≤ length text.now }
+        requires high { high ≤ length text.now }
+        ensures { MatchOption result (NoneBetween (exact_at self.now) text.now from high)
+            (λ place. IsNext (exact_at self.now) text.now from place × (place.start < high) ×
             HasMap self.now.table place) }
     {
         let mut start = from;
@@ -165,8 +281,8 @@ impl<'t> PlaceFinder<'t> {
     ) -> Option<FoundPlace<'l, 't>>
         requires high { high ≤ length line.now }
         requires barred { IsBarred line.now low barred }
-        ensures { MatchOption result (NoneBetween (place_at self.now) line.now low high)
-            (λ place. IsNext (place_at self.now) line.now low place × (place.start < high) ×
+        ensures { MatchOption result (NoneBetween (exact_at self.now) line.now low high)
+            (λ place. IsNext (exact_at self.now) line.now low place × (place.start < high) ×
             HasMap self.now.table place) }
     {
         for start in low..high {
@@ -189,7 +305,8 @@ impl<'t> PlaceFinder<'t> {
     ) -> Option<FoundPlace<'l, 't>>
         requires start { start ≤ length line.now }
         requires barred { IsBarred line.now start barred }
-        ensures place { option_map place_seen result ≡ place_at self.now (drop start line.now) }
+        ensures place { option_map place_seen result
+            ≡ candidate_at (is_named self.now) (is_prefix self.now) (drop start line.now) }
         ensures here { IfSome result (λ place.
             (place.start ≡ start) × (start < place.end) × (place.end ≤ length line.now)) }
         ensures map { IfSome result (HasMap self.now.table) }

@@ -16,6 +16,7 @@ pub mod laws;
 mod lengths;
 mod line_ends;
 mod numbers;
+mod pattern_url;
 mod place;
 mod place_rewriter;
 mod replacement;

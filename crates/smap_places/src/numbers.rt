@@ -1,5 +1,5 @@
 //! The numbers of a place.
-ghost use Rattle.std.specs.Prelude.{◌≡◌, ◌<◌, ◌≤◌, ℕ, IfSome, IsNone, Some, None, is_some, length, drop};
+ghost use Rattle.std.specs.Prelude.{◌≡◌, ◌<◌, ◌≤◌, ℕ, IfSome, IsNone, Some, None, is_some, length, drop, true};
 ghost use Rattle.smap_places.specs.Places.{number_after, numbers_after};
 
 use memchr::memchr;
@@ -23,6 +23,7 @@ pub fn numbers_after(text: &[u8]) -> Option<(u32, u32, usize)>
 pub fn find_numbers(line: &[u8], from: usize) -> Option<usize>
     requires { from ≤ length line.now }
     ensures low { IfSome result (λ place. (from ≤ place) × (place < length line.now)) }
+    ensures some { IfSome result (λ place. is_some (numbers_after (drop place line.now)) ≡ true) }
     ensures first { IfSome result (λ place. (i : ℕ) → from ≤ i → i < place →
         numbers_after (drop i line.now) ≡ None) }
     ensures none { IsNone result → (i : ℕ) → from ≤ i → numbers_after (drop i line.now) ≡ None }

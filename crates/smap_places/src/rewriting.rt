@@ -4,7 +4,7 @@ ghost use Rattle.smap_lines.specs.Editing.{devices_seen, is_read_fault, is_write
 ghost use Rattle.smap_lines.specs.declared.fault.LineFault.TheVariants.{Memory};
 ghost use Rattle.smap_places.specs.PlaceAt.{place_at};
 ghost use Rattle.smap_places.specs.PlacesBeside.{FindsBeside, GivesBeside, found_beside};
-ghost use Rattle.smap_places.specs.PlacesNear.{DecidedWithin, EndsAtLines};
+ghost use Rattle.smap_places.specs.PlacesNear.{DecidedWithin, EndsAtLines, KnownWithin};
 ghost use Rattle.smap_places.specs.PlacesOver.{RewritesPlacesFrontOver, RewritesPlacesOver};
 ghost use Rattle.smap_places.specs.PlacesRewriting.{RewritesPlaces, RewritesPlacesFront};
 ghost use Rattle.smap_trace.specs.Rewriting.{Looked};
@@ -18,9 +18,6 @@ use smap_lines::{Gathered, LineOutput};
 use smap_locations::Locations;
 use smap_trace::{Maps, RewriteFault, Summary, Table, TableMaps};
 use std::alloc::Global;
-
-// How many bytes before a place decide whether it may begin, at most: those of a colour.
-const KNOWN_BYTES: usize = 35;
 
 // How many bytes are read at once, at least.
 const READ_BYTES: usize = 8192;
@@ -94,7 +91,7 @@ pub fn rewrite_places_over<R: ByteSource, W: ByteSink, M: Maps>(
     ensures memory_output { IfErr result (λ fault. fault ≡ Memory → output.new ≡ output.old) }
     ensures memory_maps { IfErr result (λ fault. fault ≡ Memory → maps.new ≡ maps.old) }
 {
-    let Some((reach, size)) = room_of(finder) else {
+    let Some((reach, kept, size)) = room_of(finder) else {
         return Err(RewriteFault::Memory);
     };
     let (Ok(mut window), Ok(mut gathered)) = (Window::new(alloc, size), Gathered::new(alloc)) else {
@@ -136,21 +133,24 @@ pub fn rewrite_places_over<R: ByteSource, W: ByteSink, M: Maps>(
                 hidden: 0,
             });
         }
-        let cut = to.saturating_sub(KNOWN_BYTES);
+        let cut = to.saturating_sub(kept);
         window.cut(cut);
         from = to - cut;
     }
 }
 
-// How many bytes decide which place begins at one, and how many the window has room for: these, those before it that decide
-// whether it may begin, and those that are read.
-fn room_of(finder: &PlaceFinder<'_>) -> Option<(usize, usize)>
+// How many bytes decide which place begins at one, of those behind it and of those before it; and how many the window has room
+// for: both, and those that are read.
+fn room_of(finder: &PlaceFinder<'_>) -> Option<(usize, usize, usize)>
     ensures ends { EndsAtLines (place_at finder.now) }
     ensures reach { IfSome result (λ rooms. DecidedWithin (place_at finder.now) rooms.0) }
     ensures some { IfSome result (λ rooms. 0 < rooms.0) }
-    ensures size { IfSome result (λ rooms. rooms.0 + 35 < rooms.1) }
+    ensures kept { IfSome result (λ rooms. KnownWithin (place_at finder.now) rooms.1) }
+    ensures kept_some { IfSome result (λ rooms. 0 < rooms.1) }
+    ensures size { IfSome result (λ rooms. rooms.0 + rooms.1 < rooms.2) }
 {
     let reach = finder.reach()?;
-    let size = reach.checked_add(KNOWN_BYTES + READ_BYTES)?;
-    Some((reach, size))
+    let kept = finder.kept();
+    let size = reach.checked_add(kept + READ_BYTES)?;
+    Some((reach, kept, size))
 }

@@ -5,3 +5,6 @@ pub mod NumberLaws
 pub mod FrameLaws
 pub mod CountLaws
 pub mod Examples
+pub mod NotesLaws
+pub mod NoteSteps
+pub mod NotingLaws

@@ -3,3 +3,5 @@ pub mod Seen
 pub mod MapsOf
 pub mod Looked
 pub mod Rewriter
+pub mod NotingRewriter
+pub mod Noted

@@ -7,6 +7,9 @@ pub mod Hiding
 pub mod Rewritten
 pub mod Rewriting
 pub mod SightSeen
+pub mod UrlNotes
+pub mod NotesSeen
+pub mod Noted
 pub mod MapsOf
 pub mod Codes
 pub mod Private

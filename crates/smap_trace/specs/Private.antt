@@ -1,3 +1,5 @@
 -- What contracts of private functions alone cite.
 pub mod LocationSeen
 pub mod FrameRewriter
+pub mod Noting
+pub mod NotingRewriter

@@ -1,15 +1,19 @@
 //! Rewriting a trace.
-ghost use Rattle.std.specs.Prelude.{◌≡◌, ◌<◌, ◌^◌, false, IfErr, IfOk};
+ghost use Rattle.std.specs.Prelude.{◌≡◌, ◌<◌, ◌+◌, ◌^◌, [], false, true, IfErr, IfOk};
 ghost use Rattle.smap_lines.specs.Editing.{devices_seen, is_read_fault, is_write_fault};
 ghost use Rattle.smap_lines.specs.declared.fault.LineFault.TheVariants.{Memory};
 ghost use Rattle.smap_trace.specs.Hiding.{hiding_seen};
+ghost use Rattle.smap_trace.specs.Noted.{RewritesNoted};
+ghost use Rattle.smap_trace.specs.NotesSeen.{notes_seen};
 ghost use Rattle.smap_trace.specs.Rewriting.{Looked, Rewrites, RewritesFront, RewritesFrontOver, RewritesOver};
 
 use crate::frame_rewriter::FrameRewriter;
 use crate::hiding::Hiding;
 use crate::maps::{Maps, TableMaps};
+use crate::noting_rewriter::NotingRewriter;
 use crate::outcome::{RewriteCounts, RewriteFault, Summary};
 use crate::table::Table;
+use crate::url_notes::UrlNotes;
 use smap_io::{ByteSink, ByteSource};
 use smap_lines::{LineCounts, MOST_TEXT_BYTES, edit_lines};
 use std::alloc::Global;
@@ -95,12 +99,82 @@ pub fn rewrite_over<R: ByteSource, W: ByteSink, M: Maps>(
         mapped: 0,
         hidden: 0,
     };
-    let LineCounts { lines, long } = edit_lines(alloc, input, output, &mut rewriter, most)?;
+    let lines = edit_lines(alloc, input, output, &mut rewriter, most)?;
+    Ok(counts_of(&lines, &rewriter))
+}
+
+/// The same, where it is noted too what became of the first 100 different URLs that frames name, if that is asked for. The
+/// caller gives notes without any.
+pub fn rewrite_noting<R: ByteSource, W: ByteSink, M: Maps>(
+    alloc: Global,
+    input: &mut R,
+    output: &mut W,
+    maps: &mut M,
+    options: RewriteOptions<'_>,
+    is_noted: bool,
+    notes: &mut UrlNotes,
+) -> Result<RewriteCounts, RewriteFault>
+    requires input_works { (R.seen input.old).failed ≡ false }
+    requires output_works { (W.seen output.old).failed ≡ false }
+    requires most { options.most < 2 ^ 63 }
+    requires unnoted { notes_seen notes.old ≡ record { notes = []; is_short = false } }
+    ensures rewrites { IfOk result (RewritesOver M.Finds M.found
+        (hiding_seen options.entry.hiding) options.entry.most
+        (devices_seen (R.seen input.old) (W.seen output.old))
+        (devices_seen (R.seen input.new) (W.seen output.new)) maps.old maps.new) }
+    ensures notes { is_noted ≡ true → IfOk result (λ counts. RewritesNoted M.Finds M.found
+        (hiding_seen options.entry.hiding) options.entry.most
+        (devices_seen (R.seen input.old) (W.seen output.old))
+        (devices_seen (R.seen input.new) (W.seen output.new)) maps.old maps.new counts
+        (notes_seen notes.new)) }
+    ensures front { IfErr result (RewritesFrontOver (M.Gives maps.old)
+        (hiding_seen options.entry.hiding) options.entry.most
+        (devices_seen (R.seen input.old) (W.seen output.old))
+        (devices_seen (R.seen input.new) (W.seen output.new))) }
+    ensures looked { Looked M.Finds maps.old maps.new }
+    ensures input_failure { (R.seen input.new).failed ≡ is_read_fault result }
+    ensures output_failure { (W.seen output.new).failed ≡ is_write_fault result }
+    ensures memory_input { IfErr result (λ fault. fault ≡ Memory → input.new ≡ input.old) }
+    ensures memory_output { IfErr result (λ fault. fault ≡ Memory → output.new ≡ output.old) }
+{
+    if !is_noted {
+        return rewrite_over(alloc, input, output, maps, options);
+    }
+    let RewriteOptions { hiding, most } = options;
+    let mut noting = NotingRewriter {
+        rewriter: FrameRewriter {
+            alloc,
+            maps,
+            hiding,
+            staying: 0,
+            mapped: 0,
+            hidden: 0,
+        },
+        notes,
+    };
+    let lines = edit_lines(alloc, input, output, &mut noting, most)?;
+    Ok(counts_of(&lines, &noting.rewriter))
+}
+
+// What was counted of lines, and of the frames among them.
+fn counts_of<M: Maps>(lines: &LineCounts, rewriter: &FrameRewriter<'_, '_, M>) -> RewriteCounts
+    requires { rewriter.now.staying + rewriter.now.mapped + rewriter.now.hidden < 2 ^ 64 }
+    ensures { result ≡ record {
+      summary = record {
+        lines = lines.now.lines;
+        frames = rewriter.now.staying + rewriter.now.mapped + rewriter.now.hidden;
+        mapped = rewriter.now.mapped;
+        hidden = rewriter.now.hidden;
+      };
+      long = lines.now.long;
+    } }
+{
+    let LineCounts { lines, long } = *lines;
     let summary = Summary {
         lines,
         frames: rewriter.staying + rewriter.mapped + rewriter.hidden,
         mapped: rewriter.mapped,
         hidden: rewriter.hidden,
     };
-    Ok(RewriteCounts { summary, long })
+    RewriteCounts { summary, long }
 }

@@ -88,7 +88,7 @@ module _ {M : Type 0} (Finds : M → (url : List ℕ) → M → Type 0) (under :
       )
 
   -- rewriting over maps to which no trouble came, where what they remembered at first was right
-  pub places_by : (begins : List ℕ → Option PlaceUrl) (most_bytes : ℕ) (before after : DevicesSeen) (old new : M) (summary : Summary)
+  pub places_by : (begins : List ℕ → List ℕ → Option PlaceUrl) (most_bytes : ℕ) (before after : DevicesSeen) (old new : M) (summary : Summary)
       → RewritesPlacesOver Finds under begins most_bytes before after old new summary → Good new → Kept old
       → RewritesPlacesBy maps begins most_bytes before after summary
   places_by begins most_bytes before after old new summary all good kept =

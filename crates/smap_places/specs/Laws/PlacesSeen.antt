@@ -47,7 +47,7 @@ module _ {M N : Type 0} (Finds : M → (url : List ℕ) → M → Type 0) (under
       let more = parts_go parts folds.0 new one.1 folds.2 in
       ((see_places folds.0, one.0, more.0), more.1)
 
-  pub places_seen : (begins : List ℕ → Option PlaceUrl) (most : ℕ) (before after : DevicesSeen) (old new : M) (summary : Summary) → Is old
+  pub places_seen : (begins : List ℕ → List ℕ → Option PlaceUrl) (most : ℕ) (before after : DevicesSeen) (old new : M) (summary : Summary) → Is old
       → RewritesPlacesOver Finds under begins most before after old new summary
       → RewritesPlacesOver Seen under_seen begins most before after (see old) (see new) summary
   places_seen begins most before after old new summary is_old is = record {
@@ -72,7 +72,7 @@ module _ (Gives More : (url : List ℕ) → Option MapRecord → Type 0) (gives 
   parts_more [] text may = may
   parts_more (part ∷ parts) text may = (may.0, may.1, part_more part may.0 may.2, parts_more parts may.1 may.3, may.4)
 
-  pub places_front_seen : (begins : List ℕ → Option PlaceUrl) (most : ℕ) (before after : DevicesSeen) (fault : LineFault)
+  pub places_front_seen : (begins : List ℕ → List ℕ → Option PlaceUrl) (most : ℕ) (before after : DevicesSeen) (fault : LineFault)
       → RewritesPlacesFrontOver Gives begins most before after fault → RewritesPlacesFrontOver More begins most before after fault
   places_front_seen begins most before after fault is = record {
     bytes = is.bytes;
@@ -92,7 +92,7 @@ gives_none None = refl
 gives_none (Some bytes) = refl
 
 -- where nothing was read
-pub front_of_none : (Allows : (url : List ℕ) → Option MapRecord → Type 0) (begins : List ℕ → Option PlaceUrl) (most : ℕ) (now : DevicesSeen)
+pub front_of_none : (Allows : (url : List ℕ) → Option MapRecord → Type 0) (begins : List ℕ → List ℕ → Option PlaceUrl) (most : ℕ) (now : DevicesSeen)
     → RewritesPlacesFrontOver Allows begins most now now Memory
 unfolding parts_of
 front_of_none Allows begins most now = record {

@@ -1,9 +1,10 @@
 -- Of private contracts only: a text on its way through a window.
-use Rattle.std.specs.Prelude.{◌≡◌, ◌≤◌, ◌+◌, ◌⊎◌, ℕ, List, [], ◌++◌, Option, length}
+use Rattle.std.specs.Prelude.{◌≡◌, ◌<◌, ◌≤◌, ◌+◌, ◌⊎◌, ℕ, List, [], ◌++◌, Option, length}
 use Rattle.std.specs.List.{FoldsTo}
 use Rattle.smap_io.specs.Device.{Takes}
 use Rattle.smap_record.specs.Record.{MapRecord}
 use Rattle.smap_places.specs.Places.{Part, PlaceUrl, parts_of}
+use Rattle.smap_places.specs.PlacesNear.{KnownWithin}
 use Rattle.smap_places.specs.PlacesOver.{PartStep, PlacesNow, places_start}
 use Rattle.smap_places.specs.Private.PlaceRewriter.{parts_at}
 
@@ -22,12 +23,12 @@ passage_now now text = record { maps = now.maps; text = text; places = now.place
 
 -- of a text whose first bytes these are, and then those of the window, all up to the next byte was rewritten and written,
 -- whatever is still to come
-pub record IsThrough {M : Type 0} (begins : List ℕ → Option PlaceUrl) (Finds : M → (url : List ℕ) → M → Type 0)
+pub record IsThrough {M : Type 0} (begins : List ℕ → List ℕ → Option PlaceUrl) (Finds : M → (url : List ℕ) → M → Type 0)
     (under : M → (url : List ℕ) → Option MapRecord) (old : M) (before : Option (List ℕ)) (front : List ℕ) (now : Passage M) : Type 0 where
   pub parts : List Part
   pub text : List ℕ
   pub within : now.from ≤ length now.window
-  pub known : (front ≡ []) ⊎ (35 ≤ now.from)
+  pub known : (front ≡ []) ⊎ ((0 < now.from) × KnownWithin begins now.from)
   pub cut : (later : List ℕ) → parts_of begins (front ++ (now.window ++ later))
       ≡ parts ++ parts_at begins (front ++ (now.window ++ later)) (length front + now.from)
   pub steps : FoldsTo (PartStep Finds under) (places_start old) parts (passage_now now text)

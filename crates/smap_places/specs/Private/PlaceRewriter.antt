@@ -9,17 +9,17 @@ use Rattle.smap_places.specs.PlacesOver.{MayBecome, PartStep, PlacesNow}
 use Rattle.smap_places.specs.declared.place_rewriter.PlaceRewriter.{PlaceRewriter}
 
 -- the parts of a text from a byte on
-abbrev pub parts_at : (begins : List ℕ → Option PlaceUrl) → (text : List ℕ) → (start : ℕ) → List Part
+abbrev pub parts_at : (begins : List ℕ → List ℕ → Option PlaceUrl) → (text : List ℕ) → (start : ℕ) → List Part
 parts_at begins text start = parts_from begins text start 0 (drop start text)
 
 -- the text is these bytes, a window and others behind it; and from one byte of the window on, before another, the places
 -- that begin in the text are those that begin in the window by itself
-abbrev pub Shows : (begins : List ℕ → Option PlaceUrl) → (before window later : List ℕ) → (from high : ℕ) → Type 0
+abbrev pub Shows : (begins : List ℕ → List ℕ → Option PlaceUrl) → (before window later : List ℕ) → (from high : ℕ) → Type 0
 Shows begins before window later from high = (start : ℕ) → from ≤ start → start < high →
     begun_at begins (before ++ (window ++ later)) (length before + start) ≡ begun_at begins window start
 
 -- from one byte of a window to another these are the parts of each text that it shows
-pub record IsPassed (begins : List ℕ → Option PlaceUrl) (window : List ℕ) (from high to : ℕ) (parts : List Part) : Type 0 where
+pub record IsPassed (begins : List ℕ → List ℕ → Option PlaceUrl) (window : List ℕ) (from high to : ℕ) (parts : List Part) : Type 0 where
   pub least : from ≤ to
   pub within : to ≤ length window
   pub passed : (before later : List ℕ) → Shows begins before window later from high → parts_at begins (before ++ (window ++ later)) (length before + from)
@@ -34,7 +34,7 @@ abbrev pub IsSameRewriter : {M : Type 0} → (old new : PlaceRewriter M) → Typ
 IsSameRewriter old new = (new.finder ≡ old.finder) × (new.maps.ghost_name ≡ old.maps.ghost_name)
 
 -- what became of these parts, one after another, was written behind what waited, and they were counted
-pub record Writes {M W : Type 0} (begins : List ℕ → Option PlaceUrl) (Finds : M → (url : List ℕ) → M → Type 0)
+pub record Writes {M W : Type 0} (begins : List ℕ → List ℕ → Option PlaceUrl) (Finds : M → (url : List ℕ) → M → Type 0)
     (under : M → (url : List ℕ) → Option MapRecord) (seen : W → SinkSeen) (old new : PlaceRewriter M) (before after : LineOutput W) (window : List ℕ)
     (from high to : ℕ) : Type 0 where
   pub parts : List Part
@@ -46,7 +46,7 @@ pub record Writes {M W : Type 0} (begins : List ℕ → Option PlaceUrl) (Finds 
   pub few_mapped : new.mapped + from ≤ old.mapped + to
 
 -- a write failed, and a front of what waited and of a text that such parts may become was written
-pub record FailsToWrite {W : Type 0} (begins : List ℕ → Option PlaceUrl) (Allows : (url : List ℕ) → Option MapRecord → Type 0) (seen : W → SinkSeen)
+pub record FailsToWrite {W : Type 0} (begins : List ℕ → List ℕ → Option PlaceUrl) (Allows : (url : List ℕ) → Option MapRecord → Type 0) (seen : W → SinkSeen)
     (before after : LineOutput W) (window : List ℕ) (from high : ℕ) : Type 0 where
   pub to : ℕ
   pub parts : List Part

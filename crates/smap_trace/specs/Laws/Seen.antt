@@ -29,7 +29,7 @@ module _ {M N : Type 0} (Finds : M → (url : List ℕ) → M → Type 0) (found
   looked_seen old new is looked = let all = urls_go looked.0 old new is looked.1 in ((looked.0, all.0), all.1)
 
   module _ (hide : HidingSeen) where
-    abbrev see_trace : TraceNow M → TraceNow N
+    abbrev pub see_trace : TraceNow M → TraceNow N
     see_trace now = record { maps = see now.maps; staying = now.staying; mapped = now.mapped; hidden = now.hidden }
 
     fate_goes : (old new : M) (parts : Option FrameParts) (met : Fate) → Is old → FateStep Finds found hide old parts met new
@@ -39,7 +39,7 @@ module _ {M N : Type 0} (Finds : M → (url : List ℕ) → M → Type 0) (found
         let one = finds old new parts.url is step.0 in
         ((one.0, step.1 ∙ ap (λ f. fate_at hide parts (original_in parts f)) (same new parts.url)), one.1)
 
-    step_goes : (old : TraceNow M) (line : Line) (text : List ℕ) (new : TraceNow M) → Is old.maps → TraceStep Finds found hide old line text new
+    pub step_goes : (old : TraceNow M) (line : Line) (text : List ℕ) (new : TraceNow M) → Is old.maps → TraceStep Finds found hide old line text new
         → TraceStep Seen found_seen hide (see_trace old) line text (see_trace new) × Is new.maps
     step_goes old line text new is step =
         let one = fate_goes old.maps new.maps (frame_of line.bytes) step.met is step.step in (

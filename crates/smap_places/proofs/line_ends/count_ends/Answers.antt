@@ -1,6 +1,6 @@
-use Rattle.std.proofs.Common.{◌≡◌, ◌+◌, ap, arith, count_by, drop, length-drop}
+use Rattle.std.proofs.Common.{◌+◌, arith, length-drop}
 use Rattle.std.proofs.lemmas.List.{take_rest}
-use Rattle.smap_places.proofs.CountLaws.{ends_first, ends_none, is_end}
+use Rattle.smap_places.proofs.CountLaws.{ends_first, ends_none}
 use Rattle.smap_places.proofs.line_ends.count_ends.Goals as goal
 
 pub loop-place-preserved : goal.loop-place-preserved

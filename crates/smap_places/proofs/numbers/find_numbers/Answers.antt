@@ -1,4 +1,4 @@
-use Rattle.std.proofs.Common.{ap, arith, length-drop, sym, ◌∙◌}
+use Rattle.std.proofs.Common.{ap, arith, is_some, length-drop, sym, ◌∙◌}
 use Rattle.std.proofs.lemmas.List.{take_rest}
 use Rattle.smap_places.specs.Places.{numbers_after}
 use Rattle.smap_places.proofs.NumberLaws.{none_further, none_left, none_of, none_to}
@@ -9,6 +9,10 @@ returns-then-is_some-clause-first c =
     let found = rw (take_rest c.args.line.now c.loop-further.place) at c.in-Some.ensures in
     none_further c.args.line.now c.args.from c.loop-further.place c.in-Some.further c.loop-further.invariant.none
     (λ i below. found.0.before i (omega arith) below)
+
+pub returns-then-is_some-clause-some : goal.returns-then-is_some-clause-some
+returns-then-is_some-clause-some c =
+    ap is_some (sym (c.numbers_after.ensures.numbers ∙ ap numbers_after (take_rest c.args.line.now _))) ∙ sym c.is_some.ensures ∙ c.if-is_some.true
 
 pub loop-further-preserved : goal.loop-further-preserved
 loop-further-preserved c =

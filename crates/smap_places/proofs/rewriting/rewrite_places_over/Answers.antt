@@ -1,4 +1,4 @@
-use Rattle.std.proofs.Common.{◌≡◌, ◌==◌, ◌+◌, ◌-◌, ℕ, Bool, true, false, List, [], ◌++◌, ap, arith, cond, count_by, drop, length, refl, rules, subst, take, ◌∙◌, length-drop}
+use Rattle.std.proofs.Common.{◌≡◌, ◌==◌, ◌+◌, ◌-◌, ℕ, false, List, [], ◌++◌, ap, arith, cond, count_by, drop, length, refl, rules, subst, take, ◌∙◌, length-drop}
 use Rattle.std.proofs.lemmas.Bool.{eq-eqb, eqb-true, false_from_ne_true}
 use Rattle.smap_io.specs.Device.{Takes}
 use Rattle.smap_trace.specs.Laws.Looked.{looked_both}
@@ -137,7 +137,7 @@ loop-count-preserved g c =
     c.write_places.new.self.places c.write_places.new.self.mapped _ writes.text writes.steps took
     (through_shows _ _ _ _ _ read.0 _ is c.in-Some.reach c.decided_end-high.result c.in-Some.ensures.ends c.in-Some.ensures.reach decided.within
     (decided.decided goes_on))
-    writes.few_places writes.few_mapped) cut c.saturating_sub-cut.ensures in
+    writes.few_places writes.few_mapped) c.in-Some.kept cut c.in-Some.ensures.kept_some c.in-Some.ensures.kept c.saturating_sub-cut.ensures in
     let same = cut_text read.0 now cut in
     let ends = ends_more read.0 c.loop-count.window.bytes more.more now window in
     let counted : c.count_ends.result ≡ count_by is_end more.more =

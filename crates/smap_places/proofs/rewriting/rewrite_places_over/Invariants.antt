@@ -25,7 +25,7 @@ invariant-loop-count g l = record {
   over : l.rewriter.finder.now ≡ l.finder;
   same : l.rewriter.maps.ghost_name ≡ l.initial.rewriter.maps.ghost_name;
   size : l.window.size ≡ l.size;
-  near : l.from ≤ 35;
+  near : l.from ≤ l.kept;
   few : length l.window.bytes < l.from + l.reach;
   whole : has_line_end (drop l.from l.window.bytes) ≡ false;
   none : l.gathered ≡ [];

@@ -7,16 +7,8 @@ use Rattle.smap_trace.specs.Rewriting.{TraceStep}
 use Rattle.smap_trace.proofs.CountLaws.{edits_add}
 use Rattle.smap_trace.proofs.rewriting.rewrite_over.Goals as goal
 
-pub overflow_add-summary : goal.overflow_add-summary
-overflow_add-summary g c =
-    let seen = edits_seen (RewriterSteps g.M.Maps.Finds g.M.Maps.found) (TraceStep g.M.Maps.Finds g.M.Maps.found (hiding_seen c.args.options.hiding))
-    trace_now (λ e. hiding_seen e.hiding ≡ hiding_seen c.args.options.hiding)
-    (step_seen g.M.Maps.Finds g.M.Maps.found (hiding_seen c.args.options.hiding)) _ _ _ _ _ _ refl c.in_ok-lines.ensures.edits in
-    let few = edits_add g.M.Maps.Finds g.M.Maps.found (hiding_seen c.args.options.hiding) _ _ _ _ _ _ seen.0 in
-    omega (arith, few, c.requires.most)
-
-pub overflow_add-summary-2 : goal.overflow_add-summary-2
-overflow_add-summary-2 g c =
+pub counts_of-requires : goal.counts_of-requires
+counts_of-requires g c =
     let seen = edits_seen (RewriterSteps g.M.Maps.Finds g.M.Maps.found) (TraceStep g.M.Maps.Finds g.M.Maps.found (hiding_seen c.args.options.hiding))
     trace_now (λ e. hiding_seen e.hiding ≡ hiding_seen c.args.options.hiding)
     (step_seen g.M.Maps.Finds g.M.Maps.found (hiding_seen c.args.options.hiding)) _ _ _ _ _ _ refl c.in_ok-lines.ensures.edits in
@@ -29,7 +21,7 @@ returns-clause-rewrites g c =
     trace_now (λ e. hiding_seen e.hiding ≡ hiding_seen c.args.options.hiding)
     (step_seen g.M.Maps.Finds g.M.Maps.found (hiding_seen c.args.options.hiding)) _ _ _ _ _ _ refl c.in_ok-lines.ensures.edits in
     let maps : c.maps-2-1.given.0 ≡ c.edit_lines.new.editor.maps.now = search rules in
-    rw maps (record {
+    rw (maps, c.counts_of.ensures) (record {
       last = trace_now c.edit_lines.new.editor;
       edits = seen.0;
       maps = refl;

@@ -1,4 +1,4 @@
-use Rattle.std.proofs.Common.{◌≡◌, ◌<◌, ◌≤◌, ◌⊎◌, true, length}
+use Rattle.std.proofs.Common.{◌≡◌, ◌≤◌, ◌⊎◌, true, length}
 use Rattle.smap_places.specs.Candidates.{has_named, run_end}
 use Rattle.smap_places.specs.PlaceAt.{is_named}
 use Rattle.smap_places.specs.Private.Finder.{HasOwnMap}

@@ -1,54 +1,19 @@
-use Rattle.std.proofs.Common.{◌<◌, arith, refl, subst}
-use Rattle.smap_places.specs.Private.Finder.{KnowsLengths}
-use Rattle.smap_places.specs.PlaceAt.{place_at}
-use Rattle.smap_places.proofs.BegunLaws.{next_from, none_joined}
-use Rattle.smap_places.proofs.FinderLaws.{none_behind, none_between, none_open}
+use Rattle.std.proofs.Common.{◌≡◌, [], MatchOption, None, Option, Some, subst, sym, ◌∙◌}
+use Rattle.smap_places.specs.PlaceAt.{MapsSeen, exact_at, place_at}
+use Rattle.smap_places.proofs.BegunLaws.{same_next}
+use Rattle.smap_places.proofs.PatternLaws.{exact_begun, no_patterns}
 use Rattle.smap_places.proofs.finder.PlaceFinder.next_before.Goals as goal
 
-pub returns-in_err-numbers : goal.returns-in_err-numbers
-returns-in_err-numbers c =
-    let begins = place_at c.args.self.now in
-    rw c.from_residual.ensures (λ i least below. none_joined begins c.args.text.now c.args.from c.loop-start.start c.args.high c.args.high
-    c.loop-start.invariant.none
-    (λ i late _ _. none_behind c.args.self.now c.args.text.now c.loop-start.start (c.in_err-numbers.ensures.none refl) i late) i least below below)
+weaker : {T : Type 0} (A B : Type 0) (P Q : T → Type 0) (o : Option T) → MatchOption o A P → (A → B) → ((x : T) → P x → Q x) → MatchOption o B Q
+weaker A B P Q None is none some = none is
+weaker A B P Q (Some x) is none some = some x is
 
-pub returns-in-Some : goal.returns-in-Some
-returns-in-Some c =
-    let begins = place_at c.args.self.now in
-    let known = subst (λ m. KnowsLengths c.self.inside.named c.self.inside.prefixes c.self.inside.longest m) c.self.view_is c.self.invariant in
-    let near = c.first_start-near.result in
-    let low = c.first_open-low.result in
-    let none_near = none_joined begins c.args.text.now c.args.from c.loop-start.start near c.args.high c.loop-start.invariant.none
-    (λ i late below _. none_between c.args.self.now c.self.inside.named c.self.inside.prefixes c.self.inside.longest known c.args.text.now
-    c.loop-start.start c.in_ok-numbers.numbers near c.in_ok-numbers.ensures.first c.first_start-near.ensures.near i late below) in
-    let none = none_joined begins c.args.text.now c.args.from near low c.args.high none_near
-    (λ i late below _. none_open c.args.self.now c.args.text.now near low c.bars-queried.result.0 c.bars-queried.result.1 c.bars-queried.ensures.queries c.bars-queried.ensures.runs
-    c.first_open-low.ensures.open i late below) in
-    let high : c.in-Some.place.start < c.args.high = omega (arith, c.in-Some.ensures.1, c.min.ensures) in (
-      next_from begins c.args.text.now c.args.from low c.in-Some.place (omega (arith, c.loop-start.invariant.low, c.first_start-near.ensures.after, c.first_open-low.ensures.after))
-          (λ i least below. none i least below (omega (arith, below, c.in-Some.ensures.0.after, high))) c.in-Some.ensures.0,
-      high,
-      c.in-Some.ensures.2,
-    )
-
-pub loop-start-preserved : goal.loop-start-preserved
-loop-start-preserved c =
-    let begins = place_at c.args.self.now in
-    let known = subst (λ m. KnowsLengths c.self.inside.named c.self.inside.prefixes c.self.inside.longest m) c.self.view_is c.self.invariant in
-    let near = c.first_start-near.result in
-    let low = c.first_open-low.result in
-    let none_near = none_joined begins c.args.text.now c.args.from c.loop-start.start near c.args.high c.loop-start.invariant.none
-    (λ i late below _. none_between c.args.self.now c.self.inside.named c.self.inside.prefixes c.self.inside.longest known c.args.text.now
-    c.loop-start.start c.in_ok-numbers.numbers near c.in_ok-numbers.ensures.first c.first_start-near.ensures.near i late below) in
-    let none = none_joined begins c.args.text.now c.args.from near low c.args.high none_near
-    (λ i late below _. none_open c.args.self.now c.args.text.now near low c.bars-queried.result.0 c.bars-queried.result.1 c.bars-queried.ensures.queries c.bars-queried.ensures.runs
-    c.first_open-low.ensures.open i late below) in
-    record {
-      low = omega (arith, c.loop-start.invariant.low, c.in_ok-numbers.ensures.low);
-      within = omega (arith, c.in_ok-numbers.ensures.low);
-      none = none_joined begins c.args.text.now c.args.from low c.in_ok-numbers.numbers c.args.high none
-          (λ i late below within. c.in_default.ensures i late (omega (arith, below, within, c.min.ensures)));
-    }
-
-pub returns : goal.returns
-returns c = λ i least below. c.loop-start.invariant.none i least (omega (arith, below, c.loop-start-test.false)) below
+pub returns-else-has_patterns : goal.returns-else-has_patterns
+returns-else-has_patterns c =
+    let maps = c.args.self.now in
+    let text = c.args.text.now in
+    let none : maps.locations.patterns ≡ [] = subst (λ (maps : MapsSeen). maps.locations.patterns ≡ []) c.self.view_is
+    (no_patterns c.self.inside.locations.now.patterns (sym c.has_patterns.ensures ∙ c.if-has_patterns.false)) in
+    weaker _ _ _ _ c.next_exact.result c.next_exact.ensures
+    (λ free i least below. exact_begun maps none text i ∙ free i least below)
+    (λ place is. (same_next (exact_at maps) (place_at maps) text (λ i. sym (exact_begun maps none text i)) c.args.from place is.0, is.1, is.2))

@@ -1,7 +1,7 @@
 use Rattle.std.proofs.Common.{◌≡◌, ◌-◌, ◌<◌, ◌≤◌, ℕ, None, length}
 use Rattle.smap_places.specs.Places.{begun_at}
 use Rattle.smap_places.specs.PlaceAt.{place_at}
-use Rattle.smap_places.proofs.finder.PlaceFinder.next_before.Given as goal
+use Rattle.smap_places.proofs.finder.PlaceFinder.next_of_all.Given as goal
 
 -- no place begins before `start`
 abbrev pub invariant-loop-start : goal.invariant-loop-start

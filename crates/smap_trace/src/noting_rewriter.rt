@@ -1,0 +1,92 @@
+//! The frames of a trace, rewritten line by line, and noted.
+ghost use Rattle.std.specs.Prelude.{◌≡◌};
+ghost use Rattle.smap_trace.specs.FrameSeen.{parts_seen};
+ghost use Rattle.smap_trace.specs.Hiding.{hiding_seen};
+ghost use Rattle.smap_trace.specs.NotesSeen.{naming_seen};
+ghost use Rattle.smap_trace.specs.SightSeen.{fate_seen};
+ghost use Rattle.smap_trace.specs.UrlNotes.{naming_in, naming_with};
+
+use crate::frame_rewriter::FrameRewriter;
+use crate::frames::frame_of_line;
+use crate::maps::Maps;
+use crate::parts::Frame;
+use crate::sight::{Sight, look_at};
+use crate::url_notes::{Naming, UrlNotes};
+use smap_io::{ByteSink, DeviceFault};
+use smap_lines::{LineEditor, LineOutput};
+
+/// Rewrites the frames among the lines of a trace, and notes what became of them.
+#[derive(Drop)]
+pub struct NotingRewriter<'n, 'm, 'h, M: Maps> {
+    pub rewriter: FrameRewriter<'m, 'h, M>,
+    pub notes: &'n mut UrlNotes,
+}
+
+impl<M: Maps> LineEditor for NotingRewriter<'_, '_, '_, M> {
+    ghost use Rattle.smap_trace.specs.Private.NotingRewriter.{NotingBecomes, NotingReaches, NotingSteps, noting_room};
+    ghost use Rattle.smap_trace.specs.Laws.NotingRewriter.{became_noted, noting_goes_on, noting_stays, room_after_note, same_noted, some_noted};
+
+    ghost Becomes = { NotingBecomes M.Gives };
+
+    ghost Steps = { NotingSteps M.Finds M.found };
+
+    ghost Reaches = { NotingReaches M.Finds };
+
+    ghost room = { noting_room };
+
+    fn edit<W: ByteSink>(
+        &mut self,
+        line: &[u8],
+        is_ended: bool,
+        output: &mut LineOutput<'_, W>,
+    ) -> Result<(), DeviceFault> {
+        self.rewriter.edit(line, is_ended, output)?;
+        if let Some(frame) = frame_of_line(line) {
+            let naming = naming_of(&self.rewriter, &frame);
+            self.notes.note(&naming);
+        }
+        Ok(())
+    }
+
+    ghost some = { some_noted M.Gives M.Finds M.found M.some };
+
+    ghost became = { became_noted M.Gives M.Finds M.found M.given };
+
+    ghost same = { same_noted M.Gives M.Finds M.found M.same };
+
+    ghost stays = { noting_stays M.Finds };
+
+    ghost goes_on = { noting_goes_on M.Finds };
+
+    ghost room_for_one = { room_after_note M.Gives M.Finds M.found };
+}
+
+// What a frame is noted as, over maps of which that of its URL was looked for.
+fn naming_of<'a, M: Maps>(rewriter: &FrameRewriter<'_, '_, M>, frame: &Frame<'a>) -> Naming<'a>
+    ensures { naming_seen result ≡ naming_in (hiding_seen rewriter.now.hiding) (parts_seen frame.now)
+        (M.found rewriter.now.maps.now frame.now.url.now) }
+{
+    let found = rewriter.maps.map_for(frame.url).is_some();
+    let sight = look_at(rewriter.alloc, rewriter.maps, &rewriter.hiding, frame);
+    naming_with(frame, found, &sight)
+}
+
+// The same, where a map was found or not, and the frame is this.
+fn naming_with<'a>(frame: &Frame<'a>, found: bool, sight: &Sight<'_>) -> Naming<'a>
+    ensures { naming_seen result
+        ≡ naming_with (parts_seen frame.now) found (fate_seen frame.now sight.now) }
+{
+    let (mapped, staying) = match sight {
+        Sight::Staying => (false, true),
+        Sight::Replaced(_) => (true, false),
+        Sight::Hidden => (false, false),
+    };
+    Naming {
+        url: frame.url,
+        line: frame.line,
+        column: frame.column,
+        found,
+        mapped,
+        unmapped: found && staying,
+    }
+}
