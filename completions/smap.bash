@@ -13,11 +13,11 @@ _smap() {
     local options='--help'
     case $command in
     '') options='--help --version' ;;
-    lookup) options='--after --base --explain --interval --json --help' ;;
+    lookup) options='--after --base --explain --generated --interval --json --help' ;;
     positions) options='--after --base --interval --json --help' ;;
     mappings) options='--base --json --help' ;;
     sources) options='--base --content --fit --json --sort --help' ;;
-    rewrite) options='--anywhere --base --cache --hide --hide-ignored --interval --limit --maps --strip-ansi --summary --help' ;;
+    rewrite) options='--anywhere --base --cache --explain --hide --hide-ignored --interval --limit --maps --paths --strip-ansi --summary --help' ;;
     check) options='--base --explain --interval --json --help' ;;
     show) options='--base --no-content --prune --help' ;;
     compose) options='--base --inner --inners --no-content --prune --help' ;;

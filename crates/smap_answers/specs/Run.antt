@@ -10,6 +10,7 @@ use Rattle.smap_check_answers.specs.Fit.{FitsPair, pairs_of}
 use Rattle.smap_compose_answers.specs.Compose.{ReportsComposed}
 use Rattle.smap_compose_answers.specs.ComposeAll.{ReportsAllComposed}
 use Rattle.smap_compose_answers.specs.Show.{shown_result}
+use Rattle.smap_map_answers.specs.Generated.{generated_result}
 use Rattle.smap_map_answers.specs.Lookup.{lookup_print}
 use Rattle.smap_map_answers.specs.Mappings.{MappingsReports}
 use Rattle.smap_map_answers.specs.Positions.{PositionsReports}
@@ -26,7 +27,7 @@ use Rattle.smap_sequences.specs.Sequences.{IsWaiting, most_sequences}
 use Rattle.smap_sequences.specs.Source.{without_seen}
 use Rattle.smap_text_answers.specs.Rewrite.{RunsRewrite}
 use Rattle.smap_command.specs.declared.command.Command.{Command}
-use Rattle.smap_command.specs.declared.command.Command.TheVariants.{Raw, Check, Show, Lookup, Positions, Mappings, Sources, SourceContent, Rewrite}
+use Rattle.smap_command.specs.declared.command.Command.TheVariants.{Raw, Check, Show, Lookup, Generated, Positions, Mappings, Sources, SourceContent, Rewrite}
 use Rattle.smap_command.specs.declared.command.Command.TheVariants.{Compose, ComposeAll, Fit, Explain}
 
 -- a run of a command over files of which reading gives this, and over an input as it is read; and the status with which it ends
@@ -37,6 +38,9 @@ Runs Reads (Check path base interval options) = λ status before after. (after.i
 Runs Reads (Show path base options) = RunsOne (ReportsAside (ReportsMap Reads 0 (string_bytes path) base usual_interval (IsResult (shown_result options))))
 Runs Reads (Lookup path line column base interval after options) =
     RunsOne (ReportsAside (ReportsMap Reads 0 (string_bytes path) base interval (IsLine (lookup_print (direction_of after) options line column))))
+Runs Reads (Generated path source line column base after options) =
+    RunsOne (ReportsAside (ReportsMap Reads 0 (string_bytes path) base usual_interval
+    (IsResult (generated_result options (string_bytes source) line column after))))
 Runs Reads (Positions path base interval after form) = RunsOne (PositionsReports Reads (string_bytes path) base interval (record { direction = direction_of after; form = form }))
 Runs Reads (Mappings path base line form) =
     RunsOne (ReportsUnread (MappingsReports Reads (string_bytes path) base usual_interval (record { line = line; form = form })))

@@ -12,8 +12,8 @@ use smap_command::Command;
 use smap_compose_answers::{AllMaps, TwoMaps, answer_compose, answer_compose_all, answer_show};
 use smap_io::{ByteSink, ByteSource};
 use smap_map_answers::{
-    LookUp, answer_content, answer_lookup, answer_mappings, answer_positions, answer_raw,
-    answer_sources,
+    GeneratedAsked, LookUp, answer_content, answer_generated, answer_lookup, answer_mappings,
+    answer_positions, answer_raw, answer_sources,
 };
 use smap_positions::{AnswerOptions, Direction, MappingsOptions, SourceOptions};
 use smap_replies::{FileReader, Loaded, LoadedFiles, MapReader, report};
@@ -133,6 +133,24 @@ fn run_over<F: FileReader, R: ByteSource, W: ByteSink, E: ByteSink>(
                 options: *options,
             };
             answer_lookup(alloc, &maps, path, asked)
+        }
+        Command::Generated {
+            path,
+            source,
+            line,
+            column,
+            after,
+            options,
+            ..
+        } => {
+            let asked = GeneratedAsked {
+                source,
+                line: *line,
+                column: *column,
+                after: *after,
+                options: *options,
+            };
+            answer_generated(alloc, &maps, path, asked)
         }
         Command::Positions {
             path,

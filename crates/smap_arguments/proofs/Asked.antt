@@ -1,5 +1,5 @@
 -- What the arguments ask for, where clap finds no fault in them.
-use Rattle.std.proofs.Common.{◌≡◌, ◌∙◌, ◌||◌, ◌&&◌, ◌⊎◌, ⊎_elim, ℕ, Bool, true, false, refl, sym, subst, inl, inr, List, [], ◌∷◌, not, fold, find}
+use Rattle.std.proofs.Common.{◌≡◌, ◌∙◌, ◌||◌, ◌&&◌, ◌⊎◌, ⊎_elim, ℕ, Bool, true, false, refl, sym, subst, ap, inl, inr, List, [], ◌∷◌, not, fold, find}
 use Rattle.std.proofs.Common.{Option, Some, None, true≢false, codes, cond, is_some}
 use Rattle.std.specs.Prelude.{⊤, option_map, unwrap_or}
 use Rattle.std.specs.List.{list_any}
@@ -22,7 +22,9 @@ use Rattle.clap.specs.declared.builder.value_parser.ValueParser.TheVariants as p
 use Rattle.clap.specs.declared.error.Error.{Error}
 use Rattle.clap.specs.declared.error.kind.ErrorKind.TheVariants.{DisplayHelp, DisplayVersion, OutOfMemory}
 use Rattle.smap_arguments.specs.CommandLine.{base_rule, bytes_number, bytes_rule, check, compose, content_rule, flag_rule, interval_number, interval_rule}
-use Rattle.smap_arguments.specs.CommandLine.{explain, fit, list_rule, lookup, mappings, named, number, order_rule, positions, raw, repeated_rule, rewrite, show, smap, source_number, sources}
+use Rattle.smap_arguments.specs.CommandLine.{explain, fit, generated, list_rule, lookup, mappings, named, number, order_rule, positions, raw, repeated_rule, rewrite, show, smap, smap_generated, source_number, sources}
+use Rattle.smap_arguments.specs.CommandLine.{whole_name}
+use Rattle.smap_arguments.specs.Line.{asks_generated, line_for, line_of}
 use Rattle.smap_arguments.specs.declared.usage.Usage.{Usage}
 use Rattle.smap_arguments.specs.declared.usage.Usage.TheVariants.{Help, Words, Memory}
 use Rattle.smap_arguments.specs.Arguments.{HasArguments, HasCommand, HasValue, HasValues}
@@ -132,6 +134,12 @@ module _ (parser_at : Text → ValueParser) where
   flag : (i : ℕ) (id long : Text) → accepts false (parser_at id) (codes "false") ≡ true → IsPlain (flag_at parser_at i id long)
   flag i id long accepted = (flag_keeps parser_at i id long, inr (flag_default_keeps parser_at i id long accepted), refl)
 
+  -- the same, where its name stands for it
+  named_flag : (i : ℕ) (name : Text) → parser.Bool ≡ parser_at name → IsPlain (with_index i (filled (flag_rule name)))
+  named_flag i name is = subst
+      (λ by. IsPlain (with_index i (filled (record (new_rule name) { long = Some name; action = Some SetTrue; parser = Some by }))))
+      (sym is) (flag i name name (subst (λ by. accepts false by (codes "false") ≡ true) is refl))
+
   help : parser_at (codes "help") ≡ parser.String → IsPlain (filled help_rule)
   help any = (help_keeps parser_at, inl refl, any)
 
@@ -139,7 +147,7 @@ module _ (parser_at : Text → ValueParser) where
 
 abbrev flags : List Text
 flags = codes "after" ∷ codes "anywhere" ∷ codes "fit" ∷ codes "json" ∷ codes "explain" ∷ codes "summary" ∷ codes "strip-ansi" ∷ codes "hide-ignored"
-    ∷ codes "prune" ∷ codes "no-content" ∷ []
+    ∷ codes "prune" ∷ codes "no-content" ∷ codes "paths" ∷ codes "generated" ∷ []
 
 -- lines, columns, sources, intervals and bytes are numbers, flags are true or false, and the other arguments are any text
 abbrev at_argument : Text → ValueParser
@@ -163,9 +171,7 @@ interval_plain : (i : ℕ) → IsPlain at_argument (with_index i (filled interva
 interval_plain i = option at_argument i (codes "K") (codes "interval")
 
 flag_plain : (i : ℕ) (name : Text) → parser.Bool ≡ at_argument name → IsPlain at_argument (with_index i (filled (flag_rule name)))
-flag_plain i name is = subst
-    (λ by. IsPlain at_argument (with_index i (filled (record (new_rule name) { long = Some name; action = Some SetTrue; parser = Some by }))))
-    (sym is) (flag at_argument i name name (subst (λ by. accepts false by (codes "false") ≡ true) is refl))
+flag_plain = named_flag at_argument
 
 list_plain : (i : ℕ) (long : Text) → IsPlain at_argument (with_index i (filled (list_rule long)))
 list_plain i long = option at_argument i (codes "LIST") long
@@ -196,7 +202,10 @@ lookup_plain = (
         base_plain 4,
         (
           interval_plain 4,
-          (flag_plain 4 (codes "after") refl, (flag_plain 4 (codes "json") refl, (flag_plain 4 (codes "explain") refl, (help_plain, tt)))),
+          (
+            flag_plain 4 (codes "after") refl,
+            (flag_plain 4 (codes "json") refl, (flag_plain 4 (codes "explain") refl, (flag_plain 4 (codes "generated") refl, (help_plain, tt)))),
+          ),
         ),
       ),
     ),
@@ -240,8 +249,17 @@ rewrite_plain = (
             (
               flag_plain 2 (codes "anywhere") refl,
               (
-                cache_plain 2,
-                (limit_plain 2, (flag_plain 2 (codes "summary") refl, (flag_plain 2 (codes "strip-ansi") refl, (help_plain, tt)))),
+                flag_plain 2 (codes "paths") refl,
+                (
+                  cache_plain 2,
+                  (
+                    limit_plain 2,
+                    (
+                      flag_plain 2 (codes "summary") refl,
+                      (flag_plain 2 (codes "explain") refl, (flag_plain 2 (codes "strip-ansi") refl, (help_plain, tt))),
+                    ),
+                  ),
+                ),
               ),
             ),
           ),
@@ -296,11 +314,56 @@ raw_plain = (
   (value at_argument 2 (codes "COLUMN") true, (interval_plain 3, (help_plain, tt))),
 )
 
--- where clap finds no fault in the arguments of the subcommand, it has its arguments
-abbrev Gives : Shape → Type 0
-Gives s = (words : List Text) → level_fault s [] nothing_held words false [] ≡ [] → HasArguments (named s.name) (rows_after s.rules [] words)
+-- ---- `lookup` with `--generated`
 
-each_gives : (word : Text) → bytes_eq word (codes "help") ≡ false → Each (λ s. answers_to word (label_of s) ≡ true → Gives s) (built smap).subs
+-- its SOURCE is any text
+abbrev at_generated : Text → ValueParser
+at_generated id = cond (list_any (bytes_eq id) flags) parser.Bool
+    (cond (bytes_eq id (codes "LINE") || bytes_eq id (codes "COLUMN")) number parser.String)
+
+generated_plain : Each (IsPlain at_generated) (built_leaf generated.top).rules
+generated_plain = (
+  value at_generated 1 (codes "PATH") true,
+  (
+    value at_generated 2 (codes "SOURCE") true,
+    (
+      value at_generated 3 (codes "LINE") true,
+      (
+        value at_generated 4 (codes "COLUMN") false,
+        (
+          option at_generated 5 (codes "URL") (codes "base"),
+          (
+            named_flag at_generated 5 (codes "after") refl,
+            (
+              named_flag at_generated 5 (codes "json") refl,
+              (named_flag at_generated 5 (codes "explain") refl, (named_flag at_generated 5 (codes "generated") refl, (help at_generated refl, tt))),
+            ),
+          ),
+        ),
+      ),
+    ),
+  ),
+)
+
+-- ---- what the subcommands have
+
+-- where clap finds no fault in the arguments of the subcommand, it has its arguments
+abbrev Gives : (is_generated : Bool) → Shape → Type 0
+Gives is_generated s = (words : List Text) → level_fault s [] nothing_held words false [] ≡ []
+    → HasArguments (named (whole_name is_generated s.name)) (rows_after s.rules [] words)
+
+-- so it is with each that this word may name
+abbrev EachGives : (is_generated : Bool) → App → (word : Text) → Type 0
+EachGives is_generated app word = Each (λ s. answers_to word (label_of s) ≡ true → Gives is_generated s) (built app).subs
+
+-- the subcommand of the help is not named by another word
+no_help_named : (word : Text) → bytes_eq word (codes "help") ≡ false → (b : Bool) → bytes_eq (codes "help") word ≡ b → (b || false) ≡ true → ⊥
+no_help_named word no_help true is answers =
+    let help : bytes_eq word (codes "help") ≡ true = (bytes_eq-Decides word (codes "help")).1 (sym ((bytes_eq-Decides (codes "help") word).0 is)) in
+    true≢false (sym help ∙ no_help)
+no_help_named word no_help false is answers = cc
+
+each_gives : (word : Text) → bytes_eq word (codes "help") ≡ false → EachGives false smap word
 each_gives word no_help = (
   λ answers. level_gives at_argument (built_leaf lookup.top) lookup_plain,
   (
@@ -323,7 +386,7 @@ each_gives word no_help = (
                     λ answers. level_gives at_argument (built_leaf explain.top) explain_plain,
                     (
                       λ answers. level_gives at_argument (built_leaf raw.top) raw_plain,
-                      (λ answers. absurd (is_no_help (bytes_eq (codes "help") word) refl answers), tt),
+                      (λ answers. absurd (no_help_named word no_help (bytes_eq (codes "help") word) refl answers), tt),
                     ),
                   ),
                 ),
@@ -335,80 +398,109 @@ each_gives word no_help = (
     ),
   ),
 )
-  where
-    is_no_help : (b : Bool) → bytes_eq (codes "help") word ≡ b → (b || false) ≡ true → ⊥
-    is_no_help true is answers =
-        let help : bytes_eq word (codes "help") ≡ true = (bytes_eq-Decides word (codes "help")).1 (sym ((bytes_eq-Decides (codes "help") word).0 is)) in
-        true≢false (sym help ∙ no_help)
-    is_no_help false is answers = cc
 
-stopped_command : (stop : Option (Text × List Text)) → IsNoHelp stop → is_some (entered (built smap) stop) ≡ true → entered_fault (built smap) stop ≡ []
-    → HasCommand (entered (built smap) stop)
-stopped_command None no_help some none = cc
-stopped_command (Some p) no_help some none = go (find (λ s. answers_to p.0 (label_of s)) (built smap).subs) refl some none
-  where
-    go : (o : Option Shape) → find (λ s. answers_to p.0 (label_of s)) (built smap).subs ≡ o → is_some (option_map (λ s. rows_at s p.1) o) ≡ true
-        → option_map_or (λ s. level_fault s [] nothing_held p.1 false []) o [] ≡ [] → HasCommand (option_map (λ s. rows_at s p.1) o)
-    go None is some none = cc
-    go (Some s) is some none =
-        (s.name, rows_after s.rules [] p.1, refl, found_in Gives (λ s. answers_to p.0 (label_of s)) (built smap).subs s (each_gives p.0 no_help) is p.1 none)
+generated_gives : (word : Text) → bytes_eq word (codes "help") ≡ false → EachGives true smap_generated word
+generated_gives word no_help = (
+  λ answers. level_gives at_generated (built_leaf generated.top) generated_plain,
+  (λ answers. absurd (no_help_named word no_help (bytes_eq (codes "help") word) refl answers), tt),
+)
+
+module _ (is_generated : Bool) (app : App) (gives : (word : Text) → bytes_eq word (codes "help") ≡ false → EachGives is_generated app word) where
+  stopped_command : (stop : Option (Text × List Text)) → IsNoHelp stop → is_some (entered (built app) stop) ≡ true
+      → entered_fault (built app) stop ≡ [] → HasCommand is_generated (entered (built app) stop)
+  stopped_command None no_help some none = cc
+  stopped_command (Some p) no_help some none = go (find (λ s. answers_to p.0 (label_of s)) (built app).subs) refl some none
+    where
+      go : (o : Option Shape) → find (λ s. answers_to p.0 (label_of s)) (built app).subs ≡ o → is_some (option_map (λ s. rows_at s p.1) o) ≡ true
+          → option_map_or (λ s. level_fault s [] nothing_held p.1 false []) o [] ≡ [] → HasCommand is_generated (option_map (λ s. rows_at s p.1) o)
+      go None is some none = cc
+      go (Some s) is some none = (
+        s.name,
+        rows_after s.rules [] p.1,
+        refl,
+        found_in (Gives is_generated) (λ s. answers_to p.0 (label_of s)) (built app).subs s (gives p.0 no_help) is p.1 none,
+      )
+
+  command_asked : (built app).top.disable_help_subcommand ≡ false
+      → ((rows : List Row) (has : Bool) → check_fault (built app).top rows has ≡ [] → has ≡ true)
+      → (arguments : List Text) → fault_of app arguments ≡ [] → HasCommand is_generated (subcommand_of app arguments)
+  command_asked helps wants arguments none =
+      let top = (built app).top in
+      let names = names_of (built app) in
+      let rest = argument_words app arguments in
+      let stop = stop_after top.rules names rest in
+      let walked_none = first_none (walk_fault top names (walk_from nothing_held) rest) _ none in
+      let below = second_none (walk_fault top names (walk_from nothing_held) rest) _ none in
+      let entered_none = first_none (entered_fault (built app) stop) _ below in
+      let end = (walk top.rules names nothing_held rest).held in
+      let later = second_none (settle_fault top.rules top.args_override_self end) _ (second_none (entered_fault (built app) stop) _ below) in
+      let last = second_none (defaults_fault (settled top.rules end).rows top.rules) _ later in
+      stopped_command stop (walk_names top names helps rest (walk_from nothing_held) walked_none tt)
+      (wants (finished top.rules end) (is_some (entered (built app) stop)) last) entered_none
 
 wants_subcommand : (rows : List Row) (has : Bool) → check_fault (built smap).top rows has ≡ [] → has ≡ true
 wants_subcommand rows true none = refl
 wants_subcommand rows false none = cc
 
+wants_lookup : (rows : List Row) (has : Bool) → check_fault (built smap_generated).top rows has ≡ [] → has ≡ true
+wants_lookup rows true none = refl
+wants_lookup rows false none = cc
+
 -- where clap finds no fault in the arguments, they name a subcommand and give it its arguments
-pub command_asked : (arguments : List Text) → fault_of smap arguments ≡ [] → HasCommand (subcommand_of smap arguments)
-command_asked arguments none =
-    let top = (built smap).top in
-    let names = names_of (built smap) in
-    let rest = argument_words smap arguments in
-    let stop = stop_after top.rules names rest in
-    let walked_none = first_none (walk_fault top names (walk_from nothing_held) rest) _ none in
-    let below = second_none (walk_fault top names (walk_from nothing_held) rest) _ none in
-    let entered_none = first_none (entered_fault (built smap) stop) _ below in
-    let end = (walk top.rules names nothing_held rest).held in
-    let later = second_none (settle_fault top.rules false end) _ (second_none (entered_fault (built smap) stop) _ below) in
-    let last = second_none (defaults_fault (settled top.rules end).rows top.rules) _ later in
-    stopped_command stop (walk_names top names refl rest (walk_from nothing_held) walked_none tt)
-    (wants_subcommand (finished top.rules end) (is_some (entered (built smap) stop)) last) entered_none
+line_asked : (is_generated : Bool) (arguments : List Text) → fault_of (line_for is_generated) arguments ≡ []
+    → HasCommand is_generated (subcommand_of (line_for is_generated) arguments)
+line_asked true = command_asked true smap_generated generated_gives refl wants_lookup
+line_asked false = command_asked false smap each_gives refl wants_subcommand
 
 -- ---- what `parse` cites
 
-pub smap_is_simple : (is_simple_and_free smap ≡ true) × (is_simple smap ≡ true)
+pub line_is_simple : (is_generated : Bool) → (is_simple_and_free (line_for is_generated) ≡ true) × (is_simple (line_for is_generated) ≡ true)
 unfolding clap_on_literals
-smap_is_simple = (refl, refl)
+line_is_simple true = (refl, refl)
+line_is_simple false = (refl, refl)
 
--- what a parse by a command that is `smap` gives
-pub parsed_smap : (a : App) (arguments : List Text) (m : ArgMatches) → a ≡ smap → (is_simple_and_free a ≡ true → fault_of a arguments ≡ [])
-    → HasMatchesOf a arguments m
-    → (fault_of smap arguments ≡ []) × (subcommand_of smap arguments ≡ subcommand_rows_of m)
-parsed_smap a arguments m is none matches =
-    let found = subst (λ b. HasMatchesOf b arguments m) is matches in
-    (subst (λ b. is_simple_and_free b ≡ true → fault_of b arguments ≡ []) is none smap_is_simple.0, sym (found smap_is_simple.1).1)
+-- a parse by the command that reads these arguments
+module _ (arguments : List Text) (is_generated : Bool) (asks : is_generated ≡ asks_generated arguments) (a : App) (is : a ≡ line_for is_generated) where
+  line_is : a ≡ line_of arguments
+  line_is = is ∙ ap line_for asks
 
-pub failed_smap : (a : App) (arguments : List Text) (e : Error) (usage : Usage) → a ≡ smap → (is_simple_and_free a ≡ true → HasKind (fault_of a arguments) e)
-    → IsUsageOf (kind_of e) usage → IsRefusalOf arguments usage
-failed_smap a arguments e usage is_smap fails is =
-    refusal_of usage (subst (λ b. is_simple_and_free b ≡ true → HasKind (fault_of b arguments) e) is_smap fails smap_is_simple.0) is
-  where
-    refusal_of : (usage : Usage) → HasKind (fault_of smap arguments) e → IsUsageOf (kind_of e) usage → IsRefusalOf arguments usage
-    refusal_of (Help text) kind is = elim kind [
-      | inl memory ↦ elim is [
-        | inl help ↦ let bad : OutOfMemory ≡ DisplayHelp = sym memory ∙ help in cc
-        | inr version ↦ let bad : OutOfMemory ≡ DisplayVersion = sym memory ∙ version in cc
+  -- what it gives
+  pub parsed_line : (m : ArgMatches) → (is_simple_and_free a ≡ true → fault_of a arguments ≡ []) → HasMatchesOf a arguments m
+      → (fault_of (line_of arguments) arguments ≡ []) × (subcommand_of (line_of arguments) arguments ≡ subcommand_rows_of m)
+  parsed_line m none matches =
+      let found = subst (λ b. HasMatchesOf b arguments m) line_is matches in
+      let simple = line_is_simple (asks_generated arguments) in
+      (subst (λ b. is_simple_and_free b ≡ true → fault_of b arguments ≡ []) line_is none simple.0, sym (found simple.1).1)
+
+  pub line_command : (m : ArgMatches) → (is_simple_and_free a ≡ true → fault_of a arguments ≡ []) → HasMatchesOf a arguments m
+      → HasCommand is_generated (subcommand_rows_of m)
+  line_command m none matches =
+      let parsed = parsed_line m none matches in
+      subst (λ b. HasCommand b (subcommand_rows_of m)) (sym asks)
+      (subst (HasCommand (asks_generated arguments)) parsed.1 (line_asked (asks_generated arguments) arguments parsed.0))
+
+  pub failed_line : (e : Error) (usage : Usage) → (is_simple_and_free a ≡ true → HasKind (fault_of a arguments) e) → IsUsageOf (kind_of e) usage
+      → IsRefusalOf arguments usage
+  failed_line e usage fails is = refusal_of usage
+      (subst (λ b. is_simple_and_free b ≡ true → HasKind (fault_of b arguments) e) line_is fails (line_is_simple (asks_generated arguments)).0) is
+    where
+      refusal_of : (usage : Usage) → HasKind (fault_of (line_of arguments) arguments) e → IsUsageOf (kind_of e) usage → IsRefusalOf arguments usage
+      refusal_of (Help text) kind is = elim kind [
+        | inl memory ↦ elim is [
+          | inl help ↦ let bad : OutOfMemory ≡ DisplayHelp = sym memory ∙ help in cc
+          | inr version ↦ let bad : OutOfMemory ≡ DisplayVersion = sym memory ∙ version in cc
+        ]
+        | inr among ↦ (kind_of e, among, is)
       ]
-      | inr among ↦ (kind_of e, among, is)
-    ]
-    refusal_of (Words text) kind is = elim kind [
-      | inl memory ↦ absurd (is.1 memory)
-      | inr among ↦ inl (kind_of e, among, is.0)
-    ]
-    refusal_of Memory kind is = tt
+      refusal_of (Words text) kind is = elim kind [
+        | inl memory ↦ absurd (is.1 memory)
+        | inr among ↦ inl (kind_of e, among, is.0)
+      ]
+      refusal_of Memory kind is = tt
 
 -- where clap finds no fault in the arguments, but the base or what else a command is given is refused
-pub named_refused : (arguments : List Text) (usage : Usage) → fault_of smap arguments ≡ []
-    → IsNamedRefusal (SubcommandReports (subcommand_of smap arguments)) usage
+pub named_refused : (arguments : List Text) (usage : Usage) → fault_of (line_of arguments) arguments ≡ []
+    → IsNamedRefusal (SubcommandReports (asks_generated arguments) (subcommand_of (line_of arguments) arguments)) usage
     → IsRefusalOf arguments usage
 named_refused arguments (Help text) none refused = absurd refused
 named_refused arguments (Words text) none refused = inr (none, refused)

@@ -1,7 +1,7 @@
 -- A command of clap that grows by arguments, or by subcommands.
-use Rattle.std.proofs.Common.{◌≡◌, ◌∙◌, ◌||◌, ap, ap₂, false, arith, fold, map, subst, suc, List, [], ◌∷◌}
+use Rattle.std.proofs.Common.{◌≡◌, ◌∙◌, ◌||◌, ap, ap₂, false, arith, fold, map, subst, zero, suc, List, [], ◌∷◌}
 use Rattle.std.specs.Prelude.{Err, IfOk, IsOkAnd, Ok, Result}
-use Rattle.std.specs.List.{All}
+use Rattle.std.specs.List.{All, AllByRecursion}
 use Rattle.clap.specs.Built.{AddsArg, AddsInTurn, AddsSubcommand}
 use Rattle.clap.specs.Words.{App, app_of, rule_of, shape_of, with_rule, with_subcommand}
 use Rattle.clap.specs.declared.builder.arg.Arg.{Arg}
@@ -24,3 +24,9 @@ pub with_made : {E : Type 0} (app : App) (made : Result Command E) (above : App)
 with_made app (Ok command) above old new local is added =
     added.shape local.1 ∙ (ap (λ a. with_subcommand a (shape_of command)) is ∙ ap (λ (a : App). with_subcommand above a.top) local.0)
 with_made app (Err e) above old new local is added = absurd added
+
+-- arguments of which each, one after the other, holds in its command alone
+pub all_local : (arguments : List Arg) → AllByRecursion (λ a. a.global ≡ false) arguments → All (λ a. a.global ≡ false) arguments
+all_local [] each k d low = absurd (omega (arith, low))
+all_local (a ∷ rest) each zero d low = each.0
+all_local (a ∷ rest) each (suc k) d low = all_local rest each.1 k d (omega (arith, low))

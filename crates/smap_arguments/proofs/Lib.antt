@@ -8,3 +8,4 @@ mod Stops
 mod Texts
 mod Asked
 mod SpreadLaws
+mod Lines

@@ -13,7 +13,8 @@ use Rattle.clap.specs.declared.parser.matches.ArgMatches.{ArgMatches}
 use Rattle.clap.specs.declared.parser.matches.ArgMatches.TheViews.{out-ArgMatches, out-SubCommand}
 use Rattle.clap.specs.declared.parser.matches.SubCommand.{SubCommand}
 use Rattle.smap_command.specs.declared.command.Command.{Command}
-use Rattle.smap_arguments.specs.CommandLine.{check, compose, explain, fit, lookup, mappings, named, positions, raw, rewrite, show, sources}
+use Rattle.smap_arguments.specs.CommandLine.{check, compose, explain, fit, generated, lookup, mappings, named, positions, raw, rewrite, show, smap, sources}
+use Rattle.smap_arguments.specs.CommandLine.{whole_name}
 use Rattle.smap_arguments.specs.Arguments.{HasArguments, HasCommand, NamedAsksFor, SubcommandAsksFor}
 use Rattle.smap_arguments.specs.Refusals.{IsNamedRefusal}
 use Rattle.smap_arguments.specs.Refusals.{SubcommandReports, ReportsOfBase, ReportsRefusal}
@@ -48,25 +49,28 @@ found_subcommand m met s is name rows = subcommand_is (subcommand_rows_of m) s.0
 
 -- ---- what it has, asks for and is reported
 
-abbrev pub HasArgumentsOf : Option (Text × List Row) → Type 0
-HasArgumentsOf None = ⊥
-HasArgumentsOf (Some p) = HasArguments (named p.0) p.1
+abbrev pub HasArgumentsOf : (is_generated : Bool) → Option (Text × List Row) → Type 0
+HasArgumentsOf is_generated None = ⊥
+HasArgumentsOf is_generated (Some p) = HasArguments (named (whole_name is_generated p.0)) p.1
 
-module _ (subcommand : Option (Text × List Row)) (name : Text) (rows : List Row) (is : subcommand ≡ Some (name, rows)) where
-  pub has_arguments : HasCommand subcommand → HasArguments (named name) rows
-  has_arguments has = subst HasArgumentsOf (sym has.2 ∙ is) has.3
+module _ (is_generated : Bool) (subcommand : Option (Text × List Row)) (word : Text) (rows : List Row) (is : subcommand ≡ Some (word, rows)) where
+  pub has_arguments : HasCommand is_generated subcommand → HasArguments (named (whole_name is_generated word)) rows
+  has_arguments has = subst (HasArgumentsOf is_generated) (sym has.2 ∙ is) has.3
 
-  pub asks_for : (command : Command) → NamedAsksFor name rows command → SubcommandAsksFor subcommand command
-  asks_for command asks = (rows, is ∙ ap (λ n. Some (n, rows)) (sym asks.0), asks.1)
+  pub asks_for : (command : Command) → NamedAsksFor (whole_name is_generated word) rows command
+      → SubcommandAsksFor is_generated subcommand command
+  asks_for command asks = (word, rows, is, asks)
 
-  pub reports : (usage : Usage) → IsNamedRefusal (ReportsRefusal name rows) usage → IsNamedRefusal (SubcommandReports subcommand) usage
+  pub reports : (usage : Usage) → IsNamedRefusal (ReportsRefusal (whole_name is_generated word) rows) usage
+      → IsNamedRefusal (SubcommandReports is_generated subcommand) usage
   reports (Help text) reported = reported
-  reports (Words text) reported = (name, rows, is, reported)
+  reports (Words text) reported = (word, rows, is, reported)
   reports Memory reported = tt
 
-  pub reports_base : (usage : Usage) → IsNamedRefusal (ReportsOfBase rows) usage → IsNamedRefusal (SubcommandReports subcommand) usage
+  pub reports_base : (usage : Usage) → IsNamedRefusal (ReportsOfBase rows) usage
+      → IsNamedRefusal (SubcommandReports is_generated subcommand) usage
   reports_base (Help text) reported = reported
-  reports_base (Words text) reported = (name, rows, is, inl reported)
+  reports_base (Words text) reported = (word, rows, is, inl reported)
   reports_base Memory reported = tt
 
 -- ---- a name that is none of the others
@@ -85,16 +89,26 @@ past : (name : Text) (others rest : List Shape) → AllByRecursion (λ s. name �
 past name [] rest none = refl
 past name (s ∷ others) rest none = passed name s (others ++ rest) none.0 ∙ past name others rest none.1
 
+-- a name that is not the one with an option is among all
+plainly_named : (name : Text) → (name ≡ codes "lookup --generated" → ⊥) → named name ≡ find (λ c. bytes_eq c.name name) smap.subs
+plainly_named name other = go (bytes_eq name (codes "lookup --generated")) refl
+  where
+    go : (b : Bool) → bytes_eq name (codes "lookup --generated") ≡ b
+        → cond b (Some generated.top) (find (λ c. bytes_eq c.name name) smap.subs) ≡ find (λ c. bytes_eq c.name name) smap.subs
+    go true is = absurd (other ((bytes_eq-Decides name (codes "lookup --generated")).0 is))
+    go false is = refl
+
 -- the commands before `raw`
 abbrev pub before_raw : List Shape
-before_raw =
-    lookup.top ∷ positions.top ∷ mappings.top ∷ sources.top ∷ rewrite.top ∷ check.top ∷ show.top ∷ compose.top ∷ fit.top ∷ explain.top ∷ []
+before_raw = lookup.top ∷ positions.top ∷ mappings.top ∷ sources.top ∷ rewrite.top ∷ check.top ∷ show.top ∷ compose.top
+    ∷ fit.top ∷ explain.top ∷ []
 
--- a name that is none of theirs is `raw`
-pub only_raw : (name : Text) (rows : List Row) → AllByRecursion (λ s. name ≡ s.name → ⊥) before_raw → HasArguments (named name) rows
+-- a name that is none of theirs, nor the one with an option, is `raw`
+pub only_raw : (name : Text) (rows : List Row) → (name ≡ codes "lookup --generated" → ⊥)
+    → AllByRecursion (λ s. name ≡ s.name → ⊥) before_raw → HasArguments (named name) rows
     → name ≡ codes "raw"
-only_raw name rows none has =
-    go (bytes_eq (codes "raw") name) refl (subst (λ o. HasArguments o rows) (past name before_raw (raw.top ∷ []) none) has)
+only_raw name rows other none has = go (bytes_eq (codes "raw") name) refl
+    (subst (λ o. HasArguments o rows) (plainly_named name other ∙ past name before_raw (raw.top ∷ []) none) has)
   where
     go : (b : Bool) → bytes_eq (codes "raw") name ≡ b → HasArguments (cond b (Some raw.top) None) rows → name ≡ codes "raw"
     go true is has = sym ((bytes_eq-Decides (codes "raw") name).0 is)

@@ -32,18 +32,32 @@ number_read low high fits found name result has reads =
     let read = subst (ReadsOne ReadsU32 (without_minus has.0)) got.1 one in
     (got.0, got.1, got.2, got.3, (without_minus has.0, has.1, sym read.0.1))
 
+-- it is none, or one that lies between these
+abbrev pub IsReadWithin : (low high : ℕ) → List Row → (name : Text) → Option ℕ → Type 0
+IsReadWithin low high rows name None = one_of name rows ≡ None
+IsReadWithin low high rows name (Some n) = (low ≤ n) × (n ≤ high) × GivesNumber rows name n
+
 -- so it is with one that may be missing
 pub number_if_given : (low high : ℕ) → high < 2 ^ 32 → (found : Found) (name : Text) (result : Option ℕ)
     → HasValueIfGiven (Signed (pos low) (pos high)) (rows_of found) name
     → (one_text found name ≡ None → result ≡ None) → ((t : Text) → one_text found name ≡ Some t → ReadsOne ReadsU32 t result)
-    → GivesNumberIfGiven (rows_of found) name result
+    → IsReadWithin low high (rows_of found) name result
 number_if_given low high fits found name result has none reads = go (one_of name (rows_of found)) refl
   where
-    go : (o : Option Text) → one_of name (rows_of found) ≡ o → GivesNumberIfGiven (rows_of found) name result
-    go None is = subst (GivesNumberIfGiven (rows_of found) name) (sym (none (one_text-rows found name ∙ is))) is
+    go : (o : Option Text) → one_of name (rows_of found) ≡ o → IsReadWithin low high (rows_of found) name result
+    go None is = subst (IsReadWithin low high (rows_of found) name) (sym (none (one_text-rows found name ∙ is))) is
     go (Some text) is =
         let read = number_read low high fits found name result (has (subst IsSome (sym is) refl)) reads in
-        subst (GivesNumberIfGiven (rows_of found) name) (sym read.1) read.4
+        subst (IsReadWithin low high (rows_of found) name) (sym read.1) (read.2, read.3, read.4)
+
+module _ (low high : ℕ) (rows : List Row) (name : Text) where
+  pub within_given : (result : Option ℕ) → IsReadWithin low high rows name result → GivesNumberIfGiven rows name result
+  within_given None read = read
+  within_given (Some n) read = read.2
+
+  pub within_high : (result : Option ℕ) → IsReadWithin low high rows name result → IfSome result (λ n. n ≤ high)
+  within_high None read = tt
+  within_high (Some n) read = read.1
 
 -- a number is there where its text is
 pub number_given : (rows : List Row) (name : Text) (result : Option ℕ) → GivesNumberIfGiven rows name result
@@ -53,21 +67,10 @@ number_given rows name (Some n) given = ap is_some given.1
 
 -- ---- a line or column
 
--- it is none, or one that there may be
-abbrev pub IsReadPosition : List Row → (name : Text) → Option ℕ → Type 0
-IsReadPosition rows name None = one_of name rows ≡ None
-IsReadPosition rows name (Some n) = (1 ≤ n) × (n ≤ limit + 1) × GivesNumber rows name n
-
 pub position_read : (found : Found) (name : Text) (result : Option ℕ) → HasValueIfGiven number (rows_of found) name
     → (one_text found name ≡ None → result ≡ None) → ((t : Text) → one_text found name ≡ Some t → ReadsOne ReadsU32 t result)
-    → IsReadPosition (rows_of found) name result
-position_read found name result has none reads = go (one_of name (rows_of found)) refl
-  where
-    go : (o : Option Text) → one_of name (rows_of found) ≡ o → IsReadPosition (rows_of found) name result
-    go None is = subst (IsReadPosition (rows_of found) name) (sym (none (one_text-rows found name ∙ is))) is
-    go (Some text) is =
-        let read = number_read 1 (limit + 1) (omega arith) found name result (has (subst IsSome (sym is) refl)) reads in
-        subst (IsReadPosition (rows_of found) name) (sym read.1) (read.2, read.3, read.4)
+    → IsReadWithin 1 (limit + 1) (rows_of found) name result
+position_read found name result has none reads = number_if_given 1 (limit + 1) (omega arith) found name result has none reads
 
 -- ---- a number of bytes
 

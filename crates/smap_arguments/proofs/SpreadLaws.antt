@@ -1,6 +1,6 @@
 -- A position that is one word.
 use Rattle.std.proofs.Common.{◌≡◌, ◌∙◌, ◌<◌, ◌+◌, ℕ, Bool, true, false, List, [], ◌∷◌, ◌++◌, length, drop, Option, Some, None, refl, sym, ap, subst}
-use Rattle.std.proofs.Common.{◌≤◌, add-one, append-nil, append_assoc, drop-cons, get_or, inl, inr}
+use Rattle.std.proofs.Common.{◌≤◌, ◌&&◌, ap₂, cond, not, add-one, append-nil, append_assoc, drop-cons, get_or, inl, inr}
 use Rattle.std.proofs.lemmas.List.{drop_all, get_or-map, length-map, map-append}
 use Rattle.std.specs.Prelude.{String, string_bytes}
 use Rattle.clap.specs.Faults.{fault_of, is_simple_and_free}
@@ -12,9 +12,9 @@ use Rattle.clap.specs.declared.error.Error.{Error}
 use Rattle.clap.specs.declared.error.kind.ErrorKind.{ErrorKind}
 use Rattle.clap.specs.declared.error.kind.ErrorKind.TheVariants.{OutOfMemory}
 use Rattle.smap_arguments.specs.Arguments.{texts}
-use Rattle.smap_arguments.specs.CommandLine.{smap}
-use Rattle.smap_arguments.specs.Spread.{IsPushed, is_faultless, position_of, spread_at, spread_behind, spread_words}
-use Rattle.smap_arguments.proofs.Asked.{smap_is_simple}
+use Rattle.smap_arguments.specs.Line.{asks_generated, is_lookup, line_for, line_of}
+use Rattle.smap_arguments.specs.Spread.{IsPushed, is_faultless, position_of, read_arguments, spread, spread_at, spread_behind, spread_words}
+use Rattle.smap_arguments.proofs.Asked.{line_is_simple}
 
 -- ---- whether clap finds a fault
 
@@ -22,14 +22,22 @@ faulty : (kinds : Kinds) (kind : ErrorKind) → IsAmong kind kinds → is_faultl
 faulty [] kind among = absurd among
 faulty (other ∷ kinds) kind among = refl
 
-pub fault_found : (a : App) (arguments : List Text) (e : Error) → a ≡ smap → (is_simple_and_free a ≡ true → HasKind (fault_of a arguments) e)
-    → (kind_of e ≡ OutOfMemory → ⊥) → is_faultless (fault_of smap arguments) ≡ false
-fault_found a arguments e is_smap fails other =
-    of_kind (subst (λ b. is_simple_and_free b ≡ true → HasKind (fault_of b arguments) e) is_smap fails smap_is_simple.0)
+pub fault_found : (arguments : List Text) (is_generated : Bool) → is_generated ≡ asks_generated arguments → (a : App) → a ≡ line_for is_generated
+    → (e : Error) → (is_simple_and_free a ≡ true → HasKind (fault_of a arguments) e) → (kind_of e ≡ OutOfMemory → ⊥)
+    → is_faultless (fault_of (line_of arguments) arguments) ≡ false
+fault_found arguments is_generated asks a is e fails other = of_kind (subst
+    (λ b. is_simple_and_free b ≡ true → HasKind (fault_of b arguments) e) (is ∙ ap line_for asks) fails (line_is_simple (asks_generated arguments)).0)
   where
-    of_kind : HasKind (fault_of smap arguments) e → is_faultless (fault_of smap arguments) ≡ false
+    of_kind : HasKind (fault_of (line_of arguments) arguments) e → is_faultless (fault_of (line_of arguments) arguments) ≡ false
     of_kind (inl memory) = absurd (other memory)
-    of_kind (inr among) = faulty (fault_of smap arguments) (kind_of e) among
+    of_kind (inr among) = faulty (fault_of (line_of arguments) arguments) (kind_of e) among
+
+-- ---- the arguments that are read
+
+-- where clap finds a fault in those of `lookup`
+pub read_spread : (arguments : List Text) → is_lookup arguments ≡ true → is_faultless (fault_of (line_of arguments) arguments) ≡ false
+    → spread arguments ≡ read_arguments arguments
+read_spread arguments lookup faulty = sym (ap₂ (λ a b. cond (a && not b) (spread arguments) arguments) lookup faulty)
 
 -- ---- a word that is pushed
 

@@ -1,5 +1,5 @@
 -- A text that clap reads for an argument.
-use Rattle.std.proofs.Common.{◌≡◌, ◌∙◌, ◌<◌, ℕ, List, [], ◌∷◌, Option, Some, None, refl, sym, ap, arith, find, is_some, length, map}
+use Rattle.std.proofs.Common.{◌≡◌, ◌∙◌, ◌<◌, ℕ, false, List, [], ◌∷◌, Option, Some, None, refl, sym, ap, arith, find, is_some, length, map}
 use Rattle.std.specs.Borrow.{Bor}
 use Rattle.std.specs.Option.{IsSome}
 use Rattle.std.specs.Prelude.{option_and_then, option_map, slice_get}
@@ -20,6 +20,10 @@ some_text (Some s) text is = refl
 pub some_mapped : {A B : Type 0} (f : A → B) (o : Option A) → is_some (option_map f o) ≡ is_some o
 some_mapped f None = refl
 some_mapped f (Some x) = refl
+
+pub is_none : {A : Type 0} (o : Option A) → is_some o ≡ false → o ≡ None
+is_none None not_some = refl
+is_none (Some x) not_some = cc
 
 -- an argument with a value has a first one
 pub first_of_value : (name : Text) (rows : List Row) → HasValue parser.String rows name → (text : Text) × GivesText rows name text

@@ -1,6 +1,6 @@
 -- The command line, as clap reads it.
 use Rattle.std.specs.Prelude.{◌≡◌, ◌+◌, ℕ, Bool, false, true, pos, codes, Option, Some, List, []}
-use Rattle.std.specs.Prelude.{◌∷◌, find, fold}
+use Rattle.std.specs.Prelude.{◌∷◌, find, fold, if◌then◌else◌}
 use Rattle.std.specs.Str.{bytes_eq}
 use Rattle.smap_command.specs.Limits.{limit, most_bytes, most_interval}
 use Rattle.clap.specs.Simple.{on_top}
@@ -100,7 +100,13 @@ with_rules name rules = fold with_rule (new_app name) rules
 abbrev pub lookup : App
 lookup = with_rules (codes "lookup") (text_rule (codes "PATH") ∷ number_rule number (codes "LINE")
     ∷ number_rule number (codes "COLUMN") ∷ base_rule ∷ interval_rule ∷ flag_rule (codes "after") ∷ flag_rule (codes "json")
-    ∷ flag_rule (codes "explain") ∷ [])
+    ∷ flag_rule (codes "explain") ∷ flag_rule (codes "generated") ∷ [])
+
+-- `lookup` with `--generated`, whose words are a map and a place in one of its sources
+abbrev pub generated : App
+generated = with_rules (codes "lookup") (text_rule (codes "PATH") ∷ text_rule (codes "SOURCE") ∷ number_rule number (codes "LINE")
+    ∷ optional_number_rule number (codes "COLUMN") ∷ base_rule ∷ flag_rule (codes "after") ∷ flag_rule (codes "json")
+    ∷ flag_rule (codes "explain") ∷ flag_rule (codes "generated") ∷ [])
 
 abbrev pub positions : App
 positions = with_rules (codes "positions") (text_rule (codes "MAP") ∷ base_rule ∷ interval_rule ∷ flag_rule (codes "after")
@@ -116,8 +122,9 @@ sources = with_rules (codes "sources") (text_rule (codes "MAP") ∷ optional_rul
 
 abbrev pub rewrite : App
 rewrite = with_rules (codes "rewrite") (texts_rule false (codes "URL=FILE") ∷ list_rule (codes "maps") ∷ base_rule ∷ interval_rule
-    ∷ flag_rule (codes "hide-ignored") ∷ repeated_rule (codes "TEXT") (codes "hide") ∷ flag_rule (codes "anywhere") ∷ bytes_rule 0 (codes "cache") ∷ bytes_rule 1 (codes "limit")
-    ∷ flag_rule (codes "summary") ∷ flag_rule (codes "strip-ansi") ∷ [])
+    ∷ flag_rule (codes "hide-ignored") ∷ repeated_rule (codes "TEXT") (codes "hide") ∷ flag_rule (codes "anywhere")
+    ∷ flag_rule (codes "paths") ∷ bytes_rule 0 (codes "cache") ∷ bytes_rule 1 (codes "limit") ∷ flag_rule (codes "summary")
+    ∷ flag_rule (codes "explain") ∷ flag_rule (codes "strip-ansi") ∷ [])
 
 abbrev pub check : App
 check = with_rules (codes "check") (texts_rule true (codes "PATH") ∷ base_rule ∷ interval_rule ∷ flag_rule (codes "json")
@@ -139,16 +146,42 @@ explain = with_rules (codes "explain") (optional_rule (codes "CODE") ∷ [])
 abbrev pub raw : App
 raw = with_rules (codes "raw") (number_rule number (codes "LINE") ∷ number_rule number (codes "COLUMN") ∷ interval_rule ∷ [])
 
--- `smap`, which has a version and wants a subcommand
+-- `smap`, which has a version and wants a subcommand, without one
+abbrev pub smap_alone : App
+smap_alone = on_top (λ shape. record shape { subcommand_required = true; has_version = true }) (new_app (codes "smap"))
+
+-- a command with these as well
+abbrev pub with_commands : App → List App → App
+with_commands = fold (λ above command. with_subcommand above command.top)
+
+-- the commands about one map
+abbrev pub first_commands : List App
+first_commands = lookup ∷ positions ∷ mappings ∷ sources ∷ []
+
+-- those over several
+abbrev pub next_commands : List App
+next_commands = rewrite ∷ check ∷ show ∷ []
+
+abbrev pub last_commands : List App
+last_commands = compose ∷ fit ∷ explain ∷ raw ∷ []
+
+-- `smap` with all its commands
 abbrev pub smap : App
-smap = fold (λ above command. with_subcommand above command.top)
-    (on_top (λ shape. record shape { subcommand_required = true; has_version = true }) (new_app (codes "smap")))
-    (lookup ∷ positions ∷ mappings ∷ sources ∷ rewrite ∷ check ∷ show ∷ compose ∷ fit ∷ explain ∷ raw ∷ [])
+smap = with_commands (with_commands (with_commands smap_alone first_commands) next_commands) last_commands
+
+-- `smap` as it reads the words of `lookup` with `--generated`
+abbrev pub smap_generated : App
+smap_generated = with_commands smap_alone (generated ∷ [])
 
 -- clap's command is the one described, and no argument of it holds in subcommands too
 abbrev pub IsLocalCommand : App → ClapCommand → Type 0
 IsLocalCommand app command = (app_of command ≡ app) × ((out-Command command).has_globals ≡ false)
 
--- the command of `smap` that has this name
+-- how the command is called that this word names
+abbrev pub whole_name : (is_generated : Bool) → (word : Text) → Text
+whole_name is_generated word = if is_generated then codes "lookup --generated" else word
+
+-- the command of `smap` that is called so
 abbrev pub named : Text → Option Shape
-named name = find (λ command. bytes_eq command.name name) smap.subs
+named name = if bytes_eq name (codes "lookup --generated") then Some generated.top
+    else find (λ command. bytes_eq command.name name) smap.subs

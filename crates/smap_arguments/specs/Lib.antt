@@ -1,4 +1,5 @@
 pub mod CommandLine
+pub mod Line
 pub mod Excludes
 pub mod Arguments
 pub mod Refusals

@@ -1,5 +1,5 @@
 -- Why the arguments of the command line give no command.
-use Rattle.std.specs.Prelude.{◌≡◌, ◌≢◌, ◌++◌, ◌%◌, ◌⊎◌, ◌∷◌, Bool, true, codes, length, List, [], Err, None, Option, Some, String, find, not, ⊤}
+use Rattle.std.specs.Prelude.{◌≡◌, ◌≢◌, ◌++◌, ◌%◌, ◌⊎◌, ◌∷◌, Bool, true, codes, length, List, [], Err, None, Option, Some, String, find, is_some, not, ⊤}
 use Rattle.std.specs.declared.alloc.Global.{Global}
 use Rattle.std.specs.Option.{IsSome}
 use Rattle.std.specs.String.{string_bytes}
@@ -12,10 +12,11 @@ use Rattle.clap.specs.Kinds.{IsAmong}
 use Rattle.clap.specs.Words.{Row, Text, first_of, one_of, subcommand_of}
 use Rattle.clap.specs.declared.error.kind.ErrorKind.{ErrorKind}
 use Rattle.clap.specs.declared.error.kind.ErrorKind.TheVariants.{DisplayHelp, DisplayVersion, OutOfMemory}
-use Rattle.smap_arguments.specs.CommandLine.{smap}
+use Rattle.smap_arguments.specs.CommandLine.{whole_name}
 use Rattle.smap_arguments.specs.Arguments.{GivesBase, GivesFlag, GivesFurther, GivesOrder, GivesPairs, GivesText, GivesTexts, HasMaps, HasNoInners, has_equals_sign, has_inner}
 use Rattle.smap_arguments.specs.Arguments.{has_listing, words_of}
 use Rattle.smap_arguments.specs.Excludes.{excluded_line}
+use Rattle.smap_arguments.specs.Line.{asks_generated, line_of}
 use Rattle.smap_command.specs.declared.options.FurtherOptions.{FurtherOptions}
 use Rattle.smap_arguments.specs.declared.usage.Usage.{Usage}
 use Rattle.smap_arguments.specs.declared.usage.Usage.TheVariants.{Help, Words, Memory}
@@ -43,9 +44,10 @@ abbrev pub no_pair_line : (form argument : Text) → Text
 no_pair_line form argument = codes "usage: no " ++ (form ++ (codes ": " ++ shown argument ++ 10 ∷ []))
 
 -- `rewrite` has neither a word nor a list, which is reported as clap reports an argument that is missing
-abbrev pub no_maps_text : Text
-no_maps_text = codes "error: the following required arguments were not provided:" ++ 10 ∷ codes "  <URL=FILE>..." ++ 10 ∷ 10
-    ∷ codes "Usage: smap rewrite <URL=FILE>..." ++ 10 ∷ 10 ∷ codes "For more information, try '--help'." ++ 10 ∷ []
+abbrev pub no_maps_text : (command : Text) → Text
+no_maps_text command =
+    codes "error: the following required arguments were not provided:\n  <URL=FILE>...\n\nUsage: smap "
+    ++ (command ++ codes " <URL=FILE>...\n\nFor more information, try '--help'.\n")
 
 -- `compose` has SOURCE beside maps that are given by the names of their sources
 abbrev pub source_with_inners_line : Text
@@ -92,18 +94,24 @@ abbrev pub ReportsBadPair : List Row → (form : Text) → Text → Type 0
 ReportsBadPair rows form = ReportsNoPair form (words_of rows form)
 
 -- it is reported that there is neither a word nor a list
-abbrev pub ReportsNoMaps : List Row → Text → Type 0
-ReportsNoMaps rows text = (text ≡ no_maps_text) × (words_of rows (codes "URL=FILE") ≡ []) × (first_of (codes "LIST") rows ≡ None)
+abbrev pub ReportsNoMaps : (command : Text) → List Row → Text → Type 0
+ReportsNoMaps command rows text =
+    (text ≡ no_maps_text command) × (words_of rows (codes "URL=FILE") ≡ []) × (first_of (codes "LIST") rows ≡ None)
 
--- it is reported that what is given excludes each other
+-- what is refused of the maps of this command: a word, or that there are none
+abbrev pub ReportsMaps : (command : Text) → List Row → Text → Type 0
+ReportsMaps command rows text = ReportsBadPair rows (codes "URL=FILE") text ⊎ ReportsNoMaps command rows text
+
+-- it is reported that what `rewrite` is given excludes each other
 abbrev pub ReportsExcluded : List Row → Text → Type 0
-ReportsExcluded rows text = (maps : List (String Global × String Global)) × (hide_ignored : Bool) × (options : FurtherOptions)
-    × GivesPairs rows (codes "URL=FILE") maps × GivesFlag rows (codes "hide-ignored") hide_ignored × GivesFurther rows options
-    × (excluded_line maps hide_ignored options ≡ Some text)
+ReportsExcluded rows text = (maps : List (String Global × String Global)) × (base : Option Parts) × (hide_ignored : Bool)
+    × (options : FurtherOptions) × GivesPairs rows (codes "URL=FILE") maps × GivesBase rows base
+    × GivesFlag rows (codes "hide-ignored") hide_ignored × GivesFurther rows options
+    × (excluded_line maps (is_some base) hide_ignored options ≡ Some text)
 
--- what `rewrite` refuses after its base: a word, that there are no maps, and then what excludes each other
+-- what `rewrite` refuses after its base: its maps, and then what excludes each other
 abbrev pub ReportsRewrite : List Row → Text → Type 0
-ReportsRewrite rows text = ReportsBadPair rows (codes "URL=FILE") text ⊎ ReportsNoMaps rows text ⊎ ReportsExcluded rows text
+ReportsRewrite rows text = ReportsMaps (codes "rewrite") rows text ⊎ ReportsExcluded rows text
 
 -- it is reported that SOURCE or INNER is given beside maps that are given by the names of their sources, of words that are pairs
 abbrev pub ReportsSourceWithInners : List Row → Text → Type 0
@@ -187,17 +195,18 @@ IsNamedRefusal Reports (Words text) = Reports (string_bytes text)
 IsNamedRefusal Reports Memory = ⊤
 
 -- the same, of the subcommand that the arguments name
-abbrev pub SubcommandReports : Option (Text × List Row) → Text → Type 0
-SubcommandReports subcommand text =
-    (name : Text) × (rows : List Row) × (subcommand ≡ Some (name, rows)) × ReportsRefusal name rows text
+abbrev pub SubcommandReports : (is_generated : Bool) → Option (Text × List Row) → Text → Type 0
+SubcommandReports is_generated subcommand text = (word : Text) × (rows : List Row) × (subcommand ≡ Some (word, rows))
+    × ReportsRefusal (whole_name is_generated word) rows text
 
 -- clap finds a request for help or for the version, or another fault in the arguments; or it finds none, and what is reported is
 -- that the base is no URL or too long, an argument no pair, that there are no maps, that a map has no generated file, or
 -- that two arguments exclude each other;
 -- or memory ran out
 abbrev pub IsRefusalOf : List Text → Usage → Type 0
-IsRefusalOf arguments (Help text) = (kind : ErrorKind) × IsAmong kind (fault_of smap arguments) × IsRequest kind
+IsRefusalOf arguments (Help text) = (kind : ErrorKind) × IsAmong kind (fault_of (line_of arguments) arguments) × IsRequest kind
 IsRefusalOf arguments (Words text) =
-    ((kind : ErrorKind) × IsAmong kind (fault_of smap arguments) × (¬ (IsRequest kind)))
-    ⊎ ((fault_of smap arguments ≡ []) × SubcommandReports (subcommand_of smap arguments) (string_bytes text))
+    ((kind : ErrorKind) × IsAmong kind (fault_of (line_of arguments) arguments) × (¬ (IsRequest kind)))
+    ⊎ ((fault_of (line_of arguments) arguments ≡ [])
+    × SubcommandReports (asks_generated arguments) (subcommand_of (line_of arguments) arguments) (string_bytes text))
 IsRefusalOf arguments Memory = ⊤

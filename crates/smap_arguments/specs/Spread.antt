@@ -1,12 +1,11 @@
 -- A position of `lookup` that is one word, as traces print it: LINE, `:` and COLUMN.
-use Rattle.std.specs.Prelude.{◌≡◌, ◌++◌, ℕ, ◌==◌, ◌&&◌, Bool, true, false, not, List, [], ◌∷◌, Option, Some, None, codes, if◌then◌else◌, length}
+use Rattle.std.specs.Prelude.{◌≡◌, ◌++◌, ℕ, ◌==◌, ◌&&◌, Bool, true, false, not, List, [], ◌∷◌, Option, Some, None, if◌then◌else◌, length}
 use Rattle.std.specs.Char.{is_ascii_digit}
 use Rattle.std.specs.List.{after_first, before_first, list_all, position_or_len}
-use Rattle.std.specs.Str.{bytes_eq}
 use Rattle.clap.specs.Faults.{fault_of}
 use Rattle.clap.specs.Kinds.{Kinds}
 use Rattle.clap.specs.Words.{Text}
-use Rattle.smap_arguments.specs.CommandLine.{smap}
+use Rattle.smap_arguments.specs.Line.{is_lookup, line_of}
 
 -- a number without a sign
 abbrev pub are_digits : Text → Bool
@@ -40,12 +39,6 @@ abbrev pub spread : List Text → List Text
 spread [] = []
 spread (program ∷ words) = program ∷ spread_words words
 
--- the arguments are those of `lookup`
-abbrev pub is_lookup : List Text → Bool
-is_lookup [] = false
-is_lookup (program ∷ []) = false
-is_lookup (program ∷ name ∷ words) = bytes_eq name (codes "lookup")
-
 abbrev pub is_faultless : Kinds → Bool
 is_faultless [] = true
 is_faultless (kind ∷ kinds) = false
@@ -53,7 +46,7 @@ is_faultless (kind ∷ kinds) = false
 -- the arguments that are read: those of `lookup` in which clap finds a fault with such a position as two, and all others as they are
 abbrev pub read_arguments : List Text → List Text
 read_arguments arguments =
-    if is_lookup arguments && not (is_faultless (fault_of smap arguments)) then spread arguments else arguments
+    if is_lookup arguments && not (is_faultless (fault_of (line_of arguments) arguments)) then spread arguments else arguments
 
 -- ---- what private functions do
 

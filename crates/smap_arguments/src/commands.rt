@@ -1,13 +1,13 @@
 //! The command that the arguments ask for, read from what clap found in them.
-ghost use Rattle.std.specs.Prelude.{◌≡◌, IfErr, IfOk, codes};
+ghost use Rattle.std.specs.Prelude.{◌≡◌, IfErr, IfOk};
 ghost use Rattle.clap.specs.Words.{found_of, rows_of, subcommand_rows_of};
-ghost use Rattle.smap_arguments.specs.CommandLine.{named};
+ghost use Rattle.smap_arguments.specs.CommandLine.{named, whole_name};
 ghost use Rattle.smap_arguments.specs.Arguments.{GivesBase, HasArguments, HasCommand, IsInRange, NamedAsksFor};
 ghost use Rattle.smap_arguments.specs.Arguments.{SubcommandAsksFor};
 ghost use Rattle.smap_arguments.specs.Refusals.{IsNamedRefusal, SubcommandReports, ReportsRefusal};
 
 use crate::checks::{check_in, explain_in, fit_in};
-use crate::lookups::{lookup_in, mappings_in, positions_in, raw_in};
+use crate::lookups::{generated_in, lookup_in, mappings_in, positions_in, raw_in};
 use crate::rewrite::rewrite_in;
 use crate::sources::sources_in;
 use crate::usage::Usage;
@@ -19,19 +19,34 @@ use std::alloc::Global;
 use url::Url;
 
 /// The command that the subcommand and its arguments ask for. A base that is no URL is refused first.
-pub fn command_in(alloc: Global, matches: &ArgMatches<'_>) -> Result<Command, Usage>
-    requires { HasCommand (subcommand_rows_of matches.now) }
-    ensures asked { IfOk result (SubcommandAsksFor (subcommand_rows_of matches.now)) }
+pub fn command_in(
+    alloc: Global,
+    matches: &ArgMatches<'_>,
+    is_generated: bool,
+) -> Result<Command, Usage>
+    requires { HasCommand is_generated (subcommand_rows_of matches.now) }
+    ensures asked { IfOk result (SubcommandAsksFor is_generated (subcommand_rows_of matches.now)) }
     ensures in_range { IfOk result IsInRange }
     ensures refused { IfErr result (IsNamedRefusal
-        (SubcommandReports (subcommand_rows_of matches.now))) }
+        (SubcommandReports is_generated (subcommand_rows_of matches.now))) }
 {
-    let (name, matches) = matches.subcommand().unwrap();
+    let (word, matches) = matches.subcommand().unwrap();
     let base = base_in(alloc, matches)?;
-    named_command(alloc, name, matches, base)
+    named_command(alloc, whole_name(is_generated, word), matches, base)
 }
 
-// The command of this name that the arguments ask for, over the base.
+// How the command is called that this word names.
+fn whole_name(is_generated: bool, word: &str) -> &str
+    ensures { result.now ≡ whole_name is_generated word.now }
+{
+    if is_generated {
+        "lookup --generated"
+    } else {
+        word
+    }
+}
+
+// The command that is called so, as the arguments ask for it, over the base.
 fn named_command(
     alloc: Global,
     name: &str,
@@ -47,6 +62,7 @@ fn named_command(
 {
     match name {
         "lookup" => Ok(lookup_in(alloc, matches, base)?),
+        "lookup --generated" => Ok(generated_in(alloc, matches, base)?),
         "positions" => Ok(positions_in(alloc, matches, base)?),
         "mappings" => Ok(mappings_in(alloc, matches, base)?),
         "sources" => sources_in(alloc, matches, base),

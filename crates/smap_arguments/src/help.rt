@@ -22,6 +22,9 @@ With --explain the answer is followed by which mappings stand nearest before and
 
 LINE and COLUMN may be one word, LINE:COLUMN.
 
+With --generated the words are MAP SOURCE LINE [COLUMN], and the answers places of the generated file that come from
+there: `smap lookup --generated --help` says more.
+
 Where the map holds the text of the source, its line follows, and a caret under the position.
 
 With --json the answer is one JSON object, on one line.
@@ -29,6 +32,25 @@ With --json the answer is one JSON object, on one line.
 Columns are UTF-16 code units. LINE and COLUMN count from 1, as V8 prints them in a stack trace.
 
 Example: smap lookup examples/preset-react.js.map 65 80";
+
+pub const GENERATED_ABOUT: &str = "Looks a place in a source up in a source map file";
+
+pub const GENERATED_NOTES: &str = "\
+Answers:
+  LINE:COLUMN of SOURCE:LINE:COLUMN  a place of the generated file, from 1, and the original place of the mapping
+                                     there; behind it ` name NAME` where the mapping names the identifier, and
+                                     ` ignored` where the map says to pass over the source
+  none                               no mapping leads there
+
+SOURCE is the name of a source, as `smap sources` prints it, or its number there in brackets, as `[0]`. Each mapping
+into its LINE answers, in the order of the generated file. With COLUMN only those into the greatest column that is
+not after it or, with --after, into the least that is not before it.
+
+LINE and COLUMN may be one word, LINE:COLUMN.
+
+With --explain a source that the map does not have is followed by those whose names end alike.
+
+Example: smap lookup --generated examples/preset-react.js.map preset-react.js 40";
 
 pub const POSITIONS_ABOUT: &str = "Answers the positions on standard input from a source map file";
 
@@ -91,11 +113,16 @@ What begins with `*` is for more than one host or folder: *END=FILE gives the ma
 a `/` on, and *=FILE that of every URL; *MIDDLE=FOLDER/, where MIDDLE ends in `/`, the folder of those that have MIDDLE
 in them. A URL or a prefix that fits comes first, and then the longest of these.
 
+With --paths a source with a relative name goes on from the folder of the map's URL, where that is a path, as node
+prints paths: not with --base.
+
 Answer: the trace, line by line. In a frame of V8, Firefox or Safari whose URL has a map, the place becomes
 the original one; the rest of the line stays, and so does each other line, byte for byte. With --hide-ignored
 the lines of frames from sources that a map says to pass over are left out, and with --hide those from sources
 whose printed names have TEXT in them. With --anywhere each place URL:LINE:COLUMN whose URL
 has a map becomes the original one, wherever it stands in a line.
+
+With --explain standard error says at the end of each URL that the text names which map it has, or why it has none.
 
 Examples:
   smap rewrite https://example.test/receipt.min.js=examples/receipt.min.js.map < examples/receipt.trace
@@ -224,6 +251,17 @@ pub const MISFIT_COUNT_HELP: &str =
 
 pub const CONTENT_HELP: &str = "Write the content of this source, from 0, and nothing else";
 
+pub const SOURCE_NAME_HELP: &str =
+    "Name of a source of the map, or its number, from 0, in brackets";
+
+pub const SOURCE_LINE_HELP: &str = "Line of the source, from 1";
+
+pub const SOURCE_COLUMN_HELP: &str =
+    "Column of the source, from 1, in UTF-16 code units; without it the whole line";
+
+pub const TO_GENERATED_HELP: &str =
+    "Answer with the generated places of MAP SOURCE LINE [COLUMN], a place in a source";
+
 pub const COLUMN_HELP: &str = "Column of the generated file, from 1, in UTF-16 code units";
 
 pub const PAIRS_HELP: &str =
@@ -272,6 +310,16 @@ pub const TEXT_HELP: &str =
 
 pub const ANYWHERE_HELP: &str =
     "Rewrite every URL:LINE:COLUMN anywhere in a line, not frames alone";
+
+pub const PATHS_OF_SOURCES_HELP: &str =
+    "Name sources by paths, from the folder of the map's URL on, where that is a path";
+
+pub const URLS_HELP: &str = "Say at the end which map each URL of the text has, or why it has none";
+
+pub const SOURCE_AFTER_HELP: &str =
+    "Answer by the first column on the line at COLUMN or after it, not the last before";
+
+pub const ALIKE_HELP: &str = "Say which sources end alike where there is no such one";
 
 pub const CACHE_HELP: &str = "\
 Keep maps of folders and lists up to this many bytes of their files, else 1073741824; the

@@ -9,6 +9,7 @@
 mod argument;
 mod checks;
 mod commands;
+mod generated;
 mod help;
 mod line;
 mod lookups;

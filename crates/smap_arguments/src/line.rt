@@ -2,22 +2,25 @@
 ghost use Rattle.std.specs.Prelude.{◌≡◌, All, IfOk, IsOkAnd, false, map};
 ghost use Rattle.clap.specs.Built.{AddsSubcommand};
 ghost use Rattle.clap.specs.Words.{app_of, rule_of};
-ghost use Rattle.smap_arguments.specs.CommandLine.{IsLocalCommand, check, compose, explain, fit, lookup, mappings, positions, raw};
-ghost use Rattle.smap_arguments.specs.CommandLine.{rewrite, show, smap, sources, with_rules};
+ghost use Rattle.smap_arguments.specs.CommandLine.{IsLocalCommand, check, compose, explain, first_commands, fit, generated, last_commands, lookup};
+ghost use Rattle.smap_arguments.specs.CommandLine.{mappings, next_commands, positions, raw, rewrite, show, smap, smap_alone, smap_generated, sources};
+ghost use Rattle.smap_arguments.specs.CommandLine.{with_commands, with_rules};
 
 use crate::argument::{
     base_url, bytes, content, flag, interval, list, optional, optional_position_number, order,
     position_number, repeated, source, text, texts,
 };
 use crate::help::{
-    AFTER_HELP, ANYWHERE_HELP, CACHE_HELP, CHECK_ABOUT, CHECK_NOTES, CODE_HELP, COLUMN_HELP,
-    COMPOSE_ABOUT, COMPOSE_NOTES, EXPLAIN_ABOUT, EXPLAIN_NOTES, FIT_ABOUT, FIT_HELP, FIT_NOTES,
-    GENERATED_HELP, HIDE_HELP, INNER_HELP, INNER_LIST_HELP, INNER_PAIRS_HELP, JSON_HELP,
-    LIMIT_HELP, LINE_HELP, LIST_HELP, LOOKUP_ABOUT, LOOKUP_NOTES, MAPPINGS_ABOUT, MAPPINGS_NOTES,
-    MISFIT_COUNT_HELP, MISFITS_HELP, NEAREST_HELP, NO_CONTENT_HELP, ONE_LINE_HELP, OUTER_HELP,
-    PAIRS_HELP, PATH_HELP, PATHS_HELP, POSITIONS_ABOUT, POSITIONS_NOTES, PRUNE_HELP, RAW_ABOUT,
-    RAW_NOTES, REWRITE_ABOUT, REWRITE_NOTES, SHOW_ABOUT, SHOW_NOTES, SOURCES_ABOUT, SOURCES_NOTES,
-    STATUSES, STRIP_HELP, SUMMARY_HELP, TEXT_HELP, WHY_HELP,
+    AFTER_HELP, ALIKE_HELP, ANYWHERE_HELP, CACHE_HELP, CHECK_ABOUT, CHECK_NOTES, CODE_HELP,
+    COLUMN_HELP, COMPOSE_ABOUT, COMPOSE_NOTES, EXPLAIN_ABOUT, EXPLAIN_NOTES, FIT_ABOUT, FIT_HELP,
+    FIT_NOTES, GENERATED_ABOUT, GENERATED_HELP, GENERATED_NOTES, HIDE_HELP, INNER_HELP,
+    INNER_LIST_HELP, INNER_PAIRS_HELP, JSON_HELP, LIMIT_HELP, LINE_HELP, LIST_HELP, LOOKUP_ABOUT,
+    LOOKUP_NOTES, MAPPINGS_ABOUT, MAPPINGS_NOTES, MISFIT_COUNT_HELP, MISFITS_HELP, NEAREST_HELP,
+    NO_CONTENT_HELP, ONE_LINE_HELP, OUTER_HELP, PAIRS_HELP, PATH_HELP, PATHS_HELP,
+    PATHS_OF_SOURCES_HELP, POSITIONS_ABOUT, POSITIONS_NOTES, PRUNE_HELP, RAW_ABOUT, RAW_NOTES,
+    REWRITE_ABOUT, REWRITE_NOTES, SHOW_ABOUT, SHOW_NOTES, SOURCE_AFTER_HELP, SOURCE_COLUMN_HELP,
+    SOURCE_LINE_HELP, SOURCE_NAME_HELP, SOURCES_ABOUT, SOURCES_NOTES, STATUSES, STRIP_HELP,
+    SUMMARY_HELP, TEXT_HELP, TO_GENERATED_HELP, URLS_HELP, WHY_HELP,
 };
 use clap::{Arg, Command};
 use std::alloc::{AllocError, Global};
@@ -28,19 +31,55 @@ const VERSION: &str = "0.1.0";
 pub fn command_line<'a>(alloc: Global) -> Result<Command<'a>, AllocError>
     ensures { IfOk result (λ command. app_of command ≡ smap) }
 {
+    let smap = with_first_commands(alloc, smap_alone(alloc)?)?;
+    let smap = with_next_commands(alloc, smap)?;
+    with_last_commands(alloc, smap)
+}
+
+/// That which reads the words of `lookup` with `--generated`.
+pub fn generated_line<'a>(alloc: Global) -> Result<Command<'a>, AllocError>
+    ensures { IfOk result (λ command. app_of command ≡ smap_generated) }
+{
+    with_command(smap_alone(alloc)?, generated_command(alloc))
+}
+
+// `smap` without a command.
+fn smap_alone<'a>(alloc: Global) -> Result<Command<'a>, AllocError>
+    ensures { IfOk result (λ command. app_of command ≡ smap_alone) }
+{
     let smap = Command::new(alloc, "smap")
         .bin_name("smap")?
         .version(VERSION)
         .about("Answers questions about source maps")
         .after_help(STATUSES)
         .subcommand_required(true);
+    Ok(smap)
+}
+
+// The commands stand in the order in which the help names them.
+fn with_first_commands<'a>(alloc: Global, smap: Command<'a>) -> Result<Command<'a>, AllocError>
+    ensures { IfOk result (λ command. app_of command
+        ≡ with_commands (app_of smap.entry) first_commands) }
+{
     let smap = with_command(smap, lookup_command(alloc))?;
     let smap = with_command(smap, positions_command(alloc))?;
     let smap = with_command(smap, mappings_command(alloc))?;
-    let smap = with_command(smap, sources_command(alloc))?;
+    with_command(smap, sources_command(alloc))
+}
+
+fn with_next_commands<'a>(alloc: Global, smap: Command<'a>) -> Result<Command<'a>, AllocError>
+    ensures { IfOk result (λ command. app_of command
+        ≡ with_commands (app_of smap.entry) next_commands) }
+{
     let smap = with_command(smap, rewrite_command(alloc))?;
     let smap = with_command(smap, check_command(alloc))?;
-    let smap = with_command(smap, show_command(alloc))?;
+    with_command(smap, show_command(alloc))
+}
+
+fn with_last_commands<'a>(alloc: Global, smap: Command<'a>) -> Result<Command<'a>, AllocError>
+    ensures { IfOk result (λ command. app_of command
+        ≡ with_commands (app_of smap.entry) last_commands) }
+{
     let smap = with_command(smap, compose_command(alloc))?;
     let smap = with_command(smap, fit_command(alloc))?;
     let smap = with_command(smap, explain_command(alloc))?;
@@ -71,8 +110,27 @@ fn lookup_command<'a>(alloc: Global) -> Result<Command<'a>, AllocError>
         flag(alloc, "after", AFTER_HELP),
         flag(alloc, "json", JSON_HELP),
         flag(alloc, "explain", NEAREST_HELP),
+        flag(alloc, "generated", TO_GENERATED_HELP),
     ]?;
     described(alloc, "lookup", LOOKUP_ABOUT, LOOKUP_NOTES, arguments)
+}
+
+// `lookup` with `--generated`.
+fn generated_command<'a>(alloc: Global) -> Result<Command<'a>, AllocError>
+    ensures { IfOk result (IsLocalCommand generated) }
+{
+    let arguments = vec![in alloc;
+        text(alloc, "PATH", PATH_HELP),
+        text(alloc, "SOURCE", SOURCE_NAME_HELP),
+        position_number(alloc, "LINE", SOURCE_LINE_HELP),
+        optional_position_number(alloc, "COLUMN", SOURCE_COLUMN_HELP),
+        base_url(alloc),
+        flag(alloc, "after", SOURCE_AFTER_HELP),
+        flag(alloc, "json", JSON_HELP),
+        flag(alloc, "explain", ALIKE_HELP),
+        flag(alloc, "generated", TO_GENERATED_HELP),
+    ]?;
+    described(alloc, "lookup", GENERATED_ABOUT, GENERATED_NOTES, arguments)
 }
 
 fn positions_command<'a>(alloc: Global) -> Result<Command<'a>, AllocError>
@@ -132,9 +190,11 @@ fn rewrite_command<'a>(alloc: Global) -> Result<Command<'a>, AllocError>
         flag(alloc, "hide-ignored", HIDE_HELP),
         repeated(alloc, "TEXT", "hide", TEXT_HELP),
         flag(alloc, "anywhere", ANYWHERE_HELP),
+        flag(alloc, "paths", PATHS_OF_SOURCES_HELP),
         bytes(alloc, "cache", CACHE_HELP, 0),
         bytes(alloc, "limit", LIMIT_HELP, 1),
         flag(alloc, "summary", SUMMARY_HELP),
+        flag(alloc, "explain", URLS_HELP),
         flag(alloc, "strip-ansi", STRIP_HELP),
     ]?;
     described(alloc, "rewrite", REWRITE_ABOUT, REWRITE_NOTES, arguments)

@@ -36,6 +36,33 @@ pub fn lookup_in(
     })
 }
 
+/// `lookup` with `--generated`.
+pub fn generated_in(
+    alloc: Global,
+    matches: &ArgMatches<'_>,
+    base: Option<Url>,
+) -> Result<Command, AllocError>
+    requires required { HasArguments (named (codes "lookup --generated"))
+        (rows_of (found_of matches.now)) }
+    requires given { GivesBase (rows_of (found_of matches.now)) base }
+    ensures asked { IfOk result
+        (NamedAsksFor (codes "lookup --generated") (rows_of (found_of matches.now))) }
+    ensures in_range { IfOk result IsInRange }
+{
+    Ok(Command::Generated {
+        path: text_in(alloc, matches, "PATH")?,
+        source: text_in(alloc, matches, "SOURCE")?,
+        line: position_number_in(matches, "LINE"),
+        column: position_number_if_given(matches, "COLUMN"),
+        base,
+        after: flag_in(matches, "after"),
+        options: LookupOptions {
+            form: form_in(matches),
+            explain: flag_in(matches, "explain"),
+        },
+    })
+}
+
 pub fn positions_in(
     alloc: Global,
     matches: &ArgMatches<'_>,

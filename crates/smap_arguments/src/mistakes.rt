@@ -1,6 +1,6 @@
 //! The lines for arguments that clap takes, but the command does not.
 ghost use Rattle.std.specs.Prelude.{◌≡◌, string_bytes, IfOk};
-ghost use Rattle.smap_arguments.specs.Refusals.{no_pair_line};
+ghost use Rattle.smap_arguments.specs.Refusals.{no_maps_text, no_pair_line};
 
 use smap_text::shown;
 use std::alloc::{AllocError, Global};
@@ -18,22 +18,17 @@ pub const MANY_HIDDEN: &str = "usage: more than 16 --hide\n";
 
 pub const HIDDEN_ANYWHERE: &str = "usage: --hide with --anywhere\n";
 
-/// Standard error: `rewrite` has a URL that begins with `*`, which finds no places.
-pub const PATTERN_ANYWHERE: &str = "usage: * with --anywhere\n";
+/// Standard error: it is told of frames alone what became of their URLs.
+pub const EXPLAINED_ANYWHERE: &str = "usage: --explain with --anywhere\n";
 
-/// Standard error: `rewrite` has neither a word nor a list. It is reported as clap reports any argument that is missing.
-pub const NO_MAPS: &str = "\
-error: the following required arguments were not provided:
-  <URL=FILE>...
+/// Standard error: a URL is `*` alone, which each place has, as times of day are.
+pub const ANY_URL: &str = "usage: * with --anywhere\n";
 
-Usage: smap rewrite <URL=FILE>...
-
-For more information, try '--help'.
-";
+pub const BASE_AND_PATHS: &str = "usage: --base with --paths\n";
 
 pub const SOURCE_WITH_INNERS: &str = "usage: SOURCE with --inner or --inners\n";
 
-/// Standard error: `compose` has neither SOURCE nor a map by its name. It is reported as `NO_MAPS` is.
+/// Standard error: `compose` has neither SOURCE nor a map by its name. It is reported as `no_maps_text` is.
 pub const NO_SOURCE: &str = "\
 error: the following required arguments were not provided:
   <SOURCE>
@@ -44,7 +39,7 @@ Usage: smap compose <OUTER> <SOURCE> <INNER>
 For more information, try '--help'.
 ";
 
-/// Standard error: `compose` has SOURCE without INNER. It is reported as `NO_MAPS` is.
+/// Standard error: `compose` has SOURCE without INNER. It is reported as `no_maps_text` is.
 pub const NO_INNER: &str = "\
 error: the following required arguments were not provided:
   <INNER>
@@ -76,4 +71,20 @@ pub fn no_pair_line(alloc: Global, form: &str, argument: &str) -> Result<String,
 {
     let argument = shown(alloc, argument)?;
     format!(in alloc; "usage: no {form}: {argument}\n")
+}
+
+/// Standard error: a command has neither a word nor a list. It is reported as clap reports any argument that is missing.
+pub fn no_maps_text(alloc: Global, command: &str) -> Result<String, AllocError>
+    ensures { IfOk result (λ text. string_bytes text ≡ no_maps_text command.now) }
+{
+    format!(in alloc;
+        "\
+error: the following required arguments were not provided:
+  <URL=FILE>...
+
+Usage: smap {command} <URL=FILE>...
+
+For more information, try '--help'.
+"
+    )
 }

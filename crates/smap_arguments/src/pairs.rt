@@ -1,13 +1,34 @@
 //! Arguments that are pairs, as `URL=FILE`.
-ghost use Rattle.std.specs.Prelude.{◌∷◌, [], IfErr, IfOk, map, string_bytes};
-ghost use Rattle.clap.specs.Words.{found_of, rows_of};
-ghost use Rattle.smap_arguments.specs.Arguments.{ArePairs, GivesPairs, IsPair};
-ghost use Rattle.smap_arguments.specs.Refusals.{IsNamedRefusal, ReportsBadPair, ReportsNoPair};
+ghost use Rattle.std.specs.Prelude.{◌∷◌, [], IfErr, IfOk, codes, map, string_bytes};
+ghost use Rattle.clap.specs.Words.{first_of, found_of, rows_of};
+ghost use Rattle.smap_arguments.specs.Arguments.{ArePairs, GivesPairs, HasMaps, IsPair};
+ghost use Rattle.smap_arguments.specs.Refusals.{IsNamedRefusal, ReportsBadPair, ReportsMaps, ReportsNoPair};
 
-use crate::mistakes::no_pair_line;
+use crate::mistakes::{no_maps_text, no_pair_line};
 use crate::usage::Usage;
+use crate::values::has_text_in;
 use clap::ArgMatches;
 use std::alloc::Global;
+
+/// The arguments of the form URL=FILE, cut into pairs. There has to be one, or a list of more.
+pub fn maps_in(
+    alloc: Global,
+    matches: &ArgMatches<'_>,
+    command: &str,
+) -> Result<Vec<(String, String)>, Usage>
+    ensures given { IfOk result (λ maps. GivesPairs (rows_of (found_of matches.now))
+        (codes "URL=FILE") maps.items) }
+    ensures some { IfOk result (λ maps. HasMaps maps.items
+        (first_of (codes "LIST") (rows_of (found_of matches.now)))) }
+    ensures refused { IfErr result (IsNamedRefusal
+        (ReportsMaps command.now (rows_of (found_of matches.now)))) }
+{
+    let maps = pairs_in(alloc, matches, "URL=FILE")?;
+    if maps.is_empty() && !has_text_in(matches, "LIST") {
+        return Err(Usage::Words(no_maps_text(alloc, command)?));
+    }
+    Ok(maps)
+}
 
 /// The arguments of this form, cut into pairs. There may be none.
 pub fn pairs_in(

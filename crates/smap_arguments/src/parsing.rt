@@ -6,7 +6,7 @@ ghost use Rattle.smap_arguments.specs.Refusals.{IsRefusalOf, IsUsageOf};
 ghost use Rattle.smap_arguments.specs.Spread.{read_arguments};
 
 use crate::commands::command_in;
-use crate::line::command_line;
+use crate::generated::{asks_generated, line_for};
 use crate::spread::read_arguments;
 use crate::usage::Usage;
 use clap::Error;
@@ -22,9 +22,10 @@ pub fn parse(alloc: Global, arguments: Vec<String>) -> Result<Command, Usage>
     ensures refused { IfErr result (IsRefusalOf (read_arguments (texts arguments.items))) }
 {
     let words = read_arguments(alloc, arguments)?;
-    let smap = command_line(alloc)?;
-    match smap.try_get_matches_from(words.as_slice()) {
-        Ok(matches) => command_in(alloc, &matches),
+    let is_generated = asks_generated(&words);
+    let line = line_for(alloc, is_generated)?;
+    match line.try_get_matches_from(words.as_slice()) {
+        Ok(matches) => command_in(alloc, &matches, is_generated),
         Err(error) => Err(usage_of(alloc, &error)),
     }
 }

@@ -4,11 +4,13 @@ ghost use Rattle.clap.specs.Words.{found_of, rows_of};
 ghost use Rattle.smap_command.specs.Options.{HasBytes};
 ghost use Rattle.smap_arguments.specs.CommandLine.{named};
 ghost use Rattle.smap_arguments.specs.Arguments.{GivesBase, GivesFurther, HasArguments, IsInRange, NamedAsksFor};
-ghost use Rattle.smap_arguments.specs.Excludes.{excluded_line, has_pattern, is_pattern};
+ghost use Rattle.smap_arguments.specs.Excludes.{excluded_line, has_any_url, is_any_url};
 ghost use Rattle.smap_arguments.specs.Refusals.{IsNamedRefusal, ReportsRewrite};
 
-use crate::mistakes::{BOTH_FLAGS, HIDDEN_ANYWHERE, MANY_HIDDEN, NO_MAPS, PATTERN_ANYWHERE};
-use crate::pairs::pairs_in;
+use crate::mistakes::{
+    ANY_URL, BASE_AND_PATHS, BOTH_FLAGS, EXPLAINED_ANYWHERE, HIDDEN_ANYWHERE, MANY_HIDDEN,
+};
+use crate::pairs::maps_in;
 use crate::usage::Usage;
 use crate::values::{bytes_in, flag_in, interval_in, text_if_given, words_in};
 use clap::ArgMatches;
@@ -29,13 +31,10 @@ pub fn rewrite_in(
     ensures refused { IfErr result (IsNamedRefusal
         (ReportsRewrite (rows_of (found_of matches.now)))) }
 {
-    let maps = pairs_in(alloc, matches, "URL=FILE")?;
+    let maps = maps_in(alloc, matches, "rewrite")?;
     let options = further_in(alloc, matches)?;
-    if maps.is_empty() && options.list.is_none() {
-        return Err(Usage::Words(String::from_str(alloc, NO_MAPS)?));
-    }
     let hide_ignored = flag_in(matches, "hide-ignored");
-    if let Some(line) = excluded_line(&maps, hide_ignored, &options) {
+    if let Some(line) = excluded_line(&maps, base.is_some(), hide_ignored, &options) {
         return Err(Usage::Words(String::from_str(alloc, line)?));
     }
     Ok(Command::Rewrite {
@@ -50,39 +49,44 @@ pub fn rewrite_in(
 // The line that is reported of words and options that exclude each other.
 fn excluded_line(
     maps: &[(String, String)],
+    has_base: bool,
     hide_ignored: bool,
     options: &FurtherOptions,
 ) -> Option<&'static str>
     ensures { option_map (λ line. line.now) result
-        ≡ excluded_line maps.now hide_ignored options.now }
+        ≡ excluded_line maps.now has_base hide_ignored options.now }
 {
     if options.hide.len() > MOST_HIDDEN {
         Some(MANY_HIDDEN)
+    } else if has_base && options.paths {
+        Some(BASE_AND_PATHS)
     } else if !options.anywhere {
         None
     } else if hide_ignored {
         Some(BOTH_FLAGS)
     } else if !options.hide.is_empty() {
         Some(HIDDEN_ANYWHERE)
-    } else if has_pattern(maps) {
-        Some(PATTERN_ANYWHERE)
+    } else if options.explain {
+        Some(EXPLAINED_ANYWHERE)
+    } else if has_any_url(maps) {
+        Some(ANY_URL)
     } else {
         None
     }
 }
 
-// Whether one of the pairs is of a pattern.
-fn has_pattern(maps: &[(String, String)]) -> bool
-    ensures { result ≡ has_pattern maps.now }
+// Whether one of the pairs is of all URLs.
+fn has_any_url(maps: &[(String, String)]) -> bool
+    ensures { result ≡ has_any_url maps.now }
 {
-    maps.iter().any(|(url, _)| is_pattern(url))
+    maps.iter().any(|(url, _)| is_any_url(url))
 }
 
-// Whether a URL is a pattern of many.
-fn is_pattern(url: &str) -> bool
-    ensures { result ≡ is_pattern url.now }
+// Whether a URL is the pattern of all that there are.
+fn is_any_url(url: &str) -> bool
+    ensures { result ≡ is_any_url url.now }
 {
-    url.as_bytes().starts_with(b"*")
+    url == "*"
 }
 
 fn further_in(alloc: Global, matches: &ArgMatches<'_>) -> Result<FurtherOptions, AllocError>
@@ -98,6 +102,7 @@ fn further_in(alloc: Global, matches: &ArgMatches<'_>) -> Result<FurtherOptions,
         limit_bytes: bytes_in(matches, "limit", 1),
         summary: flag_in(matches, "summary"),
         hide: words_in(alloc, matches, "TEXT")?,
-        explain: false,
+        explain: flag_in(matches, "explain"),
+        paths: flag_in(matches, "paths"),
     })
 }

@@ -4,10 +4,10 @@ ghost use Rattle.std.specs.Char.{is_ascii_digit};
 ghost use Rattle.std.specs.List.{list_all};
 ghost use Rattle.clap.specs.Faults.{fault_of};
 ghost use Rattle.smap_arguments.specs.Arguments.{texts};
-ghost use Rattle.smap_arguments.specs.CommandLine.{smap};
-ghost use Rattle.smap_arguments.specs.Spread.{IsPushed, are_digits, is_faultless, is_lookup, position_of, read_arguments, spread, spread_words};
+ghost use Rattle.smap_arguments.specs.Line.{is_lookup, line_of};
+ghost use Rattle.smap_arguments.specs.Spread.{IsPushed, are_digits, is_faultless, position_of, read_arguments, spread, spread_words};
 
-use crate::line::command_line;
+use crate::generated::{asks_generated, line_for};
 use clap::error::ErrorKind;
 use std::alloc::{AllocError, Global};
 
@@ -33,9 +33,11 @@ fn is_lookup(arguments: &[String]) -> bool
 
 // Whether clap finds no fault in them.
 fn is_faultless(alloc: Global, arguments: &[String]) -> Result<bool, AllocError>
-    ensures { IfOk result (λ none. none ≡ is_faultless (fault_of smap (texts arguments.now))) }
+    ensures { IfOk result (λ none. none
+        ≡ is_faultless (fault_of (line_of (texts arguments.now)) (texts arguments.now))) }
 {
-    match command_line(alloc)?.try_get_matches_from(arguments) {
+    let line = line_for(alloc, asks_generated(arguments))?;
+    match line.try_get_matches_from(arguments) {
         Ok(_) => Ok(true),
         Err(error) => match error.kind() {
             ErrorKind::OutOfMemory => Err(AllocError),

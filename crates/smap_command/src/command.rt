@@ -41,6 +41,18 @@ pub enum Command {
         after: bool,
         options: LookupOptions,
     },
+    /// Looks a place in a source up in the source map in the file at this path: the generated places of the mappings whose
+    /// origin has this source and line and, where a column is given, the greatest column that is not after it or, with
+    /// `after`, the least that is not before it. The source is a name as it is printed, or an index, from 0, in brackets.
+    Generated {
+        path: String,
+        source: String,
+        line: u32,
+        column: Option<u32>,
+        base: Option<Url>,
+        after: bool,
+        options: LookupOptions,
+    },
     /// Answers the positions on the lines of standard input from the source map in the file at this path, each by a line,
     /// as a look-up does.
     Positions {
@@ -135,6 +147,7 @@ impl Command {
             | Command::Positions { base, .. }
             | Command::Mappings { base, .. }
             | Command::Sources { base, .. }
+            | Command::Generated { base, .. }
             | Command::Rewrite { base, .. }
             | Command::Compose { base, .. }
             | Command::ComposeAll { base, .. } => base.as_ref(),

@@ -110,6 +110,8 @@ pub struct FurtherOptions {
     pub hide: Vec<String>,
     /// Whether it is reported at the end what became of the URLs that the text names.
     pub explain: bool,
+    /// Whether the sources of a map whose URL is a path are named by paths that go on from its folder.
+    pub paths: bool,
 }
 
 impl FurtherOptions {
@@ -128,6 +130,7 @@ impl FurtherOptions {
             summary: false,
             hide: Vec::new(alloc),
             explain: false,
+            paths: false,
         }
     }
 
@@ -142,5 +145,6 @@ impl FurtherOptions {
             || self.summary
             || !self.hide.is_empty()
             || self.explain
+            || self.paths
     }
 }

@@ -1,2 +1,3 @@
+mod GeneratedLaws
 mod PositionsLaws
 mod RawLaws

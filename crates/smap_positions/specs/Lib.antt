@@ -6,6 +6,7 @@ pub mod Json
 pub mod Positions
 pub mod Answering
 pub mod Mappings
+pub mod Generated
 pub mod Sources
 pub mod Private
 pub mod Laws

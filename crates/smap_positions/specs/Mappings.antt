@@ -19,10 +19,13 @@ use Rattle.smap_positions.specs.declared.options.MappingsOptions.{MappingsOption
 
 -- ---- a mapping
 
--- where it stands, and the line for what it answers
+-- where it stands and, behind this text, the line for what it answers
+abbrev pub line_with : (between : List ℕ) → MapRecord → Mapping → List ℕ
+line_with between stated mapping =
+    decimal (mapping.line + 1) ++ (codes ":" ++ (decimal (mapping.column + 1) ++ (between ++ answer_line stated (answer_of mapping))))
+
 abbrev pub mapping_line : MapRecord → Mapping → List ℕ
-mapping_line stated mapping =
-    decimal (mapping.line + 1) ++ (codes ":" ++ (decimal (mapping.column + 1) ++ (codes " " ++ answer_line stated (answer_of mapping))))
+mapping_line stated mapping = line_with (codes " ") stated mapping
 
 -- a mapping of this line and column that has no original
 abbrev pub bare_value : (line column : ℕ) → Data

@@ -18,6 +18,7 @@ mod answer;
 mod answerer;
 mod answering;
 mod gathered_line;
+mod generated;
 mod growing_text;
 mod json_form;
 mod lookup;
@@ -33,6 +34,7 @@ mod text_form;
 
 pub use answer::from_one;
 pub use answering::{PositionsSummary, answer_positions};
+pub use generated::generated_text;
 pub use lookup::{lookup_as_json, lookup_text};
 pub use mappings::print_mappings;
 pub use options::{AnswerOptions, Direction, MappingsOptions, SourceOptions};

@@ -4,7 +4,7 @@ ghost use Rattle.smap_io.specs.Device.{Takes, TakesFront};
 ghost use Rattle.smap_lines.specs.Editing.{is_write_fault};
 ghost use Rattle.smap_lines.specs.LineOutput.{IsPut};
 ghost use Rattle.smap_lines.specs.declared.fault.LineFault.TheVariants.{Memory, Write};
-ghost use Rattle.smap_positions.specs.Mappings.{is_on_line, mapping_line, mappings_text, printed_mapping};
+ghost use Rattle.smap_positions.specs.Mappings.{is_on_line, line_with, mappings_text, printed_mapping};
 ghost use Rattle.smap_positions.specs.Private.Past.{is_past_line};
 
 use crate::answer::from_one;
@@ -158,17 +158,17 @@ fn put_mapping<O: Output>(map: &MapFile, mapping: &Mapping, form: Form, output: 
     if form.is_json() {
         put_mapping_object(map, mapping, output)
     } else {
-        put_mapping_line(map, mapping, output)
+        put_mapping_line(map, mapping, b" ", output)
     }
 }
 
-// Puts the line for a mapping as text.
-fn put_mapping_line<O: Output>(map: &MapFile, mapping: &Mapping, output: &mut O)
-    ensures { O.Puts output.old output.new (mapping_line map.now.stated mapping.now) }
+/// Puts the line for a mapping as text: its place, a text, and what it answers.
+pub fn put_mapping_line<O: Output>(map: &MapFile, mapping: &Mapping, between: &[u8], output: &mut O)
+    ensures { O.Puts output.old output.new (line_with between.now map.now.stated mapping.now) }
 {
     output.put_decimal(from_one(mapping.line));
     put_number(b":", from_one(mapping.column), output);
-    output.put(b" ");
+    output.put(between);
     match mapping.origin {
         None => output.put(UNMAPPED.as_bytes()),
         Some(origin) => put_origin_line(map, &origin, output),

@@ -11,7 +11,8 @@ use Rattle.smap_places.specs.Laws.PlacesSeen.{places_seen}
 use Rattle.smap_record.specs.Record.{MapRecord}
 use Rattle.smap_by_text.specs.ByText.{value_under}
 use Rattle.smap_store.specs.Cache.{CacheSeen, Kept}
-use Rattle.smap_store.specs.Stored.{Asks, FindsIn, GivesIn, LoadsMay, LoadsStep, MayCome, Recalls, StoredSeen, Untouched, found_in, map_in, or_map}
+use Rattle.smap_store.specs.Fileless.{asks_no_file, known_beside}
+use Rattle.smap_store.specs.Stored.{Asks, FindsIn, GivesIn, LoadsMay, LoadsStep, MayCome, Recalls, StoredSeen, Untouched, found_in, map_in, or_other}
 use Rattle.smap_store.specs.StoredMaps.{IsSameStore, same_store_on, same_store_self, stored_seen}
 use Rattle.smap_store.specs.declared.stored.StoredMaps.{StoredMaps}
 use Rattle.smap_trace.specs.Laws.Seen.{looked_seen}
@@ -58,21 +59,30 @@ module _ {L : Type 0} (words : List (List ℕ × MapRecord)) (first : StoredMaps
         go None (inr short) = inr (record { cache = short.cache; loader = short.loader })
         go (Some one) same = record { cache = same.cache; loader = same.loader }
 
-    -- what its words have
-    abbrev ByKey : (old new : StoredMaps L) (url : List ℕ) → Option MapRecord → Type 0
-    ByKey old new url own =
-        MatchOption own (Recalls Loads (with_words old) (key_for old.locations.now url) (with_words new)) (λ stated. Untouched (with_words old) (with_words new))
+    -- what is known of a URL
+    abbrev ByKey : (old new : StoredMaps L) (url : List ℕ) → Option (Option MapRecord) → Type 0
+    ByKey old new url known =
+        MatchOption known (Recalls Loads (with_words old) (key_for old.locations.now url) (with_words new)) (λ known. Untouched (with_words old) (with_words new))
+
+    -- where the words have no map for it
+    finds_other : (old new : StoredMaps L) (url : List ℕ) (asks_none : Bool)
+        → MatchOption (known_beside None asks_none) (Recalls Loads (stored_seen old) (key_for old.locations.now url) (stored_seen new))
+        (λ known. Untouched (stored_seen old) (stored_seen new)) → ByKey old new url (known_beside None asks_none)
+    finds_other old new url true same = record { cache = same.cache; loader = same.loader }
+    finds_other old new url false is = recalls old new (key_for old.locations.now url) is
 
     finds_own : (old new : StoredMaps L) (url : List ℕ) → IsBeside old → (own : Option MapRecord) → value_under url words ≡ own
         → MatchOption own (StoreFinds old url new) (λ _. new ≡ old) → FindsIn Loads (with_words old) url (with_words new) × IsBeside new
     finds_own old new url is None own steps =
-        let key : List ℕ = key_for old.locations.now url in
-        let P : List (List ℕ × MapRecord) → Type 0 = λ none. MatchOption (value_under url none) (Recalls Loads (stored_seen old) key (stored_seen new))
-        (λ stated. Untouched (stored_seen old) (stored_seen new)) in (
+        let asks_none : Bool = asks_no_file old.locations.now url in
+        let P : List (List ℕ × MapRecord) → Type 0 = λ none. MatchOption (known_beside (value_under url none) asks_none)
+        (Recalls Loads (stored_seen old) (key_for old.locations.now url) (stored_seen new))
+        (λ known. Untouched (stored_seen old) (stored_seen new)) in (
           record {
             words = refl;
             locations = steps.0.locations;
-            steps = subst (ByKey old new url) (sym own) (recalls old new key (subst P is.1 steps.0.steps));
+            steps = subst (λ own. ByKey old new url (known_beside own asks_none)) (sym own)
+                (finds_other old new url asks_none (subst P is.1 steps.0.steps));
           },
           (same_store_on first old new is.0 steps.1, ap (λ w. w.now) steps.1.words ∙ is.1),
         )
@@ -80,7 +90,7 @@ module _ {L : Type 0} (words : List (List ℕ × MapRecord)) (first : StoredMaps
       record {
         words = refl;
         locations = ap (λ (maps : StoredMaps L). maps.locations.now) same;
-        steps = subst (ByKey old new url) (sym own) (record {
+        steps = subst (λ own. ByKey old new url (known_beside own (asks_no_file old.locations.now url))) (sym own) (record {
           cache = ap (λ (maps : StoredMaps L). maps.cache.now) same;
           loader = ap (λ (maps : StoredMaps L). maps.loader.now) same;
         });
@@ -92,15 +102,18 @@ module _ {L : Type 0} (words : List (List ℕ × MapRecord)) (first : StoredMaps
         → FindsIn Loads (with_words old) url (with_words new) × IsBeside new
     finds_both old new url is finds = finds_own old new url is (value_under url words) refl finds
 
-    found_own : (own kept : Option MapRecord) → option_or own kept ≡ or_map own kept
-    found_own None kept = refl
-    found_own (Some stated) kept = refl
+    found_own : (own : Option MapRecord) (asks_none : Bool) (kept : Option MapRecord)
+        → option_or own (or_other (known_beside None asks_none) kept) ≡ or_other (known_beside own asks_none) kept
+    found_own None asks_none kept = refl
+    found_own (Some stated) asks_none kept = refl
 
     found_both : (maps : StoredMaps L) (url : List ℕ) → IsBeside maps
         → found_beside words (λ maps. found_in (stored_seen maps)) maps url ≡ found_in (with_words maps) url
     found_both maps url is =
+        let asks_none : Bool = asks_no_file maps.locations.now url in
         let kept : Option MapRecord = map_in (value_under (key_for maps.locations.now url) maps.cache.now.kept) in
-        ap (λ none. option_or (value_under url words) (or_map (value_under url none) kept)) is.1 ∙ found_own (value_under url words) kept
+        ap (λ none. option_or (value_under url words) (or_other (known_beside (value_under url none) asks_none) kept)) is.1
+        ∙ found_own (value_under url words) asks_none kept
 
     module _ (new : StoredMaps L) (none : first.words.now ≡ []) where
       pub looked_both : Looked (FindsBeside words StoreFinds) first new → Looked (FindsIn Loads) (with_words first) (with_words new) × IsBeside new
@@ -108,7 +121,7 @@ module _ {L : Type 0} (words : List (List ℕ × MapRecord)) (first : StoredMaps
           looked_seen (FindsBeside words StoreFinds) (λ _ _. None) (FindsIn Loads) (λ _ _. None) with_words IsBeside finds_both (λ _ _. refl) first new
           (same_store_self first, none) looked
 
-      pub places_both : (begins : List ℕ → Option PlaceUrl) (most : ℕ) (before after : DevicesSeen) (summary : Summary)
+      pub places_both : (begins : List ℕ → List ℕ → Option PlaceUrl) (most : ℕ) (before after : DevicesSeen) (summary : Summary)
           → RewritesPlacesOver (FindsBeside words StoreFinds) (found_beside words (λ maps. found_in (stored_seen maps))) begins most before after first new summary
           → RewritesPlacesOver (FindsIn Loads) found_in begins most before after (with_words first) (with_words new) summary
       places_both begins most before after summary is =
@@ -124,9 +137,10 @@ module _ {L : Type 0} (MayLoad : LoadsMay L) (words : List (List ℕ × MapRecor
       ⊎ MayCome MayLoad others.loader (key_for others.locations url) (path_for others.locations url) found
 
   gives_own : (own : Option MapRecord) → MatchOption own (GivesIn MayLoad others url found) (λ own. found ≡ Some own)
-      → MatchOption own ByCache (λ own. found ≡ Some own)
+      → MatchOption (known_beside own (asks_no_file others.locations url)) ByCache (λ known. found ≡ known)
   gives_own None gives =
-      let P : List (List ℕ × MapRecord) → Type 0 = λ none. MatchOption (value_under url none) ByCache (λ own. found ≡ Some own) in subst P none gives
+      let P : List (List ℕ × MapRecord) → Type 0 = λ none. MatchOption (known_beside (value_under url none) (asks_no_file others.locations url)) ByCache
+      (λ known. found ≡ known) in subst P none gives
   gives_own (Some own) gives = gives
 
   pub gives_both : MatchOption (value_under url words) (GivesIn MayLoad others url found) (λ own. found ≡ Some own)

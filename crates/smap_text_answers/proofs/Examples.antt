@@ -1,6 +1,6 @@
 -- Worked examples of the definitions: each holds by computing both sides.
 use Rattle.std.proofs.Common.{◌≡◌, ℕ, List, [], ◌∷◌, refl, inl, inr, codes}
-use Rattle.std.specs.Prelude.{true, Some, None, Ok, Err}
+use Rattle.std.specs.Prelude.{true, false, Some, None, Ok, Err}
 use Rattle.std.specs.Fmt.{decimal}
 use Rattle.std.specs.Str.{is_utf8, chars}
 use lib.Utf8.{encode}
@@ -70,16 +70,16 @@ a_pattern_is_named : NamesRules ((codes "*app.js", codes "app.map") ∷ []) one 
 unfolding one
 a_pattern_is_named = inr (record one { patterns = (codes "app.js", codes "app.map") ∷ [] }, record { patterns = refl; files = refl; folders = refl }, refl)
 
-a_pattern_is_not_read : (Reads : MayRead) → Gathers true Reads None 128 0 (Ok []) ((codes "*", codes "app.map") ∷ []) (Ok [])
+a_pattern_is_not_read : (Reads : MayRead) → Gathers true Reads false None 128 0 (Ok []) ((codes "*", codes "app.map") ∷ []) (Ok [])
 a_pattern_is_not_read Reads = refl
 
-a_folder_is_not_read : (Reads : MayRead) → Gathers true Reads None 128 0 (Ok []) ((codes "app:///", codes "maps/") ∷ []) (Ok [])
+a_folder_is_not_read : (Reads : MayRead) → Gathers true Reads false None 128 0 (Ok []) ((codes "app:///", codes "maps/") ∷ []) (Ok [])
 a_folder_is_not_read Reads = refl
 
 -- ---- a list, whose number is that behind the arguments
 
 a_list_is_refused : (Reads : MayRead) → Reads 1 (codes "all.txt") (Ok (codes "#\nu m.map\n"))
-    → GathersSources Reads None 128 ((codes "app:///", codes "maps/") ∷ []) (Some (codes "all.txt"))
+    → GathersSources Reads false None 128 ((codes "app:///", codes "maps/") ∷ []) (Some (codes "all.txt"))
     (Err (misuse (line_from (codes "usage: all.txt line " ∷ decimal 2 ∷ codes ": no TAB" ∷ []))))
 unfolding is_bad_url shown is_utf8 chars encode
 a_list_is_refused Reads reads = (

@@ -1,7 +1,10 @@
 mod BesideLaws
+mod ByPathLaws
 mod BytesLaws
 mod Examples
 mod LoaderLaws
+mod NearestLaws
 mod SourcesLaws
 mod StoreLaws
 mod TraceLaws
+mod UrlLinesLaws

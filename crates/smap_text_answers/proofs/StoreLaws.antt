@@ -11,10 +11,14 @@ use Rattle.smap_places.specs.Laws.PlacesSeen.{places_front_seen, places_seen}
 use Rattle.smap_record.specs.Record.{MapRecord}
 use Rattle.smap_by_text.specs.ByText.{value_under}
 use Rattle.smap_store.specs.Cache.{Kept}
+use Rattle.smap_store.specs.Fileless.{known_of}
 use Rattle.smap_store.specs.Laws.Seen.{finds_seen, gives_seen, see_store}
 use Rattle.smap_store.specs.Stored.{Asks, Comes, FindsIn, GivesIn, LoadsMay, LoadsStep, Recalls, StoredSeen, Untouched, found_in}
 use Rattle.smap_trace.specs.Hiding.{HidingSeen}
 use Rattle.smap_trace.specs.Rewriting.{Looked}
+use Rattle.smap_trace.specs.Noted.{RewritesNoted}
+use Rattle.smap_trace.specs.UrlNotes.{NotesSeen}
+use Rattle.smap_trace.specs.Laws.Noted.{noted_seen}
 use Rattle.smap_trace.specs.Laws.Seen.{front_seen, looked_seen, rewrites_seen}
 use Rattle.smap_trace.specs.declared.outcome.RewriteCounts.{RewriteCounts}
 use Rattle.smap_replies.specs.Files.{MayRead}
@@ -25,10 +29,10 @@ use Rattle.smap_text_answers.specs.declared.sources.MapSources.{MapSources}
 
 module _ {F E : Type 0} where
   same_self : (loader : FileLoader F E) → IsSameLoader loader loader
-  same_self loader = record { maps = refl; number = refl; errors = refl }
+  same_self loader = record { maps = refl; paths = refl; number = refl; errors = refl }
 
   same_on : (first old new : FileLoader F E) → IsSameLoader first old → IsSameLoader old new → IsSameLoader first new
-  same_on first old new one two = record { maps = two.maps ∙ one.maps; number = two.number ∙ one.number; errors = two.errors ∙ one.errors }
+  same_on first old new one two = record { maps = two.maps ∙ one.maps; paths = two.paths ∙ one.paths; number = two.number ∙ one.number; errors = two.errors ∙ one.errors }
 
   same_of : (old new : FileLoader F E) → new ≡ old → IsSameLoader old new
   same_of old new is = subst (λ l. IsSameLoader old l) (sym is) (same_self old)
@@ -37,12 +41,12 @@ module _ {F E : Type 0} (gives : F → MayRead) (seen : E → SinkSeen) where
   -- what reading a map is, and what may come of it
   abbrev Steps : LoadsStep (FileLoader F E)
   Steps loader url path came after =
-      Loads (gives loader.maps.now.files.now) (option_copied loader.maps.now.base) loader.maps.now.interval loader.number (loader_seen seen loader)
+      Loads (gives loader.maps.now.files.now) loader.paths (option_copied loader.maps.now.base) loader.maps.now.interval loader.number (loader_seen seen loader)
       url path came (loader_seen seen after)
       × IsSameLoader loader after
 
   abbrev May : LoadsMay (FileLoader F E)
-  May loader = MayLoad (gives loader.maps.now.files.now) (option_copied loader.maps.now.base) loader.maps.now.interval loader.number
+  May loader = MayLoad (gives loader.maps.now.files.now) loader.paths (option_copied loader.maps.now.base) loader.maps.now.interval loader.number
 
   -- ---- it stays what it is
 
@@ -60,22 +64,22 @@ module _ {F E : Type 0} (gives : F → MayRead) (seen : E → SinkSeen) where
   same_recalled old new url None asks = same_asked old new url asks
   same_recalled old new url (Some one) same = same_of old.loader new.loader same.loader
 
-  same_step : (old new : StoredSeen (FileLoader F E)) (url : List ℕ) (words : Option MapRecord)
-      → MatchOption words (Recalls Steps old url new) (λ _. Untouched old new) → IsSameLoader old.loader new.loader
+  same_step : (old new : StoredSeen (FileLoader F E)) (url : List ℕ) (known : Option (Option MapRecord))
+      → MatchOption known (Recalls Steps old url new) (λ _. Untouched old new) → IsSameLoader old.loader new.loader
   same_step old new url None recalls = same_recalled old new url (value_under url old.cache.kept) recalls
-  same_step old new url (Some stated) same = same_of old.loader new.loader same.loader
+  same_step old new url (Some known) same = same_of old.loader new.loader same.loader
 
   same_found : (old new : StoredSeen (FileLoader F E)) (url : List ℕ) → FindsIn Steps old url new → IsSameLoader old.loader new.loader
-  same_found old new url finds = same_step old new (key_for old.locations url) (value_under url old.words) finds.steps
+  same_found old new url finds = same_step old new (key_for old.locations url) (known_of old.words old.locations url) finds.steps
 
   -- ---- what a run shows of it
 
   module _ (first : FileLoader F E) where
     abbrev Seen : LoadsStep LoaderSeen
-    Seen = Loads (gives first.maps.now.files.now) (option_copied first.maps.now.base) first.maps.now.interval first.number
+    Seen = Loads (gives first.maps.now.files.now) first.paths (option_copied first.maps.now.base) first.maps.now.interval first.number
 
     abbrev MaySeen : LoadsMay LoaderSeen
-    MaySeen loader = MayLoad (gives first.maps.now.files.now) (option_copied first.maps.now.base) first.maps.now.interval first.number
+    MaySeen loader = MayLoad (gives first.maps.now.files.now) first.paths (option_copied first.maps.now.base) first.maps.now.interval first.number
 
     abbrev see : StoredSeen (FileLoader F E) → StoredSeen LoaderSeen
     see = see_store (loader_seen seen)
@@ -83,10 +87,12 @@ module _ {F E : Type 0} (gives : F → MayRead) (seen : E → SinkSeen) where
     step_seen : (old new : FileLoader F E) → IsSameLoader first old → (url path : List ℕ) (came : Option (MapRecord × ℕ)) → Steps old url path came new
         → Seen (loader_seen seen old) url path came (loader_seen seen new)
     step_seen old new same url path came is =
-        subst (λ n. Loads (gives first.maps.now.files.now) (option_copied first.maps.now.base) first.maps.now.interval n (loader_seen seen old)
+        subst (λ n. Loads (gives first.maps.now.files.now) first.paths (option_copied first.maps.now.base) first.maps.now.interval n (loader_seen seen old)
         url path came (loader_seen seen new)) same.number
-        (subst (λ m. Loads (gives m.now.files.now) (option_copied m.now.base) m.now.interval old.number (loader_seen seen old)
-        url path came (loader_seen seen new)) same.maps is.0)
+        (subst (λ p. Loads (gives first.maps.now.files.now) p (option_copied first.maps.now.base) first.maps.now.interval old.number (loader_seen seen old)
+        url path came (loader_seen seen new)) same.paths
+        (subst (λ m. Loads (gives m.now.files.now) old.paths (option_copied m.now.base) m.now.interval old.number (loader_seen seen old)
+        url path came (loader_seen seen new)) same.maps is.0))
 
     finds_so : (old new : StoredSeen (FileLoader F E)) (url : List ℕ) → IsSameLoader first old.loader → FindsIn Steps old url new
         → FindsIn Seen (see old) url (see new) × IsSameLoader first new.loader
@@ -108,7 +114,7 @@ module _ {F E : Type 0} (gives : F → MayRead) (seen : E → SinkSeen) where
       may_first : (url path : List ℕ) (found : Option MapRecord) → May old.loader url path found → MaySeen (loader_seen seen old.loader) url path found
       may_first url path found may = subst (λ l. May l url path found) is may
 
-      module _ (begins : List ℕ → Option PlaceUrl) (hide : HidingSeen) (most : ℕ) (before after : DevicesSeen) where
+      module _ (begins : List ℕ → List ℕ → Option PlaceUrl) (hide : HidingSeen) (most : ℕ) (before after : DevicesSeen) where
         text_from : (anywhere : Bool) (counts : RewriteCounts) → RewritesText anywhere (FindsIn Steps) begins hide most before after old new counts
             → RewritesText anywhere (FindsIn Seen) begins hide most before after (see old) (see new) counts
         text_from true counts is = (
@@ -128,10 +134,17 @@ module _ {F E : Type 0} (gives : F → MayRead) (seen : E → SinkSeen) where
         front_from false fault is =
             front_seen (GivesIn May old) (GivesIn MaySeen (see old)) (gives_seen (loader_seen seen) May MaySeen old may_first) hide most before after fault is
 
+      pub noted_from : (hide : HidingSeen) (most : ℕ) (before after : DevicesSeen) (counts : RewriteCounts) (notes : NotesSeen)
+          → RewritesNoted (FindsIn Steps) found_in hide most before after old new counts notes
+          → RewritesNoted (FindsIn Seen) found_in hide most before after (see old) (see new) counts notes
+      noted_from hide most before after counts notes is =
+          noted_seen (FindsIn Steps) found_in (FindsIn Seen) found_in see (λ maps. IsSameLoader first maps.loader) finds_so (λ maps url. refl)
+          hide most before after old new counts notes at_first is
+
       pub rewritten_from : (sources : MapSources) (anywhere : Bool) (hide : HidingSeen) (most : ℕ) (before after : DevicesSeen) (result : Result RewriteCounts LineFault)
           → IfOk result (RewritesText anywhere (FindsIn Steps) (places_of sources) hide most before after old new)
           → IfErr result (RewritesTextFront anywhere (GivesIn May old) (places_of sources) hide most before after) → Looked (FindsIn Steps) old new
-          → IsStoredRewritten (gives first.maps.now.files.now) (option_copied first.maps.now.base) first.maps.now.interval first.number sources anywhere hide
+          → IsStoredRewritten (gives first.maps.now.files.now) first.paths (option_copied first.maps.now.base) first.maps.now.interval first.number sources anywhere hide
           most (see old) (see new) before after result
       rewritten_from sources anywhere hide most before after (Ok counts) rewrites front looked =
           text_from (places_of sources) hide most before after anywhere counts rewrites

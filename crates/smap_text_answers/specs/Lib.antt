@@ -1,4 +1,7 @@
+pub mod ByPath
 pub mod Lines
+pub mod Nearest
+pub mod UrlLines
 pub mod Loader
 pub mod Rewrite
 pub mod RewriteFrom

@@ -1,15 +1,17 @@
 -- The maps that are read when a text names them: each from its file, and what is said of one that can't be had.
-use Rattle.std.specs.Prelude.{◌≡◌, ◌⊎◌, ℕ, ◌+◌, ◌-◌, ◌^◌, ◌==◌, List, Option, Some, None, Ok, MatchBool, cond, if◌then◌else◌, length, max, min, nat_lt}
+use Rattle.std.specs.Prelude.{◌≡◌, ◌⊎◌, ℕ, ◌+◌, ◌-◌, ◌^◌, ◌==◌, Bool, List, Option, Some, None, Result, Ok, MatchBool, cond, if◌then◌else◌, length, max, min, nat_lt}
 use Rattle.url.specs.Parts.{Parts}
 use Rattle.std.specs.Option.{option_or}
 use Rattle.std.specs.Str.{is_utf8}
 use Rattle.smap_codes.specs.declared.code.Code.{Code}
 use Rattle.smap_io.specs.Device.{SinkSeen}
 use Rattle.smap_locations.specs.Paths.{without_query}
-use Rattle.smap_record.specs.Record.{MapRecord, record_of}
-use Rattle.smap_replies.specs.Files.{MayRead}
+use Rattle.smap_record.specs.Record.{MapRecord}
+use Rattle.smap_record.specs.declared.refusal.MapRefusal.{MapRefusal}
+use Rattle.smap_replies.specs.Files.{MayRead, OfFile}
 use Rattle.smap_replies.specs.Base.{base_of}
-use Rattle.smap_replies.specs.Map.{Never, ReportsMap}
+use Rattle.smap_replies.specs.Map.{Never, ReportsFound, refusal_result}
+use Rattle.smap_text_answers.specs.ByPath.{record_at}
 use Rattle.smap_text_answers.specs.Lines.{map_memory_line}
 use Rattle.smap_replies.specs.Outcome.{Report, failure, out_of_memory}
 use Rattle.smap_replies.specs.Streams.{IsReportedTo}
@@ -21,6 +23,10 @@ use Rattle.smap_text_answers.specs.declared.loader.FileLoader.{FileLoader}
 -- without its query and its fragment, where that is UTF-8 and a URL
 abbrev pub base_at : Option Parts → (url : List ℕ) → Option Parts
 base_at base url = if is_utf8 (without_query url) then base_of base (without_query url) else base
+
+-- what the bytes of a file state as the map of a URL, with its sources named by that where paths are asked for
+abbrev pub record_loaded : (paths : Bool) → Option Parts → (k : ℕ) → (url bytes : List ℕ) → Result MapRecord MapRefusal
+record_loaded paths base k url bytes = record_at paths base (base_at base url) k url bytes
 
 -- ---- what reads maps
 
@@ -42,21 +48,23 @@ loader_seen seen loader = record {
   refused = loader.refused;
 }
 
--- it reads the same files into the same standard error
+-- it reads the same files in the same way, and into the same standard error
 pub record IsSameLoader {F E : Type 0} (old new : FileLoader F E) : Type 0 where
   pub maps : new.maps ≡ old.maps
+  pub paths : new.paths ≡ old.paths
   pub number : new.number ≡ old.number
   pub errors : new.errors.ghost_name ≡ old.errors.ghost_name
 
-module _ (Reads : MayRead) (base : Option Parts) (k number : ℕ) where
+module _ (Reads : MayRead) (paths : Bool) (base : Option Parts) (k number : ℕ) where
   -- reading the file at this path gives so many bytes, and these are a map that states this
   abbrev pub IsLoaded : (url path : List ℕ) → MapRecord → (file_bytes : ℕ) → Type 0
   IsLoaded url path stated file_bytes = (bytes : List ℕ) × Reads number path (Ok bytes) × (file_bytes ≡ length bytes)
-      × (record_of bytes (base_at base url) k ≡ Ok stated)
+      × (record_loaded paths base k url bytes ≡ Ok stated)
 
   -- or it can't be read, or its map is refused, and this is reported, memory aside
   abbrev pub FailsToRead : (url path : List ℕ) → Report → Type 0
-  FailsToRead url path report = ReportsMap Reads number path (base_at base url) k Never report
+  FailsToRead url path report =
+      OfFile Reads number path (λ bytes. ReportsFound (refusal_result path) (record_loaded paths base k url bytes) Never) report
 
   -- the same, or memory ran out, which is reported with the path, if there is memory for that
   abbrev pub FailsToLoad : (url path : List ℕ) → Report → Type 0
@@ -84,6 +92,6 @@ pub record Notes (old : LoaderSeen) (report : Report) (new : LoaderSeen) : Type 
   pub errors : MatchBool (nat_lt old.reported 100) (IsReportedTo old.errors new.errors report.text) (new.errors ≡ old.errors)
 
 -- what came for a URL from the file at a path, with the number of its bytes, and how the loader shows then
-abbrev pub Loads : MayRead → Option Parts → (k number : ℕ) → (old : LoaderSeen) (url path : List ℕ) → Option (MapRecord × ℕ) → (new : LoaderSeen) → Type 0
-Loads Reads base k number old url path None new = (report : Report) × FailsToLoad Reads base k number url path report × Notes old report new
-Loads Reads base k number old url path (Some (stated, file_bytes)) new = IsLoaded Reads base k number url path stated file_bytes × (new ≡ old)
+abbrev pub Loads : MayRead → (paths : Bool) → Option Parts → (k number : ℕ) → (old : LoaderSeen) (url path : List ℕ) → Option (MapRecord × ℕ) → (new : LoaderSeen) → Type 0
+Loads Reads paths base k number old url path None new = (report : Report) × FailsToLoad Reads paths base k number url path report × Notes old report new
+Loads Reads paths base k number old url path (Some (stated, file_bytes)) new = IsLoaded Reads paths base k number url path stated file_bytes × (new ≡ old)

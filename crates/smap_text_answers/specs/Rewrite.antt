@@ -27,11 +27,13 @@ module _ {A : Type 0} (maps : List (String A × String A)) where
   request_of hide options = record {
     arguments = map argument_of maps;
     list = option_map string_bytes options.list;
+    paths = options.paths;
     hide = record { ignored = hide; texts = map string_bytes options.hide.items };
     anywhere = options.anywhere;
     cache_bytes = unwrap_or options.cache_bytes usual_cache_bytes;
     limit_bytes = unwrap_or options.limit_bytes usual_limit_bytes;
     summary = options.summary;
+    explain = options.explain;
   }
 
 -- what `rewrite` does to the streams, and the status with which it ends

@@ -1,7 +1,7 @@
 -- What `rewrite` does over files and folders of maps that are read when a trace names them: it gathers what it is over, rewrites
 -- the text over a store of maps, and says what that came to. The status is the greatest of all that was reported.
 use Rattle.std.specs.Prelude.{◌≡◌, ◌⊎◌, ℕ, ◌+◌, ◌-◌, ◌^◌, ◌==◌, Bool, List, [], ◌∷◌, Option, Result, Ok, Err, MatchBool, codes, length, map, max, min}
-use Rattle.std.specs.Prelude.{option_copied}
+use Rattle.std.specs.Prelude.{◌&&◌, IfOk, false, is_ok, not, option_copied, true}
 use Rattle.std.specs.Fmt.{decimal}
 use Rattle.std.specs.List.{concat}
 use Rattle.url.specs.Parts.{Parts}
@@ -20,6 +20,9 @@ use Rattle.smap_store.specs.Cache.{CacheSeen}
 use Rattle.smap_store.specs.Stored.{FindsIn, GivesIn, StoredSeen, found_in}
 use Rattle.smap_trace.specs.Hiding.{HidingSeen, hiding_seen}
 use Rattle.smap_trace.specs.MapsOf.{MapsByUrl, RewritesBy}
+use Rattle.smap_trace.specs.Noted.{RewritesNoted}
+use Rattle.smap_trace.specs.UrlNotes.{NotesSeen}
+use Rattle.smap_text_answers.specs.UrlLines.{TellsUrls}
 use Rattle.smap_trace.specs.Rewriting.{Looked, RewritesFrontOver, RewritesOver}
 use Rattle.smap_trace.specs.declared.outcome.RewriteCounts.{RewriteCounts}
 use Rattle.smap_replies.specs.Files.{MayRead}
@@ -39,21 +42,25 @@ use Rattle.smap_text_answers.specs.declared.sources.MapSources.{MapSources}
 pub record RequestSeen : Type 0 where
   pub arguments : List (List ℕ × List ℕ)
   pub list : Option (List ℕ)
+  pub paths : Bool
   pub hide : HidingSeen
   pub anywhere : Bool
   pub cache_bytes : ℕ
   pub limit_bytes : ℕ
   pub summary : Bool
+  pub explain : Bool
 
 abbrev pub request_seen : {F : Type 0} → RewriteRequest F → RequestSeen
 request_seen request = record {
   arguments = map argument_of request.arguments.now;
   list = option_copied request.list;
+  paths = request.paths;
   hide = hiding_seen request.hiding;
   anywhere = request.anywhere;
   cache_bytes = request.cache_bytes;
   limit_bytes = request.limit_bytes;
   summary = request.summary;
+  explain = request.explain;
 }
 
 -- ---- over a store of maps
@@ -72,38 +79,38 @@ store_start sources cache_bytes errors code = record {
 }
 
 -- which place begins a text over them
-abbrev pub places_of : MapSources → (text : List ℕ) → Option PlaceUrl
+abbrev pub places_of : MapSources → (before text : List ℕ) → Option PlaceUrl
 places_of sources = place_at (record { table = sources.words; locations = sources.locations })
 
 -- ---- a text over a store
 
 -- the places of a text are rewritten, in lines of which none is too long
 abbrev pub RewritesPlacesCounted : {L : Type 0} → (Finds : StoredSeen L → (url : List ℕ) → StoredSeen L → Type 0)
-    → (begins : List ℕ → Option PlaceUrl) → (most : ℕ) → (before after : DevicesSeen) → (old new : StoredSeen L) → RewriteCounts → Type 0
+    → (begins : List ℕ → List ℕ → Option PlaceUrl) → (most : ℕ) → (before after : DevicesSeen) → (old new : StoredSeen L) → RewriteCounts → Type 0
 RewritesPlacesCounted Finds begins most before after old new counts =
     RewritesPlacesOver Finds found_in begins most before after old new counts.summary × (counts.long ≡ 0)
 
 -- a text is rewritten over stored maps: its places, which begin so, or the frames of a trace
 abbrev pub RewritesText : {L : Type 0} → (anywhere : Bool) → (Finds : StoredSeen L → (url : List ℕ) → StoredSeen L → Type 0)
-    → (begins : List ℕ → Option PlaceUrl) → (hide : HidingSeen) → (most : ℕ) → (before after : DevicesSeen) → (old new : StoredSeen L) → RewriteCounts → Type 0
+    → (begins : List ℕ → List ℕ → Option PlaceUrl) → (hide : HidingSeen) → (most : ℕ) → (before after : DevicesSeen) → (old new : StoredSeen L) → RewriteCounts → Type 0
 RewritesText anywhere Finds begins hide most before after old new counts =
     MatchBool anywhere (RewritesPlacesCounted Finds begins most before after old new counts)
     (RewritesOver Finds found_in hide most before after old new counts)
 
 -- or up to a fault
-abbrev pub RewritesTextFront : (anywhere : Bool) → (Gives : (url : List ℕ) → Option MapRecord → Type 0) → (begins : List ℕ → Option PlaceUrl)
+abbrev pub RewritesTextFront : (anywhere : Bool) → (Gives : (url : List ℕ) → Option MapRecord → Type 0) → (begins : List ℕ → List ℕ → Option PlaceUrl)
     → (hide : HidingSeen) → (most : ℕ) → (before after : DevicesSeen) → LineFault → Type 0
 RewritesTextFront anywhere Gives begins hide most before after fault =
     MatchBool anywhere (RewritesPlacesFrontOver Gives begins most before after fault) (RewritesFrontOver Gives hide most before after fault)
 
 -- a text was rewritten over a store of these maps to its end, or up to a fault, and the store stands so then
-abbrev pub IsStoredRewritten : MayRead → Option Parts → (k number : ℕ) → (sources : MapSources) → (anywhere : Bool) → (hide : HidingSeen) → (most : ℕ)
+abbrev pub IsStoredRewritten : MayRead → (paths : Bool) → Option Parts → (k number : ℕ) → (sources : MapSources) → (anywhere : Bool) → (hide : HidingSeen) → (most : ℕ)
     → (old new : StoredSeen LoaderSeen) → (before after : DevicesSeen) → Result RewriteCounts LineFault → Type 0
-IsStoredRewritten Reads base k number sources anywhere hide most old new before after (Ok counts) =
-    RewritesText anywhere (FindsIn (Loads Reads base k number)) (places_of sources) hide most before after old new counts
-IsStoredRewritten Reads base k number sources anywhere hide most old new before after (Err fault) =
-    RewritesTextFront anywhere (GivesIn (λ loader. MayLoad Reads base k number) old) (places_of sources) hide most before after fault
-    × Looked (FindsIn (Loads Reads base k number)) old new
+IsStoredRewritten Reads paths base k number sources anywhere hide most old new before after (Ok counts) =
+    RewritesText anywhere (FindsIn (Loads Reads paths base k number)) (places_of sources) hide most before after old new counts
+IsStoredRewritten Reads paths base k number sources anywhere hide most old new before after (Err fault) =
+    RewritesTextFront anywhere (GivesIn (λ loader. MayLoad Reads paths base k number) old) (places_of sources) hide most before after fault
+    × Looked (FindsIn (Loads Reads paths base k number)) old new
 
 -- one number more than another, as far as 64 bits can count
 abbrev pub both_counted : ℕ → ℕ → ℕ
@@ -112,7 +119,7 @@ both_counted one other = min (one + other) (2 ^ 64 - 1)
 -- what rewriting over a store came to
 pub record IsOverStore (Reads : MayRead) (base : Option Parts) (k : ℕ) (request : RequestSeen) (sources : MapSources) (end : StoreEnd) (before after : Streams) : Type 0 where
   pub last : StoredSeen LoaderSeen
-  pub rewritten : IsStoredRewritten Reads base k (length request.arguments + 1) sources request.anywhere request.hide request.limit_bytes
+  pub rewritten : IsStoredRewritten Reads request.paths base k (length request.arguments + 1) sources request.anywhere request.hide request.limit_bytes
       (store_start sources request.cache_bytes before.sinks.errors before.sinks.code) last
       (devices_seen before.input before.sinks.output) (devices_seen after.input after.sinks.output) end.result
   pub errors : after.sinks.errors ≡ last.loader.errors
@@ -125,8 +132,16 @@ pub record IsOverStore (Reads : MayRead) (base : Option Parts) (k : ℕ) (reques
   pub refused : end.refused ≡ last.loader.refused
   pub shortages : end.shortages ≡ last.cache.shortages
 
+-- what frames name was noted, where that is asked and they were rewritten to the end of a trace
+abbrev pub IsNotedOver : MayRead → Option Parts → (k : ℕ) → RequestSeen → (sources : MapSources) → StoreEnd → NotesSeen → (before after : Streams) → Type 0
+IsNotedOver Reads base k request sources end notes before after =
+    request.anywhere ≡ false → request.explain ≡ true → IfOk end.result (λ counts. (last : StoredSeen LoaderSeen)
+    × RewritesNoted (FindsIn (Loads Reads request.paths base k (length request.arguments + 1))) found_in request.hide request.limit_bytes
+    (devices_seen before.input before.sinks.output) (devices_seen after.input after.sinks.output)
+    (store_start sources request.cache_bytes before.sinks.errors before.sinks.code) last counts notes)
+
 -- a text becomes what the maps make of it that a function gives: its places, which begin so, or the frames of a trace
-abbrev pub RewritesTextBy : (anywhere : Bool) → (maps : MapsByUrl) → (begins : List ℕ → Option PlaceUrl) → (hide : HidingSeen) → (most : ℕ)
+abbrev pub RewritesTextBy : (anywhere : Bool) → (maps : MapsByUrl) → (begins : List ℕ → List ℕ → Option PlaceUrl) → (hide : HidingSeen) → (most : ℕ)
     → (before after : DevicesSeen) → RewriteCounts → Type 0
 RewritesTextBy anywhere maps begins hide most before after counts =
     MatchBool anywhere (RewritesPlacesBy maps begins most before after counts.summary) (RewritesBy maps hide most before after counts)
@@ -137,7 +152,7 @@ abbrev pub AnswersByPath : MayRead → Option Parts → (k : ℕ) → RequestSee
 AnswersByPath Reads base k request sources end before after =
     (bytes_at : BytesByPath) → ReadsSame Reads (length request.arguments + 1) bytes_at
     → (counts : RewriteCounts) → end.result ≡ Ok counts → end.status ≡ 0 → end.shortages ≡ 0
-    → RewritesTextBy request.anywhere (stored_maps (maps_at base k bytes_at) sources.words sources.locations) (places_of sources) request.hide request.limit_bytes
+    → RewritesTextBy request.anywhere (stored_maps (maps_at request.paths base k bytes_at) sources.words sources.locations) (places_of sources) request.hide request.limit_bytes
     (devices_seen before.input before.sinks.output) (devices_seen after.input after.sinks.output) counts
 
 -- ---- what is reported at the end
@@ -192,16 +207,29 @@ EndsResult end summary (Err fault) status before after =
 abbrev pub EndsFrom : StoreEnd → (summary : Bool) → (status : ℕ) → (before after : Sinks) → Type 0
 EndsFrom end summary status before after = EndsResult end summary end.result status before after
 
+-- what became of the URLs that were noted is said then, where that is asked; and the status of that
+abbrev pub says_urls : RequestSeen → StoreEnd → Bool
+says_urls request end = request.explain && (not request.anywhere && is_ok end.result)
+
+abbrev pub SaysUrls : MayRead → Option Parts → (k : ℕ) → RequestSeen → (sources : MapSources) → StoreEnd → NotesSeen → (status : ℕ) → (before after : SinkSeen) → Type 0
+SaysUrls Reads base k request sources end notes status before after =
+    MatchBool (says_urls request end)
+    (TellsUrls Reads request.paths base k (length request.arguments + 1) request.arguments sources.locations notes status before after)
+    ((status ≡ 0) × (after ≡ before))
+
 -- ---- the run
 
 -- over what it gathered, or where that is refused
 abbrev pub RewritesSources : MayRead → Option Parts → (k : ℕ) → RequestSeen → Result MapSources Report → (status : ℕ) → (before after : Streams) → Type 0
 RewritesSources Reads base k request (Err refused) status before after = (after.input ≡ before.input) × Ends refused status before.sinks after.sinks
 RewritesSources Reads base k request (Ok sources) status before after =
-    (end : StoreEnd) × (between : Streams) × IsOverStore Reads base k request sources end before between
-    × AnswersByPath Reads base k request sources end before between × (after.input ≡ between.input) × EndsFrom end request.summary status between.sinks after.sinks
+    (end : StoreEnd) × (notes : NotesSeen) × (between : Streams) × (told : Sinks) × (ended : ℕ) × (said : ℕ)
+    × IsOverStore Reads base k request sources end before between × IsNotedOver Reads base k request sources end notes before between
+    × AnswersByPath Reads base k request sources end before between × (after.input ≡ between.input) × EndsFrom end request.summary ended between.sinks told
+    × (after.sinks.output ≡ told.output) × (after.sinks.code ≡ told.code) × SaysUrls Reads base k request sources end notes said told.errors after.sinks.errors
+    × (status ≡ max ended said)
 
 abbrev pub RewritesFrom : MayRead → Option Parts → (k : ℕ) → RequestSeen → (status : ℕ) → (before after : Streams) → Type 0
 RewritesFrom Reads base k request status before after =
-    (gathered : Result MapSources Report) × GathersSources Reads base k request.arguments request.list gathered
+    (gathered : Result MapSources Report) × GathersSources Reads request.paths base k request.arguments request.list gathered
     × RewritesSources Reads base k request gathered status before after

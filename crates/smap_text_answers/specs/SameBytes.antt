@@ -1,11 +1,11 @@
 -- What the maps of a text are, where each path gives the same bytes whenever it is read.
-use Rattle.std.specs.Prelude.{◌≡◌, ℕ, List, Option, Some, None, Result, Ok, Err}
+use Rattle.std.specs.Prelude.{◌≡◌, ℕ, Bool, List, Option, Some, None, Result, Ok, Err}
 use Rattle.url.specs.Parts.{Parts}
-use Rattle.smap_record.specs.Record.{MapRecord, record_of}
+use Rattle.smap_record.specs.Record.{MapRecord}
 use Rattle.smap_record.specs.declared.refusal.MapRefusal.{MapRefusal}
 use Rattle.smap_store.specs.ByPath.{MapsByPath}
 use Rattle.smap_replies.specs.Files.{MayRead}
-use Rattle.smap_text_answers.specs.Loader.{LoaderSeen, base_at}
+use Rattle.smap_text_answers.specs.Loader.{LoaderSeen, record_loaded}
 
 -- ---- the files
 
@@ -24,14 +24,14 @@ abbrev pub stated_in : Result MapRecord MapRefusal → Option MapRecord
 stated_in (Ok stated) = Some stated
 stated_in (Err refused) = None
 
--- what the bytes state, where there are some that are not refused
-abbrev pub stated_by : Option Parts → (k : ℕ) → Option (List ℕ) → Option MapRecord
-stated_by base k None = None
-stated_by base k (Some bytes) = stated_in (record_of bytes base k)
+-- what the bytes state as the map of a URL, where there are some that are not refused
+abbrev pub stated_by : (paths : Bool) → Option Parts → (k : ℕ) → (url : List ℕ) → Option (List ℕ) → Option MapRecord
+stated_by paths base k url None = None
+stated_by paths base k url (Some bytes) = stated_in (record_loaded paths base k url bytes)
 
 -- the map of a URL from each path
-abbrev pub maps_at : Option Parts → (k : ℕ) → BytesByPath → MapsByPath
-maps_at base k bytes_at url path = stated_by (base_at base url) k (bytes_at path)
+abbrev pub maps_at : (paths : Bool) → Option Parts → (k : ℕ) → BytesByPath → MapsByPath
+maps_at paths base k bytes_at url path = stated_by paths base k url (bytes_at path)
 
 -- ---- what was reported
 

@@ -1,6 +1,6 @@
 -- What `rewrite` is over where rules, which are folders and patterns, and a list are given beside files: the rules of its
 -- arguments, then the maps of their files, then the lines of the list.
-use Rattle.std.specs.Prelude.{◌≡◌, ◌⊎◌, ℕ, List, [], ◌∷◌, Option, Some, None, Result, Ok, Err, MatchBool, MatchOption}
+use Rattle.std.specs.Prelude.{◌≡◌, ◌⊎◌, ℕ, Bool, List, [], ◌∷◌, Option, Some, None, Result, Ok, Err, MatchBool, MatchOption}
 use Rattle.std.specs.Prelude.{length, true}
 use Rattle.std.specs.Str.Lines.{lines}
 use Rattle.url.specs.Parts.{Parts}
@@ -70,16 +70,16 @@ AfterWords Reads number list locations (Err refused) result = result ≡ Err ref
 AfterWords Reads number list locations (Ok words) result = ReadsList Reads number list words locations result
 
 -- after the rules of the arguments
-abbrev pub AfterRules : MayRead → Option Parts → (k : ℕ) → List (List ℕ × List ℕ) → (list : Option (List ℕ)) → Result LocationsSeen Report
+abbrev pub AfterRules : MayRead → (paths : Bool) → Option Parts → (k : ℕ) → List (List ℕ × List ℕ) → (list : Option (List ℕ)) → Result LocationsSeen Report
     → Result MapSources Report → Type 0
-AfterRules Reads base k arguments list (Err refused) result = result ≡ Err refused
-AfterRules Reads base k arguments list (Ok locations) result =
-    (words : Result Maps Report) × Gathers true Reads base k 0 (Ok []) arguments words
+AfterRules Reads paths base k arguments list (Err refused) result = result ≡ Err refused
+AfterRules Reads paths base k arguments list (Ok locations) result =
+    (words : Result Maps Report) × Gathers true Reads paths base k 0 (Ok []) arguments words
     × AfterWords Reads (length arguments) list locations words result
 
 -- what a text is rewritten over: the arguments, each a URL and a path, where a path that ends in `/` is that of a folder and a
 -- URL that begins with `*` a pattern, and the list at a path, whose number is that behind the arguments; or what is reported where one of them is refused or not read
-abbrev pub GathersSources : MayRead → Option Parts → (k : ℕ) → List (List ℕ × List ℕ) → (list : Option (List ℕ)) → Result MapSources Report → Type 0
-GathersSources Reads base k arguments list result =
+abbrev pub GathersSources : MayRead → (paths : Bool) → Option Parts → (k : ℕ) → List (List ℕ × List ℕ) → (list : Option (List ℕ)) → Result MapSources Report → Type 0
+GathersSources Reads paths base k arguments list result =
     (rules : Result LocationsSeen Report) × NamesRules arguments (record { files = []; folders = []; patterns = [] }) rules
-    × AfterRules Reads base k arguments list rules result
+    × AfterRules Reads paths base k arguments list rules result

@@ -2,7 +2,7 @@
 -- rewrites the trace on standard input over that table.
 use Rattle.std.specs.Prelude.{◌≡◌, ◌&&◌, false, MatchBool, ℕ, ◌⊎◌, Bool, List, [], ◌∷◌, Option, Some, None, Result, Ok, Err, suc}
 use Rattle.url.specs.Parts.{Parts}
-use Rattle.smap_record.specs.Record.{MapRecord, record_of}
+use Rattle.smap_record.specs.Record.{MapRecord}
 use Rattle.smap_record.specs.declared.refusal.MapRefusal.{MapRefusal}
 use Rattle.smap_record.specs.declared.refusal.MapRefusal.TheVariants.{Url}
 use Rattle.smap_lines.specs.Editing.{DevicesSeen, is_read_fault, is_write_fault}
@@ -23,6 +23,7 @@ use Rattle.smap_replies.specs.Lines.{argument_refused_line}
 use Rattle.smap_replies.specs.Files.{MayRead, IsUnread}
 use Rattle.smap_replies.specs.Map.{refusal_result}
 use Rattle.smap_replies.specs.Outcome.{OrMemory, Report, answer, fault_report, misuse, out_of_memory}
+use Rattle.smap_text_answers.specs.ByPath.{record_at}
 
 -- ---- the table
 
@@ -46,28 +47,32 @@ PutsFound maps url path (Err refused) result = result ≡ Err (refusal_result pa
 PutsFound maps url path (Ok stated) result =
     (result ≡ Err (refusal_result path Url)) ⊎ Puts maps url path stated (url_refusal maps url) result
 
+-- what the bytes of a file state as the map of a URL, with its sources named by that where paths are asked for
+abbrev pub record_named : (paths : Bool) → Option Parts → (k : ℕ) → (url bytes : List ℕ) → Result MapRecord MapRefusal
+record_named paths base k url bytes = record_at paths base (base_of base url) k url bytes
+
 -- the map that these bytes are, with checkpoints at the interval k, goes into the table, unless memory runs out
-abbrev pub PutsMap : Option Parts → (k : ℕ) → Maps → (url path bytes : List ℕ) → Result Maps Report → Type 0
-PutsMap base k maps url path bytes result =
-    (result ≡ Err out_of_memory) ⊎ PutsFound maps url path (record_of bytes (base_of base url) k) result
+abbrev pub PutsMap : (paths : Bool) → Option Parts → (k : ℕ) → Maps → (url path bytes : List ℕ) → Result Maps Report → Type 0
+PutsMap paths base k maps url path bytes result =
+    (result ≡ Err out_of_memory) ⊎ PutsFound maps url path (record_named paths base k url bytes) result
 
 -- the same after the arguments before: where one was refused, that stays
-abbrev pub PutsNext : Option Parts → (k : ℕ) → Result Maps Report → (url path bytes : List ℕ) → Result Maps Report → Type 0
-PutsNext base k (Err refused) url path bytes result = result ≡ Err refused
-PutsNext base k (Ok maps) url path bytes result = PutsMap base k maps url path bytes result
+abbrev pub PutsNext : (paths : Bool) → Option Parts → (k : ℕ) → Result Maps Report → (url path bytes : List ℕ) → Result Maps Report → Type 0
+PutsNext paths base k (Err refused) url path bytes result = result ≡ Err refused
+PutsNext paths base k (Ok maps) url path bytes result = PutsMap paths base k maps url path bytes result
 
 -- the files of these arguments, of which the first has this number, are read one after another, and each map goes into the
 -- table of those before; a file that can't be read is reported before any refusal. Rules, which have a folder or a
 -- pattern, are passed over or not
-abbrev pub Gathers : (passes : Bool) → MayRead → Option Parts → (k : ℕ) → (number : ℕ) → Result Maps Report → List (List ℕ × List ℕ)
+abbrev pub Gathers : (passes : Bool) → MayRead → (paths : Bool) → Option Parts → (k : ℕ) → (number : ℕ) → Result Maps Report → List (List ℕ × List ℕ)
     → Result Maps Report → Type 0
-Gathers passes Reads base k number before [] result = result ≡ before
-Gathers passes Reads base k number before ((url, path) ∷ arguments) result =
+Gathers passes Reads paths base k number before [] result = result ≡ before
+Gathers passes Reads paths base k number before ((url, path) ∷ arguments) result =
     MatchBool (passes && is_rule url path)
-    (Gathers passes Reads base k (suc number) before arguments result)
+    (Gathers passes Reads paths base k (suc number) before arguments result)
     (((report : Report) × OrMemory (IsUnread Reads number path) report × (result ≡ Err report))
     ⊎ ((bytes : List ℕ) × Reads number path (Ok bytes) × ((next : Result Maps Report)
-    × PutsNext base k before url path bytes next × Gathers passes Reads base k (suc number) next arguments result)))
+    × PutsNext paths base k before url path bytes next × Gathers passes Reads paths base k (suc number) next arguments result)))
 
 -- ---- the trace
 
@@ -102,4 +107,4 @@ GatheredReports (Ok maps) IsRewritten before after report = TextReports IsRewrit
 abbrev pub RewriteReports : MayRead → Option Parts → (k : ℕ) → (IsRewritten : Maps → (before after : DevicesSeen) → Result Summary LineFault → Type 0)
     → List (List ℕ × List ℕ) → (before after : DevicesSeen) → Report → Type 0
 RewriteReports Reads base k IsRewritten arguments before after report =
-    (gathered : Result Maps Report) × Gathers false Reads base k 0 (Ok []) arguments gathered × GatheredReports gathered IsRewritten before after report
+    (gathered : Result Maps Report) × Gathers false Reads false base k 0 (Ok []) arguments gathered × GatheredReports gathered IsRewritten before after report

@@ -61,6 +61,7 @@ pub fn answer_rewrite<F: FileReader, R: ByteSource, W: ByteSink, E: ByteSink>(
         maps,
         arguments,
         list: options.list.as_deref(),
+        paths: options.paths,
         hiding: Hiding {
             ignored: hide_ignored,
             texts: &options.hide,
@@ -69,6 +70,7 @@ pub fn answer_rewrite<F: FileReader, R: ByteSource, W: ByteSink, E: ByteSink>(
         cache_bytes,
         limit_bytes,
         summary: options.summary,
+        explain: options.explain,
     };
     rewrite_from(alloc, &request, input, output, errors, first)
 }

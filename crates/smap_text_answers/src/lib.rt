@@ -9,10 +9,13 @@
 #![tactic(auto)]
 
 mod answering;
+mod by_path;
 mod lines;
 mod loader;
+mod nearest;
 mod rewriting;
 mod sources;
 mod trace;
+mod url_lines;
 
 pub use answering::{TextRequest, answer_rewrite};

@@ -1,12 +1,12 @@
 //! The maps that are read when a text names them.
 ghost use Rattle.std.specs.Prelude.{◌≡◌, option_copied, IfErr, IfOk};
 ghost use Rattle.smap_text_answers.specs.Lines.{map_memory_line};
-ghost use Rattle.smap_text_answers.specs.Loader.{FailsToLoad, FailsToRead, IsLoaded, Notes, base_at, loader_seen, named_report};
+ghost use Rattle.smap_text_answers.specs.Loader.{FailsToLoad, FailsToRead, IsLoaded, Notes, base_at, loader_seen, named_report, record_loaded};
 ghost use Rattle.smap_record.specs.MapFile.{IsMapOf};
-ghost use Rattle.smap_record.specs.Record.{record_of};
 ghost use Rattle.smap_replies.specs.Map.{Never, ReportsFound, refusal_result};
 ghost use Rattle.smap_replies.specs.Outcome.{OrMemory, failure_report, failure};
 
+use crate::by_path::{goes_by_path, map_by_path};
 use crate::lines;
 use smap_codes::Code;
 use smap_io::ByteSink;
@@ -25,6 +25,8 @@ const MOST_REPORTED: u64 = 100;
 #[derive(Drop)]
 pub struct FileLoader<'m, 'r, 'e, F: FileReader, E: ByteSink> {
     pub maps: &'m MapReader<'r, F>,
+    /// Whether, without a base, the sources of a map whose URL is a path are named by paths that go on from its folder.
+    pub paths: bool,
     /// The number under which the files are read, which comes after those of the command's own.
     pub number: usize,
     pub errors: &'e mut E,
@@ -40,12 +42,12 @@ pub struct FileLoader<'m, 'r, 'e, F: FileReader, E: ByteSink> {
 
 impl<F: FileReader, E: ByteSink> FileLoader<'_, '_, '_, F, E> {
     // The map of a URL from the file at a path.
-    fn read(&self, alloc: Global, url: &[u8], path: &str) -> Result<LoadedMap, Failure>
-        ensures read { IfOk result (λ loaded. IsLoaded (F.gives self.now.maps.now.files.now)
+    pub(crate) fn read(&self, alloc: Global, url: &[u8], path: &str) -> Result<LoadedMap, Failure>
+        ensures read { IfOk result (λ loaded. IsLoaded (F.gives self.now.maps.now.files.now) self.now.paths
             (option_copied self.now.maps.now.base) self.now.maps.now.interval self.now.number
             url.now path.now loaded.map.stated loaded.file_bytes) }
         ensures failed { IfErr result (λ failure. OrMemory (FailsToRead
-            (F.gives self.now.maps.now.files.now) (option_copied self.now.maps.now.base) self.now.maps.now.interval self.now.number
+            (F.gives self.now.maps.now.files.now) self.now.paths (option_copied self.now.maps.now.base) self.now.maps.now.interval self.now.number
             url.now path.now) (failure_report failure)) }
     {
         let bytes = file_bytes(alloc, self.maps.files, self.number, path)?;
@@ -54,7 +56,8 @@ impl<F: FileReader, E: ByteSink> FileLoader<'_, '_, '_, F, E> {
         Ok(LoadedMap { map, file_bytes })
     }
 
-    // The map that the bytes are, whose base, where none is given, is the URL without its query and its fragment.
+    // The map that the bytes are, with its sources named by the URL, where it goes by that; else its base, where none is
+    // given, is the URL without its query and its fragment.
     fn map_at(
         &self,
         alloc: Global,
@@ -62,13 +65,16 @@ impl<F: FileReader, E: ByteSink> FileLoader<'_, '_, '_, F, E> {
         path: &str,
         bytes: Vec<u8>,
     ) -> Result<MapFile, Failure>
-        ensures read { IfOk result (IsMapOf (record_of bytes.items
-            (base_at (option_copied self.now.maps.now.base) url.now) self.now.maps.now.interval)
+        ensures read { IfOk result (IsMapOf (record_loaded self.now.paths
+            (option_copied self.now.maps.now.base) self.now.maps.now.interval url.now bytes.items)
             self.now.maps.now.interval) }
         ensures refused { IfErr result (λ failure. OrMemory (ReportsFound (refusal_result path.now)
-            (record_of bytes.items (base_at (option_copied self.now.maps.now.base) url.now)
-            self.now.maps.now.interval) Never) (failure_report failure)) }
+            (record_loaded self.now.paths (option_copied self.now.maps.now.base)
+            self.now.maps.now.interval url.now bytes.items) Never) (failure_report failure)) }
     {
+        if goes_by_path(self.maps, self.paths, url) {
+            return map_by_path(alloc, url, path, bytes, self.maps.interval);
+        }
         match str::from_utf8(without_query(url)) {
             Ok(url) => read_map_at(alloc, self.maps, url, path, bytes),
             Err(_) => map_of(alloc, path, bytes, self.maps.base, self.maps.interval),
@@ -80,6 +86,7 @@ impl<F: FileReader, E: ByteSink> FileLoader<'_, '_, '_, F, E> {
         ensures noted { Notes (loader_seen E.seen self.old) (failure_report failure.now)
             (loader_seen E.seen self.new) }
         ensures maps { self.new.maps ≡ self.old.maps }
+        ensures paths { self.new.paths ≡ self.old.paths }
         ensures number { self.new.number ≡ self.old.number }
         ensures errors { self.new.errors.ghost_name ≡ self.old.errors.ghost_name }
     {
@@ -101,10 +108,10 @@ impl<F: FileReader, E: ByteSink> MapLoader for FileLoader<'_, '_, '_, F, E> {
     ghost use Rattle.smap_text_answers.specs.Loader.{IsSameLoader, Loads, MayLoad, loader_seen};
     ghost use Rattle.smap_text_answers.specs.Laws.Loader.{given_load, same_load, some_load};
 
-    ghost MayLoad = { λ loader. MayLoad (F.gives loader.maps.now.files.now) (option_copied loader.maps.now.base)
+    ghost MayLoad = { λ loader. MayLoad (F.gives loader.maps.now.files.now) loader.paths (option_copied loader.maps.now.base)
         loader.maps.now.interval loader.number };
 
-    ghost Loads = { λ loader url path came after. Loads (F.gives loader.maps.now.files.now) (option_copied loader.maps.now.base)
+    ghost Loads = { λ loader url path came after. Loads (F.gives loader.maps.now.files.now) loader.paths (option_copied loader.maps.now.base)
         loader.maps.now.interval loader.number (loader_seen E.seen loader) url path came (loader_seen E.seen after)
         × IsSameLoader loader after };
 
@@ -118,10 +125,10 @@ impl<F: FileReader, E: ByteSink> MapLoader for FileLoader<'_, '_, '_, F, E> {
         }
     }
 
-    ghost some = { λ loader. some_load (F.gives loader.maps.now.files.now) (option_copied loader.maps.now.base)
+    ghost some = { λ loader. some_load (F.gives loader.maps.now.files.now) loader.paths (option_copied loader.maps.now.base)
         loader.maps.now.interval loader.number };
 
-    ghost given = { λ loader after url path came loads. given_load (F.gives loader.maps.now.files.now) (option_copied loader.maps.now.base)
+    ghost given = { λ loader after url path came loads. given_load (F.gives loader.maps.now.files.now) loader.paths (option_copied loader.maps.now.base)
         loader.maps.now.interval loader.number _ _ url path came loads.0 };
 
     ghost same = { λ loader after url path other other_path came more loads may. same_load F.gives loader after loads.1 other other_path more may };

@@ -1,16 +1,19 @@
 //! Rewriting the stack trace on standard input over files and folders of maps, which are read when it names them.
-ghost use Rattle.std.specs.Prelude.{◌≡◌, ◌<◌, ◌^◌, false, option_copied, string_bytes, IfErr, IfOk};
-ghost use Rattle.smap_text_answers.specs.RewriteFrom.{ClosesWith, EndsFrom, IsOverStore, RewritesFrom, RewritesText, RewritesTextFront, ReportsShortage, ReportsSummary, places_of, request_seen, store_of};
+ghost use Rattle.std.specs.Prelude.{◌≡◌, ◌<◌, ◌^◌, [], false, true, option_copied, string_bytes, IfErr, IfOk};
+ghost use Rattle.smap_text_answers.specs.RewriteFrom.{ClosesWith, EndsFrom, IsNotedOver, IsOverStore, RewritesFrom, RewritesText, RewritesTextFront, ReportsShortage, ReportsSummary, SaysUrls, places_of, says_urls, request_seen, store_of};
 ghost use Rattle.smap_text_answers.specs.RewriteFrom.{maps_text, summary_line, trace_text};
 ghost use Rattle.smap_replies.specs.Streams.{sinks_seen, streams_seen};
 ghost use Rattle.smap_lines.specs.Editing.{devices_seen, is_read_fault, is_write_fault};
 ghost use Rattle.smap_lines.specs.declared.fault.LineFault.TheVariants.{Memory};
-ghost use Rattle.smap_store.specs.Stored.{FindsIn, GivesIn};
+ghost use Rattle.smap_store.specs.Stored.{FindsIn, GivesIn, found_in};
 ghost use Rattle.smap_trace.specs.Hiding.{hiding_seen};
+ghost use Rattle.smap_trace.specs.Noted.{RewritesNoted};
+ghost use Rattle.smap_trace.specs.NotesSeen.{notes_seen};
 ghost use Rattle.smap_trace.specs.Rewriting.{Looked};
 
 use crate::loader::FileLoader;
 use crate::sources::{MapSources, sources_of};
+use crate::url_lines::tell_urls;
 use smap_codes::Code;
 use smap_io::{ByteSink, ByteSource};
 use smap_places::{PlaceFinder, rewrite_places_over};
@@ -18,7 +21,9 @@ use smap_replies::{
     DONE, FAILED, Failure, FileReader, MapReader, NO_MEMORY, Reply, print_error, report,
 };
 use smap_store::{MapCache, MapLoader, StoredMaps};
-use smap_trace::{Hiding, RewriteCounts, RewriteFault, RewriteOptions, Table, rewrite_over};
+use smap_trace::{
+    Hiding, RewriteCounts, RewriteFault, RewriteOptions, Table, UrlNotes, rewrite_noting,
+};
 use std::alloc::{AllocError, Global};
 
 /// How a trace is rewritten over files and folders.
@@ -31,6 +36,8 @@ pub struct RewriteRequest<'a, 'r, F: FileReader> {
     pub arguments: &'a [(String, String)],
     /// The path of a list of more of them.
     pub list: Option<&'a str>,
+    /// Whether, without a base, the sources of a map whose URL is a path are named by paths that go on from its folder.
+    pub paths: bool,
     /// Which frames are left out, with their line ends.
     pub hiding: Hiding<'a>,
     /// Whether places are rewritten wherever they stand in the text, in place of frames; then no line is dropped.
@@ -41,6 +48,8 @@ pub struct RewriteRequest<'a, 'r, F: FileReader> {
     pub limit_bytes: u64,
     /// Whether what was done is reported at the end.
     pub summary: bool,
+    /// Whether it is reported then what became of the URLs that frames name.
+    pub explain: bool,
 }
 
 /// Reads the maps that are words of the command line, and rewrites the text on standard input over them and over those
@@ -62,10 +71,21 @@ pub fn rewrite_from<F: FileReader, R: ByteSource, W: ByteSink, E: ByteSink>(
         (streams_seen (R.seen input.old) (W.seen output.old) (E.seen errors.old) first.old)
         (streams_seen (R.seen input.new) (W.seen output.new) (E.seen errors.new) first.new) }
 {
-    match sources_of(alloc, request.maps, request.arguments, request.list) {
+    match sources_of(
+        alloc,
+        request.maps,
+        request.paths,
+        request.arguments,
+        request.list,
+    ) {
         Ok(sources) => {
-            let end = over_store(alloc, request, &sources, input, output, errors, first);
-            finish(alloc, request.summary, &end, output, errors, first)
+            let mut notes = UrlNotes::new(alloc);
+            let end = over_store(
+                alloc, request, &sources, &mut notes, input, output, errors, first,
+            );
+            let ended = finish(alloc, request.summary, &end, output, errors, first);
+            let said = say_urls(alloc, request, &sources, &end, &notes, errors);
+            ended.max(said)
         }
         Err(failure) => report(&Err(failure), output, errors, first),
     }
@@ -93,11 +113,13 @@ fn over_store<F: FileReader, R: ByteSource, W: ByteSink, E: ByteSink>(
     alloc: Global,
     request: &RewriteRequest<'_, '_, F>,
     sources: &MapSources,
+    notes: &mut UrlNotes,
     input: &mut R,
     output: &mut W,
     errors: &mut E,
     first: &mut Option<Code>,
 ) -> StoreEnd
+    requires unnoted { notes_seen notes.old ≡ record { notes = []; is_short = false } }
     requires input_works { (R.seen input.old).failed ≡ false }
     requires output_works { (W.seen output.old).failed ≡ false }
     requires limit { request.now.limit_bytes < 2 ^ 63 }
@@ -105,11 +127,17 @@ fn over_store<F: FileReader, R: ByteSource, W: ByteSink, E: ByteSink>(
         (option_copied request.now.maps.now.base) request.now.maps.now.interval (request_seen request.now) sources.now result
         (streams_seen (R.seen input.old) (W.seen output.old) (E.seen errors.old) first.old)
         (streams_seen (R.seen input.new) (W.seen output.new) (E.seen errors.new) first.new) }
+    ensures noted { IsNotedOver (F.gives request.now.maps.now.files.now)
+        (option_copied request.now.maps.now.base) request.now.maps.now.interval (request_seen request.now) sources.now result
+        (notes_seen notes.new)
+        (streams_seen (R.seen input.old) (W.seen output.old) (E.seen errors.old) first.old)
+        (streams_seen (R.seen input.new) (W.seen output.new) (E.seen errors.new) first.new) }
     ensures output_failure { (W.seen output.new).failed ≡ is_write_fault result.result }
 {
     let mut cache = MapCache::new(alloc, request.cache_bytes);
     let mut loader = FileLoader {
         maps: request.maps,
+        paths: request.paths,
         number: request.arguments.len() + 1,
         errors,
         status: DONE,
@@ -121,12 +149,13 @@ fn over_store<F: FileReader, R: ByteSource, W: ByteSink, E: ByteSink>(
         alloc,
         sources,
         anywhere: request.anywhere,
+        explain: request.explain,
         options: RewriteOptions {
             hiding: request.hiding,
             most: request.limit_bytes,
         },
     };
-    let result = rewrite_text(&asked, &mut cache, &mut loader, input, output);
+    let result = rewrite_text(&asked, &mut cache, &mut loader, notes, input, output);
     let (status, refused) = (loader.status, loader.refused);
     *first = loader.code;
     StoreEnd {
@@ -145,18 +174,21 @@ struct StoreRun<'a> {
     alloc: Global,
     sources: &'a MapSources,
     anywhere: bool,
+    explain: bool,
     options: RewriteOptions<'a>,
 }
 
 // Rewrites the text over a store of maps: its frames, or its places anywhere. (It is generic in what loads them: the borrow
-// checker does not cover a call of `rewrite_over` over a loader that borrows from elsewhere.)
+// checker does not cover a call of `rewrite_noting` over a loader that borrows from elsewhere.)
 fn rewrite_text<L: MapLoader, R: ByteSource, W: ByteSink>(
     asked: &StoreRun<'_>,
     cache: &mut MapCache,
     loader: &mut L,
+    notes: &mut UrlNotes,
     input: &mut R,
     output: &mut W,
 ) -> Result<RewriteCounts, RewriteFault>
+    requires unnoted { notes_seen notes.old ≡ record { notes = []; is_short = false } }
     requires input_works { (R.seen input.old).failed ≡ false }
     requires output_works { (W.seen output.old).failed ≡ false }
     requires limit { asked.now.options.most < 2 ^ 63 }
@@ -166,6 +198,13 @@ fn rewrite_text<L: MapLoader, R: ByteSource, W: ByteSink>(
         (devices_seen (R.seen input.new) (W.seen output.new))
         (store_of asked.now.sources.now cache.old loader.old)
         (store_of asked.now.sources.now cache.new loader.new)) }
+    ensures noted { asked.now.anywhere ≡ false → asked.now.explain ≡ true → IfOk result (λ counts.
+        RewritesNoted (FindsIn L.Loads) found_in
+        (hiding_seen asked.now.options.hiding) asked.now.options.most
+        (devices_seen (R.seen input.old) (W.seen output.old))
+        (devices_seen (R.seen input.new) (W.seen output.new))
+        (store_of asked.now.sources.now cache.old loader.old)
+        (store_of asked.now.sources.now cache.new loader.new) counts (notes_seen notes.new)) }
     ensures front { IfErr result (RewritesTextFront asked.now.anywhere
         (GivesIn L.MayLoad (store_of asked.now.sources.now cache.old loader.old))
         (places_of asked.now.sources.now)
@@ -189,7 +228,8 @@ fn rewrite_text<L: MapLoader, R: ByteSource, W: ByteSink>(
             cache,
             loader,
         };
-        return rewrite_over(alloc, input, output, &mut stored, options);
+        let explain = asked.explain;
+        return rewrite_noting(alloc, input, output, &mut stored, options, explain, notes);
     }
     let Ok(finder) = PlaceFinder::new(alloc, words, locations) else {
         return Err(RewriteFault::Memory);
@@ -207,6 +247,33 @@ fn rewrite_text<L: MapLoader, R: ByteSource, W: ByteSink>(
         Ok(summary) => Ok(RewriteCounts { summary, long: 0 }),
         Err(fault) => Err(fault),
     }
+}
+
+// Says what became of the URLs that were noted, where that is asked, and gives the status of that.
+fn say_urls<F: FileReader, E: ByteSink>(
+    alloc: Global,
+    request: &RewriteRequest<'_, '_, F>,
+    sources: &MapSources,
+    end: &StoreEnd,
+    notes: &UrlNotes,
+    errors: &mut E,
+) -> u8
+    ensures { SaysUrls (F.gives request.now.maps.now.files.now)
+        (option_copied request.now.maps.now.base) request.now.maps.now.interval (request_seen request.now) sources.now end.now
+        (notes_seen notes.now) result (E.seen errors.old) (E.seen errors.new) }
+{
+    if says_urls(request, end) {
+        tell_urls(alloc, request, sources, notes, errors)
+    } else {
+        DONE
+    }
+}
+
+// Whether it is said what became of the URLs.
+fn says_urls<F: FileReader>(request: &RewriteRequest<'_, '_, F>, end: &StoreEnd) -> bool
+    ensures { result ≡ says_urls (request_seen request.now) end.now }
+{
+    request.explain && !request.anywhere && end.result.is_ok()
 }
 
 // Reports what rewriting came to, and gives the exit status.

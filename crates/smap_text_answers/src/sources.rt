@@ -24,22 +24,24 @@ pub struct MapSources {
     pub locations: Locations,
 }
 
-/// What the arguments, each a URL and a path, and the list at a path name. A path that ends in `/` is that of a folder, and a
+/// What the arguments, each a URL and a path, and the list at a path name, with the sources of a map named by the path that
+/// is its URL, where that is asked and there is no base. A path that ends in `/` is that of a folder, and a
 /// URL that begins with `*` is a pattern. These rules of the arguments come first, of which the first that is refused ends
 /// it; then the maps of their files are read; then the list is, whose number among the paths is that behind the arguments,
 /// and its first line that is refused ends it.
 pub fn sources_of<F: FileReader>(
     alloc: Global,
     maps: &MapReader<'_, F>,
+    paths: bool,
     arguments: &[(String, String)],
     list: Option<&str>,
 ) -> Result<MapSources, Failure>
-    ensures { GathersSources (F.gives maps.now.files.now) (option_copied maps.now.base)
+    ensures { GathersSources (F.gives maps.now.files.now) paths (option_copied maps.now.base)
         maps.now.interval (map argument_of arguments.now) (option_copied list.entry)
         (or_reported result) }
 {
     let locations = rules_of(alloc, arguments)?;
-    let words = table_of(alloc, maps, arguments, true)?;
+    let words = table_of(alloc, maps, paths, arguments, true)?;
     let sources = MapSources { words, locations };
     match list {
         Some(list) => with_list(alloc, maps.files, arguments.len(), list, sources),

@@ -1,14 +1,18 @@
 //! Rewriting the stack trace on standard input.
-ghost use Rattle.std.specs.Prelude.{◌≡◌, ◌&&◌, [], false, map, option_copied, Ok, IfOk};
-ghost use Rattle.smap_replies.specs.Outcome.{failure_report, report_of};
+ghost use Rattle.std.specs.Prelude.{◌≡◌, ◌&&◌, [], false, map, option_copied, Ok, IfErr, IfOk};
+ghost use Rattle.smap_record.specs.MapFile.{IsMapOf};
+ghost use Rattle.smap_replies.specs.Map.{Never, ReportsFound, refusal_result};
+ghost use Rattle.smap_replies.specs.Outcome.{OrMemory, failure_report, report_of};
 ghost use Rattle.smap_lines.specs.Editing.{devices_seen};
 ghost use Rattle.smap_text_answers.specs.Private.Gathering.{gathered};
 ghost use Rattle.smap_locations.specs.ListLine.{is_rule};
-ghost use Rattle.smap_text_answers.specs.Trace.{Gathers, PutsNext, IsTraceRewritten, RewriteReports, rewrite_report, url_refusal_result};
+ghost use Rattle.smap_text_answers.specs.Trace.{Gathers, PutsNext, IsTraceRewritten, RewriteReports, record_named, rewrite_report, url_refusal_result};
 ghost use Rattle.smap_replies.specs.Arguments.{argument_of};
 
+use crate::by_path::{goes_by_path, map_by_path};
 use smap_io::{ByteSink, ByteSource};
 use smap_locations::is_rule;
+use smap_record::MapFile;
 use smap_replies::{
     Failure, FileReader, MapReader, Reply, file_bytes, read_map_at, refused_argument,
 };
@@ -33,7 +37,7 @@ pub fn rewrite_trace<F: FileReader, R: ByteSource, W: ByteSink>(
         (devices_seen (R.seen input.new) (W.seen output.new))
         (report_of result) }
 {
-    let table = table_of(alloc, maps, arguments, false)?;
+    let table = table_of(alloc, maps, false, arguments, false)?;
     rewritten(rewrite(alloc, input, output, &table, hide_ignored))
 }
 
@@ -47,15 +51,16 @@ fn rewritten(end: Result<Summary, RewriteFault>) -> Result<Reply, Failure>
     }
 }
 
-/// The maps of the files at the paths of the arguments, each under its URL; or the first file that can't be read, and then
-/// the first refusal. Rules, which have a folder or a pattern, are passed over where that is asked, and count as arguments.
+/// The maps of the files at the paths of the arguments, each under its URL, and with its sources named by the path that this
+/// is, where that is asked and there is no base; or the first file that can't be read, and then the first refusal. Rules, which have a folder or a pattern, are passed over where that is asked, and count as arguments.
 pub fn table_of<F: FileReader>(
     alloc: Global,
     maps: &MapReader<'_, F>,
+    paths: bool,
     arguments: &[(String, String)],
     passes_rules: bool,
 ) -> Result<Table, Failure>
-    ensures { Gathers passes_rules (F.gives maps.now.files.now) (option_copied maps.now.base)
+    ensures { Gathers passes_rules (F.gives maps.now.files.now) paths (option_copied maps.now.base)
         maps.now.interval 0 (Ok []) (map argument_of arguments.now) (gathered result) }
 {
     let mut table = Ok(Table::new(alloc));
@@ -64,7 +69,7 @@ pub fn table_of<F: FileReader>(
             continue;
         }
         let bytes = file_bytes(alloc, maps.files, number, path)?;
-        table = with_map(alloc, maps, table, url, path, bytes);
+        table = with_map(alloc, maps, paths, table, url, path, bytes);
     }
     table
 }
@@ -80,21 +85,44 @@ fn is_passed_over(passes_rules: bool, url: &str, path: &str) -> bool
 fn with_map<F: FileReader>(
     alloc: Global,
     maps: &MapReader<'_, F>,
+    paths: bool,
     table: Result<Table, Failure>,
     url: &str,
     path: &str,
     bytes: Vec<u8>,
 ) -> Result<Table, Failure>
-    ensures { PutsNext (option_copied maps.now.base) maps.now.interval (gathered table)
+    ensures { PutsNext paths (option_copied maps.now.base) maps.now.interval (gathered table)
         url.now path.now bytes.items (gathered result) }
 {
     let mut table = table?;
-    let map = read_map_at(alloc, maps, url, path, bytes)?;
+    let map = map_for(alloc, maps, paths, url, path, bytes)?;
     let owned = String::from_str(alloc, url)?;
     match table.add(owned, map) {
         Ok(()) => Ok(table),
         Err((refusal, _, _)) => Err(refused_url(alloc, refusal, url, path)?),
     }
+}
+
+// The map that the bytes of the file at a path are for a URL, with its sources named by that, where it goes by it.
+fn map_for<F: FileReader>(
+    alloc: Global,
+    maps: &MapReader<'_, F>,
+    paths: bool,
+    url: &str,
+    path: &str,
+    bytes: Vec<u8>,
+) -> Result<MapFile, Failure>
+    ensures read { IfOk result (IsMapOf (record_named paths (option_copied maps.now.base)
+        maps.now.interval url.now bytes.items) maps.now.interval) }
+    ensures refused { IfErr result (λ failure. OrMemory (ReportsFound (refusal_result path.now)
+        (record_named paths (option_copied maps.now.base) maps.now.interval url.now bytes.items)
+        Never) (failure_report failure)) }
+{
+    let named = url.as_bytes();
+    if goes_by_path(maps, paths, named) {
+        return map_by_path(alloc, named, path, bytes, maps.interval);
+    }
+    read_map_at(alloc, maps, url, path, bytes)
 }
 
 // Why a map is not put under a URL.

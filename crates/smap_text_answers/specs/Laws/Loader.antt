@@ -1,5 +1,5 @@
 -- Laws of what reads maps from files, which its trait asks for.
-use Rattle.std.specs.Prelude.{ℕ, List, Option, Some, None, option_copied, refl}
+use Rattle.std.specs.Prelude.{ℕ, List, Bool, Option, Some, None, option_copied, refl}
 use Rattle.std.proofs.Common.{inl, inr, subst, sym, ◌∙◌}
 use Rattle.url.specs.Parts.{Parts}
 use Rattle.smap_record.specs.Record.{MapRecord}
@@ -9,27 +9,28 @@ use Rattle.smap_text_answers.specs.Loader.{FailsToLoad, FailsToRead, IsSameLoade
 use Rattle.smap_replies.specs.Outcome.{OrMemory, Report, out_of_memory}
 use Rattle.smap_text_answers.specs.declared.loader.FileLoader.{FileLoader}
 
-module _ (Reads : MayRead) (base : Option Parts) (k number : ℕ) where
-  pub some_load : (url path : List ℕ) → (found : Option MapRecord) × MayLoad Reads base k number url path found
+module _ (Reads : MayRead) (paths : Bool) (base : Option Parts) (k number : ℕ) where
+  pub some_load : (url path : List ℕ) → (found : Option MapRecord) × MayLoad Reads paths base k number url path found
   some_load url path = (None, (out_of_memory, inl refl))
 
-  pub given_load : (old new : LoaderSeen) (url path : List ℕ) (came : Option (MapRecord × ℕ)) → Loads Reads base k number old url path came new
-      → MayLoad Reads base k number url path (record_in came)
+  pub given_load : (old new : LoaderSeen) (url path : List ℕ) (came : Option (MapRecord × ℕ)) → Loads Reads paths base k number old url path came new
+      → MayLoad Reads paths base k number url path (record_in came)
   given_load old new url path None loads = (loads.0, loads.1)
   given_load old new url path (Some (stated, file_bytes)) loads = (file_bytes, loads.0)
 
 pub same_load : {F E : Type 0} (gives : F → MayRead) (old new : FileLoader F E) → IsSameLoader old new → (url path : List ℕ) (found : Option MapRecord)
-    → MayLoad (gives new.maps.now.files.now) (option_copied new.maps.now.base) new.maps.now.interval new.number url path found
-    → MayLoad (gives old.maps.now.files.now) (option_copied old.maps.now.base) old.maps.now.interval old.number url path found
+    → MayLoad (gives new.maps.now.files.now) new.paths (option_copied new.maps.now.base) new.maps.now.interval new.number url path found
+    → MayLoad (gives old.maps.now.files.now) old.paths (option_copied old.maps.now.base) old.maps.now.interval old.number url path found
 same_load gives old new same url path found may =
-    subst (λ n. MayLoad (gives old.maps.now.files.now) (option_copied old.maps.now.base) old.maps.now.interval n url path found) same.number
-    (subst (λ m. MayLoad (gives m.now.files.now) (option_copied m.now.base) m.now.interval new.number url path found) same.maps may)
+    subst (λ n. MayLoad (gives old.maps.now.files.now) old.paths (option_copied old.maps.now.base) old.maps.now.interval n url path found) same.number
+    (subst (λ p. MayLoad (gives old.maps.now.files.now) p (option_copied old.maps.now.base) old.maps.now.interval new.number url path found) same.paths
+    (subst (λ m. MayLoad (gives m.now.files.now) new.paths (option_copied m.now.base) m.now.interval new.number url path found) same.maps may))
 
 -- ---- why a map can't be had, named
 
-pub fails_named : (Reads : MayRead) (base : Option Parts) (k number : ℕ) (url path : List ℕ) (report named : Report)
-    → OrMemory (FailsToRead Reads base k number url path) report → named_report path report named → FailsToLoad Reads base k number url path named
-fails_named Reads base k number url path report named (inl memory) (inl same) = inl (same ∙ memory)
-fails_named Reads base k number url path report named (inr fails) (inl same) =
-    inr (inr (subst (λ t. FailsToRead Reads base k number url path t) (sym same) fails))
-fails_named Reads base k number url path report named fails (inr is) = inr (inl is.1)
+pub fails_named : (Reads : MayRead) (paths : Bool) (base : Option Parts) (k number : ℕ) (url path : List ℕ) (report named : Report)
+    → OrMemory (FailsToRead Reads paths base k number url path) report → named_report path report named → FailsToLoad Reads paths base k number url path named
+fails_named Reads paths base k number url path report named (inl memory) (inl same) = inl (same ∙ memory)
+fails_named Reads paths base k number url path report named (inr fails) (inl same) =
+    inr (inr (subst (λ t. FailsToRead Reads paths base k number url path t) (sym same) fails))
+fails_named Reads paths base k number url path report named fails (inr is) = inr (inl is.1)

@@ -9,7 +9,7 @@ use Rattle.smap_places.specs.Places.{PlaceUrl}
 use Rattle.smap_places.specs.PlacesBy.{RewritesPlacesBy}
 use Rattle.smap_places.specs.Laws.PlacesBy.{places_by}
 use Rattle.smap_places.specs.PlacesOver.{RewritesPlacesOver}
-use Rattle.smap_record.specs.Record.{MapRecord, record_of}
+use Rattle.smap_record.specs.Record.{MapRecord}
 use Rattle.smap_record.specs.declared.refusal.MapRefusal.{MapRefusal}
 use Rattle.smap_store.specs.ByPath.{IsGood, IsRight, MapsByPath, stored_maps}
 use Rattle.smap_store.specs.Loaded.{record_in}
@@ -22,7 +22,7 @@ use Rattle.smap_trace.specs.Rewriting.{RewritesOver}
 use Rattle.smap_trace.specs.declared.outcome.RewriteCounts.{RewriteCounts}
 use Rattle.smap_trace.specs.declared.outcome.Summary.{Summary}
 use Rattle.smap_replies.specs.Files.{MayRead}
-use Rattle.smap_text_answers.specs.Loader.{FailsToLoad, LoaderSeen, Loads, base_at}
+use Rattle.smap_text_answers.specs.Loader.{FailsToLoad, LoaderSeen, Loads, record_loaded}
 use Rattle.smap_replies.specs.Map.{Never, ReportsFound, refusal_result}
 use Rattle.smap_replies.specs.Outcome.{Report}
 use Rattle.smap_text_answers.specs.RewriteFrom.{AnswersByPath, IsOverStore, IsStoredRewritten, RequestSeen, RewritesTextBy, places_of, store_start}
@@ -47,7 +47,7 @@ module _ {L : Type 0} (Steps : LoadsStep L) (Good : L → Type 0) (load : MapsBy
       good (right_start load old empty)
 
   -- and rewriting places
-  pub places_same : (begins : List ℕ → Option PlaceUrl) (most : ℕ) (before after : DevicesSeen) (old new : StoredSeen L) (summary : Summary)
+  pub places_same : (begins : List ℕ → List ℕ → Option PlaceUrl) (most : ℕ) (before after : DevicesSeen) (old new : StoredSeen L) (summary : Summary)
       → RewritesPlacesOver (FindsIn Steps) found_in begins most before after old new summary → old.cache.kept ≡ [] → IsGood Good new
       → RewritesPlacesBy (stored_maps load old.words old.locations) begins most before after summary
   places_same begins most before after old new summary all empty good =
@@ -57,9 +57,9 @@ module _ {L : Type 0} (Steps : LoadsStep L) (Good : L → Type 0) (load : MapsBy
 
 -- ---- where nothing was reported, so no map was refused
 
-module _ (Reads : MayRead) (base : Option Parts) (k number : ℕ) (bytes_at : BytesByPath) (same : ReadsSame Reads number bytes_at) where
+module _ (Reads : MayRead) (paths : Bool) (base : Option Parts) (k number : ℕ) (bytes_at : BytesByPath) (same : ReadsSame Reads number bytes_at) where
   abbrev load : MapsByPath
-  load = maps_at base k bytes_at
+  load = maps_at paths base k bytes_at
 
   -- what is said of a map that can't be had has a status
   refused_status : (path : List ℕ) (report : Report) (found : Result MapRecord MapRefusal) → ReportsFound (refusal_result path) found Never report
@@ -68,41 +68,41 @@ module _ (Reads : MayRead) (base : Option Parts) (k number : ℕ) (bytes_at : By
   refused_status path report (Ok stated) (inl reported) = ap (λ t. t.status) reported
   refused_status path report (Ok stated) (inr never) = absurd never
 
-  fails_reported : (url path : List ℕ) (report : Report) → FailsToLoad Reads base k number url path report → report.status < 1 → ⊥
+  fails_reported : (url path : List ℕ) (report : Report) → FailsToLoad Reads paths base k number url path report → report.status < 1 → ⊥
   fails_reported url path report (inl memory) few = let status = ap (λ t. t.status) memory in omega (arith, status, few)
   fails_reported url path report (inr (inl named)) few = let status = ap (λ t. t.status) named in omega (arith, status, few)
   fails_reported url path report (inr (inr (inl unread))) few = let status = ap (λ t. t.status) unread.1 in omega (arith, status, few)
   fails_reported url path report (inr (inr (inr (bytes, read, reported)))) few =
-      let status = refused_status path report (record_of bytes (base_at base url) k) reported in omega (arith, status, few)
+      let status = refused_status path report (record_loaded paths base k url bytes) reported in omega (arith, status, few)
 
-  loads_settled : (old new : LoaderSeen) (url path : List ℕ) (came : Option (MapRecord × ℕ)) → Loads Reads base k number old url path came new
+  loads_settled : (old new : LoaderSeen) (url path : List ℕ) (came : Option (MapRecord × ℕ)) → Loads Reads paths base k number old url path came new
       → IsSilent new → IsSilent old × (record_in came ≡ load url path)
   loads_settled old new url path None loads silent =
       let status = loads.2.status in
       absurd (fails_reported url path loads.0 loads.1 (omega (arith, status, silent)))
   loads_settled old new url path (Some (stated, file_bytes)) loads silent =
       let (bytes, read, many, is) = loads.0 in
-      (subst IsSilent loads.1 silent, sym (ap (stated_by (base_at base url) k) (same path bytes read) ∙ ap stated_in is))
+      (subst IsSilent loads.1 silent, sym (ap (stated_by paths base k url) (same path bytes read) ∙ ap stated_in is))
 
   pub same_settled : (sources : MapSources) (anywhere : Bool) (hide : HidingSeen) (most : ℕ) (before after : DevicesSeen) (old new : StoredSeen LoaderSeen) (counts : RewriteCounts)
-      → IsStoredRewritten Reads base k number sources anywhere hide most old new before after (Ok counts) → old.cache.kept ≡ []
+      → IsStoredRewritten Reads paths base k number sources anywhere hide most old new before after (Ok counts) → old.cache.kept ≡ []
       → IsSilent new.loader → new.cache.shortages ≡ 0
       → RewritesTextBy anywhere (stored_maps load old.words old.locations) (places_of sources) hide most before after counts
   same_settled sources true hide most before after old new counts all empty silent enough =
-      places_same (Loads Reads base k number) IsSilent load loads_settled (places_of sources) most before after old new counts.summary all.0 empty
+      places_same (Loads Reads paths base k number) IsSilent load loads_settled (places_of sources) most before after old new counts.summary all.0 empty
       (silent, enough)
   same_settled sources false hide most before after old new counts all empty silent enough =
-      rewrites_same (Loads Reads base k number) IsSilent load loads_settled hide most before after old new counts all empty (silent, enough)
+      rewrites_same (Loads Reads paths base k number) IsSilent load loads_settled hide most before after old new counts all empty (silent, enough)
 
 -- and so it is of a run
 pub same_run : (Reads : MayRead) (base : Option Parts) (k : ℕ) (request : RequestSeen) (sources : MapSources) (end : StoreEnd) (before after : Streams)
     → IsOverStore Reads base k request sources end before after → AnswersByPath Reads base k request sources end before after
 same_run Reads base k request sources end before after over bytes_at same counts result silent enough =
     let P : Result RewriteCounts LineFault → Type 0 = λ result.
-    IsStoredRewritten Reads base k (length request.arguments + 1) sources request.anywhere request.hide request.limit_bytes
+    IsStoredRewritten Reads request.paths base k (length request.arguments + 1) sources request.anywhere request.hide request.limit_bytes
     (store_start sources request.cache_bytes before.sinks.errors before.sinks.code) over.last
     (devices_seen before.input before.sinks.output) (devices_seen after.input after.sinks.output) result in
-    same_settled Reads base k (length request.arguments + 1) bytes_at same sources request.anywhere request.hide request.limit_bytes
+    same_settled Reads request.paths base k (length request.arguments + 1) bytes_at same sources request.anywhere request.hide request.limit_bytes
     (devices_seen before.input before.sinks.output) (devices_seen after.input after.sinks.output)
     (store_start sources request.cache_bytes before.sinks.errors before.sinks.code) over.last counts (subst P result over.rewritten) refl
     (sym over.status ∙ silent) (sym over.shortages ∙ enough)

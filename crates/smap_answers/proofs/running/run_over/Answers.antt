@@ -1,6 +1,6 @@
 use Rattle.std.proofs.Common.{refl}
 use Rattle.smap_replies.proofs.RunLaws.{runs_one}
-use Rattle.smap_answers.proofs.running.run_over.Goals.{in-Raw, in-Show, in-Lookup, in-Positions, in-Mappings, in-Sources, in-SourceContent, in-Compose, in-ComposeAll, in-Explain}
+use Rattle.smap_answers.proofs.running.run_over.Goals.{in-Raw, in-Show, in-Lookup, in-Generated, in-Positions, in-Mappings, in-Sources, in-SourceContent, in-Compose, in-ComposeAll, in-Explain}
 use Rattle.smap_answers.proofs.running.run_over.Goals as goal
 
 pub returns : goal.returns
@@ -12,6 +12,12 @@ returns g c = elim c.match-command.branch [
   | in-Lookup w ↦ rw (w.in-Lookup.is, w.input-is)
       (runs_one _ _ _ _ _ _ (refl, (rw (w.deref-in-Lookup.ensures, w.of.ensures, c.base.ensures, c.interval.ensures, w.in-Lookup.is) at w.answer_lookup-outcome.ensures))
       (rw (w.output-is, w.outcome-is) at c.report.ensures))
+  | in-Generated w ↦ rw (w.in-Generated.is, w.input-is)
+      (runs_one _ _ _ _ _ _ (
+        refl,
+        (rw (w.deref-in-Generated.ensures, w.deref-in-Generated-2.ensures, c.base.ensures, c.interval.ensures, w.in-Generated.is) at
+            w.answer_generated-outcome.ensures),
+      ) (rw (w.output-is, w.outcome-is) at c.report.ensures))
   | in-Positions w ↦ rw (w.in-Positions.is, w.input-is)
       (runs_one _ _ _ _ _ _ (rw (w.deref-in-Positions.ensures, w.of-in-Positions.ensures, c.base.ensures, c.interval.ensures, w.in-Positions.is) at
       w.answer_positions-outcome.ensures) (rw (w.output-is, w.outcome-is) at c.report.ensures))

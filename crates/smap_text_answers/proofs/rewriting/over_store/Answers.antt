@@ -1,13 +1,16 @@
 use Rattle.std.proofs.Common.{◌≡◌, ◌+◌, length, map, ap, refl, rules, subst, sym, option_copied}
 use Rattle.std.proofs.lemmas.List.{length-map}
+use Rattle.std.proofs.lemmas.Result.{IfOk-weaker}
 use Rattle.smap_lines.specs.Editing.{devices_seen}
 use Rattle.smap_store.specs.Cache.{CacheSeen}
-use Rattle.smap_store.specs.Stored.{StoredSeen}
-use Rattle.smap_text_answers.specs.Loader.{LoaderSeen, loader_seen}
+use Rattle.smap_store.specs.Stored.{FindsIn, StoredSeen, found_in}
+use Rattle.smap_text_answers.specs.Loader.{LoaderSeen, Loads, loader_seen}
 use Rattle.smap_trace.specs.Hiding.{hiding_seen}
+use Rattle.smap_trace.specs.Noted.{RewritesNoted}
+use Rattle.smap_trace.specs.NotesSeen.{notes_seen}
 use Rattle.smap_text_answers.specs.RewriteFrom.{IsStoredRewritten, store_of}
 use Rattle.smap_replies.specs.Arguments.{argument_of}
-use Rattle.smap_text_answers.proofs.StoreLaws.{looked_from, rewritten_from, untouched_by}
+use Rattle.smap_text_answers.proofs.StoreLaws.{looked_from, noted_from, rewritten_from, untouched_by}
 use Rattle.smap_text_answers.proofs.rewriting.over_store.Goals as goal
 
 pub returns-clause-over : goal.returns-clause-over
@@ -29,12 +32,12 @@ returns-clause-over g c =
     let last : StoredSeen LoaderSeen = store_of c.args.sources.now c.rewrite_text-result.new.cache (loader_seen seen c.rewrite_text-result.new.loader) in
     let rewritten = rewritten_from gives seen _ _ _ refl c.args.sources.now request.anywhere (hiding_seen request.hiding) request.limit_bytes before after c.rewrite_text-result.result
     made.ensures.rewrites made.ensures.front made.ensures.looked in
-    let numbered = subst (λ n. IsStoredRewritten (gives request.maps.now.files.now) (option_copied request.maps.now.base) request.maps.now.interval (n + 1)
+    let numbered = subst (λ n. IsStoredRewritten (gives request.maps.now.files.now) request.paths (option_copied request.maps.now.base) request.maps.now.interval (n + 1)
     c.args.sources.now request.anywhere (hiding_seen request.hiding) request.limit_bytes (start c.new-cache.result) last before after c.rewrite_text-result.result)
     (sym (length-map request.arguments.now argument_of)) rewritten in
     record {
       last = last;
-      rewritten = subst (λ (cache : CacheSeen). IsStoredRewritten (gives request.maps.now.files.now) (option_copied request.maps.now.base)
+      rewritten = subst (λ (cache : CacheSeen). IsStoredRewritten (gives request.maps.now.files.now) request.paths (option_copied request.maps.now.base)
           request.maps.now.interval (length (map argument_of request.arguments.now) + 1) c.args.sources.now request.anywhere
           (hiding_seen request.hiding) request.limit_bytes
           (start cache) last before after c.rewrite_text-result.result) c.new-cache.ensures numbered;
@@ -51,3 +54,29 @@ returns-clause-over g c =
       refused = refl;
       shortages = c.shortages.ensures;
     }
+
+pub returns-clause-noted : goal.returns-clause-noted
+returns-clause-noted g c off on =
+    let gives = g.F.FileReader.gives in
+    let seen = g.E.ByteSink.seen in
+    let request = c.args.request.now in
+    let made = c.rewrite_text-result in
+    let before = devices_seen (g.R.ByteSource.seen c.args.input.now) (g.W.ByteSink.seen c.args.output.now) in
+    let after = devices_seen (g.R.ByteSource.seen made.new.input) (g.W.ByteSink.seen made.new.output) in
+    let start : CacheSeen → StoredSeen LoaderSeen = λ cache. record {
+      words = c.args.sources.now.words;
+      locations = c.args.sources.now.locations;
+      cache = cache;
+      loader = record { errors = seen c.args.errors.now; status = 0; code = c.args.first.now; reported = 0; refused = 0 };
+    } in
+    let last : StoredSeen LoaderSeen = store_of c.args.sources.now made.new.cache (loader_seen seen made.new.loader) in
+    IfOk-weaker made.result _ _ (λ counts is. (
+      last,
+      subst (λ (cache : CacheSeen). RewritesNoted (FindsIn (Loads (gives request.maps.now.files.now) request.paths (option_copied request.maps.now.base)
+          request.maps.now.interval (length (map argument_of request.arguments.now) + 1))) found_in (hiding_seen request.hiding) request.limit_bytes
+          before after (start cache) last counts (notes_seen made.new.notes)) c.new-cache.ensures
+          (subst (λ n. RewritesNoted (FindsIn (Loads (gives request.maps.now.files.now) request.paths (option_copied request.maps.now.base)
+          request.maps.now.interval (n + 1))) found_in (hiding_seen request.hiding) request.limit_bytes
+          before after (start c.new-cache.result) last counts (notes_seen made.new.notes)) (sym (length-map request.arguments.now argument_of))
+          (noted_from gives seen _ _ _ refl (hiding_seen request.hiding) request.limit_bytes before after counts (notes_seen made.new.notes) is)),
+    )) (made.ensures.noted off on)

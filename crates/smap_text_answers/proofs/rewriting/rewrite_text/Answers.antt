@@ -1,4 +1,4 @@
-use Rattle.std.proofs.Common.{◌≡◌, ap, refl, rules, subst, sym}
+use Rattle.std.proofs.Common.{◌≡◌, ap, refl, rules, subst, sym, ◌∙◌}
 use Rattle.std.proofs.lemmas.Result.{IfErr-weaker, IfOk-weaker}
 use Rattle.smap_lines.specs.Editing.{devices_seen}
 use Rattle.smap_places.specs.PlaceAt.{place_at}
@@ -8,7 +8,10 @@ use Rattle.smap_store.specs.Stored.{FindsIn, GivesIn, StoredSeen, found_in}
 use Rattle.smap_store.specs.StoredMaps.{IsSameStore, same_store_on, same_store_self, stored_seen}
 use Rattle.smap_trace.specs.Hiding.{hiding_seen}
 use Rattle.smap_trace.specs.Rewriting.{Looked, RewritesOver}
+use Rattle.smap_trace.specs.Laws.Noted.{noted_seen}
 use Rattle.smap_trace.specs.Laws.Seen.{looked_seen, rewrites_seen}
+use Rattle.smap_trace.specs.Noted.{RewritesNoted}
+use Rattle.smap_trace.specs.NotesSeen.{notes_seen}
 use Rattle.smap_text_answers.specs.RewriteFrom.{places_of, store_of}
 use Rattle.smap_text_answers.proofs.BesideLaws.{gives_both, looked_both, places_both, store_after, when_off, when_on}
 use Rattle.smap_text_answers.proofs.rewriting.rewrite_text.Goals as goal
@@ -17,9 +20,9 @@ use Rattle.smap_text_answers.proofs.rewriting.rewrite_text.Goals as goal
 
 pub returns-then-not-anywhere-clause-looked : goal.returns-then-not-anywhere-clause-looked
 returns-then-not-anywhere-clause-looked g c =
-    let new = c.rewrite_over.new.maps in
+    let new = c.rewrite_noting.new.maps in
     let looked = looked_seen _ (λ m. found_in (stored_seen m)) (FindsIn g.L.MapLoader.Loads) found_in stored_seen (IsSameStore _)
-    (λ old new url is finds. (finds.0, same_store_on _ old new is finds.1)) (λ m url. refl) _ new (same_store_self _) c.rewrite_over.ensures.looked in
+    (λ old new url is finds. (finds.0, same_store_on _ old new is finds.1)) (λ m url. refl) _ new (same_store_self _) c.rewrite_noting.ensures.looked in
     let cache : c.cache-1.given.0 ≡ new.cache.now = search rules in
     let loader : c.loader-1.given.0 ≡ new.loader.now = search rules in
     subst (λ (s : StoredSeen g.row.L.Denot). Looked (FindsIn g.L.MapLoader.Loads) (store_of c.args.asked.now.sources.now c.args.cache.now c.args.loader.now) s)
@@ -27,24 +30,42 @@ returns-then-not-anywhere-clause-looked g c =
 
 pub returns-then-not-anywhere-clause-rewrites : goal.returns-then-not-anywhere-clause-rewrites
 returns-then-not-anywhere-clause-rewrites g c =
-    let new = c.rewrite_over.new.maps in
+    let new = c.rewrite_noting.new.maps in
     let looked = looked_seen _ (λ m. found_in (stored_seen m)) (FindsIn g.L.MapLoader.Loads) found_in stored_seen (IsSameStore _)
-    (λ old new url is finds. (finds.0, same_store_on _ old new is finds.1)) (λ m url. refl) _ new (same_store_self _) c.rewrite_over.ensures.looked in
+    (λ old new url is finds. (finds.0, same_store_on _ old new is finds.1)) (λ m url. refl) _ new (same_store_self _) c.rewrite_noting.ensures.looked in
     let cache : c.cache-1.given.0 ≡ new.cache.now = search rules in
     let loader : c.loader-1.given.0 ≡ new.loader.now = search rules in
     let before = devices_seen (g.R.ByteSource.seen c.args.input.now) (g.W.ByteSink.seen c.args.output.now) in
-    let after = devices_seen (g.R.ByteSource.seen c.rewrite_over.new.input) (g.W.ByteSink.seen c.rewrite_over.new.output) in
-    IfOk-weaker c.rewrite_over.result _ _ (λ counts is. when_off c.args.asked.now.anywhere _ _ c.if-not-anywhere.true
+    let after = devices_seen (g.R.ByteSource.seen c.rewrite_noting.new.input) (g.W.ByteSink.seen c.rewrite_noting.new.output) in
+    IfOk-weaker c.rewrite_noting.result _ _ (λ counts is. when_off c.args.asked.now.anywhere _ _ c.if-not-anywhere.true
     (subst (λ (s : StoredSeen g.row.L.Denot). RewritesOver (FindsIn g.L.MapLoader.Loads) found_in (hiding_seen c.args.asked.now.options.hiding)
     c.args.asked.now.options.most before after (store_of c.args.asked.now.sources.now c.args.cache.now c.args.loader.now) s counts)
     (store_after _ _ new looked.1 _ (ap (λ w. w.now) looked.1.words) _ _ cache loader)
     (rewrites_seen _ (λ m. found_in (stored_seen m)) (FindsIn g.L.MapLoader.Loads) found_in stored_seen (IsSameStore _)
     (λ old new url is finds. (finds.0, same_store_on _ old new is finds.1)) (λ m url. refl) (hiding_seen c.args.asked.now.options.hiding)
-    c.args.asked.now.options.most before after _ new counts (same_store_self _) is))) c.rewrite_over.ensures.rewrites
+    c.args.asked.now.options.most before after _ new counts (same_store_self _) is))) c.rewrite_noting.ensures.rewrites
+
+pub returns-then-not-anywhere-clause-noted : goal.returns-then-not-anywhere-clause-noted
+returns-then-not-anywhere-clause-noted g c off on =
+    let new = c.rewrite_noting.new.maps in
+    let looked = looked_seen _ (λ m. found_in (stored_seen m)) (FindsIn g.L.MapLoader.Loads) found_in stored_seen (IsSameStore _)
+    (λ old new url is finds. (finds.0, same_store_on _ old new is finds.1)) (λ m url. refl) _ new (same_store_self _) c.rewrite_noting.ensures.looked in
+    let cache : c.cache-1.given.0 ≡ new.cache.now = search rules in
+    let loader : c.loader-1.given.0 ≡ new.loader.now = search rules in
+    let before = devices_seen (g.R.ByteSource.seen c.args.input.now) (g.W.ByteSink.seen c.args.output.now) in
+    let after = devices_seen (g.R.ByteSource.seen c.rewrite_noting.new.input) (g.W.ByteSink.seen c.rewrite_noting.new.output) in
+    IfOk-weaker c.rewrite_noting.result _ _ (λ counts is.
+    subst (λ (s : StoredSeen g.row.L.Denot). RewritesNoted (FindsIn g.L.MapLoader.Loads) found_in (hiding_seen c.args.asked.now.options.hiding)
+    c.args.asked.now.options.most before after (store_of c.args.asked.now.sources.now c.args.cache.now c.args.loader.now) s counts
+    (notes_seen c.rewrite_noting.new.notes))
+    (store_after _ _ new looked.1 _ (ap (λ w. w.now) looked.1.words) _ _ cache loader)
+    (noted_seen _ (λ m. found_in (stored_seen m)) (FindsIn g.L.MapLoader.Loads) found_in stored_seen (IsSameStore _)
+    (λ old new url is finds. (finds.0, same_store_on _ old new is finds.1)) (λ m url. refl) (hiding_seen c.args.asked.now.options.hiding)
+    c.args.asked.now.options.most before after _ new counts (notes_seen c.rewrite_noting.new.notes) (same_store_self _) is)) (c.rewrite_noting.ensures.notes on)
 
 pub returns-then-not-anywhere-clause-front : goal.returns-then-not-anywhere-clause-front
 returns-then-not-anywhere-clause-front g c =
-    IfErr-weaker c.rewrite_over.result _ _ (λ fault is. when_off c.args.asked.now.anywhere _ _ c.if-not-anywhere.true is) c.rewrite_over.ensures.front
+    IfErr-weaker c.rewrite_noting.result _ _ (λ fault is. when_off c.args.asked.now.anywhere _ _ c.if-not-anywhere.true is) c.rewrite_noting.ensures.front
 
 -- ---- places
 
@@ -83,6 +104,9 @@ returns-in-Ok-rewrite_places_over-clause-rewrites g c =
           summary is),
       refl,
     )
+
+pub returns-in-Ok-rewrite_places_over-clause-noted : goal.returns-in-Ok-rewrite_places_over-clause-noted
+returns-in-Ok-rewrite_places_over-clause-noted g c off on = absurd (let both = sym c.if-not-anywhere.false ∙ off in cc)
 
 pub returns-clause-looked : goal.returns-clause-looked
 returns-clause-looked g c =

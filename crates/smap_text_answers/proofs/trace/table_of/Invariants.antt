@@ -11,6 +11,6 @@ abbrev pub invariant-loop-number : goal.invariant-loop-number
 invariant-loop-number g l =
     let Reads = g.F.FileReader.gives l.fn.maps.files.now in
     let base = option_copied l.fn.maps.base in
-    (result : Result Maps Report) → Gathers l.fn.passes_rules Reads base l.fn.maps.interval l.number (gathered l.table)
+    (result : Result Maps Report) → Gathers l.fn.passes_rules Reads l.fn.paths base l.fn.maps.interval l.number (gathered l.table)
     (map argument_of (drop l.number l.arguments)) result
-    → Gathers l.fn.passes_rules Reads base l.fn.maps.interval 0 (Ok []) (map argument_of l.arguments) result
+    → Gathers l.fn.passes_rules Reads l.fn.paths base l.fn.maps.interval 0 (Ok []) (map argument_of l.arguments) result

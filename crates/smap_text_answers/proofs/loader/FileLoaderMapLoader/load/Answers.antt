@@ -6,9 +6,9 @@ pub returns-in-Err : goal.returns-in-Err
 returns-in-Err g c = (
   (
     _,
-    fails_named (g.F.FileReader.gives c.args.self.now.maps.now.files.now) (option_copied c.args.self.now.maps.now.base) c.args.self.now.maps.now.interval
+    fails_named (g.F.FileReader.gives c.args.self.now.maps.now.files.now) c.args.self.now.paths (option_copied c.args.self.now.maps.now.base) c.args.self.now.maps.now.interval
         c.args.self.now.number c.args.url.now c.args.path.now _ _ c.in-Err.ensures.failed c.named.ensures,
     c.note.ensures.noted,
   ),
-  record { maps = c.note.ensures.maps; number = c.note.ensures.number; errors = c.note.ensures.errors },
+  record { maps = c.note.ensures.maps; paths = c.note.ensures.paths; number = c.note.ensures.number; errors = c.note.ensures.errors },
 )

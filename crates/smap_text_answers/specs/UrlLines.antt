@@ -1,0 +1,105 @@
+-- What is said at the end of the URLs that a trace named: a line for each of the first 100, with the file that its map came from, or
+-- why it had none (this project's own).
+use Rattle.std.specs.Prelude.{◌≡◌, ◌⊎◌, ℕ, ◌==◌, ◌&&◌, ◌-◌, Bool, false, not, List, [], ◌∷◌, ◌++◌, Option, Some, None, MatchBool, MatchOption, codes}
+use Rattle.std.specs.Prelude.{length, option_map, take, unwrap_or}
+use Rattle.std.specs.Fmt.{decimal}
+use Rattle.std.specs.List.{concat, find}
+use Rattle.std.specs.Str.{bytes_eq}
+use Rattle.url.specs.Parts.{Parts}
+use Rattle.smap_io.specs.Device.{SinkSeen}
+use Rattle.smap_locations.specs.ListLine.{is_rule}
+use Rattle.smap_locations.specs.Locations.{LocationsSeen, or_else, path_for}
+use Rattle.smap_replies.specs.Files.{MayRead}
+use Rattle.smap_replies.specs.Lines.{memory_line}
+use Rattle.smap_replies.specs.Outcome.{OrMemory, Report}
+use Rattle.smap_replies.specs.Streams.{IsReportedTo}
+use Rattle.smap_replies.specs.declared.files.UnreadCause.{UnreadCause}
+use Rattle.smap_replies.specs.declared.files.UnreadCause.TheVariants as causes
+use Rattle.smap_text.specs.Shown.{shown}
+use Rattle.smap_text_answers.specs.Loader.{FailsToRead}
+use Rattle.smap_text_answers.specs.Nearest.{nearest_of}
+use Rattle.smap_trace.specs.UrlNotes.{NotesSeen, UrlNoteSeen}
+
+-- how many frames name the URL, and how many of them were replaced
+abbrev pub counts_text : (frames mapped : ℕ) → List ℕ
+counts_text frames mapped = concat (codes ": " ∷ decimal frames ∷ codes " frames, " ∷ decimal mapped ∷ codes " mapped, " ∷ [])
+
+-- ---- a map was found
+
+-- the file that an argument names for a URL
+abbrev pub word_file : (url : List ℕ) → List (List ℕ × List ℕ) → Option (List ℕ)
+word_file url arguments = option_map (λ a. a.1) (find (λ a. not (is_rule a.0 a.1) && bytes_eq url a.0) arguments)
+
+-- the file of a URL, where it has one
+abbrev pub url_file : (url : List ℕ) → List (List ℕ × List ℕ) → LocationsSeen → List ℕ
+url_file url arguments locations = unwrap_or (or_else (word_file url arguments) (path_for locations url)) []
+
+-- the first place for which the map has nothing
+abbrev pub unmapped_text : Option (ℕ × ℕ) → List ℕ
+unmapped_text None = []
+unmapped_text (Some (line, column)) = codes ", no mapping at " ++ (decimal line ++ (codes ":" ++ decimal column))
+
+abbrev pub found_text : (file : List ℕ) → (unmapped : Option (ℕ × ℕ)) → List ℕ
+found_text file unmapped = codes "from " ++ (shown file ++ unmapped_text unmapped)
+
+-- ---- no argument has the URL
+
+abbrev pub nearest_text : Option (List ℕ) → List ℕ
+nearest_text None = []
+nearest_text (Some nearest) = codes ", the nearest is " ++ shown nearest
+
+abbrev pub unknown_text : Option (List ℕ) → List ℕ
+unknown_text nearest = codes "no argument has this URL" ++ nearest_text nearest
+
+-- ---- its file gives no map
+
+abbrev pub cause_text : UnreadCause → List ℕ
+cause_text causes.Missing = codes "no such file"
+cause_text causes.Folder = codes "it is a folder"
+cause_text causes.NoPermission = codes "no permission"
+cause_text causes.Other = codes "another cause"
+
+abbrev pub unread_text : (path : List ℕ) → UnreadCause → List ℕ
+unread_text path cause = concat (codes "cannot read " ∷ shown path ∷ codes ": " ∷ cause_text cause ∷ [])
+
+-- a line without its LF
+abbrev pub body_of : (line : List ℕ) → List ℕ
+body_of line = take (length line - 1) line
+
+-- the file is read again: it can't be, of which this is a cause, or its map is refused, and this is how
+abbrev pub CauseIs : (path : List ℕ) → Report → (text : List ℕ) → Type 0
+CauseIs path report text = MatchBool (report.status == 3) ((cause : UnreadCause) × (text ≡ unread_text path cause)) (text ≡ body_of report.text)
+
+-- or now it gives one
+abbrev pub late_text : (path : List ℕ) → List ℕ
+late_text path = codes "no map came from " ++ shown path
+
+module _ (Reads : MayRead) (paths : Bool) (base : Option Parts) (k number : ℕ) where
+  abbrev pub IsCause : (url path text : List ℕ) → Type 0
+  IsCause url path text =
+      ((report : Report) × OrMemory (FailsToRead Reads paths base k number url path) report × CauseIs path report text) ⊎ (text ≡ late_text path)
+
+  -- ---- a line for each
+
+  module _ (arguments : List (List ℕ × List ℕ)) (locations : LocationsSeen) where
+    -- why a URL has no map
+    abbrev pub IsWhy : (url text : List ℕ) → Type 0
+    IsWhy url text = MatchOption (path_for locations url) (text ≡ unknown_text (nearest_of url arguments)) (λ path. IsCause url path text)
+
+    abbrev pub IsEnd : UrlNoteSeen → (text : List ℕ) → Type 0
+    IsEnd note text = MatchBool note.found (text ≡ found_text (url_file note.url arguments locations) note.unmapped) (IsWhy note.url text)
+
+    -- of a longer URL the first 1,024 bytes are printed
+    abbrev pub IsUrlLine : UrlNoteSeen → (line : List ℕ) → Type 0
+    IsUrlLine note line =
+        (end : List ℕ) × IsEnd note end × (line ≡ shown (take 1024 note.url) ++ counts_text note.frames note.mapped ++ end ++ codes "\n")
+
+    abbrev pub AreUrlLines : List UrlNoteSeen → (text : List ℕ) → Type 0
+    AreUrlLines [] text = text ≡ []
+    AreUrlLines (note ∷ notes) text = (line : List ℕ) × (rest : List ℕ) × IsUrlLine note line × AreUrlLines notes rest × (text ≡ line ++ rest)
+
+    -- these lines are reported, or that memory ran out
+    abbrev pub TellsUrls : NotesSeen → (status : ℕ) → (before after : SinkSeen) → Type 0
+    TellsUrls notes status before after =
+        ((text : List ℕ) × (status ≡ 0) × (notes.is_short ≡ false) × AreUrlLines notes.notes text × IsReportedTo before after text)
+        ⊎ ((status ≡ 3) × IsReportedTo before after memory_line)
