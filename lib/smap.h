@@ -3,7 +3,7 @@
  * Lines, columns, sources, names, sections and bytes count from 0, columns in UTF-16 code units. Texts are UTF-8, as a
  * pointer and a length, without a byte 0 at the end.
  *
- * A handle holds a map, a table, inner maps or bytes, or is empty. One set to {0}, or in C++ to {}, is empty. A call that fills a
+ * A handle holds a map, a table, inner maps, originals or bytes, or is empty. One set to {0}, or in C++ to {}, is empty. A call that fills a
  * handle wants it empty: what it held before is not freed. A call that takes one from a handle wants it full, unless it says
  * so. The pointer in a handle does not show whether it is empty: after it was freed, or a call took from it, the old one
  * stays there. Each handle is used by one call at a time; two threads may use two handles, each its own. A handle that is
@@ -35,10 +35,11 @@ extern "C" {
 #define SMAP_REFUSED 1
 #define SMAP_NO_MEMORY 3
 
-/* Handles, freed by smap_map_free, smap_table_free, smap_inners_free and smap_bytes_free. */
+/* Handles, freed by smap_map_free, smap_table_free, smap_inners_free, smap_originals_free and smap_bytes_free. */
 typedef struct smap_map { void *at; } smap_map;
 typedef struct smap_table { void *at; } smap_table;
 typedef struct smap_inners { void *at; } smap_inners;
+typedef struct smap_originals { void *at; } smap_originals;
 typedef struct smap_bytes { void *at; } smap_bytes;
 
 /* A text that is lent. It stays until the next call with the handle that lent it in which that is not `const`. */
@@ -91,6 +92,21 @@ typedef struct smap_mapping { uint32_t line, column, kind, source, original_line
 typedef struct smap_encode_refusal { uint32_t number; uint64_t mapping; } smap_encode_refusal;
 
 typedef struct smap_position { uint32_t line, column; } smap_position;
+
+/* Where a mapping stands in the generated file, and where its original stands in its source; and such places that are lent, one
+ * after another. Set what a call writes them to before to SMAP_PLACES. */
+typedef struct smap_generated_place { uint32_t line, column, original_line, original_column; } smap_generated_place;
+typedef struct smap_generated_places { const smap_generated_place *places; size_t count; } smap_generated_places;
+#ifdef __cplusplus
+#define SMAP_PLACES { reinterpret_cast<const smap_generated_place *>(sizeof(smap_generated_place)), 0 }
+#else
+#define SMAP_PLACES { (const smap_generated_place *)sizeof(smap_generated_place), 0 }
+#endif
+
+/* In which direction an original column is looked for: the greatest that is not after the asked one, or the least that is not before
+ * it. */
+#define SMAP_AT_OR_BEFORE 0
+#define SMAP_AT_OR_AFTER 1
 
 /* How much a map holds. `lines` are the generated lines that hold a mapping, each section's by themselves. */
 typedef struct smap_count {
@@ -148,6 +164,13 @@ typedef struct smap_frame_url { size_t start, length, next; } smap_frame_url;
 uint32_t smap_map_read(const uint8_t *bytes, size_t length, const uint8_t *base, size_t base_length,
                        uint32_t interval, smap_map *map, smap_refusal *refusal);
 
+/* Names the sources of a map by the URL at which it stands, where that is a path: without its query and its fragment it begins with
+ * `/`, or with a letter, `:` and `/` or `\`. Each source whose name is a relative path, as the map gives it, gets the path that
+ * goes on from the folder of the URL, and no `..` leads above its root: at "/srv/app/dist/util/x.js" "../../src/x.ts" becomes
+ * "/srv/app/src/x.ts", as node prints it. Behind a drive's `:\` its pieces stand between `\`. Other names, and all names at other
+ * URLs, stay. For it a map is read without a base. */
+uint32_t smap_map_use_paths(smap_map *map, const uint8_t *url, size_t length);
+
 /* Frees the map, and leaves its handle empty. */
 void smap_map_free(smap_map *map);
 
@@ -170,6 +193,19 @@ uint32_t smap_look_up_from(const smap_map *map, uint32_t line, uint32_t column, 
 
 /* Looks `count` positions up as smap_look_up does. `places` is the length of `found`, which is `count` too. Returns 0. */
 uint32_t smap_look_up_many(const smap_map *map, const smap_position *positions, size_t count, smap_found *found, size_t places);
+
+/* Makes the index from original to generated of a map, which may be freed before it: 16 bytes for each mapping that has an original,
+ * and 24 for each source. */
+uint32_t smap_originals_new(const smap_map *map, smap_originals *originals);
+
+/* Lends the generated places of an original place: of the mappings whose original is on line `line` of source `source`, those at the
+ * original column that is next to `column` in this direction, in the order of the map. All have the same original column. `count` is
+ * 0 where there is none, or no such source. Returns 1 for another direction. */
+uint32_t smap_generated(const smap_originals *originals, uint32_t source, uint32_t line, uint32_t column, uint32_t direction,
+                        smap_generated_places *places);
+
+/* Frees the originals, and leaves their handle empty. */
+void smap_originals_free(smap_originals *originals);
 
 /* Hands out all mappings of the map in their order: `bytes` has one smap_mapping after another, 32 bytes each, which may be
  * read where they are lent. The bytes are freed by smap_bytes_free. */

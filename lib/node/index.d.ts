@@ -184,6 +184,13 @@ export type OriginalMapping =
   | { source: null; line: null; column: null; name: null };
 
 export function originalPositionFor(map: TraceMap, needle: Needle): OriginalMapping;
+/** An original position: the name of a source, a line and a column. */
+export type SourceNeedle = { source: string; line: number; column: number; bias?: 1 | -1 };
+export type GeneratedMapping = { line: number; column: number } | { line: null; column: null };
+/** Where the original position stands in the generated file. The first call of a map makes an index of 16 bytes a mapping. */
+export function generatedPositionFor(map: TraceMap, needle: SourceNeedle): GeneratedMapping;
+/** All places of the generated file where the original position stands. */
+export function allGeneratedPositionsFor(map: TraceMap, needle: SourceNeedle): { line: number; column: number }[];
 /** The segment that answers, or null. Here lines count from 0. */
 export function traceSegment(map: TraceMap, line: number, column: number): SourceMapSegment | null;
 export function eachMapping(map: TraceMap, call: (mapping: EachMapping) => void): void;
@@ -254,6 +261,8 @@ export interface TableOptions {
   load?: (url: string) => Given | null | undefined;
   /** Is told of each map that is not read for an error. */
   refused?: (url: string, error: unknown) => void;
+  /** Relative sources go on from the folder of a URL that is an absolute path, as node prints them. */
+  paths?: boolean;
 }
 
 /** The maps of a trace, each under the URL that frames name. A TraceMap that is given is closed. */

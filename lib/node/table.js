@@ -6,6 +6,8 @@ const { ask, askFor, cutAndRewritten } = require('./loading.js');
 const { DISPOSE, TraceMap, empty, open: openMap, standingAt } = require('./map.js');
 const { refusedText, refusedUrl } = require('./refused.js');
 
+// How an absolute path begins.
+const PATH = /^(\/|[A-Za-z]:[/\\])/;
 // So many of the maps that were refused are remembered.
 const MOST_REFUSALS = 100;
 
@@ -26,11 +28,13 @@ class Told {
 // TraceMap that is given is closed: the table has it then. `load` is asked for the map of each URL or path that is not among
 // them, without query and fragment, once, when a frame or a place first names it, and gives null or undefined where there is
 // none. What it throws, and why its map is refused, is told to `refused`, or else kept in `refusals`, of which there are 100
-// at most; the frames stay. It is freed as a TraceMap is.
+// at most; the frames stay. With `paths` relative sources go on from the folder of a URL that is an absolute path, as node prints them.
+// It is freed as a TraceMap is.
 class Table extends Told {
   constructor(maps, options) {
-    const { load, refused } = given.options(options, 'load', 'refused');
+    const { load, refused, paths = false } = given.options(options, 'load', 'refused', 'paths');
     super(refused);
+    this.paths = given.boolean(paths, 'paths');
     if (typeof maps !== 'object' || maps === null) throw new TypeError('`maps` must be an object or pairs of a URL and a map');
     this.load = given.callable(load, 'load');
     // Whether URLs that were named have a map here, by a character for each of their bytes.
@@ -48,8 +52,8 @@ class Table extends Told {
   // Puts a map into the table.
   put(url, map) {
     const isRead = map instanceof TraceMap;
-    const handle = isRead ? openMap(map) : standingAt(given.mapBytes(map), url);
-    const reported = addon.add(open(this), Buffer.from(url), handle);
+    const handle = isRead ? openMap(map) : standingAt(given.mapBytes(map), this.paths && PATH.test(url) ? null : url);
+    const reported = addon.add(open(this), Buffer.from(url), handle, this.paths ? 1 : 0);
     if (typeof reported === 'number') throw refusedUrl(reported, url);
     if (isRead) empty(map);
   }

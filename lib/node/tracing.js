@@ -80,6 +80,38 @@ function sourceNumber(map, source) {
   return index < 0 ? map.resolvedSources.indexOf(source) : index;
 }
 
+// The directions in which an original column is looked for, of the library, and how many numbers it gives of a place.
+const AT_OR_BEFORE = 0;
+const AT_OR_AFTER = 1;
+const PLACE = 4;
+
+// The generated places of an original one, as the library gives them: all at the original column next to the asked one.
+function generatedFor(map, { source, line, column }, bias) {
+  const handle = open(map);
+  const index = sourceNumber(map, source);
+  const [line0, column0] = [given.line(line), given.column(column)];
+  if (index < 0) return new Uint32Array();
+  return addon.generated(handle, index, line0, column0, bias === LEAST_UPPER_BOUND ? AT_OR_AFTER : AT_OR_BEFORE);
+}
+
+const placeAt = (places, at) => ({ line: places[at] + 1, column: places[at + 1] });
+
+// Where the original position stands in the generated file: {line, column}, both null where it does not. Of several places trace-mapping
+// takes the first, but the last with LEAST_UPPER_BOUND at this very column, and before it.
+function generatedPositionFor(map, needle) {
+  const bias = needle.bias || GREATEST_LOWER_BOUND;
+  const places = generatedFor(map, needle, bias);
+  if (places.length === 0) return { line: null, column: null };
+  const isFirst = (places[3] === needle.column) === (bias === GREATEST_LOWER_BOUND);
+  return placeAt(places, isFirst ? 0 : places.length - PLACE);
+}
+
+// All places of the generated file where the original position stands.
+function allGeneratedPositionsFor(map, needle) {
+  const places = generatedFor(map, needle, needle.bias || LEAST_UPPER_BOUND);
+  return Array.from({ length: places.length / PLACE }, (_, i) => placeAt(places, i * PLACE));
+}
+
 // The name and the content of the source of this number, from 0, where the map has them.
 const sourceName = (map, index) => addon.sourceName(open(map), given.source(index));
 const sourceContent = (map, index) => addon.sourceContent(open(map), given.source(index));
@@ -103,11 +135,13 @@ module.exports = {
   FlattenMap: AnyMap,
   GREATEST_LOWER_BOUND,
   LEAST_UPPER_BOUND,
+  allGeneratedPositionsFor,
   decodedMap,
   decodedMappings,
   eachMapping,
   encodedMap,
   encodedMappings,
+  generatedPositionFor,
   isIgnored,
   lookUpMany,
   originalPositionFor,

@@ -1,6 +1,7 @@
 -- The handles, as the walks take them.
 use Rattle.std.proofs.Common.{refl}
 use Rattle.smap_record.specs.contracts.map_file.MapFile as map_file
+use Rattle.smap_originals.specs.contracts.originals.Originals as originals_index
 use Rattle.smap_trace.specs.contracts.table.Table as trace_table
 use Rattle.smap_c.specs.contracts.bytes.Bytes as handed
 use Rattle.smap_c.specs.contracts.inners.Inners as inner_maps
@@ -8,10 +9,12 @@ use Rattle.smap_c.specs.declared.handles.MapHandle.{MapHandle}
 use Rattle.smap_c.specs.declared.handles.TableHandle.{TableHandle}
 use Rattle.smap_c.specs.declared.handles.InnersHandle.{InnersHandle}
 use Rattle.smap_c.specs.declared.handles.BytesHandle.{BytesHandle}
+use Rattle.smap_c.specs.declared.handles.OriginalsHandle.{OriginalsHandle}
 use Rattle.smap_c.specs.contracts.handles.MapHandle as map_handle
 use Rattle.smap_c.specs.contracts.handles.TableHandle as table_handle
 use Rattle.smap_c.specs.contracts.handles.InnersHandle as inners_handle
 use Rattle.smap_c.specs.contracts.handles.BytesHandle as bytes_handle
+use Rattle.smap_c.specs.contracts.handles.OriginalsHandle as originals_handle
 use Rattle.smap_c.proofs.Walks.{Kind}
 
 abbrev pub map : Kind
@@ -68,4 +71,18 @@ bytes = record {
   at_made = λ p o. refl;
   held_made = λ p o. refl;
   codes = bytes_handle.the_codes;
+}
+
+abbrev pub originals : Kind
+originals = record {
+  R = originals_index.the_row;
+  name = originals_handle.the_type.name;
+  D = OriginalsHandle;
+  at = λ h. h.at;
+  held = λ h. h.held;
+  make = λ p o. record { at = p; held = o };
+  eta = λ h. refl;
+  at_made = λ p o. refl;
+  held_made = λ p o. refl;
+  codes = originals_handle.the_codes;
 }

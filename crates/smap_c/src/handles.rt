@@ -1,8 +1,10 @@
-//! What C holds: handles, each a pointer that owns a map, a table, inner maps or bytes.
+//! What C holds: handles, each a pointer that owns a map, a table, inner maps, originals or bytes.
 ghost use Rattle.std.specs.Prelude.{◌≡◌, List, ℕ, Option, Some, IfErr, IfOk};
 ghost use Rattle.std.specs.Coded.{coded_option};
 ghost use Rattle.smap_record.specs.MapFile.{Map};
 ghost use Rattle.smap_record.specs.Record.{MapRecord};
+ghost use Rattle.smap_originals.specs.contracts.originals.Originals as originals_index;
+ghost use Rattle.smap_originals.specs.declared.place.GeneratedPlace.{GeneratedPlace};
 ghost use Rattle.smap_record.specs.contracts.map_file.MapFile as map_file;
 ghost use Rattle.smap_trace.specs.contracts.table.Table as trace_table;
 ghost use Rattle.smap_c.specs.contracts.bytes.Bytes as handed;
@@ -16,6 +18,7 @@ mod making;
 use crate::bytes::Bytes;
 use crate::inners::Inners;
 use crate::loose::Loose;
+use smap_originals::Originals;
 use smap_record::MapFile;
 use smap_trace::Table;
 use std::alloc::Global;
@@ -106,5 +109,27 @@ impl BytesHandle {
     {
         let Loose { at, alloc: _ } = loose;
         BytesHandle { at: at as *mut u8 }
+    }
+}
+
+/// A handle of an index from original to generated, or an empty one.
+#[repr(C)]
+#[derive(Drop)]
+pub struct OriginalsHandle {
+    at: *mut u8,
+    pub ghost held: { Option (List (List GeneratedPlace)) } by { coded_option originals_index.the_row.coded },
+}
+
+impl Model for OriginalsHandle {
+    ghost also_owns = { λ handle. owns_held originals_index.the_row handle.at handle.held };
+}
+
+impl OriginalsHandle {
+    // The handle of these originals.
+    fn of(loose: Loose<Originals, Global>) -> OriginalsHandle
+        ensures { result.held ≡ Some loose.value }
+    {
+        let Loose { at, alloc: _ } = loose;
+        OriginalsHandle { at: at as *mut u8 }
     }
 }

@@ -6,6 +6,8 @@ mod encoding;
 mod explaining;
 mod fit;
 mod mappings;
+mod originals;
+mod paths;
 mod places;
 mod shares;
 

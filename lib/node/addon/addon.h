@@ -60,6 +60,7 @@ struct held {
     bool full;
     enum kind kind;
     union { smap_map map; smap_table table; smap_inners inners; };
+    smap_originals originals; /* of a map, as soon as it was asked for generated places */
 };
 
 struct addon *addon_of(napi_env env);
@@ -94,7 +95,7 @@ void drop_addon(napi_env env, void *data, void *hint);
 typedef napi_value call(napi_env env, napi_callback_info info);
 call close_map, close_table, close_inners;
 /* look_up.c */
-call look_up, look_up_many, bytes_by_source, fit;
+call look_up, look_up_many, generated, bytes_by_source, fit;
 /* mappings.c */
 call mappings, encode;
 /* map.c */

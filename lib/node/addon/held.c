@@ -39,6 +39,8 @@ static void give_back(struct addon *addon, int64_t size) {
 
 /* Frees what is held, if there is something. */
 static void let_go(napi_env env, struct held *held) {
+    if (held->originals.at) smap_originals_free(&held->originals);
+    held->originals.at = NULL;
     if (held->full) {
         if (held->kind == MAP) smap_map_free(&held->map);
         else if (held->kind == TABLE) smap_table_free(&held->table);

@@ -42,6 +42,32 @@ napi_value look_up_many(napi_env env, napi_callback_info info) {
     return words[2];
 }
 
+/* generated(map, source, line, column, direction): the generated places of an original one, as a Uint32Array of a line, a column, and
+ * the line and the column of the original each. All count from 0. */
+napi_value generated(napi_env env, napi_callback_info info) {
+    napi_value words[WORDS], array, buffer;
+    uint32_t source, line, column, direction;
+    void *place;
+    if (!words_of(env, info, 5, words)) return NULL;
+    struct held *held = map_of(env, words[0]);
+    if (!held || !number_of(env, words[1], &source) || !number_of(env, words[2], &line)) return NULL;
+    if (!number_of(env, words[3], &column) || !number_of(env, words[4], &direction)) return NULL;
+    if (!held->originals.at) {
+        smap_count count = {0};
+        smap_counts(&held->map, &count);
+        if (smap_originals_new(&held->map, &held->originals) != SMAP_DONE) return refuse(env, "out of memory");
+        report_size(env, held, held->size + (int64_t)(16 * count.segments + 24 * count.sources));
+    }
+    smap_generated_places places = SMAP_PLACES;
+    smap_generated(&held->originals, source, line, column, direction, &places);
+    size_t bytes = places.count * sizeof *places.places;
+    if (napi_create_arraybuffer(env, bytes, &place, &buffer) != napi_ok ||
+        napi_create_typedarray(env, napi_uint32_array, bytes / sizeof(uint32_t), buffer, 0, &array) != napi_ok)
+        return refuse(env, "out of memory");
+    if (bytes) memcpy(place, places.places, bytes);
+    return array;
+}
+
 /* bytesBySource(map, generated, refusal): a Float64Array of the bytes of each source and, at its end, those that are
  * unmapped; or the number of the refusal. */
 napi_value bytes_by_source(napi_env env, napi_callback_info info) {

@@ -7,7 +7,7 @@
 NAPI_MODULE_INIT() {
     const struct { const char *name; napi_callback call; } calls[] = {
         {"read", read_map}, {"refusalText", refusal_text}, {"refusalExplain", refusal_explain}, {"closeMap", close_map},
-        {"closeTable", close_table}, {"closeInners", close_inners}, {"lookUpMany", look_up_many}, {"mappings", mappings},
+        {"closeTable", close_table}, {"closeInners", close_inners}, {"lookUpMany", look_up_many}, {"generated", generated}, {"mappings", mappings},
         {"encode", encode}, {"bytesBySource", bytes_by_source}, {"fit", fit}, {"members", members},
         {"counts", counts}, {"size", size}, {"sourceName", source_name}, {"sourceContent", source_content},
         {"sourceLines", source_lines}, {"isIgnored", is_ignored},

@@ -12,7 +12,7 @@
 #include <smap.h>
 
 /* The classes of _answers.py. Their tuples are made here, since the way through Python takes longer than a look-up. */
-extern PyTypeObject *answer_class, *counts_class, *mapping_class, *place_class, *reason_class, *refusal_class, *source_class;
+extern PyTypeObject *answer_class, *counts_class, *generated_class, *mapping_class, *place_class, *reason_class, *refusal_class, *source_class;
 
 /* The types of the extension, and what they are made of. */
 extern PyTypeObject *map_type, *table_type, *inners_type, *mappings_type;
@@ -55,6 +55,7 @@ struct held {
     bool busy, full;
     size_t size; /* about how many bytes it has */
     union { smap_map map; smap_table table; smap_inners inners; };
+    smap_originals originals; /* of a map, as soon as it was asked for generated places */
 };
 
 /* Waits until no call is at work with it. Returns false where a signal raised an error. */

@@ -5,6 +5,7 @@
 
 static void map_free(PyObject *self) {
     struct held *held = (struct held *)self;
+    if (held->originals.at) smap_originals_free(&held->originals);
     if (held->full) {
         smap_map_free(&held->map);
         give_back(held);
@@ -21,6 +22,8 @@ static PyObject *map_close(PyObject *self, PyObject *unused) {
     begin(held);
     PyThreadState *state = let_go(true);
     smap_map_free(&held->map);
+    if (held->originals.at) smap_originals_free(&held->originals);
+    held->originals.at = NULL;
     come_back(state);
     end(held);
     give_back(held);
@@ -109,6 +112,54 @@ static PyObject *map_look_up_many(PyObject *self, PyObject *words) {
     come_back(state);
     end(held);
     return none();
+}
+
+/* Makes the index from original to generated, if there is none. */
+static bool indexed(struct held *held) {
+    if (held->originals.at) return true;
+    begin(held);
+    PyThreadState *state = let_go(true);
+    uint32_t status = smap_originals_new(&held->map, &held->originals);
+    come_back(state);
+    end(held);
+    if (status != SMAP_DONE) PyErr_NoMemory();
+    return status == SMAP_DONE;
+}
+
+/* Puts the generated places of one original column at the end of a list. */
+static bool put_places(PyObject *list, const smap_generated_places *places) {
+    for (size_t i = 0; i < places->count; i++) {
+        const smap_generated_place *place = &places->places[i];
+        PyObject *items[] = {
+            PyLong_FromUnsignedLong(place->line), PyLong_FromUnsignedLong(place->column), PyLong_FromUnsignedLong(place->original_column),
+        };
+        PyObject *one = tuple_of(generated_class, 3, items);
+        bool is = one && PyList_Append(list, one) == 0;
+        Py_XDECREF(one);
+        if (!is) return false;
+    }
+    return true;
+}
+
+/* The generated places of an original one, or of a whole line where no column is given. */
+static PyObject *map_generated(PyObject *self, PyObject *words) {
+    struct held *held = (struct held *)self;
+    PyObject *given_source, *given_line, *given_column;
+    int after;
+    uint32_t source, line, column = 0;
+    if (!PyArg_ParseTuple(words, "OOOp", &given_source, &given_line, &given_column, &after)) return NULL;
+    bool whole = given_column == Py_None;
+    if (!index_of(given_source, "a source", &source) || !place_of(given_line, "line", &line)) return NULL;
+    if ((!whole && !place_of(given_column, "column", &column)) || !ready(&held, 1) || !indexed(held)) return NULL;
+    PyObject *list = PyList_New(0);
+    while (list) {
+        smap_generated_places places = SMAP_PLACES;
+        smap_generated(&held->originals, source, line, column, whole || after ? SMAP_AT_OR_AFTER : SMAP_AT_OR_BEFORE, &places);
+        if (!put_places(list, &places)) Py_CLEAR(list);
+        else if (!whole || !places.count) break;
+        else column = places.places[0].original_column + 1;
+    }
+    return list;
 }
 
 static PyObject *map_counts(PyObject *self, void *unused) {
@@ -308,6 +359,7 @@ static PyMethodDef map_methods[] = {
     {"_read", map_read, METH_VARARGS, NULL},
     {"_lines", map_lines, METH_VARARGS, NULL},
     {"_look_up_many", map_look_up_many, METH_VARARGS, NULL},
+    {"_generated", map_generated, METH_VARARGS, NULL},
     {"_written", map_written, METH_NOARGS, NULL},
     {"_bytes_by_source", map_bytes_by_source, METH_O, NULL},
     {"_fit", map_fit, METH_O, NULL},

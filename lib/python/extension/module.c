@@ -2,7 +2,7 @@
 #include "extension.h"
 #include <string.h>
 
-PyTypeObject *answer_class, *counts_class, *mapping_class, *place_class, *reason_class, *refusal_class, *source_class;
+PyTypeObject *answer_class, *counts_class, *generated_class, *mapping_class, *place_class, *reason_class, *refusal_class, *source_class;
 PyTypeObject *map_type, *table_type, *inners_type, *mappings_type;
 
 static PyMethodDef functions[] = {
@@ -27,8 +27,8 @@ static struct PyModuleDef definition = {
 /* The classes of _answers.py, the types of this module, and the version of the library. */
 static bool filled(PyObject *module) {
     static const struct { const char *name; PyTypeObject **class; } classes[] = {
-        {"Answer", &answer_class}, {"Counts", &counts_class}, {"Mapping", &mapping_class}, {"Place", &place_class},
-        {"Reason", &reason_class}, {"Refusal", &refusal_class}, {"Source", &source_class},
+        {"Answer", &answer_class}, {"Counts", &counts_class}, {"Generated", &generated_class}, {"Mapping", &mapping_class},
+        {"Place", &place_class}, {"Reason", &reason_class}, {"Refusal", &refusal_class}, {"Source", &source_class},
     };
     static const struct { PyType_Spec *spec; PyTypeObject **type; } types[] = {
         {&map_spec, &map_type}, {&table_spec, &table_type}, {&inners_spec, &inners_type}, {&mappings_spec, &mappings_type},

@@ -9,7 +9,7 @@ Lines, columns, sources and names count from 0, columns in UTF-16 code units. Th
 smap` prints its version and where it lies.
 """
 
-from ._answers import Answer, Context, Counts, Fit, Mapping, Place, Source
+from ._answers import Answer, Context, Counts, Fit, Generated, Mapping, Place, Source
 from ._cache import Maps, frame_urls
 from ._composing import compose_all
 from ._maps import SourceMap, compose, encode
@@ -17,5 +17,5 @@ from ._smap import version as __version__
 from ._reported import Refused
 from ._traces import Rewriter
 
-__all__ = ["Answer", "Context", "Counts", "Fit", "Mapping", "Maps", "Place", "Refused", "Rewriter", "Source", "SourceMap",
+__all__ = ["Answer", "Context", "Counts", "Fit", "Generated", "Mapping", "Maps", "Place", "Refused", "Rewriter", "Source", "SourceMap",
            "__version__", "compose", "compose_all", "encode", "frame_urls"]

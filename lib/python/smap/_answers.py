@@ -13,6 +13,14 @@ class Answer(NamedTuple):
     name: Optional[int]
 
 
+class Generated(NamedTuple):
+    """A place of the generated file, and the column of its original."""
+
+    line: int
+    column: int
+    original_column: int
+
+
 class Mapping(NamedTuple):
     """A mapping, where it stands in the generated file and what it answers. One without an original has None for that."""
 

@@ -1,16 +1,19 @@
 """Maps: read, looked up, written and composed."""
 
 import os
+import re
 from array import array
 from pathlib import Path
 from typing import Iterable, List, Optional, Tuple, Type, TypeVar, Union
 
 from . import _given, _smap
-from ._answers import Context, Fit, Mapping, Place, Source
+from ._answers import Context, Fit, Generated, Mapping, Place, Source
 from ._paths import placed
 from ._reported import (BAD_BASE, Refused, refused_base, refused_composition, refused_encoding, refused_generated,
                         refused_map, refused_writing)
 
+# How an absolute path begins.
+_PATH = re.compile(r"/|[A-Za-z]:[/\\]")
 # Of the answers of a look-up among many: seven numbers of 32 bits each.
 _ANSWER_BYTES = 7 * 4
 
@@ -42,9 +45,12 @@ class SourceMap(_smap.Map):
         return cls(Path(path), base, interval)
 
     @classmethod
-    def _under(cls, url: str, data: _given.FileData) -> "SourceMap":
-        # The map of these bytes that stands at the URL, or at none where that is no URL.
+    def _under(cls, url: str, data: _given.FileData, paths: bool = False) -> "SourceMap":
+        # The map of these bytes that stands at the URL, or at none where that is no URL, or where paths are kept for paths.
         held, self = _given.file_bytes(data, "a map"), cls.__new__(cls)
+        if paths and _PATH.match(url):
+            self._take(held, None, 64, url, url)
+            return self
         try:
             self._take(held, url, 64, url, url)
         except Refused as refused:
@@ -94,6 +100,12 @@ class SourceMap(_smap.Map):
             return None
         return Place(self.source_name(answer.source), answer.line, answer.column, self.name(answer.name),
                      self.is_ignored(answer.source), answer.source)
+
+    def generated(self, source: int, line: int, column: Optional[int] = None, after: bool = False) -> List[Generated]:
+        """The places of the generated file whose original stands on this line of this source: those at the greatest original
+        column at or before `column`, or with `after` at the least at or after it, in the order of the file; and without a
+        column all of the line, by original columns. The first call makes an index of 16 bytes a mapping."""
+        return self._generated(source, line, column, after)
 
     def context(self, source: int, line: int, before: int = 2, after: int = 2) -> Optional[Context]:
         """A line of this source with up to so many lines before and after it, at most 65,535 each, or None where its content has no

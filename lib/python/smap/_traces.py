@@ -48,14 +48,17 @@ class Rewriter(_smap.Table):
     """Rewrites stack traces over maps, each under the URL that frames name. It is freed as a `SourceMap` is."""
 
     def __init__(self, maps: Mapping[str, Given], load: Optional[Load] = None,
-                 refused: Optional[Callable[[str, Exception], object]] = None) -> None:
+                 refused: Optional[Callable[[str, Exception], object]] = None, paths: bool = False) -> None:
         """Takes maps, or what a `SourceMap` reads, which stands at its URL where that is one. A `SourceMap` that is given
         is closed: the rewriter has it then. Raises `Refused`, whose `url` is that of the map, or `MemoryError`.
 
         `load` is asked for the map of each URL or path that is not among them, without query and fragment, once, when a
         frame or a place first names it: it gives the map, or None where there is none. What it raises, and why its map is
         refused, is told to `refused` with the URL, or else kept in `refusals`, of which there are 100 at most; the frames
-        stay."""
+        stay.
+
+        With `paths` relative sources go on from the folder of a URL that is an absolute path, as node prints them."""
+        self._paths = bool(paths)
         self._asking = threading.RLock()
         self._load = load
         self._told = Told(refused)
@@ -78,7 +81,7 @@ class Rewriter(_smap.Table):
             bytes_in = url.encode()
         except UnicodeEncodeError:
             raise refused_url(0, url) from None
-        why = self._put(bytes_in, given if isinstance(given, SourceMap) else SourceMap._under(url, given))
+        why = self._put(bytes_in, given if isinstance(given, SourceMap) else SourceMap._under(url, given, self._paths), self._paths)
         if why is not None:
             raise refused_url(why, url)
         self._known[bytes_in] = True

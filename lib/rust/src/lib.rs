@@ -24,6 +24,7 @@ mod error;
 #[allow(unsafe_code)]
 mod library;
 mod map;
+mod originals;
 mod reading;
 mod rewriting;
 #[allow(unsafe_code)]
@@ -34,6 +35,7 @@ mod token;
 pub use compose::ComposeOptions;
 pub use error::{Code, Error, Reason, Refused};
 pub use map::{BytesBySource, Fit, SourceMap};
+pub use originals::{Generated, Originals};
 pub use reading::ReadOptions;
 pub use table::{Table, TraceCounts};
 pub use token::{Mappings, Token};

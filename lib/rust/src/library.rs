@@ -9,12 +9,14 @@
 mod bytes;
 mod inners;
 mod map;
+mod originals;
 mod table;
 mod texts;
 
 pub(crate) use bytes::Bytes;
 pub(crate) use inners::Inners;
 pub(crate) use map::{Map, Source, USUAL_INTERVAL};
+pub(crate) use originals::Originals;
 pub(crate) use table::{frame_urls, Table};
 pub(crate) use texts::{
     compose_refusal_text, generated_refusal_text, reason, refusal_text, rewrite_refusal_text,

@@ -2,6 +2,7 @@
 
 use crate::error::Error;
 use crate::library;
+use crate::originals::Originals;
 use crate::reading::ReadOptions;
 use crate::token::{Mappings, Token};
 use std::fmt;
@@ -86,6 +87,18 @@ impl SourceMap {
     /// ```
     pub fn mappings(&self) -> Result<Mappings<'_>, Error> {
         Ok(Mappings::new(self, self.map.mappings()?))
+    }
+
+    /// The index from originals to places of the generated file: 16 bytes a mapping.
+    ///
+    /// ```
+    /// # let map = smap::SourceMap::from_slice(br#"{"version":3,"sources":["a.ts"],"mappings":"EAAA,IAEC"}"#)?;
+    /// let originals = map.originals()?;
+    /// assert_eq!(originals.generated(0, 0, 0).next().unwrap().column, 2);
+    /// # Ok::<(), smap::Error>(())
+    /// ```
+    pub fn originals(&self) -> Result<Originals, Error> {
+        Ok(Originals::of(library::Originals::new(&self.map)?))
     }
 
     /// How many mappings the map has.

@@ -17,6 +17,7 @@ use crate::map::SourceMap;
 #[derive(Clone, Debug)]
 pub struct ReadOptions {
     base: Option<String>,
+    path: Option<String>,
     interval: u32,
 }
 
@@ -30,6 +31,7 @@ impl ReadOptions {
     pub fn new() -> ReadOptions {
         ReadOptions {
             base: None,
+            path: None,
             interval: library::USUAL_INTERVAL,
         }
     }
@@ -43,6 +45,20 @@ impl ReadOptions {
     /// ```
     pub fn with_base(mut self, url: impl Into<String>) -> ReadOptions {
         self.base = Some(url.into());
+        self
+    }
+
+    /// The absolute path of the generated file, as its frames name it. Sources that the map names by
+    /// relative paths go on from its folder, as node prints them; with a base none do.
+    ///
+    /// ```
+    /// let options = smap::ReadOptions::new().with_path("/srv/app/dist/util/x.js");
+    /// let map = options.read(br#"{"version":3,"sources":["../../src/x.ts"],"mappings":""}"#)?;
+    /// assert_eq!(map.get_source(0), Some("/srv/app/src/x.ts"));
+    /// # Ok::<(), smap::Error>(())
+    /// ```
+    pub fn with_path(mut self, path: impl Into<String>) -> ReadOptions {
+        self.path = Some(path.into());
         self
     }
 
@@ -67,7 +83,10 @@ impl ReadOptions {
     /// # Ok::<(), smap::Error>(())
     /// ```
     pub fn read(&self, map: &[u8]) -> Result<SourceMap, Error> {
-        let map = library::Map::read(map, self.base.as_deref(), self.interval)?;
+        let mut map = library::Map::read(map, self.base.as_deref(), self.interval)?;
+        if let Some(path) = &self.path {
+            map.use_paths(path)?;
+        }
         Ok(SourceMap::of(map))
     }
 }

@@ -10,6 +10,9 @@ pub const SMAP_NO_MEMORY: u32 = 3;
 pub const SMAP_BASE_NO_URL: u32 = 0;
 pub const SMAP_BASE_TOO_LONG: u32 = 18;
 
+pub const SMAP_AT_OR_BEFORE: u32 = 0;
+pub const SMAP_AT_OR_AFTER: u32 = 1;
+
 #[repr(C)]
 pub struct smap_map {
     pub at: *mut c_void,
@@ -22,6 +25,11 @@ pub struct smap_table {
 
 #[repr(C)]
 pub struct smap_inners {
+    pub at: *mut c_void,
+}
+
+#[repr(C)]
+pub struct smap_originals {
     pub at: *mut c_void,
 }
 
@@ -94,6 +102,20 @@ pub struct smap_encode_refusal {
 pub struct smap_position {
     pub line: u32,
     pub column: u32,
+}
+
+#[repr(C)]
+pub struct smap_generated_place {
+    pub line: u32,
+    pub column: u32,
+    pub original_line: u32,
+    pub original_column: u32,
+}
+
+#[repr(C)]
+pub struct smap_generated_places {
+    pub places: *const smap_generated_place,
+    pub count: usize,
 }
 
 #[repr(C)]
@@ -188,6 +210,7 @@ extern "C" {
         map: *mut smap_map,
         refusal: *mut smap_refusal,
     ) -> u32;
+    pub fn smap_map_use_paths(map: *mut smap_map, url: *const u8, length: usize) -> u32;
     pub fn smap_map_free(map: *mut smap_map);
     pub fn smap_refusal_text(refusal: *const smap_refusal, bytes: *mut smap_bytes) -> u32;
     pub fn smap_refusal_explain(
@@ -216,6 +239,16 @@ extern "C" {
         found: *mut smap_found,
         places: usize,
     ) -> u32;
+    pub fn smap_originals_new(map: *const smap_map, originals: *mut smap_originals) -> u32;
+    pub fn smap_generated(
+        originals: *const smap_originals,
+        source: u32,
+        line: u32,
+        column: u32,
+        direction: u32,
+        places: *mut smap_generated_places,
+    ) -> u32;
+    pub fn smap_originals_free(originals: *mut smap_originals);
     pub fn smap_map_mappings(map: *mut smap_map, bytes: *mut smap_bytes) -> u32;
     pub fn smap_encode(
         mappings: *const smap_mapping,

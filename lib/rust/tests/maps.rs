@@ -260,6 +260,33 @@ fn a_map_is_put_to_a_generated_file() {
 }
 
 #[test]
+fn originals_lead_to_all_their_places() {
+    let map = read(r#"{"version":3,"sources":["a","b"],"mappings":"AAAA,EAAE,EAAF,EAAI;A,ECAA"}"#);
+    let originals = map.originals().expect("an index");
+    drop(map);
+    let up_to = |source, column| {
+        let places = originals.generated(source, 0, column);
+        places
+            .map(|place| (place.line, place.column))
+            .collect::<Vec<_>>()
+    };
+    assert_eq!(up_to(0, 0), [(0, 0), (0, 4)]);
+    assert_eq!(up_to(0, 1), [(0, 0), (0, 4)]);
+    assert_eq!(up_to(0, 3), [(0, 2)]);
+    assert_eq!(up_to(0, u32::MAX), [(0, 6)]);
+    assert_eq!(up_to(1, 4), [(1, 2)]);
+    assert_eq!((up_to(1, 3), up_to(2, 0)), (vec![], vec![]));
+    let from = |column| {
+        originals
+            .generated_after(0, 0, column)
+            .map(|place| place.original_column)
+            .collect::<Vec<_>>()
+    };
+    assert_eq!((from(1), from(4), from(5)), (vec![2], vec![4], vec![]));
+    assert_eq!(originals.generated_after(0, 1, 0).len(), 0);
+}
+
+#[test]
 fn threads_hand_maps_to_one_another() {
     let map = read(TWO_LINES);
     let there = std::thread::spawn(move || {
@@ -273,6 +300,7 @@ fn threads_hand_maps_to_one_another() {
     fn is_send<T: Send>() {}
     is_send::<SourceMap>();
     is_send::<smap::Table>();
+    is_send::<smap::Originals>();
     is_send::<Error>();
     fn is_sync<T: Sync>() {}
     is_sync::<Error>();

@@ -5,6 +5,8 @@ use Rattle.smap_record.specs.MapFile.{Map}
 use Rattle.smap_record.specs.Record.{MapRecord}
 use Rattle.smap_record.specs.contracts.map_file.MapFile as map_file
 use Rattle.smap_trace.specs.contracts.table.Table as trace_table
+use Rattle.smap_originals.specs.contracts.originals.Originals as originals_index
+use Rattle.smap_originals.specs.declared.place.GeneratedPlace.{GeneratedPlace}
 use Rattle.smap_c.specs.Inners.{Places}
 use Rattle.smap_c.specs.contracts.bytes.Bytes as handed
 use Rattle.smap_c.specs.contracts.inners.Inners as inner_maps
@@ -16,6 +18,8 @@ use Rattle.smap_c.specs.declared.handles.InnersHandle.{InnersHandle}
 use Rattle.smap_c.specs.contracts.handles.InnersHandle as inners_handle
 use Rattle.smap_c.specs.declared.handles.BytesHandle.{BytesHandle}
 use Rattle.smap_c.specs.contracts.handles.BytesHandle as bytes_handle
+use Rattle.smap_c.specs.declared.handles.OriginalsHandle.{OriginalsHandle}
+use Rattle.smap_c.specs.contracts.handles.OriginalsHandle as originals_handle
 
 abbrev pub with_map : MapHandle → Map → MapHandle
 with_map handle held = record handle { held = Some held }
@@ -40,3 +44,9 @@ with_bytes handle held = record handle { held = Some held }
 
 abbrev pub LendsBytes : MutBor BytesHandle → MutBor (List ℕ) → Fml
 LendsBytes handle lent = Lends bytes_handle.the_row handed.the_row handle lent (with_bytes handle.now)
+
+abbrev pub with_originals : OriginalsHandle → List (List GeneratedPlace) → OriginalsHandle
+with_originals handle held = record handle { held = Some held }
+
+abbrev pub LendsOriginals : MutBor OriginalsHandle → MutBor (List (List GeneratedPlace)) → Fml
+LendsOriginals handle lent = Lends originals_handle.the_row originals_index.the_row handle lent (with_originals handle.now)

@@ -1,12 +1,13 @@
 //! A handle lends what it holds, and gives it up. All that follows a pointer of C's stands here.
 ghost use Rattle.std.specs.Prelude.{◌≡◌, None, Some, IsSome};
 ghost use Rattle.std.specs.Borrow.{sem};
-ghost use Rattle.smap_c.specs.Private.Lending.{LendsBytes, LendsInners, LendsMap, LendsTable};
+ghost use Rattle.smap_c.specs.Private.Lending.{LendsBytes, LendsInners, LendsMap, LendsOriginals, LendsTable};
 
-use super::{BytesHandle, InnersHandle, MapHandle, TableHandle};
+use super::{BytesHandle, InnersHandle, MapHandle, OriginalsHandle, TableHandle};
 use crate::bytes::Bytes;
 use crate::inners::Inners;
 use crate::loose::Loose;
+use smap_originals::Originals;
 use smap_record::MapFile;
 use smap_trace::Table;
 use std::alloc::Global;
@@ -98,6 +99,29 @@ impl BytesHandle {
     {
         Loose {
             at: self.at as *mut Bytes,
+            alloc,
+        }
+    }
+}
+
+impl OriginalsHandle {
+    /// What the handle holds, which is not empty.
+    pub(crate) fn lend(&mut self) -> &mut Originals
+        requires { IsSome self.old.held }
+        ensures* writes_back { sem 𝓛 (LendsOriginals self.entry result) }
+        ensures value { Some result.now ≡ self.old.held }
+    {
+        unsafe { &mut *(self.at as *mut Originals) }
+    }
+
+    // Takes out what the handle holds, and leaves it empty.
+    pub(super) fn take(&mut self, alloc: Global) -> Loose<Originals, Global>
+        requires { IsSome self.old.held }
+        ensures taken { Some result.value ≡ self.old.held }
+        ensures emptied { self.new.held ≡ None }
+    {
+        Loose {
+            at: self.at as *mut Originals,
             alloc,
         }
     }

@@ -1,10 +1,11 @@
 //! Making handles, and emptying them.
 ghost use Rattle.std.specs.Prelude.{◌≡◌, None, Some, IsSome, IfErr, IfOk};
 
-use super::{BytesHandle, InnersHandle, MapHandle, TableHandle};
+use super::{BytesHandle, InnersHandle, MapHandle, OriginalsHandle, TableHandle};
 use crate::bytes::Bytes;
 use crate::inners::Inners;
 use crate::loose::Loose;
+use smap_originals::Originals;
 use smap_record::MapFile;
 use smap_trace::Table;
 use std::alloc::{AllocFailed, Global};
@@ -89,6 +90,27 @@ impl BytesHandle {
 
     /// Takes out what the handle holds, and frees its room.
     pub(crate) fn empty(&mut self, alloc: Global) -> Bytes
+        requires { IsSome self.old.held }
+        ensures taken { Some result ≡ self.old.held }
+        ensures emptied { self.new.held ≡ None }
+    {
+        Box::into_inner(self.take(alloc).into_box())
+    }
+}
+
+impl OriginalsHandle {
+    pub(crate) fn new(
+        alloc: Global,
+        originals: Originals,
+    ) -> Result<OriginalsHandle, AllocFailed<Originals>>
+        ensures made { IfOk result (λ handle. handle.held ≡ Some originals) }
+        ensures back { IfErr result (λ failed. failed.value ≡ originals) }
+    {
+        Ok(OriginalsHandle::of(Loose::of(Box::new(alloc, originals)?)))
+    }
+
+    /// Takes out what the handle holds, and frees its room.
+    pub(crate) fn empty(&mut self, alloc: Global) -> Originals
         requires { IsSome self.old.held }
         ensures taken { Some result ≡ self.old.held }
         ensures emptied { self.new.held ≡ None }

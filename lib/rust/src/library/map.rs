@@ -54,6 +54,13 @@ impl Map {
         Ok(Map::full(handle))
     }
 
+    /// Names the sources by the path at which the generated file stands.
+    pub(crate) fn use_paths(&mut self, path: &str) -> Result<(), Error> {
+        let (bytes, length) = (path.as_ptr(), path.len());
+        let status = unsafe { sys::smap_map_use_paths(self.handle(), bytes, length) };
+        done(status, Refused::nothing)
+    }
+
     pub(super) fn full(handle: sys::smap_map) -> Map {
         Map {
             handle: UnsafeCell::new(handle),

@@ -183,6 +183,7 @@ fn sizes_and_offsets_are_those_of_the_c_compiler() {
         smap_map: at;
         smap_table: at;
         smap_inners: at;
+        smap_originals: at;
         smap_bytes: at;
         smap_text: bytes length;
         smap_refusal: number fault line build section byte;
@@ -191,6 +192,8 @@ fn sizes_and_offsets_are_those_of_the_c_compiler() {
         smap_mapping: line column kind source original_line original_column named name;
         smap_encode_refusal: number mapping;
         smap_position: line column;
+        smap_generated_place: line column original_line original_column;
+        smap_generated_places: places count;
         smap_count: sections sources names segments lines checkpoints;
         smap_fit_count: mappings past inside compared outside same fits;
         smap_source_text: name content named held ignored;

@@ -1,0 +1,23 @@
+//! Sources of maps that are named by paths.
+ghost use Rattle.std.specs.Prelude.{◌≡◌, ◌≢◌, ◌⊎◌, IsSome, option_map};
+ghost use Rattle.smap_names.specs.ByPath.{map_by_path};
+
+use crate::handles::MapHandle;
+use crate::status::{DONE, NO_MEMORY};
+use smap_names::name_sources_by_path;
+use std::alloc::Global;
+
+/// Names the sources of a map by the URL at which it stands, where that is a path from a root: each whose name is kept as it
+/// stands in the map, and a relative path, gets the one that goes on from the folder of the URL.
+#[unsafe(no_mangle)]
+pub extern "C" fn smap_map_use_paths(alloc: Global, map: &mut MapHandle, url: &[u8]) -> u32
+    requires { IsSome map.old.held }
+    ensures named { result ≡ 0 → map.new.held ≡ option_map (map_by_path url.now) map.old.held }
+    ensures stays { result ≢ 0 → map.new.held ≡ map.old.held }
+    ensures status { (result ≡ 0) ⊎ (result ≡ 3) }
+{
+    match name_sources_by_path(alloc, map.lend(), url) {
+        Ok(()) => DONE,
+        Err(_no_memory) => NO_MEMORY,
+    }
+}
