@@ -1,7 +1,7 @@
 // The sources as areas by folders, each as large as the bytes that it makes.
 import { colourOf, colours } from './colours.js';
 import { added } from './elements.js';
-import { nameOf, rankOf, share } from './sources.js';
+import { nameOf, rankOf, resolvedOf, share } from './sources.js';
 import { squares } from './tree.js';
 import { visible } from './units.js';
 export { Areas };
@@ -73,7 +73,7 @@ class Areas {
       const whole = child.source < 0 ? child.name : nameOf(child.source);
       const reported = `${visible(whole)}, ${share(child.bytes)}`;
       Object.assign(button.style, { left: `${x}px`, top: `${y}px`, width: `${width}px`, height: `${height}px` });
-      button.title = reported;
+      button.title = child.source < 0 ? reported : `${visible(resolvedOf(child.source))}, ${share(child.bytes)}`;
       button.setAttribute('aria-label', reported);
       button.className = isFolder ? 'folder' : child.source < 0 ? 'area unmapped' : 'area';
       nodes.append(button);

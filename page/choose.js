@@ -1,5 +1,5 @@
 // Pointing at a mapping, choosing it, and letting it go, in both texts.
-import { map } from './held.js';
+import { held } from './held.js';
 import { lineOf, mappingAt } from './map.js';
 import { report } from './report.js';
 import { originalAt } from './segments.js';
@@ -8,6 +8,7 @@ import { openSource, panes } from './views.js';
 export { ask, choose, leavePreview, letGo, listenToPanes, redraw };
 
 function pointAt(index, other) {
+  const { map } = held();
   if (index === state.pointed) return;
   state.pointed = index;
   const wanted = index >= 0 ? map.source[index] : -1;
@@ -34,6 +35,7 @@ function leavePreview() {
 
 // Says where the counterpart is, where it isn't in view.
 function hint(index) {
+  const { map } = held();
   const { hint: element, text } = panes.generated;
   element.hidden = true;
   if (index < 0) return;
@@ -46,6 +48,7 @@ function hint(index) {
 
 // Chooses a mapping. Its places are brought into view in both panes, or in one of them, where the other was clicked.
 function choose(index, { in: other } = {}) {
+  const { map } = held();
   state.chosen = index;
   state.preview = null;
   const origin = index >= 0 && map.source[index] >= 0;
@@ -89,11 +92,11 @@ function redraw() {
 
 function listenToPanes() {
   panes.generated.listen({
-    point: (place) => pointAt(place ? mappingAt(map, place.line, place.column) : -1, panes.original),
+    point: (place) => pointAt(place ? mappingAt(held().map, place.line, place.column) : -1, panes.original),
     choose: (place) => {
       leavePreview();
       ask(place.line, place.column);
-      choose(mappingAt(map, place.line, place.column), { in: panes.original });
+      choose(mappingAt(held().map, place.line, place.column), { in: panes.original });
     },
   });
   panes.original.listen({

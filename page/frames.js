@@ -1,8 +1,8 @@
 // The frames of a trace that is pasted into the field, as a list: each is a click.
+import { bundleNamed, isNamed } from './bundles.js';
 import { added, elementOf, isolated } from './elements.js';
-import { map } from './held.js';
 import { mappingAt } from './map.js';
-import { go, isOwn, ownFiles } from './moves.js';
+import { go } from './moves.js';
 import { framesIn } from './places.js';
 import { answerOf } from './report.js';
 import { many } from './sources.js';
@@ -13,7 +13,7 @@ const MOST = 1000;
 
 function listenToFrames() {
   elementOf('place').addEventListener('paste', (event) => {
-    const frames = framesIn(event.clipboardData.getData('text'), ownFiles);
+    const frames = framesIn(event.clipboardData.getData('text'), isNamed);
     if (frames.length < 2) return;
     event.preventDefault();
     show(frames);
@@ -23,7 +23,7 @@ function listenToFrames() {
   });
 }
 
-// Shows them, and goes to the first that is of this file, or to the first.
+// Shows them, and goes to the first that is of a bundle of the page, or to the first.
 function show(frames) {
   const seen = frames.slice(0, MOST);
   const first = frames.length > MOST ? 'the first ' : '';
@@ -35,17 +35,17 @@ function show(frames) {
     item.append(button);
     return item;
   }));
-  const own = seen.findIndex(({ place }) => isOwn(place.url));
+  const own = seen.findIndex(({ place }) => isNamed(place.url));
   buttons[Math.max(own, 0)].click();
 }
 
 function buttonOf({ text, place }) {
   const button = document.createElement('button');
-  const isHere = isOwn(place.url);
-  const index = mappingAt(map, place.line - 1, place.column - 1);
+  const bundle = bundleNamed(place.url);
+  const origin = bundle ? answerOf(mappingAt(bundle.map, place.line - 1, place.column - 1), bundle) : 'another file';
   const shown = visible(text);
   button.append(isolated('frame', shown));
-  added(button, 'span', 'origin', isHere ? visible(answerOf(index)) : 'another file');
+  added(button, 'span', 'origin', visible(origin));
   button.title = shown;
   button.addEventListener('click', () => {
     elementOf('frames-list').querySelector('[aria-current]')?.removeAttribute('aria-current');

@@ -1,12 +1,11 @@
-// What the page holds: the generated text, its map, and what smap says of how many bytes each source makes and how the map fits.
+// What the page holds: bundles, each a generated text, its map and what smap says of the two, and which of them is shown.
 import { elementOf } from './elements.js';
 import { decodeMappings } from './map.js';
 import { Text } from './text.js';
-export { fileName, fit, generated, map, owned, record };
+export { bundles, held, turnTo };
 
 // What an element holds: JSON, compressed, in Base64.
-async function held(id) {
-  const element = elementOf(id);
+async function contentOf(element) {
   const digits = atob(element.textContent);
   element.remove();
   const bytes = new Uint8Array(digits.length);
@@ -18,16 +17,50 @@ async function held(id) {
   return new Response(readable).json();
 }
 
+// By the bytes that each source makes, the largest first; and the other way round.
+function rankedBy(bytes) {
+  const ranked = bytes.map((_, index) => index).sort((a, b) => bytes[b] - bytes[a] || a - b);
+  const ranks = new Int32Array(bytes.length);
+  ranked.forEach((index, rank) => {
+    ranks[index] = rank;
+  });
+  return { ranked, ranks };
+}
+
+async function bundleOf(elements, index) {
+  const [facts, record, text] = await Promise.all(elements.map(contentOf));
+  const map = decodeMappings(record.mappings);
+  record.mappings = '';
+  return {
+    index,
+    name: facts.name,
+    // The bytes of each source, by index, those that are unmapped, and all.
+    owned: facts.bytes,
+    fit: facts.fit,
+    record,
+    // What the names of sources become against the base.
+    resolved: facts.resolved ?? record.sources,
+    ignored: new Set(record.ignoreList ?? []),
+    generated: new Text(text),
+    map,
+    ...rankedBy(facts.bytes.sources),
+    // The sources that were opened.
+    opened: new Map(),
+  };
+}
+
 if (!('DecompressionStream' in window)) {
   const why = 'This browser is too old for the page: it has no DecompressionStream.';
   elementOf('note').textContent = why;
   throw new Error(why);
 }
-const [facts, record, text] = await Promise.all(['the-facts', 'the-map', 'the-text'].map(held));
-const fileName = facts.name;
-// The bytes of each source, by index, those that are unmapped, and all.
-const owned = facts.bytes;
-const { fit } = facts;
-const generated = new Text(text);
-const map = decodeMappings(record.mappings);
-record.mappings = '';
+const parts = [...document.querySelectorAll('script.part')];
+const bundles = await Promise.all(Array.from({ length: parts.length / 3 }, (_, i) => bundleOf(parts.slice(3 * i, 3 * i + 3), i)));
+let at = 0;
+
+const held = () => bundles[at];
+
+// Another one is shown from now on.
+function turnTo(index) {
+  at = index;
+}

@@ -26,6 +26,7 @@ class List {
 
   show(all) {
     this.all = all;
+    this.current = -1;
     this.filter('');
   }
 
@@ -91,7 +92,7 @@ class List {
   }
 
   row(i) {
-    const { index, name, bytes, isIgnored, hasContent } = this.shown[i];
+    const { index, name, resolved, bytes, isIgnored, hasContent } = this.shown[i];
     const row = document.createElement('div');
     row.className = `row${i === this.active ? ' active' : ''}`;
     row.id = `source-${index}`;
@@ -103,7 +104,7 @@ class List {
     row.dataset.bytes = String(bytes);
     row.style.top = `${i * ROW}px`;
     const shown = visible(name);
-    row.title = shown;
+    row.title = visible(resolved);
     added(row, 'span', 'swatch').style.backgroundColor = colourOf(rankOf(index), 0.85);
     const cut = shown.lastIndexOf('/', shown.length - 2) + 1;
     const [size, percent] = share(bytes).split(' · ');

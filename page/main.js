@@ -4,43 +4,20 @@ import { readColours } from './colours.js';
 import { copyLine, copyPlace, listenToCopying } from './copying.js';
 import { elementOf } from './elements.js';
 import { listenToFrames } from './frames.js';
-import { fileName, generated, map, owned } from './held.js';
+import { bundles, held } from './held.js';
 import { lineOf, mappingAt } from './map.js';
-import { showMisfits } from './misfits.js';
-import { drawView, go, openFromList, see, step, wrap } from './moves.js';
+import { listenToMisfits } from './misfits.js';
+import { drawView, go, openFromList, see, step, stepAlike, turn, turnOn, wrap } from './moves.js';
 import { WELCOME, answerOf, report } from './report.js';
-import { bytesOf, contentOf, isIgnored, many, nameOf, ranked, share } from './sources.js';
+import { showChoice } from './show.js';
+import { contentOf } from './sources.js';
 import { state } from './state.js';
-import { treeOf } from './tree.js';
-import { visible } from './units.js';
-import { areas, finders, list, paintSwatch, panes, showOpen } from './views.js';
+import { areas, finders, list, paintSwatch, panes } from './views.js';
 
 function start() {
   readColours();
-  document.title = `${visible(fileName)} · smap`;
-  elementOf('title').textContent = visible(fileName);
-  elementOf('facts').textContent = [
-    many(owned.total, 'byte', 'bytes'),
-    many(generated.lines.count, 'line', 'lines'),
-    many(map.count, 'mapping', 'mappings'),
-    many(ranked.length, 'source', 'sources'),
-  ].join(' · ');
-  elementOf('generated').querySelector('.name').textContent = visible(fileName);
-  elementOf('unmapped').textContent = `unmapped ${share(owned.unmapped)}`;
-  const sources = ranked.map((index) => ({
-    index,
-    name: nameOf(index),
-    bytes: bytesOf(index),
-    isIgnored: isIgnored(index),
-    hasContent: contentOf(index) !== null,
-  }));
-  list.show(sources);
-  areas.show(treeOf(sources, owned.unmapped));
-  panes.generated.show(generated);
-  showOpen();
-  showMisfits();
-  // Both panes show the first place of the largest source.
-  if (ranked.length > 0) openFromList(ranked[0]);
+  showChoice();
+  turn(held());
   if (state.asked) state.asked.note = WELCOME;
   report();
 }
@@ -67,6 +44,9 @@ function listenToKeys() {
   const keys = {
     n: () => step(1),
     p: () => step(-1),
+    o: () => stepAlike(1),
+    O: () => stepAlike(-1),
+    b: turnOn,
     g: () => elementOf('place').select(),
     '/': find,
     w: () => wrap(paneInUse()),
@@ -83,6 +63,7 @@ function listenToKeys() {
       if (event.key === 'Escape') panes.generated.scroller.focus();
       return;
     }
+    if (event.target instanceof HTMLSelectElement) return;
     const act = keys[event.key];
     if (!act) return;
     event.preventDefault();
@@ -95,6 +76,7 @@ function listen() {
   listenToKeys();
   listenToFrames();
   listenToCopying();
+  listenToMisfits(go);
   for (const finder of Object.values(finders)) finder.listen();
   list.listen(openFromList);
   areas.listen(openFromList);
@@ -105,6 +87,9 @@ function listen() {
   elementOf('filter').addEventListener('input', () => list.filter(elementOf('filter').value));
   elementOf('see-text').addEventListener('click', () => see('text'));
   elementOf('see-areas').addEventListener('click', () => see('areas'));
+  elementOf('bundles').addEventListener('change', () => turn(bundles[Number(elementOf('bundles').value)]));
+  elementOf('alike-before').addEventListener('click', () => stepAlike(-1));
+  elementOf('alike-after').addEventListener('click', () => stepAlike(1));
   elementOf('help').addEventListener('click', () => elementOf('keys').showModal());
   for (const name of Object.keys(panes)) {
     elementOf(name).querySelector('.wrap').addEventListener('click', () => wrap(name));
@@ -137,18 +122,22 @@ document.documentElement.dataset.ready = performance.now().toFixed(1);
 // What a test may ask. Nothing of it changes the page.
 const placed = (index) => {
   if (index < 0) return null;
-  const line = lineOf(map, index);
-  return { line: line + 1, column: map.column[index] + 1, answer: answerOf(index) };
+  const { map } = held();
+  return { line: lineOf(map, index) + 1, column: map.column[index] + 1, answer: answerOf(index) };
 };
 Object.defineProperty(window, 'smapPage', {
   value: Object.freeze({
-    counts: Object.freeze({ bytes: owned.total, lines: generated.lines.count, mappings: map.count, sources: ranked.length }),
-    bytes: () => ({ sources: [...owned.sources], unmapped: owned.unmapped }),
-    lookUp: (line, column) => answerOf(mappingAt(map, line - 1, column - 1)),
+    get counts() {
+      const { owned, generated, map, ranked } = held();
+      return { bytes: owned.total, lines: generated.lines.count, mappings: map.count, sources: ranked.length };
+    },
+    bytes: () => ({ sources: [...held().owned.sources], unmapped: held().owned.unmapped }),
+    lookUp: (line, column) => answerOf(mappingAt(held().map, line - 1, column - 1)),
+    bundle: () => held().index,
     chosen: () => placed(state.chosen),
     pointed: () => placed(state.pointed),
     open: () => state.open,
-    text: (source) => (source < 0 ? generated.text : contentOf(source)),
+    text: (source) => (source < 0 ? held().generated.text : contentOf(source)),
     pointOf: (pane, line, column) => panes[pane].pointAt(line - 1, column - 1),
     scrolled: (pane) => ({ left: panes[pane].left, top: panes[pane].top }),
   }),

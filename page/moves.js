@@ -1,32 +1,49 @@
 // The ways through the map: to a place that is written, to a source, from mapping to mapping, and from view to view.
+import { bundleNamed, isNamed } from './bundles.js';
 import { ask, choose, leavePreview, letGo, redraw } from './choose.js';
 import { elementOf } from './elements.js';
-import { fileName, generated, map, record } from './held.js';
+import { bundles, held, turnTo } from './held.js';
 import { mappingAt } from './map.js';
 import { fileOf, placeIn } from './places.js';
 import { report } from './report.js';
+import { alike } from './segments.js';
 import { many, sourceOf } from './sources.js';
-import { state } from './state.js';
+import { showBundle } from './show.js';
+import { forget, state } from './state.js';
 import { visible } from './units.js';
 import { areas, openSource, panes } from './views.js';
-export { drawView, go, isOwn, openFromList, ownFiles, see, step, wrap };
+export { drawView, go, openFromList, see, step, stepAlike, turn, turnOn, wrap };
 
-// The names by which frames call the generated file.
-const ownFiles = [fileName, record.file ? fileOf(record.file) : fileName];
-const isOwn = (url) => ownFiles.includes(fileOf(url));
+// Shows a bundle: both panes the first place of its largest source.
+function turn({ index }) {
+  turnTo(index);
+  forget();
+  showBundle();
+  const [largest] = held().ranked;
+  if (largest !== undefined) openFromList(largest);
+  report();
+}
+
+// Shows the next bundle, and the first one after the last.
+function turnOn() {
+  if (bundles.length > 1) turn(bundles[(held().index + 1) % bundles.length]);
+}
 
 // To the place of the generated text that a text names.
 function go(text) {
-  const place = placeIn(text, ownFiles);
+  const place = placeIn(text, isNamed);
   elementOf('place').setAttribute('aria-invalid', String(!place));
   if (!place) {
     letGo();
     elementOf('note').textContent = 'That names no place: write LINE:COLUMN, or paste a line of a trace.';
     return;
   }
+  const bundle = bundleNamed(place.url);
+  if (bundle && bundle !== held()) turn(bundle);
   see('text');
   leavePreview();
   state.pointed = -1;
+  const { map, generated } = held();
   const [line, column] = [place.line - 1, place.column - 1];
   const index = mappingAt(map, line, column);
   ask(line, column, noteOn(line, column, index, place.url));
@@ -36,12 +53,13 @@ function go(text) {
 
 // What is odd of a place from 0, if something is.
 function noteOn(line, column, index, url) {
+  const { generated, name } = held();
   if (line >= generated.lines.count) return `the file has ${many(generated.lines.count, 'line', 'lines')}`;
   const length = generated.lengthOf(line);
   if (column > length) return `line ${line + 1} has ${many(length, 'column', 'columns')}`;
   if (index < 0) return 'no mapping stands on that line at or before that column';
-  if (!url || isOwn(url)) return '';
-  return `the frame names ${visible(fileOf(url) || url)}, and this is ${visible(fileName)}`;
+  if (!url || isNamed(url)) return '';
+  return `the frame names ${visible(fileOf(url) || url)}, and this is ${visible(name)}`;
 }
 
 // Opens a source at its first place that the generated text has, unless it is open.
@@ -50,6 +68,7 @@ function openFromList(index) {
   state.preview = null;
   state.pointed = -1;
   openSource(index);
+  const { map } = held();
   const { order } = sourceOf(index);
   if (order.length > 0 && (state.chosen < 0 || map.source[state.chosen] !== index)) {
     let first = order[0];
@@ -64,6 +83,7 @@ function step(by) {
   see('text');
   leavePreview();
   state.pointed = -1;
+  const { map } = held();
   const { asked, chosen, open } = state;
   if (isOriginal && open >= 0) {
     const { order } = sourceOf(open);
@@ -77,6 +97,16 @@ function step(by) {
   let next = chosen >= 0 ? chosen + by : by > 0 ? 0 : map.count - 1;
   if (chosen < 0 && asked && asked.line < map.lines) next = by > 0 ? map.first[asked.line] : map.first[asked.line] - 1;
   choose(Math.max(0, Math.min(next, map.count - 1)));
+}
+
+// To the next place, or the one before, of the same original.
+function stepAlike(by) {
+  const { order, from, count } = alike(state.chosen);
+  if (count < 2) return;
+  see('text');
+  leavePreview();
+  state.pointed = -1;
+  choose(order[from + ((order.indexOf(state.chosen, from) - from + by + count) % count)]);
 }
 
 // Wraps the lines of a pane, or no longer.

@@ -13,22 +13,22 @@ function placeOf(line, column, url) {
   return place.line >= 1 && place.line <= LARGEST && place.column >= 1 && place.column <= LARGEST ? place : null;
 }
 
-// The place that a text names, or null. Of several that of a file among `files` is taken, else that of the frame.
-function placeIn(text, files) {
+// The place that a text names, or null. Of several the first is taken whose URL a test holds of, else that of the frame.
+function placeIn(text, isNamed) {
   const said = text.trim();
   const bare = /^\(?(\d{1,10})(?:(?:\s*[:,]\s*|\s+)(\d{1,10}))?\)?$/.exec(said);
   if (bare) return placeOf(bare[1], bare[2] ?? '1', '');
   const places = [...said.matchAll(/([^\s()@]*):(\d{1,10}):(\d{1,10})(?!\d)/g)]
     .map(([, url, line, column]) => placeOf(line, column, url))
     .filter((place) => place);
-  const own = places.find((place) => files.includes(fileOf(place.url)));
+  const own = places.find((place) => isNamed(place.url));
   if (own) return own;
   const frame = /^(?:at .* \(|at (?:async )?|[^@]*@)?([^\s@]*):(\d{1,10}):(\d{1,10})\)?$/.exec(said);
   return (frame && placeOf(frame[2], frame[3], frame[1])) ?? places[0] ?? null;
 }
 
 // The lines of a trace that name a place of a file, each with that place.
-function framesIn(trace, files) {
-  const frames = trace.split('\n').map((line) => ({ text: line.trim(), place: placeIn(line, files) }));
+function framesIn(trace, isNamed) {
+  const frames = trace.split('\n').map((line) => ({ text: line.trim(), place: placeIn(line, isNamed) }));
   return frames.filter(({ place }) => place?.url);
 }

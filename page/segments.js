@@ -1,11 +1,12 @@
 // What stands where in the two texts: the segments of the generated one, and those of the source that is open.
-import { generated, map } from './held.js';
+import { held } from './held.js';
 import { firstWhere } from './search.js';
 import { rankOf, sourceOf } from './sources.js';
 import { isSameOrigin, state } from './state.js';
-export { originalAt, visitGenerated, visitOriginal };
+export { alike, originalAt, visitGenerated, visitOriginal };
 
 function visitGenerated(line, begin, end, visit) {
+  const { generated, map } = held();
   if (line >= map.lines) return;
   const last = map.first[line + 1];
   let i = firstWhere(map.first[line], last, (at) => map.column[at] > begin);
@@ -19,6 +20,7 @@ function visitGenerated(line, begin, end, visit) {
 
 function visitOriginal(line, begin, end, visit) {
   if (state.open < 0) return;
+  const { map } = held();
   const { order, text } = sourceOf(state.open);
   const length = text.lengthOf(line);
   let i = placeInOrder(order, line, begin);
@@ -45,6 +47,7 @@ function litAmong(order, from, to) {
 // Where in the order of an open source the mappings begin that stand at or before a place on its line, each with those of the
 // same place behind it; -1 where none does.
 function placeInOrder(order, line, column) {
+  const { map } = held();
   const after = firstWhere(
     0,
     order.length,
@@ -69,4 +72,15 @@ function originalAt(place, last = -1) {
     }
   }
   return order[at];
+}
+
+// The mappings of the original place of a mapping: where they begin in the order of their source, and how many there are.
+function alike(index) {
+  const { map } = held();
+  if (index < 0 || map.source[index] < 0) return { order: [], from: 0, count: 0 };
+  const { order } = sourceOf(map.source[index]);
+  const from = placeInOrder(order, map.originalLine[index], map.originalColumn[index]);
+  let count = 1;
+  while (from + count < order.length && isSameOrigin(order[from + count], index)) count += 1;
+  return { order, from, count };
 }

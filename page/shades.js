@@ -1,13 +1,13 @@
 // Which colour each source has: of those that stand side by side, in the generated text or in the list, each another.
-import { map } from './held.js';
-import { rankOf, ranked } from './sources.js';
+import { held } from './held.js';
+import { rankOf } from './sources.js';
 export { SHADES, shadeOf };
 
 // More could not be told apart.
 const SHADES = 6;
 
 // How often the source of each rank stands beside that of another.
-function sides() {
+function sides({ map, ranked }) {
   const beside = ranked.map(() => new Map());
   const count = (a, b) => {
     beside[a].set(b, (beside[a].get(b) ?? 0) + 1);
@@ -25,8 +25,9 @@ function sides() {
 }
 
 // By rank: the largest source is the first to have one. Of those that stand least beside it the one that was taken least is taken.
-function shades() {
-  const beside = sides();
+function shadesOf(bundle) {
+  const { ranked } = bundle;
+  const beside = sides(bundle);
   const taken = new Array(SHADES).fill(0);
   const shade = new Int8Array(ranked.length).fill(-1);
   for (let rank = 0; rank < ranked.length; rank += 1) {
@@ -42,5 +43,4 @@ function shades() {
   return shade;
 }
 
-const byRank = shades();
-const shadeOf = (rank) => byRank[rank];
+const shadeOf = (rank) => (held().shades ??= shadesOf(held()))[rank];

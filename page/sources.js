@@ -1,34 +1,28 @@
 // The sources of the map: their names, texts, bytes and ranks. A source is meant by its index.
-import { map, owned, record } from './held.js';
+import { held } from './held.js';
 import { byOrigin } from './map.js';
 import { Text } from './text.js';
-export { bytesOf, contentOf, isIgnored, many, nameOf, rankOf, ranked, share, sourceOf };
+export { bytesOf, contentOf, isIgnored, many, nameOf, rankOf, resolvedOf, share, sourceOf };
 
-const { sources } = record;
-const ignored = new Set(record.ignoreList ?? []);
-
-const nameOf = (source) => sources[source] ?? `[${source}]`;
-const contentOf = (source) => record.sourcesContent?.[source] ?? null;
-const isIgnored = (source) => ignored.has(source);
-const bytesOf = (source) => owned.sources[source];
+// The name that the map has, and what it is resolved to.
+const nameOf = (source) => held().record.sources[source] ?? `[${source}]`;
+const resolvedOf = (source, { resolved } = held()) => resolved[source] ?? `[${source}]`;
+const contentOf = (source) => held().record.sourcesContent?.[source] ?? null;
+const isIgnored = (source, { ignored } = held()) => ignored.has(source);
+const bytesOf = (source) => held().owned.sources[source];
 
 // A number in words, and the share that so many bytes are of all.
 const count = (number) => number.toLocaleString('en-US');
 const many = (number, one, more) => `${count(number)} ${number === 1 ? one : more}`;
-const percent = (bytes) => `${(owned.total ? (100 * bytes) / owned.total : 0).toFixed(1)} %`;
-const share = (bytes) => `${many(bytes, 'byte', 'bytes')} · ${percent(bytes)}`;
+const percent = (bytes, { total }) => `${(total ? (100 * bytes) / total : 0).toFixed(1)} %`;
+const share = (bytes) => `${many(bytes, 'byte', 'bytes')} · ${percent(bytes, held().owned)}`;
 
 // The colours go by rank: the largest source has the first.
-const ranked = sources.map((_, index) => index).sort((a, b) => bytesOf(b) - bytesOf(a) || a - b);
-const ranks = new Int32Array(sources.length);
-ranked.forEach((index, rank) => {
-  ranks[index] = rank;
-});
-const rankOf = (source) => ranks[source];
+const rankOf = (source) => held().ranks[source];
 
-// The texts of sources that were opened, with their mappings by origin.
-const opened = new Map();
+// The text of a source, and its mappings by origin.
 function sourceOf(index) {
+  const { opened, map } = held();
   let source = opened.get(index);
   if (!source) {
     const content = contentOf(index);

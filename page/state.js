@@ -1,8 +1,8 @@
 // What is chosen, pointed at, asked for and open. choose.js, moves.js and views.js change it, and others read it.
-import { map } from './held.js';
-export { isLit, isSameOrigin, state };
+import { held } from './held.js';
+export { forget, isLit, isSameOrigin, state };
 
-const state = {
+const START = {
   // The mappings that are chosen and pointed at, and the source that is open; -1 where there is none.
   chosen: -1,
   pointed: -1,
@@ -12,12 +12,18 @@ const state = {
   // The place of the generated text that is asked for, from 0, with a note on it; null where none is.
   asked: null,
 };
+const state = { ...START };
 
-const isSameOrigin = (a, b) =>
-  map.source[a] >= 0 &&
-  map.source[a] === map.source[b] &&
-  map.originalLine[a] === map.originalLine[b] &&
-  map.originalColumn[a] === map.originalColumn[b];
+// As at the start.
+function forget() {
+  Object.assign(state, START);
+}
+
+function isSameOrigin(a, b) {
+  const { source, originalLine, originalColumn } = held().map;
+  const isSame = (list) => list[a] === list[b];
+  return source[a] >= 0 && isSame(source) && isSame(originalLine) && isSame(originalColumn);
+}
 
 // 2 for the mapping itself, 1 for another one of the same place of a source, and 0.
 function isLitBy(index, by) {

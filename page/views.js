@@ -6,7 +6,7 @@ import { Finder } from './find.js';
 import { List } from './list.js';
 import { Pane } from './pane.js';
 import { visitGenerated, visitOriginal } from './segments.js';
-import { isIgnored, many, nameOf, rankOf, sourceOf } from './sources.js';
+import { isIgnored, many, nameOf, rankOf, resolvedOf, sourceOf } from './sources.js';
 import { isLit, state } from './state.js';
 import { visible } from './units.js';
 export { areas, finders, list, openSource, paintSwatch, panes, showOpen };
@@ -50,7 +50,7 @@ function showOpen() {
     return;
   }
   name.append(isolated('path', visible(nameOf(open))));
-  name.title = visible(nameOf(open));
+  name.title = visible(resolvedOf(open));
   if (isIgnored(open)) {
     name.append(' ');
     added(name, 'em', '', 'ignored');
