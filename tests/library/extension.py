@@ -229,6 +229,7 @@ def memory():
         "a name": lambda: source_map.name(0), "a file": lambda: source_map.file, "lists": lambda: (source_map.sources, source_map.names),
         "mappings": lambda: list(source_map.mappings()), "mappings that are left": lambda: next(source_map.mappings()),
         "bytes": lambda: source_map.bytes_by_source("abc"), "refused bytes": lambda: refused(lambda: source_map.bytes_by_source(b"\xff")),
+        "generated places": lambda: SourceMap(SMALL).generated(0, 0), "more of them": lambda: source_map.generated(0, 0, 9),
         "a fit": lambda: source_map.fit("abc"), "a refused fit": lambda: refused(lambda: source_map.fit(b"\xff")),
         "writing": source_map.write, "composing": lambda: compose(source_map, 0, other),
         "a refused composition": lambda: refused(lambda: compose(source_map, 1, other)),

@@ -68,6 +68,16 @@ function sameAt(ours, theirs, lines, line, column) {
   byRule('columns', smap.traceSegment(ours, line, column), trace.traceSegment(theirs, line, column), () => upTo(mappings, column) || null, what);
 }
 
+// Where an original position stands in the generated file, in both directions, and beside it.
+function sameGenerated(ours, theirs, { source, originalLine: line, originalColumn }) {
+  for (const column of [0, originalColumn - 1, originalColumn, originalColumn + 1, originalColumn + 9]) {
+    for (const bias of column < 0 ? [] : [undefined, 1, -1]) {
+      const needle = { source, line, column, bias };
+      for (const call of ['generatedPositionFor', 'allGeneratedPositionsFor']) same(smap[call](ours, needle), trace[call](theirs, needle), call);
+    }
+  }
+}
+
 // What is in both maps, which have the same names.
 function sameMaps(ours, theirs) {
   for (const member of ['version', 'file', 'sourceRoot', 'sources', 'sourcesContent']) same(ours[member], theirs[member], member);
@@ -93,11 +103,13 @@ function sameMaps(ours, theirs) {
   const step = Math.max(1, Math.floor(others.length / MOST));
   for (let i = 0; i < others.length; i += step) {
     const { generatedLine, generatedColumn } = others[i];
+    if (others[i].source !== null) sameGenerated(ours, theirs, others[i]);
     for (const column of [0, generatedColumn - 1, generatedColumn, generatedColumn + 1, Infinity]) {
       if (column >= 0) sameAt(ours, theirs, lines, generatedLine - 1, column);
     }
   }
   for (const line of [0, lines.length - 1, lines.length, lines.length + 7]) if (line >= 0) sameAt(ours, theirs, lines, line, 3);
+  for (const source of ['no such source', null, theirs.sources[0]]) sameGenerated(ours, theirs, { source, originalLine: 2 ** 30, originalColumn: 0 });
 }
 
 // The bytes of each source in the generated file, where that stands beside the map, as trace-mapping's mappings cut it.

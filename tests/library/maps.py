@@ -6,7 +6,7 @@ import sys
 import threading
 from pathlib import Path
 
-from smap import Context, Maps, Place, Refused, Rewriter, SourceMap, frame_urls
+from smap import Context, Generated, Maps, Place, Refused, Rewriter, SourceMap, frame_urls
 
 reported = 0
 
@@ -57,6 +57,39 @@ def contexts():
     insist("how large a map is", large.nbytes - small.nbytes, 100000)
     large.close()
     raises("a closed one", ValueError, lambda: large.nbytes)
+
+
+def paths():
+    text = '{"version":3,"sources":["../../src/x.ts"],"mappings":"AAAA"}'
+    for url, wanted in [("/srv/app/dist/util/x.js", "/srv/app/src/x.ts"), ("C:\\app\\dist\\util\\x.js", "C:\\app\\src\\x.ts"),
+                        ("https://e.test/dist/util/x.js", "https://e.test/src/x.ts"), ("dist/x.js", "../../src/x.ts")]:
+        with Rewriter({url: text}, paths=True) as rewriter:
+            insist(f"paths at {url}", rewriter.rewrite(f"    at f ({url}:1:1)\n").decode(), f"    at f ({wanted}:1:1)\n")
+        with Rewriter({}, load=lambda _: text, paths=True) as rewriter:
+            insist(f"paths that are loaded at {url}", rewriter.rewrite(f"    at f ({url}?v=1:1:1)\n").decode(), f"    at f ({wanted}:1:1)\n")
+    with Rewriter({"/srv/dist/x.js": text}) as rewriter:
+        insist("no paths", rewriter.rewrite("    at f (/srv/dist/x.js:1:1)\n"), b"    at f (../../src/x.ts:1:1)\n")
+def generated(files):
+    text = '{"version":3,"sources":["a","b"],"mappings":"AAAA,EAAE,EAAF,EAAI;A,ECAA"}'
+    with SourceMap(text) as source_map:
+        first, second, third = [Generated(0, 0, 0), Generated(0, 4, 0)], [Generated(0, 2, 2)], [Generated(0, 6, 4)]
+        insist("a line", source_map.generated(0, 0), first + second + third)
+        insist("up to", [source_map.generated(0, 0, column) for column in (0, 1, 2, 3, 9)], [first, first, second, second, third])
+        insist("from", [source_map.generated(0, 0, column, True) for column in (0, 1, 2, 3, 9)], [first, second, second, third, []])
+        insist("another source", source_map.generated(1, 0, 4), [Generated(1, 2, 4)])
+        insist("none", [source_map.generated(2, 0), source_map.generated(0, 1), source_map.generated(0, 2**40, 2**40)], [[], [], []])
+        raises("a line below 0", ValueError, source_map.generated, 0, -1)
+        raises("a text for a number", TypeError, source_map.generated, 0, 0, "1")
+    raises("a closed one", ValueError, source_map.generated, 0, 0)
+    for path in files:
+        with SourceMap(path) as source_map:
+            wanted = {}
+            for at, one in enumerate(source_map.mappings()):
+                if one.source is not None:
+                    place = (one.column, at, Generated(one.generated_line, one.generated_column, one.column))
+                    wanted.setdefault((one.source, one.line), []).append(place)
+            for (source, line), places in wanted.items():
+                insist(f"{path}, {source}:{line}", source_map.generated(source, line), [place for *_, place in sorted(places)])
 
 
 def bounded():
@@ -226,6 +259,8 @@ def threads():
 
 
 contexts()
+paths()
+generated(sorted((Path(__file__).resolve().parents[2] / "examples").glob("*.map")))
 bounded()
 refusals()
 folders(Path(sys.argv[1]))

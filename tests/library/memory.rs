@@ -44,6 +44,7 @@ fn main() -> Result<(), Box<dyn std::error::Error>> {
     count += refused("a text", || map.to_vec());
     count += refused("bytes", || map.bytes_by_source("f()"));
     count += refused("a fit", || map.fit("f()"));
+    count += refused("originals", || map.originals().map(|originals| originals.generated(0, 0, 0).count()));
     count += refused("two maps", || outer.compose(0, &map));
     count += refused("one map", || map.compose(0, &map));
     count += refused("all maps", || {

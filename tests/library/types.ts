@@ -1,7 +1,7 @@
 // What tests/try-library gives to tsc --strict: the types of the library in node, as a script uses them.
 import {
-  AnyMap, Context, EachMapping, EncodedSourceMap, Fit, FlattenMap, GREATEST_LOWER_BOUND, LEAST_UPPER_BOUND, Maps, Place, Refused, RewriteStream, SourceMapSegment, Table, TraceMap, compose,
-  composeAll, decodedMap, decodedMappings, eachMapping, encodedMap, encodedMappings, frameUrls, isIgnored, lookUpMany, originalPositionFor, presortedDecodedMap,
+  AnyMap, Context, EachMapping, EncodedSourceMap, Fit, FlattenMap, GREATEST_LOWER_BOUND, LEAST_UPPER_BOUND, Maps, Place, Refused, RewriteStream, SourceMapSegment, Table, TraceMap, allGeneratedPositionsFor, compose,
+  composeAll, decodedMap, decodedMappings, eachMapping, encodedMap, encodedMappings, frameUrls, generatedPositionFor, isIgnored, lookUpMany, originalPositionFor, presortedDecodedMap,
   rewrite, rewriteAsync, sourceContent, sourceContentFor, sourceContext, sourceName, traceSegment,
 } from 'smap';
 
@@ -32,6 +32,8 @@ map.sources = first;
 const saved: EncodedSourceMap = map.toJSON();
 const { sources, unmapped } = map.bytesBySource('x');
 const { fits, past, inside, same }: Fit = map.fit('x');
+const generated: number | null = generatedPositionFor(map, { source: 'a', line: 1, column: 0 }).column;
+const standing: number[] = allGeneratedPositionsFor(map, { source: 'a', line: 1, column: 0, bias: 1 }).map(({ column }) => column);
 const total: number = sources.reduce((sum, bytes) => sum + bytes, unmapped) + map.counts.segments;
 
 const made: Uint8Array[] = [compose(map, 0, others[0]), composeAll(map, { 'a.js': others[1] }, { load: (source) => source, prune: true }), map.write()];

@@ -13,6 +13,7 @@ from typing import Dict, Tuple
 
 import browsers
 import files
+from bundles import URL, Bundles, try_alike, try_bundles, try_names
 from eyes import try_neighbours
 from finding import try_find, try_find_large, try_find_strange
 from guards import try_contrast, try_hostile, try_large
@@ -119,6 +120,9 @@ def main() -> int:
             "bundle": Page(program, files.bundle(folder, examples, SIZE), folder),
             "swapped": Page(program, (examples / "receipt.min.js.map", examples / "preset-react.js"), folder),
         }
+        (folder / "based").mkdir()
+        based = Page(program, (examples / "receipt.min.js.map", examples / "receipt.min.js"), folder / "based", "--base", f"{URL}/js/app.js")
+        bundles = Bundles(program, examples, folder)
         pictures.mkdir(parents=True, exist_ok=True)
         for kind in [one for one in (browsers.Chromium, browsers.Firefox) if not words[3:] or one.name in words[3:]]:
             begin = time.monotonic()
@@ -147,6 +151,11 @@ def main() -> int:
                 try_find(browser, pages["receipt"], checks)
                 try_keys(browser, pages["receipt"], checks)
                 try_hash(browser, pages["receipt"], checks)
+                opened(browser, pages["receipt"])
+                try_alike(browser, pages["receipt"], checks)
+                try_names(browser, pages["receipt"], based, checks)
+                checks.about = f"{kind.name}, bundles"
+                try_bundles(browser, bundles, pages["receipt"], checks)
                 checks.about = f"{kind.name}, marked"
                 opened(browser, pages["marked"])
                 try_marks(browser, pages["marked"], checks)

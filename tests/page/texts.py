@@ -330,7 +330,7 @@ def try_keys(browser: browsers.Browser, page: Page, checks: Checks) -> None:
     checks.insist("the row that is marked", browser.run(rows, "#list [aria-selected=true]"), [second])
     reached = []
     browser.run("document.activeElement.blur()")
-    for _ in range(16):
+    for _ in range(24):
         browser.press("Tab")
         reached.append(browser.run("""
             const one = document.activeElement;

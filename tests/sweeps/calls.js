@@ -280,7 +280,7 @@ const TAKING = [
   {
     call: 'run fit as JSON',
     answer:
-      '0|{"compared":1,"firstInside":null,"firstPast":null,"fits":true,"generated":"g.js","inside":0,"map":"m.map","mappings":1,"outside":0,"past":0,"same":0}/|',
+      '0|{"compared":1,"explanation":null,"firstInside":null,"firstPast":null,"fits":true,"generated":"g.js","inside":0,"map":"m.map","mappings":1,"outside":0,"past":0,"same":0}/|',
     memory: NO_ROOM,
   },
   { call: 'run sources', answer: `0|${BY_BYTES}|`, memory: NO_ROOM },

@@ -45,6 +45,35 @@ const plugins = () => [
   { name: 'terser', renderChunk: (code) => require('terser').minify(code, { module: true, sourceMap: true }) },
 ];
 
+// Debian's readers of coverage ask for source-map, and their next versions for trace-mapping's functions in the place of its methods. So
+// here its class is made of these.
+function consuming() {
+  const trace = require(REPLACED);
+  const biases = { undefined: undefined, 1: trace.GREATEST_LOWER_BOUND, 2: trace.LEAST_UPPER_BOUND };
+  class SourceMapConsumer {
+    constructor(map) {
+      this.map = new trace.TraceMap(map);
+      ({ resolvedSources: this.sources, sourcesContent: this.sourcesContent } = this.map);
+    }
+    originalPositionFor({ bias, ...place }) {
+      return trace.originalPositionFor(this.map, { ...place, bias: biases[bias] });
+    }
+    generatedPositionFor({ bias, ...place }) {
+      return trace.generatedPositionFor(this.map, { ...place, bias: biases[bias] });
+    }
+    allGeneratedPositionsFor(place) {
+      return trace.allGeneratedPositionsFor(this.map, place);
+    }
+    sourceContentFor(source) {
+      return trace.sourceContentFor(this.map, source);
+    }
+    destroy() {}
+  }
+  Object.assign(SourceMapConsumer, { GREATEST_LOWER_BOUND: 1, LEAST_UPPER_BOUND: 2 });
+  const load = Module._load;
+  Module._load = (name, ...more) => (name === 'source-map' ? { SourceMapConsumer } : load(name, ...more));
+}
+
 // The maps that each tool makes, by what it is given.
 const tools = {
   remapping: () => {
@@ -112,6 +141,35 @@ const tools = {
       });
       return [mapIn(folder, 'out.js.map')];
     }),
+  'istanbul-lib-source-maps, as it asks from 5.0 on': async () => {
+    const { createInstrumenter } = require('istanbul-lib-instrument');
+    const { createCoverageMap } = require('istanbul-lib-coverage');
+    consuming();
+    const { createSourceMapStore } = require('istanbul-lib-source-maps');
+    const made = [];
+    for (const name of ['preset-react.js', 'preset-react.min.js', 'modules.js']) {
+      const instrumenter = createInstrumenter({ esModules: true });
+      instrumenter.instrumentSync(read(name), path.join(examples, name), JSON.parse(read(`${name}.map`)));
+      const coverage = createCoverageMap({});
+      coverage.addFileCoverage(instrumenter.lastFileCoverage());
+      made.push((await createSourceMapStore().transformCoverage(coverage)).toJSON());
+    }
+    return made;
+  },
+  'v8-to-istanbul, as it asks from 9.0 on': async () => {
+    consuming();
+    const converting = require('v8-to-istanbul');
+    const made = [];
+    for (const name of ['preset-react.js', 'preset-react.min.js', 'modules.js']) {
+      const source = read(name);
+      const converter = converting(path.join(examples, name), 0, { source, sourceMap: { sourcemap: JSON.parse(read(`${name}.map`)) } });
+      await converter.load();
+      const ranges = [...Array(12).keys()].map((i) => ({ startOffset: i * 37, endOffset: source.length - i * 41, count: i % 3 }));
+      converter.applyCoverage(ranges.map((range, i) => ({ functionName: i ? `f${i}` : '', ranges: [range], isBlockCoverage: true })));
+      made.push(converter.toIstanbul());
+    }
+    return made;
+  },
   typescript: () => [JSON.parse(require('typescript').transpileModule(typed, { compilerOptions: { sourceMap: true }, fileName: 'p.ts' }).sourceMapText)],
   rollup: () =>
     inFolder({ 'a.js': "import { A } from './b.js';\nexport default () => new A();\n", 'b.js': script }, async (folder) => {
@@ -154,8 +212,9 @@ function makes(name, inPlace) {
   const { status, stdout, stderr } = spawnSync(process.execPath, [__filename, '--make', name], { env, encoding: 'utf8', maxBuffer: 2 ** 28 });
   const times = fs.statSync(asked).size;
   fs.unlinkSync(asked);
-  const lacking = /Cannot find module '([^']*)'/.exec(stderr);
-  if (status !== 0 && lacking && !inPlace) return { lacking: lacking[1] };
+  // Debian's webpack asks Debian's node where its modules lie.
+  const lacking = /Cannot find module '([^']*)'|enhanced-resolve\/lib\/ResolverFactory.js:\d+\n.*node_relative_path/.exec(stderr);
+  if (status !== 0 && lacking && !inPlace) return { lacking: lacking[1] ?? "Debian's node" };
   assert.strictEqual(status, 0, `${name}: ${stderr}`);
   return { text: stdout, times };
 }

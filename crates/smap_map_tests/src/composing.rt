@@ -1,7 +1,7 @@
 //! Maps composed: what is written, what is left out of it, and why they are refused.
 use crate::same::assert_same;
 use crate::shown::held_text;
-use smap_compose::{ComposeRefusal, Composed, LeftOut, compose, compose_all};
+use smap_compose::{ComposeRefusal, Composed, LeftOut, compose_all};
 use smap_record::{MapFile, MapRefusal};
 use std::alloc::{AllocError, Global};
 use std::test::Fail;
@@ -9,10 +9,6 @@ use std::test::Fail;
 fn map_of(alloc: Global, text: &str, interval: u32) -> Result<MapFile, MapRefusal> {
     MapFile::read(alloc, text.as_bytes(), None, interval)
 }
-
-const OUTER: &str = r#"{"version":3,"sources":["mid.js"],"mappings":"AAAA,KAAK"}"#;
-
-const INNER: &str = r#"{"version":3,"sources":["a.ts"],"mappings":"AAAA,GACI"}"#;
 
 const INTERVALS: &[u32] = &[1, 2, 3, 64, 4_096];
 
@@ -25,23 +21,6 @@ fn text_of(
         Ok(composed) => String::from_utf8_lossy(alloc, &composed.write(alloc)?),
         Err(refusal) => format!(in alloc; "{refusal:?}"),
     }
-}
-
-// The two mappings that stand on one line of what two maps compose to.
-fn followed_text(alloc: Global, outer: &str, inner: &str, interval: u32) -> Result<String, Fail> {
-    let outer = map_of(alloc, outer, interval)?;
-    let inner = map_of(alloc, inner, interval)?;
-    let composed = compose(alloc, &outer, 0, &inner)?;
-    Ok(held_text(alloc, 2, 1, composed.mappings())?)
-}
-
-#[test]
-fn mappings_are_the_followed_ones(rt: HostRuntime) -> Result<(), Fail> {
-    for interval in INTERVALS {
-        let text = followed_text(rt.alloc(), OUTER, INNER, *interval)?;
-        assert_same(&rt, OUTER, &text, "2|1|0,0,1,0,0 0,5,1,1,4");
-    }
-    Ok(())
 }
 
 // A map of three sources, and the maps of the first and of the last.

@@ -1,12 +1,19 @@
 //! Indexes: what they hold, what they answer, and with how many comparisons and segments.
 use crate::same::assert_same;
 use crate::shown::{answer_text, held_text};
-use crate::texts::packed;
-use smap_index::{Answer, BuildRefusal, Index, Part};
+use smap_index::{Answer, Index, Part};
 use smap_mappings::{Meter, PackedText};
 use std::alloc::{AllocError, Global};
 use std::process::Abort;
 use std::test::Fail;
+
+// The text, checked for as many sources and names as indices can name.
+fn packed(alloc: Global, text: &str) -> Result<PackedText, Fail> {
+    match PackedText::check(String::from_str(alloc, text)?, 2147483648, 2147483648) {
+        Ok(packed) => Ok(packed),
+        Err(_) => Err(Fail::new("the text is refused")),
+    }
+}
 
 // The index of one text, with checkpoints at this interval.
 fn index_of(alloc: Global, text: PackedText, interval: u32) -> Result<Index, Fail> {
@@ -100,18 +107,6 @@ const COUNTED_FROM: &[Counted] = &[
     ),
 ];
 
-// Look-ups that are not counted: the text, the line and the column, and what answers.
-const ANSWERED: &[(&str, u32, u32, &str)] = &[
-    ("AAAA,CAAC;AACA,CAAC,CAAC,CAAC,C", 1, 9, "4"),
-    ("AAAA,CAAC;AACA,CAAC,CAAC,CAAC,C", 2, 0, "none"),
-];
-
-const ANSWERED_FROM: &[(&str, u32, u32, &str)] = &[
-    ("AAAA,CAAC,CAAC,CAAC,CAAC", 0, 5, "none"),
-    ("AAAA,CAAC,CAAC,CAAC,CAAC", 1, 0, "none"),
-    ("A,C", 0, 1, "1"),
-];
-
 // Puts such a look-up to the index of its text.
 fn assert_counted(
     rt: &impl Abort,
@@ -129,20 +124,6 @@ fn assert_counted(
     Ok(())
 }
 
-// What answers in the index of a text with checkpoints at every third segment.
-fn assert_answered(
-    rt: &impl Abort,
-    alloc: Global,
-    row: &(&str, u32, u32, &str),
-    direction: Direction,
-) -> Result<(), Fail> {
-    let (text, line, column, wanted) = *row;
-    let index = index_of(alloc, packed(alloc, text)?, 3)?;
-    let (answer, _) = asked(alloc, &index, direction, line, column);
-    assert_same(rt, text, &answer_text(alloc, &answer)?, wanted);
-    Ok(())
-}
-
 #[test]
 fn segments_after_the_checkpoint_are_decoded(rt: HostRuntime) -> Result<(), Fail> {
     for counted in COUNTED {
@@ -151,21 +132,6 @@ fn segments_after_the_checkpoint_are_decoded(rt: HostRuntime) -> Result<(), Fail
     for counted in COUNTED_FROM {
         assert_counted(&rt, rt.alloc(), counted, Direction::After)?;
     }
-    for row in ANSWERED {
-        assert_answered(&rt, rt.alloc(), row, Direction::Before)?;
-    }
-    for row in ANSWERED_FROM {
-        assert_answered(&rt, rt.alloc(), row, Direction::After)?;
-    }
-    Ok(())
-}
-
-#[test]
-fn an_index_has_the_mappings_of_its_text(rt: HostRuntime) -> Result<(), Fail> {
-    let text = packed(rt.alloc(), "AAAA,CAAC,CAAC,CAAC,CAAC")?;
-    let index = index_of(rt.alloc(), text, 2)?;
-    let wanted = "5|1|0,0,0,0,0 0,1,0,0,1 0,2,0,0,2 0,3,0,0,3 0,4,0,0,4";
-    assert_same(&rt, "five", &held(rt.alloc(), &index)?, wanted);
     Ok(())
 }
 
@@ -182,15 +148,6 @@ fn an_index_of_no_part_is_empty(rt: HostRuntime) -> Result<(), Fail> {
             assert!(&rt; meter.comparisons() == 0 && meter.segments() == 0);
         }
         assert!(&rt; index.checkpoints() == 0);
-    }
-    Ok(())
-}
-
-#[test]
-fn other_intervals_are_refused(rt: HostRuntime) -> Result<(), Fail> {
-    for k in [0, 4_097] {
-        let refused = Index::build(rt.alloc(), Vec::new(rt.alloc()), k).err();
-        assert!(&rt; refused == Some(BuildRefusal::Interval), "at {k}");
     }
     Ok(())
 }

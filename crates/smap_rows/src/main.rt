@@ -19,6 +19,7 @@ mod lists;
 mod look_ups;
 mod maps;
 mod numbers;
+mod originals;
 mod parsed;
 mod positions;
 mod row;
@@ -139,6 +140,7 @@ fn answer_file_row(row: &Row<'_>, answer: &mut Answer) -> Result<(), RowFault> {
     match row.field(0)? {
         "read" => maps::read(row, answer),
         "write" => maps::write(row, answer),
+        "originals" => originals::answer(row, answer),
         "compose" => composing::two(row, answer),
         "compose_three" => composing::three(row, answer),
         "frame" => traces::parts(row, answer),

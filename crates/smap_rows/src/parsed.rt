@@ -52,6 +52,7 @@ fn command_text(alloc: Global, command: &Command) -> Result<String, AllocError> 
         }
         Command::Fit { paths, options } => fitting_text(alloc, paths, *options),
         Command::Lookup { .. } => lookup_text(alloc, command),
+        Command::Generated { .. } => generated_text(alloc, command),
         Command::Positions { .. } => positions_text(alloc, command),
         Command::Mappings { .. } | Command::Sources { .. } | Command::SourceContent { .. } =>
             listing_text(alloc, command),
@@ -88,6 +89,30 @@ fn lookup_text(alloc: Global, command: &Command) -> Result<String, AllocError> {
     let mut text = format!(in alloc; "lookup {path} {line} {column}")?;
     text.push_str(base_text(base))?;
     text.push_str(&format!(in alloc; " every {interval}")?)?;
+    text.push_str(flag_text(*after, " after"))?;
+    text.push_str(form_text(options.form))?;
+    text.push_str(explain_text(options.explain))?;
+    Ok(text)
+}
+
+fn generated_text(alloc: Global, command: &Command) -> Result<String, AllocError> {
+    let Command::Generated {
+        path,
+        source,
+        line,
+        column,
+        base,
+        after,
+        options,
+    } = command
+    else {
+        return String::from_str(alloc, "another command");
+    };
+    let mut text = format!(in alloc; "generated {path} [{source}] {line}")?;
+    if let Some(column) = column {
+        text.push_str(&format!(in alloc; " {column}")?)?;
+    }
+    text.push_str(base_text(base))?;
     text.push_str(flag_text(*after, " after"))?;
     text.push_str(form_text(options.form))?;
     text.push_str(explain_text(options.explain))?;
@@ -229,6 +254,7 @@ fn rewriting_text(
     text.push_str(flag_text(options.anywhere, " anywhere"))?;
     text.push_str(flag_text(options.summary, " in sum"))?;
     text.push_str(explain_text(options.explain))?;
+    text.push_str(flag_text(options.paths, " by paths"))?;
     with_pairs(alloc, text, options.list.as_deref(), maps)
 }
 

@@ -1,4 +1,4 @@
-//! Runs over readers and writers of std: without end, interrupted, and one that takes nothing.
+//! Runs over a reader of std without end.
 use crate::runs::{HeldFiles, MOST_TAKEN, command_of, left_text};
 use crate::same::assert_same;
 use smap_answers::run_reading;
@@ -13,50 +13,12 @@ const FILES: &[(&str, &str)] = &[(
     r#"{"version":3,"sources":["a.ts"],"mappings":"AAAA,CAAC"}"#,
 )];
 
-const REWRITE: &[&str] = &["rewrite", "https://ex.test/app.js=m.map"];
-
-// A reader that gives a byte for ever.
-#[derive(Drop)]
-struct Endless(u8);
-
-impl io::Read for Endless {
-    fn read(&mut self, room: &mut [u8]) -> io::Result<usize> {
-        room.fill(self.0);
-        Ok(room.len())
-    }
-}
-
-// A reader whose every call is interrupted.
-#[derive(Drop)]
-struct Interrupted;
-
-impl io::Read for Interrupted {
-    fn read(&mut self, _room: &mut [u8]) -> io::Result<usize> {
-        Err(io::ErrorKind::Interrupted.into())
-    }
-}
-
-// A writer that takes so many bytes at most at a call.
-#[derive(Drop)]
-struct Taking(usize);
-
-impl io::Write for Taking {
-    fn write(&mut self, bytes: &[u8]) -> io::Result<usize> {
-        Ok(bytes.len().min(self.0))
-    }
-
-    fn flush(&mut self) -> io::Result<()> {
-        Ok(())
-    }
-}
-
-// The command line, the reader, how many bytes the writer takes at a call, and what is left beside them.
-fn assert_left<R: io::Read + Drop>(
+// The command line, the byte that its standard input is made of, and the status and what is reported.
+fn assert_left(
     rt: &impl Abort,
     alloc: Global,
     words: &[&str],
-    reader: R,
-    most: usize,
+    byte: u8,
     wanted: &str,
 ) -> Result<(), Fail> {
     let Ok(command) = command_of(alloc, words) else {
@@ -67,8 +29,8 @@ fn assert_left<R: io::Read + Drop>(
         alloc,
         &HeldFiles(FILES),
         &command,
-        FromStd::new(reader),
-        &mut FromStd::new(Taking(most)),
+        FromStd::new(io::repeat(byte)),
+        &mut FromStd::new(io::sink()),
         &mut errors,
         &mut None,
     );
@@ -82,19 +44,8 @@ fn assert_left<R: io::Read + Drop>(
 fn what_does_not_end_is_too_much(rt: HostRuntime) -> Result<(), Fail> {
     let alloc = rt.alloc();
     let too_long = "1||refused: TextTooLong\n";
-    assert_left(&rt, alloc, &["raw", "1", "1"], Endless(b';'), 99, too_long)?;
+    assert_left(&rt, alloc, &["raw", "1", "1"], b';', too_long)?;
+    let rewrite = ["rewrite", "https://ex.test/app.js=m.map"];
     let too_much = "1||refused: X3 TooMuch\n";
-    assert_left(&rt, alloc, REWRITE, Endless(b'a'), usize::MAX, too_much)
-}
-
-#[test]
-fn an_interrupted_read_is_a_failure(rt: HostRuntime) -> Result<(), Fail> {
-    let wanted = "3||device: X1 Read\n";
-    assert_left(&rt, rt.alloc(), REWRITE, Interrupted, usize::MAX, wanted)
-}
-
-#[test]
-fn a_write_that_takes_nothing_is_a_failure(rt: HostRuntime) -> Result<(), Fail> {
-    let trace: &[u8] = b"    at f (https://ex.test/app.js:1:6)\n";
-    assert_left(&rt, rt.alloc(), REWRITE, trace, 0, "3||device: X2 Write\n")
+    assert_left(&rt, alloc, &rewrite, b'a', too_much)
 }

@@ -1,5 +1,5 @@
 //! Files that are read: how many of their bytes, and why some can't be.
-use crate::runs::{HeldFiles, SOUND, left, run_over};
+use crate::runs::{left, left_by};
 use crate::same::assert_same;
 use smap_answers::{CheckOptions, Command, FileReader};
 use smap_io::ReadFailure;
@@ -101,8 +101,7 @@ fn of_one_file_the_counts_are_reported(rt: HostRuntime) -> Result<(), Fail> {
         interval: 64,
         options: CheckOptions::new(rt.alloc()),
     };
-    let sound = [SOUND, SOUND, SOUND];
-    let left = run_over(rt.alloc(), &HeldFiles(HELD), &command, b"", sound)?;
+    let left = left_by(rt.alloc(), HELD, &command, b"")?;
     let wanted = "0|ok sections 1 sources 1 names 0 segments 3 lines 2 checkpoints 2\n|";
     assert_same(&rt, "one file", &left, wanted);
     Ok(())

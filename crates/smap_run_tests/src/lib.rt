@@ -1,5 +1,5 @@
-//! The tests of runs, of traces and of where maps are found that no row of smap_rows can say, and the rows that the program
-//! was specified by. There is nothing here to call.
+//! The tests of runs that no row of smap_rows can say, and the rows that the program was specified by. There is nothing here to
+//! call.
 #![tactic(auto)]
 
 #[cfg(test)]
@@ -11,20 +11,10 @@ mod broken_runs;
 #[cfg(test)]
 mod endless;
 #[cfg(test)]
-mod failing;
-#[cfg(test)]
 mod files;
-#[cfg(test)]
-mod locations;
-#[cfg(test)]
-mod places;
 #[cfg(test)]
 mod runs;
 #[cfg(test)]
 mod same;
-#[cfg(test)]
-mod stored;
-#[cfg(test)]
-mod tables;
 #[cfg(test)]
 mod worked;

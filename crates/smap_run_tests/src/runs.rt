@@ -34,15 +34,11 @@ impl FileReader for HeldFiles<'_> {
     }
 }
 
-/// How many bytes a call of a device moves at most, 1 at least, and the call that fails, from 1, or 0 for none.
-#[derive(Clone, Copy)]
-pub struct Device(pub usize, pub u64);
-
-/// A device that never fails.
-pub const SOUND: Device = Device(8_192, 0);
-
 /// How many bytes an output takes at most.
 pub const MOST_TAKEN: usize = 262_144;
+
+// How many bytes a call of a device moves at most.
+const MOST_MOVED: usize = 8_192;
 
 /// The status, and what stands on the output and on the error stream, with `|` between two.
 pub fn left_text(
@@ -79,41 +75,38 @@ fn owned(alloc: Global, words: &[&str]) -> Result<Vec<String>, AllocError> {
     Ok(owned)
 }
 
-/// What a command line leaves over files, this input and these devices.
-pub fn left_over<F: FileReader>(
+/// What a command line leaves over files in memory and this input, with devices that never fail.
+pub fn left(
     alloc: Global,
-    files: &F,
+    files: &[(&str, &str)],
     words: &[&str],
     input: &[u8],
-    devices: [Device; 3],
 ) -> Result<String, AllocError> {
     match command_of(alloc, words) {
-        Ok(command) => run_over(alloc, files, &command, input, devices),
+        Ok(command) => left_by(alloc, files, &command, input),
         Err(text) => left_text(alloc, 2, b"", text.as_bytes()),
     }
 }
 
 /// What a command leaves.
-pub fn run_over<F: FileReader>(
+pub fn left_by(
     alloc: Global,
-    files: &F,
+    files: &[(&str, &str)],
     command: &Command,
     input: &[u8],
-    devices: [Device; 3],
 ) -> Result<String, AllocError>
     requires { IsRunnable command.now }
 {
-    let [reads, writes, reports] = devices;
     let (room, more) = (
         Vec::with_capacity(alloc, MOST_TAKEN)?,
         Vec::with_capacity(alloc, MOST_TAKEN)?,
     );
-    let input = MemorySource::new(input.to_vec(alloc)?, reads.0.max(1), reads.1);
-    let mut output = MemorySink::new(room, writes.0.max(1), writes.1);
-    let mut errors = MemorySink::new(more, reports.0.max(1), reports.1);
+    let input = MemorySource::new(input.to_vec(alloc)?, MOST_MOVED, 0);
+    let mut output = MemorySink::new(room, MOST_MOVED, 0);
+    let mut errors = MemorySink::new(more, MOST_MOVED, 0);
     let (status, _) = run_reading(
         alloc,
-        files,
+        &HeldFiles(files),
         command,
         input,
         &mut output,
@@ -121,20 +114,4 @@ pub fn run_over<F: FileReader>(
         &mut None,
     );
     left_text(alloc, status, output.bytes(), errors.bytes())
-}
-
-/// The same over files in memory and sound devices.
-pub fn left(
-    alloc: Global,
-    files: &[(&str, &str)],
-    words: &[&str],
-    input: &[u8],
-) -> Result<String, AllocError> {
-    left_over(
-        alloc,
-        &HeldFiles(files),
-        words,
-        input,
-        [SOUND, SOUND, SOUND],
-    )
 }
