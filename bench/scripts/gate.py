@@ -1,5 +1,5 @@
 #!/usr/bin/env python3
-"""Runs a command, puts the minutes since its start in front of each line that it prints, and sums the minutes of
+"""Runs a command, puts the minutes since its start in front of each line that it prints, and sums the processor minutes of
 the checks that it runs by crate. gate.sh beside this file runs it in a fresh clone.
 
 Once a second it looks at the processes that the command has started. One with the words `--crate-name NAME` is a
@@ -53,30 +53,28 @@ def is_below(process, top, found):
 
 
 class Watch(threading.Thread):
-    """Sums, by check, the seconds in which it ran, and the processor seconds of each process."""
+    """Keeps of each process that is a check which check it is and the processor seconds that it has taken."""
 
     def __init__(self, top):
         super().__init__(daemon=True)
         self.top, self.ended = top, threading.Event()
-        self.seconds, self.taken = {}, {}
+        self.taken = {}
 
     def run(self):
-        last = time.monotonic()
         while not self.ended.wait(1):
-            now = time.monotonic()
             found = processes()
-            running = set()
             for process, (_, begun, taken) in found.items():
                 check = is_below(process, self.top, found) and check_of(process)
                 if check:
-                    running.add(check)
-                    self.taken[process, begun] = check[0], taken
-            for check in running:
-                self.seconds[check] = self.seconds.get(check, 0) + now - last
-            last = now
+                    self.taken[process, begun] = check, taken
 
-    def processor_seconds(self, crate):
-        return sum(taken for name, taken in self.taken.values() if name == crate)
+    def minutes(self):
+        """Returns the processor minutes of each crate, by kind, in the order in which they began."""
+        minutes = {}
+        for (crate, kind), taken in self.taken.values():
+            of_crate = minutes.setdefault(crate, dict.fromkeys(KINDS, 0))
+            of_crate[kind] += taken / 60
+        return minutes
 
 
 def main():
@@ -95,11 +93,13 @@ def main():
     watch.join()
 
     print(f"\n{' '.join(sys.argv[1:])}: {minutes:.1f} minutes, status {status}")
-    print(f"processors: {len(os.sched_getaffinity(0))}\n")
-    print("| Crate | Proof | Tests | Edits | Processor minutes |\n|---|---|---|---|---|")
-    for crate in dict.fromkeys(crate for crate, _ in watch.seconds):
-        row = [f"{watch.seconds.get((crate, kind), 0) / 60:.1f}" for kind in KINDS]
-        print(f"| {' | '.join([crate, *row, f'{watch.processor_seconds(crate) / 60:.1f}'])} |")
+    print(f"processors: {len(os.sched_getaffinity(0))}\n\nProcessor minutes:\n")
+    print("| Crate | Proof | Tests | Edits | All |\n|---|---|---|---|---|")
+    by_crate = watch.minutes()
+    sums = {kind: sum(of_crate[kind] for of_crate in by_crate.values()) for kind in KINDS}
+    for crate, of_crate in [*by_crate.items(), ("all", sums)]:
+        row = [*(of_crate[kind] for kind in KINDS), sum(of_crate.values())]
+        print(f"| {crate} | {' | '.join(f'{minutes:.1f}' for minutes in row)} |")
     return status if status >= 0 else 128 - status
 
 
