@@ -422,8 +422,8 @@ function bytes() {
   for (const bad of [7, null, undefined, {}, [text]]) refuses('TypeError', () => map.bytesBySource(bad), /`generated` must be a text or a Uint8Array/);
 }
 
-// What sources are named at paths, by hand.
-function paths() {
+// What sources of a table's maps are named at paths, by hand.
+function pathsOfSources() {
   const map = '{"version":3,"sources":["../../src/x.ts"],"mappings":"AAAA"}';
   const named = (url, options) => `${smap.rewrite(new smap.Table({ [url]: map }, options), `    at f (${url}:1:1)`)}`.slice(10, -5);
   same(named('/srv/app/dist/util/x.js', { paths: true }), '/srv/app/src/x.ts');
@@ -431,6 +431,8 @@ function paths() {
   same(named('https://e.test/dist/util/x.js', { paths: true }), 'https://e.test/src/x.ts');
   for (const options of [{}, { paths: false }]) same(named('/srv/app/dist/util/x.js', options), '../../src/x.ts');
   refuses('TypeError', () => named('/srv/x.js', { paths: 1 }), /paths/);
+}
+
 // Where originals stand, by hand: two places of one original, one of another column, and one of another source.
 function generatedPlaces() {
   const map = new smap.TraceMap('{"version":3,"sources":["a","b"],"mappings":"AAAA,EAAE,EAAF,EAAI;A,ECAA"}');
@@ -442,11 +444,14 @@ function generatedPlaces() {
   same([0, 1, 2, 3, 5].map((column) => one(a(column))), ['1:0', '1:4', '1:2', '1:2', '1:6']);
   same([0, 1, 2, 3, 5].map((column) => one(a(column, -1))), ['1:4', '1:2', '1:2', '1:6', ':']);
   same([all(b), all({ ...b, bias: 1 }), one(b), all({ ...b, source: 'c' }), one({ ...b, line: 9 })], ['2:2', '2:2', '2:2', '', ':']);
-  refuses('Error', () => all({ ...b, line: 0 }), /greater than 0/);
-  refuses('Error', () => all({ ...b, column: -1 }), /greater than or equal to 0/);
-  refuses('TypeError', () => all({ ...b, column: 1.5 }), /whole number/);
+  same([one({ ...b, column: Infinity }), one({ ...b, column: Infinity, bias: -1 }), one({ ...b, line: Infinity })], ['2:2', ':', ':']);
+  for (const ask of [all, one]) {
+    refuses('Error', () => ask({ ...b, line: 0 }), /greater than 0/);
+    refuses('Error', () => ask({ ...b, column: -1 }), /greater than or equal to 0/);
+    refuses('TypeError', () => ask({ ...b, column: 1.5 }), /whole number/);
+  }
   map.close();
-  refuses('Error', () => all(b), 'the map is closed');
+  for (const ask of [all, one]) refuses('Error', () => ask(b), 'the map is closed');
 }
 
 // How maps fit texts, by hand: `let` is not `var`, the second line's place is past the content, and the third source has none.
@@ -869,7 +874,7 @@ ownMembers();
 decodedMaps();
 bytes();
 fit();
-paths();
+pathsOfSources();
 generatedPlaces();
 shared();
 intervals();
