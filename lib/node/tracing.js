@@ -9,8 +9,10 @@ const GREATEST_LOWER_BOUND = 1;
 const LEAST_UPPER_BOUND = -1;
 
 // What a look-up is asked and answers: the line, the column, whether in the other direction, and from the fourth on the seven
-// numbers of an answer.
+// numbers of an answer. Of an original place, which is asked by OF_ORIGINAL and the direction, the fourth is its source; what is
+// answered there is whether there are generated places, their original column, and the line and the column of the first and the last.
 const { room } = addon;
+const OF_ORIGINAL = 2;
 
 // Where the generated position comes from: {source, line, column, name}, all null where nothing answers or what answers
 // has no original. A column past the line's end, and Infinity, has the line's last mapping.
@@ -85,31 +87,33 @@ const AT_OR_BEFORE = 0;
 const AT_OR_AFTER = 1;
 const PLACE = 4;
 
-// The generated places of an original one, as the library gives them: all at the original column next to the asked one.
-function generatedFor(map, { source, line, column }, bias) {
+// Where the original position stands in the generated file: {line, column}, both null where it does not. Of several places, which all
+// have the original column next to the asked one, trace-mapping takes the first, but the last with LEAST_UPPER_BOUND at this very
+// column, and before it.
+function generatedPositionFor(map, { source, line, column, bias }) {
+  const lookUp = open(map);
+  const index = sourceNumber(map, source);
+  const isAfter = bias === LEAST_UPPER_BOUND;
+  room[0] = given.line(line);
+  room[1] = given.column(column);
+  if (index < 0) return { line: null, column: null };
+  room[2] = OF_ORIGINAL + (isAfter ? AT_OR_AFTER : AT_OR_BEFORE);
+  room[3] = index;
+  lookUp();
+  if (room[3] === 0) return { line: null, column: null };
+  const isFirst = (room[4] === column) !== isAfter;
+  return isFirst ? { line: room[5] + 1, column: room[6] } : { line: room[7] + 1, column: room[8] };
+}
+
+// All places of the generated file where the original position stands, at the original column next to the asked one.
+function allGeneratedPositionsFor(map, { source, line, column, bias }) {
   const handle = open(map);
   const index = sourceNumber(map, source);
   const [line0, column0] = [given.line(line), given.column(column)];
-  if (index < 0) return new Uint32Array();
-  return addon.generated(handle, index, line0, column0, bias === LEAST_UPPER_BOUND ? AT_OR_AFTER : AT_OR_BEFORE);
-}
-
-const placeAt = (places, at) => ({ line: places[at] + 1, column: places[at + 1] });
-
-// Where the original position stands in the generated file: {line, column}, both null where it does not. Of several places trace-mapping
-// takes the first, but the last with LEAST_UPPER_BOUND at this very column, and before it.
-function generatedPositionFor(map, needle) {
-  const bias = needle.bias || GREATEST_LOWER_BOUND;
-  const places = generatedFor(map, needle, bias);
-  if (places.length === 0) return { line: null, column: null };
-  const isFirst = (places[3] === needle.column) === (bias === GREATEST_LOWER_BOUND);
-  return placeAt(places, isFirst ? 0 : places.length - PLACE);
-}
-
-// All places of the generated file where the original position stands.
-function allGeneratedPositionsFor(map, needle) {
-  const places = generatedFor(map, needle, needle.bias || LEAST_UPPER_BOUND);
-  return Array.from({ length: places.length / PLACE }, (_, i) => placeAt(places, i * PLACE));
+  if (index < 0) return [];
+  const isAfter = !bias || bias === LEAST_UPPER_BOUND;
+  const places = addon.generated(handle, index, line0, column0, isAfter ? AT_OR_AFTER : AT_OR_BEFORE);
+  return Array.from({ length: places.length / PLACE }, (_, i) => ({ line: places[i * PLACE] + 1, column: places[i * PLACE + 1] }));
 }
 
 // The name and the content of the source of this number, from 0, where the map has them.

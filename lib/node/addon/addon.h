@@ -44,7 +44,9 @@ struct held;
 
 /* The addon in one environment of node. The room is what one look-up is asked and answers, in a Uint32Array of ten: the line, the
  * column, 1 for the other direction, and the seven numbers of the answer. There is one, so that a look-up hands over no argument
- * and makes no value. */
+ * and makes no value. Where it has OF_ORIGINAL and a direction in place of the 1, an original place is asked for, whose source stands
+ * behind; and the answer is whether it has generated places, their original column, and the first and the last of them. */
+#define OF_ORIGINAL 2
 struct addon {
     uint32_t *room;
     struct held *first;

@@ -3,6 +3,19 @@
 #include <stdlib.h>
 #include <string.h>
 
+/* The generated places of an original one, once the map has the index for them; or false, which is an error. */
+static bool places_of(napi_env env, struct held *held, uint32_t source, uint32_t line, uint32_t column, uint32_t direction,
+                      smap_generated_places *places) {
+    if (!held->originals.at) {
+        smap_count count = {0};
+        smap_counts(&held->map, &count);
+        if (smap_originals_new(&held->map, &held->originals) != SMAP_DONE) return refuse(env, "out of memory"), false;
+        report_size(env, held, held->size + (int64_t)(16 * count.segments + 24 * count.sources));
+    }
+    smap_generated(&held->originals, source, line, column, direction, places);
+    return true;
+}
+
 /* The function that a map is, called: the look-up that the room asks for. */
 napi_value look_up(napi_env env, napi_callback_info info) {
     void *data = NULL;
@@ -10,7 +23,18 @@ napi_value look_up(napi_env env, napi_callback_info info) {
     struct held *held = data;
     if (!held->full) return refuse(env, "the map is closed");
     uint32_t *room = held->addon->room;
-    (room[2] ? smap_look_up_from : smap_look_up)(&held->map, room[0], room[1], (smap_found *)(room + 3));
+    if (room[2] < OF_ORIGINAL) {
+        (room[2] ? smap_look_up_from : smap_look_up)(&held->map, room[0], room[1], (smap_found *)(room + 3));
+        return NULL;
+    }
+    smap_generated_places places = SMAP_PLACES;
+    if (!places_of(env, held, room[3], room[0], room[1], room[2] - OF_ORIGINAL, &places)) return NULL;
+    room[3] = places.count > 0;
+    if (places.count) {
+        const smap_generated_place *first = places.places, *last = first + places.count - 1;
+        const uint32_t answer[] = {first->original_column, first->line, first->column, last->line, last->column};
+        memcpy(room + 4, answer, sizeof answer);
+    }
     return NULL;
 }
 
@@ -52,14 +76,8 @@ napi_value generated(napi_env env, napi_callback_info info) {
     struct held *held = map_of(env, words[0]);
     if (!held || !number_of(env, words[1], &source) || !number_of(env, words[2], &line)) return NULL;
     if (!number_of(env, words[3], &column) || !number_of(env, words[4], &direction)) return NULL;
-    if (!held->originals.at) {
-        smap_count count = {0};
-        smap_counts(&held->map, &count);
-        if (smap_originals_new(&held->map, &held->originals) != SMAP_DONE) return refuse(env, "out of memory");
-        report_size(env, held, held->size + (int64_t)(16 * count.segments + 24 * count.sources));
-    }
     smap_generated_places places = SMAP_PLACES;
-    smap_generated(&held->originals, source, line, column, direction, &places);
+    if (!places_of(env, held, source, line, column, direction, &places)) return NULL;
     size_t bytes = places.count * sizeof *places.places;
     if (napi_create_arraybuffer(env, bytes, &place, &buffer) != napi_ok ||
         napi_create_typedarray(env, napi_uint32_array, bytes / sizeof(uint32_t), buffer, 0, &array) != napi_ok)
