@@ -1,29 +1,26 @@
 #!/usr/bin/env node
-// Reads MAP and asks for the generated places of each original place once: node each-original.js smap|trace MAP prints the
-// milliseconds of reading, those of asking, the peak of memory in MB, and the sum of the columns that are found.
+// Reads MAP and asks for the generated place of each original that makers/list-originals.js wrote to ORIGINALS: node each-original.js
+// smap|trace MAP ORIGINALS prints the milliseconds of reading, those of asking, the peak of memory in MB, and the sum of the columns that
+// are found. With CLOCK=processor they are those of processors, of all threads.
 'use strict';
 
 const fs = require('fs');
-const { decode } = require('@jridgewell/sourcemap-codec');
 
-const [how, path] = process.argv.slice(2);
+const [how, path, originals] = process.argv.slice(2);
 const library = how === 'smap' ? require('../../lib/node') : require('@jridgewell/trace-mapping');
-const now = () => Number(process.hrtime.bigint() / 1000n) / 1000;
-const text = fs.readFileSync(path, 'utf8');
-// What is asked, each place once: packed, so that it takes the same memory beside either library.
-const origins = (() => {
-  const list = decode(JSON.parse(text).mappings).flat().filter((segment) => segment.length > 1);
-  const places = new Uint32Array(3 * list.length);
-  list.forEach(([, source, line, column], i) => places.set([source, line, column], 3 * i));
-  return places;
-})();
+const clock = () => Number(process.hrtime.bigint() / 1000n);
+const ofProcessors = () => process.cpuUsage().user + process.cpuUsage().system;
+const now = process.env.CLOCK === 'processor' ? ofProcessors : clock;
+const { buffer, byteOffset, length } = fs.readFileSync(originals);
+const asked = new Uint32Array(buffer, byteOffset, length / 4);
 let sum = 0;
 const begin = now();
-const map = new library.TraceMap(text);
+const map = new library.TraceMap(fs.readFileSync(path, 'utf8'));
 const read = now();
-for (let i = 0; i < origins.length; i += 3) {
-  const needle = { source: map.sources[origins[i]], line: origins[i + 1] + 1, column: origins[i + 2] };
+for (let i = 0; i < asked.length; i += 3) {
+  const needle = { source: map.sources[asked[i]], line: asked[i + 1] + 1, column: asked[i + 2] };
   sum += library.generatedPositionFor(map, needle).column;
 }
 const end = now();
-console.log(`${Math.round(read - begin)} ${Math.round(end - read)} ${Math.round((process.resourceUsage().maxRSS * 1024) / 1e6)} ${sum}`);
+const milliseconds = (from, to) => Math.round((to - from) / 1000);
+console.log(`${milliseconds(begin, read)} ${milliseconds(read, end)} ${Math.round((process.resourceUsage().maxRSS * 1024) / 1e6)} ${sum}`);
