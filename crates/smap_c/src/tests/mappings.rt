@@ -48,6 +48,6 @@ fn mappings_are_handed_out(rt: HostRuntime) -> Result<(), Fail> {
 fn the_version_is_lent(rt: HostRuntime) -> Result<(), Fail> {
     let mut version = Text { text: b"" };
     assert_done(&rt, smap_version(&mut version));
-    assert_text(&rt, &version, "0.1.0");
+    assert_text(&rt, &version, "0.2.0");
     Ok(())
 }
