@@ -6,18 +6,18 @@ ghost use Rattle.smap_places.specs.Candidates.{candidate_at, has_named, has_pref
 ghost use Rattle.smap_places.specs.Places.{numbers_after};
 ghost use Rattle.smap_places.specs.PlaceAt.{exact_at, is_named, is_prefix, place_at};
 ghost use Rattle.smap_places.specs.PlaceSeen.{HasMap, IsNext, NoNext, NoneBetween, place_seen};
-ghost use Rattle.smap_places.specs.PlacesNear.{DecidedWithin, EndsAtLines, KnownWithin};
 ghost use Rattle.smap_places.specs.Private.Finder.{HasOwnMap, IsBarred, IsLongest, IsOpen, IsUnqueried};
 
-use crate::begins::{MOST_COLOUR, may_begin};
+mod patterns;
+mod reach;
+
+use crate::begins::may_begin;
 use crate::lengths::Lengths;
-use crate::numbers::{MOST_NUMBERS, find_numbers, numbers_after};
-use crate::pattern_url::url_start;
+use crate::numbers::{find_numbers, numbers_after};
 use crate::place::{FoundPlace, FoundUrl};
 use crate::runs::{MOST_RUN, barred_end, has_query_between, query_length, run_length};
 use memchr::memchr;
 use smap_locations::Locations;
-use smap_record::MapFile;
 use smap_trace::Table;
 use std::alloc::{AllocError, Global};
 use std::marker::Model;
@@ -75,34 +75,6 @@ impl<'t> PlaceFinder<'t> {
         })
     }
 
-    /// How many bytes from the beginning of a place on decide which it is, at most; an LF and what stands behind it decides
-    /// nothing. `None` where they are too many to count.
-    pub(crate) fn reach(&self) -> Option<usize>
-        ensures ends { EndsAtLines (place_at self.now) }
-        ensures reaches { IfSome result (DecidedWithin (place_at self.now)) }
-        ensures some { IfSome result (λ reach. 0 < reach) }
-    {
-        let bytes = self.longest?.checked_add(MOST_NUMBERS + 1)?;
-        if self.locations.has_patterns() {
-            bytes.checked_add(MOST_RUN)
-        } else {
-            Some(bytes)
-        }
-    }
-
-    /// How many bytes before the beginning of a place decide which it is, at most.
-    pub(crate) fn kept(&self) -> usize
-        ensures kept { KnownWithin (place_at self.now) result }
-        ensures some { 0 < result }
-        ensures few { result ≤ 2082 }
-    {
-        if self.locations.has_patterns() {
-            MOST_RUN + MOST_COLOUR
-        } else {
-            MOST_COLOUR + 1
-        }
-    }
-
     /// The first place of a text that begins at byte `from` or after it. What stands before `from` is asked only for
     /// whether a place may begin there: so the places of a text are found one after the end of another, from 0. The call
     /// takes no memory.
@@ -133,86 +105,6 @@ impl<'t> PlaceFinder<'t> {
         } else {
             self.next_exact(text, from, high)
         }
-    }
-
-    // The same where there are patterns.
-    fn next_of_all<'l>(
-        &self,
-        text: &'l [u8],
-        from: usize,
-        high: usize,
-    ) -> Option<FoundPlace<'l, 't>>
-        requires from { from ≤ length text.now }
-        requires high { high ≤ length text.now }
-        ensures { MatchOption result (NoneBetween (place_at self.now) text.now from high)
-            (λ place. IsNext (place_at self.now) text.now from place × (place.start < high) ×
-            HasMap self.now.table place) }
-    {
-        let mut start = from;
-        while start < high {
-            let numbers = find_numbers(text, start + 1)?;
-            if let Some(place) = self.next_at(text, start, numbers) {
-                return if place.start < high {
-                    Some(place)
-                } else {
-                    None
-                };
-            }
-            start = numbers;
-        }
-        None
-    }
-
-    // The first place that begins at byte `from` or after it, and before these numbers, which are the first that stand after it.
-    fn next_at<'l>(&self, text: &'l [u8], from: usize, numbers: usize) -> Option<FoundPlace<'l, 't>>
-        requires from { from < numbers }
-        requires numbers { numbers < length text.now }
-        requires some { is_some (numbers_after (drop numbers text.now)) ≡ true }
-        requires none { (i : ℕ) → from < i → i < numbers → numbers_after (drop i text.now) ≡ None }
-        ensures { MatchOption result (NoneBetween (place_at self.now) text.now from numbers)
-            (λ place. IsNext (place_at self.now) text.now from place × (place.start < numbers) ×
-            HasMap self.now.table place) }
-    {
-        match self.next_exact(text, from, numbers) {
-            Some(place) => Some(place),
-            None => self.place_of_pattern(text, from, numbers),
-        }
-    }
-
-    // The place with the URL of a pattern that ends at these numbers, where it begins at byte `from` or after it. No place with
-    // another URL begins there before the numbers.
-    fn place_of_pattern<'l>(
-        &self,
-        text: &'l [u8],
-        from: usize,
-        numbers: usize,
-    ) -> Option<FoundPlace<'l, 't>>
-        requires from { from < numbers }
-        requires numbers { numbers < length text.now }
-        requires some { is_some (numbers_after (drop numbers text.now)) ≡ true }
-        requires none { (i : ℕ) → from < i → i < numbers → numbers_after (drop i text.now) ≡ None }
-        requires free { NoneBetween (exact_at self.now) text.now from numbers }
-        ensures { MatchOption result (NoneBetween (place_at self.now) text.now from numbers)
-            (λ place. IsNext (place_at self.now) text.now from place × (place.start < numbers) ×
-            HasMap self.now.table place) }
-    {
-        let start = url_start(text, numbers);
-        if start < from {
-            return None;
-        }
-        if numbers <= start {
-            return None;
-        }
-        let url = &text[start..numbers];
-        if !self.locations.has_pattern_in_text(url) {
-            return None;
-        }
-        let found = FoundUrl {
-            bytes: numbers - start,
-            end: numbers - start,
-            map: self.table.map_for(url),
-        };
-        self.place_with(text, start, found)
     }
 
     // The first place of a text with a URL that is named or behind a prefix that begins at byte `from` or after it, and before
