@@ -11,6 +11,7 @@ use smap_codes::Code;
 use smap_command::Command;
 use smap_compose_answers::{AllMaps, TwoMaps, answer_compose, answer_compose_all, answer_show};
 use smap_io::{ByteSink, ByteSource};
+use smap_locate_answers::{LocateRequest, answer_locate};
 use smap_map_answers::{
     GeneratedAsked, LookUp, answer_content, answer_generated, answer_lookup, answer_mappings,
     answer_positions, answer_raw, answer_sources,
@@ -205,6 +206,14 @@ fn run_over<F: FileReader, R: ByteSource, W: ByteSink, E: ByteSink>(
                 options,
             };
             return answer_rewrite(alloc, &request, input, output, errors, first);
+        }
+        Command::Locate {
+            maps: arguments,
+            options,
+            ..
+        } => {
+            let request = LocateRequest::new(&maps, arguments, options);
+            return answer_locate(alloc, &request, input, output, errors, first);
         }
         Command::Compose {
             outer,

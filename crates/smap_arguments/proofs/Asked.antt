@@ -22,7 +22,7 @@ use Rattle.clap.specs.declared.builder.value_parser.ValueParser.TheVariants as p
 use Rattle.clap.specs.declared.error.Error.{Error}
 use Rattle.clap.specs.declared.error.kind.ErrorKind.TheVariants.{DisplayHelp, DisplayVersion, OutOfMemory}
 use Rattle.smap_arguments.specs.CommandLine.{base_rule, bytes_number, bytes_rule, check, compose, content_rule, flag_rule, interval_number, interval_rule}
-use Rattle.smap_arguments.specs.CommandLine.{explain, fit, generated, list_rule, lookup, mappings, named, number, order_rule, positions, raw, repeated_rule, rewrite, show, smap, smap_generated, source_number, sources}
+use Rattle.smap_arguments.specs.CommandLine.{explain, fit, generated, list_rule, locate, lookup, mappings, named, number, order_rule, positions, raw, repeated_rule, rewrite, show, smap, smap_generated, source_number, sources}
 use Rattle.smap_arguments.specs.CommandLine.{whole_name}
 use Rattle.smap_arguments.specs.Line.{asks_generated, line_for, line_of}
 use Rattle.smap_arguments.specs.declared.usage.Usage.{Usage}
@@ -269,6 +269,24 @@ rewrite_plain = (
   ),
 )
 
+locate_plain : Each (IsPlain at_argument) (built_leaf locate.top).rules
+locate_plain = (
+  more_values at_argument 1 (codes "URL=FILE") false,
+  (
+    list_plain 2 (codes "maps"),
+    (
+      base_plain 2,
+      (
+        interval_plain 2,
+        (
+          flag_plain 2 (codes "paths") refl,
+          (cache_plain 2, (flag_plain 2 (codes "after") refl, (flag_plain 2 (codes "json") refl, (help_plain, tt)))),
+        ),
+      ),
+    ),
+  ),
+)
+
 check_plain : Each (IsPlain at_argument) (built_leaf check.top).rules
 check_plain = (
   more_values at_argument 1 (codes "PATH") true,
@@ -375,18 +393,21 @@ each_gives word no_help = (
         (
           λ answers. level_gives at_argument (built_leaf rewrite.top) rewrite_plain,
           (
-            λ answers. level_gives at_argument (built_leaf check.top) check_plain,
+            λ answers. level_gives at_argument (built_leaf locate.top) locate_plain,
             (
-              λ answers. level_gives at_argument (built_leaf show.top) show_plain,
+              λ answers. level_gives at_argument (built_leaf check.top) check_plain,
               (
-                λ answers. level_gives at_argument (built_leaf compose.top) compose_plain,
+                λ answers. level_gives at_argument (built_leaf show.top) show_plain,
                 (
-                  λ answers. level_gives at_argument (built_leaf fit.top) fit_plain,
+                  λ answers. level_gives at_argument (built_leaf compose.top) compose_plain,
                   (
-                    λ answers. level_gives at_argument (built_leaf explain.top) explain_plain,
+                    λ answers. level_gives at_argument (built_leaf fit.top) fit_plain,
                     (
-                      λ answers. level_gives at_argument (built_leaf raw.top) raw_plain,
-                      (λ answers. absurd (no_help_named word no_help (bytes_eq (codes "help") word) refl answers), tt),
+                      λ answers. level_gives at_argument (built_leaf explain.top) explain_plain,
+                      (
+                        λ answers. level_gives at_argument (built_leaf raw.top) raw_plain,
+                        (λ answers. absurd (no_help_named word no_help (bytes_eq (codes "help") word) refl answers), tt),
+                      ),
                     ),
                   ),
                 ),

@@ -13,7 +13,7 @@ use Rattle.clap.specs.declared.parser.matches.ArgMatches.{ArgMatches}
 use Rattle.clap.specs.declared.parser.matches.ArgMatches.TheViews.{out-ArgMatches, out-SubCommand}
 use Rattle.clap.specs.declared.parser.matches.SubCommand.{SubCommand}
 use Rattle.smap_command.specs.declared.command.Command.{Command}
-use Rattle.smap_arguments.specs.CommandLine.{check, compose, explain, fit, generated, lookup, mappings, named, positions, raw, rewrite, show, smap, sources}
+use Rattle.smap_arguments.specs.CommandLine.{check, compose, explain, fit, generated, locate, lookup, mappings, named, positions, raw, rewrite, show, smap, sources}
 use Rattle.smap_arguments.specs.CommandLine.{whole_name}
 use Rattle.smap_arguments.specs.Arguments.{HasArguments, HasCommand, NamedAsksFor, SubcommandAsksFor}
 use Rattle.smap_arguments.specs.Refusals.{IsNamedRefusal}
@@ -100,7 +100,7 @@ plainly_named name other = go (bytes_eq name (codes "lookup --generated")) refl
 
 -- the commands before `raw`
 abbrev pub before_raw : List Shape
-before_raw = lookup.top ∷ positions.top ∷ mappings.top ∷ sources.top ∷ rewrite.top ∷ check.top ∷ show.top ∷ compose.top
+before_raw = lookup.top ∷ positions.top ∷ mappings.top ∷ sources.top ∷ rewrite.top ∷ locate.top ∷ check.top ∷ show.top ∷ compose.top
     ∷ fit.top ∷ explain.top ∷ []
 
 -- a name that is none of theirs, nor the one with an option, is `raw`

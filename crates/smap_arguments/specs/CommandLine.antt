@@ -126,6 +126,10 @@ rewrite = with_rules (codes "rewrite") (texts_rule false (codes "URL=FILE") ∷ 
     ∷ flag_rule (codes "paths") ∷ bytes_rule 0 (codes "cache") ∷ bytes_rule 1 (codes "limit") ∷ flag_rule (codes "summary")
     ∷ flag_rule (codes "explain") ∷ flag_rule (codes "strip-ansi") ∷ [])
 
+abbrev pub locate : App
+locate = with_rules (codes "locate") (texts_rule false (codes "URL=FILE") ∷ list_rule (codes "maps") ∷ base_rule ∷ interval_rule
+    ∷ flag_rule (codes "paths") ∷ bytes_rule 0 (codes "cache") ∷ flag_rule (codes "after") ∷ flag_rule (codes "json") ∷ [])
+
 abbrev pub check : App
 check = with_rules (codes "check") (texts_rule true (codes "PATH") ∷ base_rule ∷ interval_rule ∷ flag_rule (codes "json")
     ∷ flag_rule (codes "explain") ∷ [])
@@ -160,7 +164,7 @@ first_commands = lookup ∷ positions ∷ mappings ∷ sources ∷ []
 
 -- those over several
 abbrev pub next_commands : List App
-next_commands = rewrite ∷ check ∷ show ∷ []
+next_commands = rewrite ∷ locate ∷ check ∷ show ∷ []
 
 abbrev pub last_commands : List App
 last_commands = compose ∷ fit ∷ explain ∷ raw ∷ []

@@ -15,7 +15,7 @@ use Rattle.clap.specs.declared.error.kind.ErrorKind.TheVariants.{DisplayHelp, Di
 use Rattle.smap_arguments.specs.CommandLine.{whole_name}
 use Rattle.smap_arguments.specs.Arguments.{GivesBase, GivesFlag, GivesFurther, GivesOrder, GivesPairs, GivesText, GivesTexts, HasMaps, HasNoInners, has_equals_sign, has_inner}
 use Rattle.smap_arguments.specs.Arguments.{has_listing, words_of}
-use Rattle.smap_arguments.specs.Excludes.{excluded_line}
+use Rattle.smap_arguments.specs.Excludes.{base_and_paths_line, excluded_line}
 use Rattle.smap_arguments.specs.Line.{asks_generated, line_of}
 use Rattle.smap_command.specs.declared.options.FurtherOptions.{FurtherOptions}
 use Rattle.smap_arguments.specs.declared.usage.Usage.{Usage}
@@ -113,6 +113,15 @@ ReportsExcluded rows text = (maps : List (String Global × String Global)) × (b
 abbrev pub ReportsRewrite : List Row → Text → Type 0
 ReportsRewrite rows text = ReportsMaps (codes "rewrite") rows text ⊎ ReportsExcluded rows text
 
+-- it is reported that `locate` is given a base, and is to name sources by paths
+abbrev pub ReportsBaseAndPaths : List Row → Text → Type 0
+ReportsBaseAndPaths rows text = (text ≡ base_and_paths_line)
+    × ((base : Option Parts) × GivesBase rows base × (is_some base ≡ true)) × GivesFlag rows (codes "paths") true
+
+-- what `locate` refuses after its base: its maps, and then what excludes each other
+abbrev pub ReportsLocate : List Row → Text → Type 0
+ReportsLocate rows text = ReportsMaps (codes "locate") rows text ⊎ ReportsBaseAndPaths rows text
+
 -- it is reported that SOURCE or INNER is given beside maps that are given by the names of their sources, of words that are pairs
 abbrev pub ReportsSourceWithInners : List Row → Text → Type 0
 ReportsSourceWithInners rows text = (text ≡ source_with_inners_line) × (has_inner rows ≡ true)
@@ -180,10 +189,11 @@ ReportsNoGenerated rows text =
     (text ≡ no_generated_line) × ((words : List Text) × GivesTexts rows (codes "MAP GENERATED") words × (length words % 2 ≡ 1))
 
 -- the arguments are reported that clap takes, but the command of this name does not: its base or, where that is not refused,
--- what else `rewrite`, `compose`, `sources` and `fit` refuse
+-- what else `rewrite`, `locate`, `compose`, `sources` and `fit` refuse
 abbrev pub ReportsRefusal : (name : Text) → List Row → Text → Type 0
 ReportsRefusal name rows text = ReportsOfBase rows text
     ⊎ ((base : Option Parts) × (name ≡ codes "rewrite") × GivesBase rows base × ReportsRewrite rows text)
+    ⊎ ((base : Option Parts) × (name ≡ codes "locate") × GivesBase rows base × ReportsLocate rows text)
     ⊎ ((base : Option Parts) × (name ≡ codes "compose") × GivesBase rows base × ReportsCompose rows text)
     ⊎ ((base : Option Parts) × (name ≡ codes "sources") × GivesBase rows base × ReportsSources rows text)
     ⊎ ((base : Option Parts) × (name ≡ codes "fit") × GivesBase rows base × ReportsNoGenerated rows text)

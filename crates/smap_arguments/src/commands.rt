@@ -7,6 +7,7 @@ ghost use Rattle.smap_arguments.specs.Arguments.{SubcommandAsksFor};
 ghost use Rattle.smap_arguments.specs.Refusals.{IsNamedRefusal, SubcommandReports, ReportsRefusal};
 
 use crate::checks::{check_in, explain_in, fit_in};
+use crate::locate::locate_in;
 use crate::lookups::{generated_in, lookup_in, mappings_in, positions_in, raw_in};
 use crate::rewrite::rewrite_in;
 use crate::sources::sources_in;
@@ -67,6 +68,7 @@ fn named_command(
         "mappings" => Ok(mappings_in(alloc, matches, base)?),
         "sources" => sources_in(alloc, matches, base),
         "rewrite" => rewrite_in(alloc, matches, base),
+        "locate" => locate_in(alloc, matches, base),
         "check" => Ok(check_in(alloc, matches, base)?),
         "show" => Ok(show_in(alloc, matches, base)?),
         "compose" => compose_in(alloc, matches, base),

@@ -128,6 +128,30 @@ Examples:
   smap rewrite https://example.test/receipt.min.js=examples/receipt.min.js.map < examples/receipt.trace
   smap rewrite https://example.test/=examples/ < examples/receipt.trace";
 
+pub const LOCATE_ABOUT: &str =
+    "Answers places in many generated files, on standard input, over source map files";
+
+pub const LOCATE_NOTES: &str = "\
+Each line of standard input is a place, URL:LINE:COLUMN: the last two numbers are LINE and COLUMN, from 1, without
+signs or leading zeros, and what stands before them is the URL of a generated file.
+
+The arguments name maps as those of `smap rewrite` do: URL=FILE, PREFIX=FOLDER/, or one that begins with `*`. Those
+of folders and of --maps are read when a line first names them, and one that cannot be read is reported on standard
+error too.
+
+Answer: for each line one line, in their order, while they come:
+  what `smap lookup` prints first for the position in the map of the URL, and else
+  no map         no argument names a map for the URL
+  no file        the file of its map cannot be read
+  refused CODE   its map is refused, as `smap explain CODE` says
+  no memory      memory ran out
+  bad place      the line is no place
+With --json each is a JSON object.
+
+The last mapping at a position or before it answers or, with --after, the first at it or after it.
+
+Example: printf 'https://a.test/preset-react.js:65:80\\n' | smap locate https://a.test/=examples/";
+
 pub const CHECK_ABOUT: &str = "Checks source map files and prints their counts";
 
 pub const CHECK_NOTES: &str = "\

@@ -12,6 +12,7 @@ mod commands;
 mod generated;
 mod help;
 mod line;
+mod locate;
 mod lookups;
 mod mistakes;
 mod pairs;

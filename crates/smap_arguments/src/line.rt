@@ -2,7 +2,7 @@
 ghost use Rattle.std.specs.Prelude.{◌≡◌, All, IfOk, IsOkAnd, false, map};
 ghost use Rattle.clap.specs.Built.{AddsSubcommand};
 ghost use Rattle.clap.specs.Words.{app_of, rule_of};
-ghost use Rattle.smap_arguments.specs.CommandLine.{IsLocalCommand, check, compose, explain, first_commands, fit, generated, last_commands, lookup};
+ghost use Rattle.smap_arguments.specs.CommandLine.{IsLocalCommand, check, compose, explain, first_commands, fit, generated, last_commands, locate, lookup};
 ghost use Rattle.smap_arguments.specs.CommandLine.{mappings, next_commands, positions, raw, rewrite, show, smap, smap_alone, smap_generated, sources};
 ghost use Rattle.smap_arguments.specs.CommandLine.{with_commands, with_rules};
 
@@ -14,13 +14,13 @@ use crate::help::{
     AFTER_HELP, ALIKE_HELP, ANYWHERE_HELP, CACHE_HELP, CHECK_ABOUT, CHECK_NOTES, CODE_HELP,
     COLUMN_HELP, COMPOSE_ABOUT, COMPOSE_NOTES, EXPLAIN_ABOUT, EXPLAIN_NOTES, FIT_ABOUT, FIT_HELP,
     FIT_NOTES, GENERATED_ABOUT, GENERATED_HELP, GENERATED_NOTES, HIDE_HELP, INNER_HELP,
-    INNER_LIST_HELP, INNER_PAIRS_HELP, JSON_HELP, LIMIT_HELP, LINE_HELP, LIST_HELP, LOOKUP_ABOUT,
-    LOOKUP_NOTES, MAPPINGS_ABOUT, MAPPINGS_NOTES, MISFIT_COUNT_HELP, MISFITS_HELP, NEAREST_HELP,
-    NO_CONTENT_HELP, ONE_LINE_HELP, OUTER_HELP, PAIRS_HELP, PATH_HELP, PATHS_HELP,
-    PATHS_OF_SOURCES_HELP, POSITIONS_ABOUT, POSITIONS_NOTES, PRUNE_HELP, RAW_ABOUT, RAW_NOTES,
-    REWRITE_ABOUT, REWRITE_NOTES, SHOW_ABOUT, SHOW_NOTES, SOURCE_AFTER_HELP, SOURCE_COLUMN_HELP,
-    SOURCE_LINE_HELP, SOURCE_NAME_HELP, SOURCES_ABOUT, SOURCES_NOTES, STATUSES, STRIP_HELP,
-    SUMMARY_HELP, TEXT_HELP, TO_GENERATED_HELP, URLS_HELP, WHY_HELP,
+    INNER_LIST_HELP, INNER_PAIRS_HELP, JSON_HELP, LIMIT_HELP, LINE_HELP, LIST_HELP, LOCATE_ABOUT,
+    LOCATE_NOTES, LOOKUP_ABOUT, LOOKUP_NOTES, MAPPINGS_ABOUT, MAPPINGS_NOTES, MISFIT_COUNT_HELP,
+    MISFITS_HELP, NEAREST_HELP, NO_CONTENT_HELP, ONE_LINE_HELP, OUTER_HELP, PAIRS_HELP, PATH_HELP,
+    PATHS_HELP, PATHS_OF_SOURCES_HELP, POSITIONS_ABOUT, POSITIONS_NOTES, PRUNE_HELP, RAW_ABOUT,
+    RAW_NOTES, REWRITE_ABOUT, REWRITE_NOTES, SHOW_ABOUT, SHOW_NOTES, SOURCE_AFTER_HELP,
+    SOURCE_COLUMN_HELP, SOURCE_LINE_HELP, SOURCE_NAME_HELP, SOURCES_ABOUT, SOURCES_NOTES, STATUSES,
+    STRIP_HELP, SUMMARY_HELP, TEXT_HELP, TO_GENERATED_HELP, URLS_HELP, WHY_HELP,
 };
 use clap::{Arg, Command};
 use std::alloc::{AllocError, Global};
@@ -72,6 +72,7 @@ fn with_next_commands<'a>(alloc: Global, smap: Command<'a>) -> Result<Command<'a
         ≡ with_commands (app_of smap.entry) next_commands) }
 {
     let smap = with_command(smap, rewrite_command(alloc))?;
+    let smap = with_command(smap, locate_command(alloc))?;
     let smap = with_command(smap, check_command(alloc))?;
     with_command(smap, show_command(alloc))
 }
@@ -198,6 +199,22 @@ fn rewrite_command<'a>(alloc: Global) -> Result<Command<'a>, AllocError>
         flag(alloc, "strip-ansi", STRIP_HELP),
     ]?;
     described(alloc, "rewrite", REWRITE_ABOUT, REWRITE_NOTES, arguments)
+}
+
+fn locate_command<'a>(alloc: Global) -> Result<Command<'a>, AllocError>
+    ensures { IfOk result (IsLocalCommand locate) }
+{
+    let arguments = vec![in alloc;
+        texts(alloc, "URL=FILE", PAIRS_HELP, false),
+        list(alloc, "maps", LIST_HELP),
+        base_url(alloc),
+        interval(alloc),
+        flag(alloc, "paths", PATHS_OF_SOURCES_HELP),
+        bytes(alloc, "cache", CACHE_HELP, 0),
+        flag(alloc, "after", AFTER_HELP),
+        flag(alloc, "json", JSON_HELP),
+    ]?;
+    described(alloc, "locate", LOCATE_ABOUT, LOCATE_NOTES, arguments)
 }
 
 fn check_command<'a>(alloc: Global) -> Result<Command<'a>, AllocError>

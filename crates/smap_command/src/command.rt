@@ -3,7 +3,9 @@ ghost use Rattle.std.specs.Prelude.{◌≡◌, option_copied};
 ghost use Rattle.smap_command.specs.Reading.{base_of, interval_of, strips_ansi};
 
 use crate::limits::USUAL_INTERVAL;
-use crate::options::{CheckOptions, FitOptions, Form, FurtherOptions, LookupOptions, WriteOptions};
+use crate::options::{
+    CheckOptions, FitOptions, Form, FurtherOptions, LocateOptions, LookupOptions, WriteOptions,
+};
 use url::Url;
 
 /// A command. Lines and columns count from 0 here, columns in UTF-16 code units. Sources are resolved against the base. The
@@ -98,6 +100,14 @@ pub enum Command {
         hide_ignored: bool,
         options: FurtherOptions,
     },
+    /// Answers the places on the lines of standard input, which are a URL, a line and a column, each by a line, over maps: pairs of
+    /// the URL that they name and of the path of the map's file, as `Rewrite` has them, and those that the options name.
+    Locate {
+        maps: Vec<(String, String)>,
+        base: Option<Url>,
+        interval: u32,
+        options: LocateOptions,
+    },
     /// Composes the source map in the file at the path `outer` with that of its source of this number, from 0, in the
     /// file at the path `inner`, and writes the result without what the options leave out.
     Compose {
@@ -149,6 +159,7 @@ impl Command {
             | Command::Sources { base, .. }
             | Command::Generated { base, .. }
             | Command::Rewrite { base, .. }
+            | Command::Locate { base, .. }
             | Command::Compose { base, .. }
             | Command::ComposeAll { base, .. } => base.as_ref(),
         }
@@ -163,7 +174,8 @@ impl Command {
             | Command::Check { interval, .. }
             | Command::Lookup { interval, .. }
             | Command::Positions { interval, .. }
-            | Command::Rewrite { interval, .. } => *interval,
+            | Command::Rewrite { interval, .. }
+            | Command::Locate { interval, .. } => *interval,
             _ => USUAL_INTERVAL,
         }
     }

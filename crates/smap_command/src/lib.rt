@@ -17,5 +17,7 @@ pub use limits::{
     LIMIT, MOST_BYTES, MOST_HIDDEN, MOST_INTERVAL, USUAL_CACHE_BYTES, USUAL_INTERVAL,
     USUAL_LIMIT_BYTES,
 };
-pub use options::{CheckOptions, FitOptions, Form, FurtherOptions, LookupOptions, WriteOptions};
+pub use options::{
+    CheckOptions, FitOptions, Form, FurtherOptions, LocateOptions, LookupOptions, WriteOptions,
+};
 pub use url::Url;

@@ -114,6 +114,21 @@ pub struct FurtherOptions {
     pub paths: bool,
 }
 
+/// How places are answered.
+#[derive(Drop)]
+pub struct LocateOptions {
+    /// The path of a file with more pairs, on a line each.
+    pub list: Option<String>,
+    /// Whether the sources of a map whose URL is a path are named by paths that go on from its folder.
+    pub paths: bool,
+    /// How many bytes the files may have whose maps are kept for when a line names them again: 0 to `MOST_BYTES`, and
+    /// `USUAL_CACHE_BYTES` where nothing else is asked for.
+    pub cache_bytes: Option<u64>,
+    /// Whether the first mapping at a position or after it answers; else the last one at it or before it.
+    pub after: bool,
+    pub form: Form,
+}
+
 impl FurtherOptions {
     /// None of them.
     pub fn new(alloc: Global) -> FurtherOptions

@@ -1,6 +1,7 @@
 mod PutLaws
 mod PrintedLaws
 mod EscapeLaws
-mod PositionLaws
+pub mod PositionLaws
+pub mod ColumnLaws
 mod CountLaws
 mod SourceLaws

@@ -16,11 +16,11 @@ use Rattle.smap_positions.specs.declared.printed_position.PrintedPosition.{Print
 
 -- ---- what a text begins with
 
-begins : (ℕ → Bool) → List ℕ → Bool
+pub begins : (ℕ → Bool) → List ℕ → Bool
 begins test [] = false
 begins test (byte ∷ text) = test byte
 
-abbrev AllPass : (ℕ → Bool) → List ℕ → Type 0
+abbrev pub AllPass : (ℕ → Bool) → List ℕ → Type 0
 AllPass test text = AllByRecursion (λ byte. IsTrue (test byte)) text
 
 module _ (test : ℕ → Bool) where
@@ -35,11 +35,11 @@ module _ (test : ℕ → Bool) where
     before_span : take (prefix_len test (xs ++ rest)) (xs ++ rest) ≡ xs
     before_span = take_at xs rest (prefix_len test (xs ++ rest)) (sym (span xs rest all stops))
 
-    after_span : drop (prefix_len test (xs ++ rest)) (xs ++ rest) ≡ rest
+    pub after_span : drop (prefix_len test (xs ++ rest)) (xs ++ rest) ≡ rest
     after_span = drop_at xs rest (prefix_len test (xs ++ rest)) (sym (span xs rest all stops))
 
   -- what is passed over passes the test
-  passes : (text : List ℕ) → AllPass test (take (prefix_len test text) text)
+  pub passes : (text : List ℕ) → AllPass test (take (prefix_len test text) text)
   passes [] = tt
   passes (x ∷ text) =
       let P : ℕ → Type 0 = λ n. AllPass test (take n (x ∷ text)) in
@@ -47,7 +47,7 @@ module _ (test : ℕ → Bool) where
       cond_both (test x) (1 + prefix_len test text) 0 P (λ pass. subst P one (pass, passes text)) (λ _. tt)
 
   -- and what stands after it does not begin so
-  stops_after : (text : List ℕ) → begins test (drop (prefix_len test text) text) ≡ false
+  pub stops_after : (text : List ℕ) → begins test (drop (prefix_len test text) text) ≡ false
   unfolding begins
   stops_after [] = refl
   stops_after (x ∷ text) = go (test x) refl (stops_after text)
@@ -68,7 +68,7 @@ digit_not_blank byte digit = grind arith
 blank_not_digit : (byte : ℕ) → is_blank byte ≡ true → is_ascii_digit byte ≡ false
 blank_not_digit byte blank = grind arith
 
-blank_not_colon : (byte : ℕ) → is_blank byte ≡ true → (byte == 58) ≡ false
+pub blank_not_colon : (byte : ℕ) → is_blank byte ≡ true → (byte == 58) ≡ false
 blank_not_colon byte blank = grind arith
 
 -- ---- numbers
@@ -79,7 +79,7 @@ read_digits n (byte ∷ text) m is =
     let parts = none_else (is_ascii_digit byte && leb (10 * n + (byte - 48)) 2147483648) (read_on (10 * n + (byte - 48)) text) m is in
     ((and_parts (is_ascii_digit byte) (leb (10 * n + (byte - 48)) 2147483648) parts.0).0, read_digits (10 * n + (byte - 48)) text m parts.1)
 
-number_digits : (text : List ℕ) (n : ℕ) → decimal_number text ≡ Some n → AllPass is_ascii_digit text
+pub number_digits : (text : List ℕ) (n : ℕ) → decimal_number text ≡ Some n → AllPass is_ascii_digit text
 number_digits text n is = read_digits 0 text n (none_else (ltb 48 (get_or text 0 0)) (read_on 0 text) n is).1
 
 -- a number has a digit, and so it begins with one
@@ -100,7 +100,7 @@ first_begins text n is =
     (number_begins (take (prefix_len is_ascii_digit text) text) (drop (prefix_len is_ascii_digit text) text) n is)
 
 -- the number that a text begins with, and what stands after it
-first_is : (text rest : List ℕ) (n : ℕ) → decimal_number text ≡ Some n → begins is_ascii_digit rest ≡ false →
+pub first_is : (text rest : List ℕ) (n : ℕ) → decimal_number text ≡ Some n → begins is_ascii_digit rest ≡ false →
     (first_number (text ++ rest) ≡ Some n) × (after_digits (text ++ rest) ≡ rest)
 first_is text rest n is stops =
     let digits = number_digits text n is in
@@ -131,27 +131,27 @@ separator_is between rest (inr blanks) stops = go between blanks.0 blanks.1
         ap (λ n. drop n (byte ∷ (between ++ rest))) (cond-false (byte == 58) 1 (prefix_len is_blank (byte ∷ (between ++ rest))) (blank_not_colon byte blank.0))
         ∙ after_span is_blank (byte ∷ between) rest blank stops
 
-abbrev StopsAll : List ℕ → Type 0
+abbrev pub StopsAll : List ℕ → Type 0
 StopsAll end = (begins is_ascii_digit end ≡ false) × (begins is_blank end ≡ false) × (is_line_end end ≡ true)
 
-end_stops : (end : List ℕ) → IsLineEnd end → StopsAll end
+pub end_stops : (end : List ℕ) → IsLineEnd end → StopsAll end
 unfolding begins
 end_stops end (inl none) = subst (λ e. StopsAll e) (sym none) (refl, refl, refl)
 end_stops end (inr cr) = subst (λ e. StopsAll e) (sym cr) (refl, refl, refl)
 
-after_stops : (after end : List ℕ) → AreBlanks after → IsLineEnd end → begins is_ascii_digit (after ++ end) ≡ false
+pub after_stops : (after end : List ℕ) → AreBlanks after → IsLineEnd end → begins is_ascii_digit (after ++ end) ≡ false
 unfolding begins
 after_stops [] end blank ends = (end_stops end ends).0
 after_stops (byte ∷ after) end blank ends = blank_not_digit byte blank.0
 
-ends_line : (text : List ℕ) → is_line_end text ≡ true → IsLineEnd text
+pub ends_line : (text : List ℕ) → is_line_end text ≡ true → IsLineEnd text
 ends_line [] is = inl refl
 ends_line (byte ∷ []) is = inr (ap (λ b. b ∷ []) (eqb-true byte 13 is))
 ends_line (byte ∷ next ∷ text) is = cc
 
 -- ---- the position
 
-with_is : (l c : Option ℕ) (position : PrintedPosition) → position_with l c ≡ Some position → (l ≡ Some position.line) × (c ≡ Some position.column)
+pub with_is : (l c : Option ℕ) (position : PrintedPosition) → position_with l c ≡ Some position → (l ≡ Some position.line) × (c ≡ Some position.column)
 with_is None c position is = cc
 with_is (Some l) None position is = cc
 with_is (Some l) (Some c) position is =

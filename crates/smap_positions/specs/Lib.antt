@@ -4,6 +4,7 @@ pub mod Lines
 pub mod Lookup
 pub mod Json
 pub mod Positions
+pub mod Places
 pub mod Answering
 pub mod Mappings
 pub mod Generated

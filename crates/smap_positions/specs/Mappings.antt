@@ -40,7 +40,7 @@ mapped_value line column origin source name = object (
     member (codes "answer") (string (codes "found"))
     (member (codes "generatedColumn") (count (column + 1))
     (member (codes "generatedLine") (count (line + 1))
-    (member (codes "ignored") (boolean (is_ignored_where source)) (origin_members origin source name)))))
+    (member (codes "ignored") (boolean (is_ignored_where source)) (origin_members origin source name no_members)))))
 
 abbrev pub value_with : MapRecord → (line column : ℕ) → Option Origin → Data
 value_with stated line column None = bare_value line column

@@ -20,12 +20,16 @@ use Rattle.smap_positions.specs.declared.printed_position.PrintedPosition.{Print
 abbrev pub position_answer : Direction → MapRecord → PrintedPosition → Answer
 position_answer direction stated position = lookup_answer direction (position.line - 1) (position.column - 1) stated
 
--- the line for a position, as JSON or as text; and for what is none
+-- the line for a position, as text, or as JSON with the URL that was asked for, where one was
+abbrev pub asked_line : AnswerOptions → (url : Option (List ℕ)) → MapRecord → PrintedPosition → List ℕ
+asked_line options url stated position =
+    let answer = position_answer options.direction stated position in
+    if is_json options.form then json_line (answer_value None url stated position answer) else answer_line stated answer
+
+-- the same without one; and the line for what is no position
 abbrev pub position_line : AnswerOptions → MapRecord → Option PrintedPosition → List ℕ
 position_line options stated None = if is_json options.form then json_line bad_position_value else bad_position_line
-position_line options stated (Some position) =
-    let answer = position_answer options.direction stated position in
-    if is_json options.form then json_line (answer_value None stated position answer) else answer_line stated answer
+position_line options stated (Some position) = asked_line options None stated position
 
 abbrev pub answered_line : MapRecord → AnswerOptions → Line → List ℕ
 answered_line stated options line = position_line options stated (position_of line.bytes)

@@ -1,17 +1,17 @@
 //! The positions of a text, answered line by line.
-ghost use Rattle.std.specs.Prelude.{None, Some};
+ghost use Rattle.std.specs.Prelude.{None};
 ghost use Rattle.smap_lines.specs.LineOutput.{IsPut};
 ghost use Rattle.smap_positions.specs.Positions.{position_line};
 
-use crate::answer::lookup_answer;
 use crate::gathered_line::GatheredLine;
-use crate::json_form::{AskedPosition, put_answer_object, put_bad_position};
+use crate::json_form::put_bad_position;
 use crate::options::AnswerOptions;
 use crate::output::Output;
+use crate::places::put_answer;
 use crate::printed_position::PrintedPosition;
 use crate::reading::read_position;
 use crate::short_text::ShortText;
-use crate::text_form::{BAD_POSITION, put_answer_line};
+use crate::text_form::BAD_POSITION;
 use smap_io::{ByteSink, DeviceFault};
 use smap_lines::{LineEditor, LineOutput};
 use smap_record::MapFile;
@@ -94,7 +94,14 @@ impl PositionAnswerer<'_> {
             (position_line self.now.options self.now.map.now.stated position) }
     {
         match position {
-            Some(position) => self.put_answer(position, output),
+            Some(position) => put_answer(
+                self.alloc,
+                self.map,
+                self.options,
+                position,
+                None,
+                output,
+            ),
             None => self.put_bad(output),
         }
     }
@@ -108,25 +115,6 @@ impl PositionAnswerer<'_> {
             put_bad_position(output)
         } else {
             output.put(BAD_POSITION.as_bytes())
-        }
-    }
-
-    // Puts the line for a position.
-    fn put_answer<O: Output>(&self, position: PrintedPosition, output: &mut O)
-        ensures { O.Puts output.old output.new
-            (position_line self.now.options self.now.map.now.stated (Some position)) }
-    {
-        let line = position.line.saturating_sub(1);
-        let column = position.column.saturating_sub(1);
-        let answer = lookup_answer(self.alloc, self.map, line, column, self.options.direction);
-        if self.options.form.is_json() {
-            let asked = AskedPosition {
-                line: u64::from(position.line),
-                column: u64::from(position.column),
-            };
-            put_answer_object(self.map, asked, &answer, None, output)
-        } else {
-            put_answer_line(self.map, &answer, output)
         }
     }
 }

@@ -5,7 +5,7 @@ ghost use Rattle.serde_json.specs.Data.{boolean};
 ghost use Rattle.serde_json.specs.Written.{compact_text, members_text};
 ghost use Rattle.smap_record.specs.Sources.{source_of};
 ghost use Rattle.smap_positions.specs.Json.{answer_value, bad_position_value, excerpt_value, found_value, json_line};
-ghost use Rattle.smap_positions.specs.Json.{none_value, origin_members, unmapped_value};
+ghost use Rattle.smap_positions.specs.Json.{none_value, origin_members, unmapped_value, url_members};
 ghost use Rattle.smap_record.specs.Written.{is_ignored_where};
 ghost use Rattle.smap_positions.specs.Mappings.{bare_value, mapped_value, mapping_value};
 ghost use Rattle.smap_positions.specs.Private.Members.{excerpt_member, ignored_member};
@@ -15,11 +15,12 @@ use crate::map_text::put_json_text;
 use crate::output::{Output, put_number};
 use smap_record::{Answer, MapFile, Mapping, Origin, SourceEntry, is_ignored, source_name};
 
-/// The generated line and column that were asked for, both from 1.
+/// The generated line and column that were asked for, both from 1, and the URL, where one was.
 #[derive(Clone, Copy)]
-pub struct AskedPosition {
+pub struct AskedPosition<'a> {
     pub line: u64,
     pub column: u64,
+    pub url: Option<&'a str>,
 }
 
 #[tactic(auto, unfolding(json::specs::Print::escape_byte))]
@@ -32,14 +33,15 @@ pub fn put_bad_position<O: Output>(output: &mut O)
 /// Puts the line for what a map answers for a position, with this excerpt of what was found.
 pub fn put_answer_object<O: Output>(
     map: &MapFile,
-    asked: AskedPosition,
+    asked: AskedPosition<'_>,
     answer: &Answer,
     excerpt: Option<&str>,
     output: &mut O,
 )
     ensures { O.Puts output.old output.new (json_line
-        (answer_value (option_map (λ excerpt. excerpt.now) excerpt.entry) map.now.stated
-        (record { line = asked.line; column = asked.column }) answer.now)) }
+        (answer_value (option_map (λ excerpt. excerpt.now) excerpt.entry)
+        (option_map (λ url. url.now) asked.entry.url) map.now.stated
+        (record { line = asked.entry.line; column = asked.entry.column }) answer.now)) }
 {
     match answer {
         Answer::Nothing => put_none(asked, output),
@@ -55,20 +57,36 @@ pub fn put_answer_object<O: Output>(
 }
 
 // Puts that no mapping answers.
-fn put_none<O: Output>(asked: AskedPosition, output: &mut O)
+fn put_none<O: Output>(asked: AskedPosition<'_>, output: &mut O)
     ensures { O.Puts output.old output.new
-        (compact_text (none_value (record { line = asked.line; column = asked.column }))) }
+        (compact_text (none_value (option_map (λ url. url.now) asked.entry.url)
+        (record { line = asked.entry.line; column = asked.entry.column }))) }
 {
     put_number(b"{\"answer\":\"none\",\"column\":", asked.column, output);
     put_number(b",\"line\":", asked.line, output);
-    output.put(b"}");
+    put_end(asked.url, output);
+}
+
+/// Puts the URL that was asked for, where one was, behind other members, and the end of the object.
+pub fn put_end<O: Output>(url: Option<&str>, output: &mut O)
+    ensures { O.Puts output.old output.new
+        (members_text true (url_members (option_map (λ url. url.now) url.entry))) }
+{
+    match url {
+        None => output.put(b"}"),
+        Some(url) => {
+            output.put(b",\"url\":");
+            put_json_text(Some(url), output);
+            output.put(b"}");
+        }
+    }
 }
 
 // Puts that the mapping that answers, which stands at this column, has no original.
-fn put_unmapped<O: Output>(asked: AskedPosition, generated_column: u32, output: &mut O)
+fn put_unmapped<O: Output>(asked: AskedPosition<'_>, generated_column: u32, output: &mut O)
     ensures { O.Puts output.old output.new
-        (compact_text (unmapped_value (record { line = asked.line; column = asked.column })
-        generated_column)) }
+        (compact_text (unmapped_value (option_map (λ url. url.now) asked.entry.url)
+        (record { line = asked.entry.line; column = asked.entry.column }) generated_column)) }
 {
     put_number(
         b"{\"answer\":\"unmapped\",\"column\":",
@@ -77,13 +95,13 @@ fn put_unmapped<O: Output>(asked: AskedPosition, generated_column: u32, output: 
     );
     put_number(b",\"generatedColumn\":", from_one(generated_column), output);
     put_number(b",\"line\":", asked.line, output);
-    output.put(b"}");
+    put_end(asked.url, output);
 }
 
 // Puts where the mapping that answers, which stands at this column, comes from.
 fn put_found<O: Output>(
     map: &MapFile,
-    asked: AskedPosition,
+    asked: AskedPosition<'_>,
     generated_column: u32,
     origin: &Origin,
     excerpt: Option<&str>,
@@ -91,7 +109,8 @@ fn put_found<O: Output>(
 )
     ensures { O.Puts output.old output.new (compact_text
         (found_value (option_map (λ excerpt. excerpt.now) excerpt.entry)
-        (record { line = asked.line; column = asked.column }) generated_column origin.now
+        (option_map (λ url. url.now) asked.entry.url)
+        (record { line = asked.entry.line; column = asked.entry.column }) generated_column origin.now
         (slice_get map.now.stated.sources origin.now.source)
         (option_and_then (slice_get map.now.stated.names) origin.now.name))) }
 {
@@ -101,7 +120,7 @@ fn put_found<O: Output>(
     put_number(b",\"generatedColumn\":", from_one(generated_column), output);
     put_ignored(entry, output);
     put_number(b",\"line\":", asked.line, output);
-    put_origin_members(entry, name_at(map, origin.name), origin, output);
+    put_origin_members(entry, name_at(map, origin.name), origin, asked.url, output);
 }
 
 /// Puts whether a source is ignored, behind other members.
@@ -113,16 +132,18 @@ pub fn put_ignored<O: Output>(entry: Option<&SourceEntry>, output: &mut O)
     output.put(bool_text(is_ignored(entry)));
 }
 
-// Puts the members that say where a mapping comes from, behind others, and the end of the object.
+// Puts the members that say where a mapping comes from, behind others, the URL that was asked for, where one was, and the end of the object.
 fn put_origin_members<O: Output>(
     entry: Option<&SourceEntry>,
     name: Option<&str>,
     origin: &Origin,
+    url: Option<&str>,
     output: &mut O,
 )
     ensures { O.Puts output.old output.new (members_text true
         (origin_members origin.now (option_map (λ entry. source_of entry.now) entry.entry)
-        (option_map (λ name. name.now) name.entry))) }
+        (option_map (λ name. name.now) name.entry)
+        (url_members (option_map (λ url. url.now) url.entry)))) }
 {
     output.put(b",\"name\":");
     put_json_text(name, output);
@@ -131,7 +152,7 @@ fn put_origin_members<O: Output>(
     output.put(b",\"source\":");
     put_json_text(source_name(entry), output);
     put_number(b",\"sourceIndex\":", u64::from(origin.source), output);
-    output.put(b"}");
+    put_end(url, output);
 }
 
 /// Puts the line for a mapping.
@@ -174,7 +195,7 @@ fn put_mapped<O: Output>(map: &MapFile, line: u32, column: u32, origin: &Origin,
     );
     put_number(b",\"generatedLine\":", from_one(line), output);
     put_ignored(entry, output);
-    put_origin_members(entry, name_at(map, origin.name), origin, output);
+    put_origin_members(entry, name_at(map, origin.name), origin, None, output);
 }
 
 /// A truth value as JSON.

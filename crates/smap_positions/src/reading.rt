@@ -37,8 +37,8 @@ fn column_after(text: &[u8]) -> Option<u32>
     column_of(&text[separator_len(text)..])
 }
 
-// The column of a text that is one, with what may stand after it.
-fn column_of(text: &[u8]) -> Option<u32>
+/// The column of a text that is one, with what may stand after it: blanks, and then a CR. The call takes no memory.
+pub fn column_of(text: &[u8]) -> Option<u32>
     ensures { result ≡ column_of text.now }
 {
     let (column, after) = first_number(text);

@@ -4,8 +4,8 @@ use crate::fault::RowFault;
 use crate::row::Row;
 use smap_arguments::{Usage, parse};
 use smap_command::{
-    CheckOptions, Command, FitOptions, Form, FurtherOptions, USUAL_CACHE_BYTES, USUAL_LIMIT_BYTES,
-    Url, WriteOptions,
+    CheckOptions, Command, FitOptions, Form, FurtherOptions, LocateOptions, USUAL_CACHE_BYTES,
+    USUAL_LIMIT_BYTES, Url, WriteOptions,
 };
 use std::alloc::{AllocError, Global};
 
@@ -57,6 +57,7 @@ fn command_text(alloc: Global, command: &Command) -> Result<String, AllocError> 
         Command::Mappings { .. } | Command::Sources { .. } | Command::SourceContent { .. } =>
             listing_text(alloc, command),
         Command::Rewrite { maps, options, .. } => rewriting_text(alloc, command, maps, options),
+        Command::Locate { maps, options, .. } => locating_text(alloc, command, maps, options),
         _ => writing_text(alloc, command),
     }
 }
@@ -254,6 +255,24 @@ fn rewriting_text(
     text.push_str(flag_text(options.anywhere, " anywhere"))?;
     text.push_str(flag_text(options.summary, " in sum"))?;
     text.push_str(explain_text(options.explain))?;
+    text.push_str(flag_text(options.paths, " by paths"))?;
+    with_pairs(alloc, text, options.list.as_deref(), maps)
+}
+
+fn locating_text(
+    alloc: Global,
+    command: &Command,
+    maps: &[(String, String)],
+    options: &LocateOptions,
+) -> Result<String, AllocError> {
+    let Command::Locate { base, interval, .. } = command else {
+        return String::from_str(alloc, "another command");
+    };
+    let base = base_text(base);
+    let cache_bytes = options.cache_bytes.unwrap_or(USUAL_CACHE_BYTES);
+    let mut text = format!(in alloc; "locate{base} every {interval} cache {cache_bytes}")?;
+    text.push_str(flag_text(options.after, " after"))?;
+    text.push_str(form_text(options.form))?;
     text.push_str(flag_text(options.paths, " by paths"))?;
     with_pairs(alloc, text, options.list.as_deref(), maps)
 }

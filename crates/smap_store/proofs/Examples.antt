@@ -1,11 +1,12 @@
 -- The definitions on small examples.
-use Rattle.std.proofs.Common.{◌≡◌, ℕ, true, false, List, [], ◌∷◌, Some, None, codes, refl}
+use Rattle.std.proofs.Common.{◌≡◌, ℕ, true, false, List, [], ◌∷◌, Some, None, Err, codes, refl}
 use Rattle.smap_locations.specs.Locations.{LocationsSeen, key_for, path_for}
 use Rattle.smap_record.specs.Record.{MapRecord}
 use Rattle.smap_trace.specs.Table.{is_bad_url}
 use Rattle.smap_store.specs.Cache.{KeptMaps, bytes_of, is_bounded}
 use Rattle.smap_locations.specs.ListLine.{entry_of}
 use Rattle.smap_store.specs.MapList.{line_fault}
+use Rattle.smap_store.specs.declared.loader.NoMap.TheVariants.{Unnamed}
 use Rattle.smap_locations.specs.declared.refusal.ListFault.TheVariants.{NoTab, NoFolder, Twice}
 
 -- a file, a folder and a pattern
@@ -31,7 +32,7 @@ path_of_file = refl
 
 -- two URLs that have none, of 4 and 5 bytes
 kept : KeptMaps
-kept = (codes "a:/f", record { found = None; file_bytes = 0 }) ∷ (codes "a:/fg", record { found = None; file_bytes = 0 }) ∷ []
+kept = (codes "a:/f", record { found = Err Unnamed; file_bytes = 0 }) ∷ (codes "a:/fg", record { found = Err Unnamed; file_bytes = 0 }) ∷ []
 
 bytes_of_two : bytes_of kept ≡ 265
 unfolding kept

@@ -1,17 +1,23 @@
--- What is remembered of the URLs that were asked for (this project's own): the map of each, or that it has none, while the
+-- What is remembered of the URLs that were asked for (this project's own): the map of each, or why it has none, while the
 -- bytes that this counts for are within a bound, or where there is no other.
-use Rattle.std.specs.Prelude.{◌≡◌, ◌⊎◌, ℕ, ◌+◌, ◌-◌, ◌^◌, ◌==◌, ◌||◌, Bool, true, min, nat_le, List, [], ◌∷◌, Option, Some, None}
-use Rattle.std.specs.Prelude.{MatchBool, length, option_map}
+use Rattle.std.specs.Prelude.{◌≡◌, ◌⊎◌, ℕ, ◌+◌, ◌-◌, ◌^◌, ◌==◌, ◌||◌, Bool, true, min, nat_le, List, [], ◌∷◌, Option, Result, Ok, Err}
+use Rattle.std.specs.Prelude.{MatchBool, length}
+use Rattle.std.specs.Result.{result_map_both, result_ok}
 use Rattle.std.specs.List.{sum_by}
 use Rattle.smap_by_text.specs.ByText.{IsWith, all_seen}
 use Rattle.smap_record.specs.Record.{MapRecord}
+use Rattle.smap_store.specs.Loaded.{Came, Outcome, outcome_in}
 use Rattle.smap_store.specs.declared.cache.KeptMap.{KeptMap}
 use Rattle.smap_store.specs.declared.cache.MapCache.TheInside.{Inside}
 
--- what is remembered of a URL: what its map states, where it has one, and how many bytes the file of that has
+-- what is remembered of a URL: what its map states, with how many bytes its file has, or why it has none
 pub record Kept : Type 0 where
-  pub found : Option MapRecord
+  pub found : Outcome
   pub file_bytes : ℕ
+
+-- what the map states, where there is one
+abbrev pub kept_record : Kept → Option MapRecord
+kept_record one = result_ok one.found
 
 -- what is remembered, each under its URL
 abbrev pub KeptMaps : Type 0
@@ -45,23 +51,26 @@ Keeps most old url one new = MatchBool (nat_le (bytes_of old + entry_bytes (url,
 abbrev pub one_more : ℕ → ℕ
 one_more count = min (count + 1) (2 ^ 64 - 1)
 
--- ---- what came for a URL: what its map states, with the number of its file's bytes, or none
+-- ---- what came for a URL
 
-abbrev pub kept_of : Option (MapRecord × ℕ) → Kept
-kept_of None = record { found = None; file_bytes = 0 }
-kept_of (Some came) = record { found = Some came.0; file_bytes = came.1 }
+abbrev pub came_bytes : Came → ℕ
+came_bytes (Ok one) = one.1
+came_bytes (Err why) = 0
+
+abbrev pub kept_of : Came → Kept
+kept_of came = record { found = outcome_in came; file_bytes = came_bytes came }
 
 -- it is counted
-abbrev pub counted : CacheSeen → Option (MapRecord × ℕ) → CacheSeen
-counted cache None = record cache { missing = one_more cache.missing }
-counted cache (Some came) = record cache { read = one_more cache.read }
+abbrev pub counted : CacheSeen → Came → CacheSeen
+counted cache (Err why) = record cache { missing = one_more cache.missing }
+counted cache (Ok one) = record cache { read = one_more cache.read }
 
 -- there was not enough memory, and nothing else is changed
 abbrev pub short : CacheSeen → CacheSeen
 short cache = record cache { shortages = one_more cache.shortages }
 
 -- what came is counted, and remembered where there is memory for it
-abbrev pub Remembers : (old : CacheSeen) (url : List ℕ) → Option (MapRecord × ℕ) → (new : CacheSeen) → Type 0
+abbrev pub Remembers : (old : CacheSeen) (url : List ℕ) → Came → (new : CacheSeen) → Type 0
 Remembers old url came new =
     (Keeps old.most old.kept url (kept_of came) new.kept × (new ≡ record (counted old came) { kept = new.kept }))
     ⊎ (new ≡ short (counted old came))
@@ -69,7 +78,7 @@ Remembers old url came new =
 -- ---- what its fields stand for
 
 abbrev pub kept_seen : KeptMap → Kept
-kept_seen kept = record { found = option_map (λ map. map.stated) kept.map; file_bytes = kept.file_bytes }
+kept_seen kept = record { found = result_map_both (λ map. map.stated) (λ why. why) kept.map; file_bytes = kept.file_bytes }
 
 abbrev pub kept_in : Inside → KeptMaps
 kept_in inside = all_seen kept_seen inside.kept

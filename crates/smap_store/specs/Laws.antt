@@ -1,4 +1,5 @@
 pub mod Seen
 pub mod Kept
 pub mod Stored
+pub mod Outcome
 pub mod Same

@@ -1,23 +1,36 @@
 -- Where the map of a URL is found (this project's own): among those of a table; else, where a file is asked for, among those
 -- that are remembered, under the text that stands for the URL; else in its file, which is then read, and what came of that is
 -- remembered.
-use Rattle.std.specs.Prelude.{◌≡◌, ◌⊎◌, ℕ, List, Option, Some, None, MatchOption}
+use Rattle.std.specs.Prelude.{◌≡◌, ◌⊎◌, ℕ, List, Option, Some, None, MatchOption, Ok, Err}
 use Rattle.std.specs.Option.{IsSomeAnd}
 use Rattle.smap_locations.specs.Locations.{LocationsSeen, key_for, path_for}
 use Rattle.smap_record.specs.Record.{MapRecord}
 use Rattle.smap_by_text.specs.ByText.{value_under}
-use Rattle.smap_store.specs.Cache.{CacheSeen, Kept, Remembers, short}
+use Rattle.smap_store.specs.Cache.{CacheSeen, Kept, Remembers, kept_record, short}
 use Rattle.smap_store.specs.Fileless.{known_of}
+use Rattle.smap_store.specs.Loaded.{Came, Outcome}
+use Rattle.smap_store.specs.declared.loader.NoMap.TheVariants.{Unnamed, Memory}
 
 -- the map that is remembered, where one is
 abbrev pub map_in : Option Kept → Option MapRecord
 map_in None = None
-map_in (Some one) = one.found
+map_in (Some one) = kept_record one
 
 -- the map that a URL is known to have, or that it has none; and else another
 abbrev pub or_other : (known : Option (Option MapRecord)) → (other : Option MapRecord) → Option MapRecord
 or_other None other = other
 or_other (Some known) other = known
+
+-- what is found by what is remembered: where nothing is, memory ran out
+abbrev pub outcome_of : Option Kept → Outcome
+outcome_of None = Err Memory
+outcome_of (Some one) = one.found
+
+-- what is found for a URL that is known to have a map, or none; and else by what is remembered
+abbrev pub known_outcome : (known : Option (Option MapRecord)) → Option Kept → Outcome
+known_outcome None kept = outcome_of kept
+known_outcome (Some None) kept = Err Unnamed
+known_outcome (Some (Some stated)) kept = Ok stated
 
 -- maps that are found there: in a table, and else in files, by what is remembered of these and by what reads them
 pub record StoredSeen (L : Type 0) : Type 0 where
@@ -32,17 +45,17 @@ LoadsMay L = L → (url path : List ℕ) → Option MapRecord → Type 0
 
 -- what it gave, and how it stands then
 abbrev pub LoadsStep : (L : Type 0) → Type 1
-LoadsStep L = L → (url path : List ℕ) → Option (MapRecord × ℕ) → L → Type 0
+LoadsStep L = L → (url path : List ℕ) → Came → L → Type 0
 
 module _ {L : Type 0} where
-  -- what came for a URL of this path, and how the loader stands then: none and as before, where the URL has no path
-  abbrev pub Comes : LoadsStep L → (loader : L) (url : List ℕ) (path : Option (List ℕ)) → Option (MapRecord × ℕ) → (after : L) → Type 0
-  Comes Loads loader url None came after = (came ≡ None) × (after ≡ loader)
+  -- what came for a URL of this path, and how the loader stands then: nothing and as before, where the URL has no path
+  abbrev pub Comes : LoadsStep L → (loader : L) (url : List ℕ) (path : Option (List ℕ)) → Came → (after : L) → Type 0
+  Comes Loads loader url None came after = (came ≡ Err Unnamed) × (after ≡ loader)
   Comes Loads loader url (Some path) came after = Loads loader url path came after
 
   -- what came for a URL that was not remembered is
   pub record Asked (Loads : LoadsStep L) (old : StoredSeen L) (url : List ℕ) (new : StoredSeen L) : Type 0 where
-    pub came : Option (MapRecord × ℕ)
+    pub came : Came
     pub comes : Comes Loads old.loader url (path_for old.locations url) came new.loader
     pub remembered : Remembers old.cache url came new.cache
 
@@ -68,6 +81,11 @@ module _ {L : Type 0} where
   found_in maps url =
       or_other (known_of maps.words maps.locations url) (map_in (value_under (key_for maps.locations url) maps.cache.kept))
 
+  -- the same, or why there is none
+  abbrev pub outcome_at : StoredSeen L → (url : List ℕ) → Outcome
+  outcome_at maps url =
+      known_outcome (known_of maps.words maps.locations url) (value_under (key_for maps.locations url) maps.cache.kept)
+
   -- how the maps stand after the map of a URL was looked for
   pub record FindsIn (Loads : LoadsStep L) (old : StoredSeen L) (url : List ℕ) (new : StoredSeen L) : Type 0 where
     pub words : new.words ≡ old.words
@@ -84,5 +102,5 @@ module _ {L : Type 0} where
   GivesIn MayLoad maps url found =
       let key = key_for maps.locations url in
       MatchOption (known_of maps.words maps.locations url)
-      (IsSomeAnd (value_under key maps.cache.kept) (λ one. found ≡ one.found) ⊎ MayCome MayLoad maps.loader key (path_for maps.locations url) found)
+      (IsSomeAnd (value_under key maps.cache.kept) (λ one. found ≡ kept_record one) ⊎ MayCome MayLoad maps.loader key (path_for maps.locations url) found)
       (λ known. found ≡ known)

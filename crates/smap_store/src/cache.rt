@@ -1,16 +1,17 @@
 //! What is kept of the maps that were read.
 ghost use Rattle.std.specs.Prelude.{◌≡◌, ◌+◌, ◌≤◌, [], None, SomeIff, OnErr, OnOk, is_some, min, option_map, true};
+ghost use Rattle.std.specs.Result.{result_map_both};
 ghost use Rattle.smap_by_text.specs.ByText.{value_under};
 ghost use Rattle.smap_store.specs.Cache.{Keeps, Remembers, bytes_of, counted, is_bounded, kept_of, kept_seen, short};
-ghost use Rattle.smap_store.specs.Loaded.{loaded_seen};
+ghost use Rattle.smap_store.specs.Loaded.{came_seen};
 
-use crate::loader::LoadedMap;
+use crate::loader::{LoadedMap, NoMap};
 use smap_by_text::ByText;
 use smap_record::MapFile;
 use std::alloc::{AllocError, Global};
 use std::marker::Model;
 
-/// What is remembered of the URLs that were asked for: the map of each, or that it has none. What is remembered counts for
+/// What is remembered of the URLs that were asked for: the map of each, or why it has none. What is remembered counts for
 /// the bytes of its file and its URL, and 128 more. Their sum is within a bound, or one stands alone: where one more would
 /// pass the bound, all that is kept is dropped.
 #[derive(Drop)]
@@ -33,19 +34,23 @@ impl Model for MapCache {
     ghost invariant = { IsCounted };
 }
 
-// A map and how many bytes its file has, or that there is none.
+// A map and how many bytes its file has, or why there is none.
 #[derive(Drop)]
 pub(crate) struct KeptMap {
-    map: Option<MapFile>,
+    map: Result<MapFile, NoMap>,
     file_bytes: u64,
 }
 
 impl KeptMap {
-    // The map, where there is one.
-    pub(crate) fn map(&self) -> Option<&MapFile>
-        ensures { option_map (λ map. map.now.stated) result ≡ (kept_seen self.now).found }
+    // The map, or why there is none.
+    pub(crate) fn outcome(&self) -> Result<&MapFile, NoMap>
+        ensures { result_map_both (λ map. map.now.stated) (λ why. why) result
+            ≡ (kept_seen self.now).found }
     {
-        self.map.as_ref()
+        match &self.map {
+            Ok(map) => Ok(map),
+            Err(why) => Err(*why),
+        }
     }
 }
 
@@ -115,9 +120,9 @@ impl MapCache {
     }
 
     // Counts what came for a URL that is not remembered, and remembers it where there is memory for it.
-    pub(crate) fn remember(&mut self, alloc: Global, url: Vec<u8>, loaded: Option<LoadedMap>)
+    pub(crate) fn remember(&mut self, alloc: Global, url: Vec<u8>, loaded: Result<LoadedMap, NoMap>)
         requires { value_under url.items self.old.kept ≡ None }
-        ensures { Remembers self.old url.items (option_map loaded_seen loaded) self.new }
+        ensures { Remembers self.old url.items (came_seen loaded) self.new }
     {
         let kept = self.count(loaded);
         if self.keep(alloc, url, kept).is_err() {
@@ -126,22 +131,22 @@ impl MapCache {
     }
 
     // Counts what came.
-    fn count(&mut self, loaded: Option<LoadedMap>) -> KeptMap
-        ensures counted { self.new ≡ counted self.old (option_map loaded_seen loaded) }
-        ensures kept { kept_seen result ≡ kept_of (option_map loaded_seen loaded) }
+    fn count(&mut self, loaded: Result<LoadedMap, NoMap>) -> KeptMap
+        ensures counted { self.new ≡ counted self.old (came_seen loaded) }
+        ensures kept { kept_seen result ≡ kept_of (came_seen loaded) }
     {
         match loaded {
-            Some(LoadedMap { map, file_bytes }) => {
+            Ok(LoadedMap { map, file_bytes }) => {
                 self.read = self.read.saturating_add(1);
                 KeptMap {
-                    map: Some(map),
+                    map: Ok(map),
                     file_bytes,
                 }
             }
-            None => {
+            Err(why) => {
                 self.missing = self.missing.saturating_add(1);
                 KeptMap {
-                    map: None,
+                    map: Err(why),
                     file_bytes: 0,
                 }
             }

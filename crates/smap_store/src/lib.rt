@@ -19,5 +19,5 @@ mod stored;
 
 pub use cache::MapCache;
 pub use list::{add_list, add_rule};
-pub use loader::{LoadedMap, MapLoader};
+pub use loader::{LoadedMap, MapLoader, NoMap};
 pub use stored::StoredMaps;

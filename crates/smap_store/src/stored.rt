@@ -1,13 +1,14 @@
 //! Maps that are read when they are named.
 ghost use Rattle.std.specs.Prelude.{◌≡◌, None, option_map};
+ghost use Rattle.std.specs.Result.{result_map_both};
 ghost use Rattle.smap_by_text.specs.ByText.{value_under};
 ghost use Rattle.smap_store.specs.Fileless.{known_of};
-ghost use Rattle.smap_store.specs.Stored.{Asks};
+ghost use Rattle.smap_store.specs.Stored.{Asks, outcome_at};
 ghost use Rattle.smap_store.specs.StoredMaps.{IsSameStore, stored_seen};
 
 use crate::cache::MapCache;
 use crate::fileless::asks_no_file;
-use crate::loader::MapLoader;
+use crate::loader::{MapLoader, NoMap};
 use smap_locations::Locations;
 use smap_record::MapFile;
 use smap_trace::{Maps, Table};
@@ -40,6 +41,20 @@ impl<L: MapLoader> StoredMaps<'_, '_, L> {
         None
     }
 
+    /// The map of the URL that was looked for last, or why it has none. The call takes no memory.
+    pub fn outcome_at(&self, url: &[u8]) -> Result<&MapFile, NoMap>
+        ensures { result_map_both (λ map. map.now.stated) (λ why. why) result
+            ≡ outcome_at (stored_seen self.now) url.now }
+    {
+        if let Some(known) = self.known(url) {
+            return known.ok_or(NoMap::Unnamed);
+        }
+        match self.cache.recall(self.locations.key_for(url)) {
+            Some(kept) => kept.outcome(),
+            None => Err(NoMap::Memory),
+        }
+    }
+
     // Asks for the map of a URL that is not remembered, and remembers what came.
     fn ask(&mut self, url: &[u8])
         requires { value_under url.now self.old.cache.now.kept ≡ None }
@@ -56,7 +71,7 @@ impl<L: MapLoader> StoredMaps<'_, '_, L> {
         };
         let loaded = match path {
             Some(path) => self.loader.load(self.alloc, url, &path),
-            None => None,
+            None => Err(NoMap::Unnamed),
         };
         self.cache.remember(self.alloc, key, loaded);
     }
@@ -90,7 +105,7 @@ impl<L: MapLoader> Maps for StoredMaps<'_, '_, L> {
         }
         let key = self.locations.key_for(url);
         match self.cache.recall(key) {
-            Some(kept) => kept.map(),
+            Some(kept) => kept.outcome().ok(),
             None => None,
         }
     }

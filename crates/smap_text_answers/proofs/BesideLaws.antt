@@ -10,7 +10,7 @@ use Rattle.smap_places.specs.PlacesOver.{RewritesPlacesOver}
 use Rattle.smap_places.specs.Laws.PlacesSeen.{places_seen}
 use Rattle.smap_record.specs.Record.{MapRecord}
 use Rattle.smap_by_text.specs.ByText.{value_under}
-use Rattle.smap_store.specs.Cache.{CacheSeen, Kept}
+use Rattle.smap_store.specs.Cache.{CacheSeen, Kept, kept_record}
 use Rattle.smap_store.specs.Fileless.{asks_no_file, known_beside}
 use Rattle.smap_store.specs.Stored.{Asks, FindsIn, GivesIn, LoadsMay, LoadsStep, MayCome, Recalls, StoredSeen, Untouched, found_in, map_in, or_other}
 use Rattle.smap_store.specs.StoredMaps.{IsSameStore, same_store_on, same_store_self, stored_seen}
@@ -133,7 +133,7 @@ module _ {L : Type 0} (MayLoad : LoadsMay L) (words : List (List ℕ × MapRecor
     (found : Option MapRecord) where
   abbrev ByCache : Type 0
   ByCache =
-      IsSomeAnd (value_under (key_for others.locations url) others.cache.kept) (λ one. found ≡ one.found)
+      IsSomeAnd (value_under (key_for others.locations url) others.cache.kept) (λ one. found ≡ kept_record one)
       ⊎ MayCome MayLoad others.loader (key_for others.locations url) (path_for others.locations url) found
 
   gives_own : (own : Option MapRecord) → MatchOption own (GivesIn MayLoad others url found) (λ own. found ≡ Some own)

@@ -5,6 +5,6 @@ mod Examples
 mod LoaderLaws
 mod NearestLaws
 mod SourcesLaws
-mod StoreLaws
+pub mod StoreLaws
 mod TraceLaws
 mod UrlLinesLaws

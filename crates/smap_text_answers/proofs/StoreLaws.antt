@@ -12,6 +12,7 @@ use Rattle.smap_record.specs.Record.{MapRecord}
 use Rattle.smap_by_text.specs.ByText.{value_under}
 use Rattle.smap_store.specs.Cache.{Kept}
 use Rattle.smap_store.specs.Fileless.{known_of}
+use Rattle.smap_store.specs.Loaded.{Came}
 use Rattle.smap_store.specs.Laws.Seen.{finds_seen, gives_seen, see_store}
 use Rattle.smap_store.specs.Stored.{Asks, Comes, FindsIn, GivesIn, LoadsMay, LoadsStep, Recalls, StoredSeen, Untouched, found_in}
 use Rattle.smap_trace.specs.Hiding.{HidingSeen}
@@ -39,18 +40,18 @@ module _ {F E : Type 0} where
 
 module _ {F E : Type 0} (gives : F → MayRead) (seen : E → SinkSeen) where
   -- what reading a map is, and what may come of it
-  abbrev Steps : LoadsStep (FileLoader F E)
+  abbrev pub Steps : LoadsStep (FileLoader F E)
   Steps loader url path came after =
       Loads (gives loader.maps.now.files.now) loader.paths (option_copied loader.maps.now.base) loader.maps.now.interval loader.number (loader_seen seen loader)
       url path came (loader_seen seen after)
       × IsSameLoader loader after
 
-  abbrev May : LoadsMay (FileLoader F E)
+  abbrev pub May : LoadsMay (FileLoader F E)
   May loader = MayLoad (gives loader.maps.now.files.now) loader.paths (option_copied loader.maps.now.base) loader.maps.now.interval loader.number
 
   -- ---- it stays what it is
 
-  same_comes : (old new : FileLoader F E) (url : List ℕ) (path : Option (List ℕ)) (came : Option (MapRecord × ℕ)) → Comes Steps old url path came new
+  same_comes : (old new : FileLoader F E) (url : List ℕ) (path : Option (List ℕ)) (came : Came) → Comes Steps old url path came new
       → IsSameLoader old new
   same_comes old new url None came comes = same_of old new comes.1
   same_comes old new url (Some path) came comes = comes.1
@@ -75,16 +76,16 @@ module _ {F E : Type 0} (gives : F → MayRead) (seen : E → SinkSeen) where
   -- ---- what a run shows of it
 
   module _ (first : FileLoader F E) where
-    abbrev Seen : LoadsStep LoaderSeen
+    abbrev pub Seen : LoadsStep LoaderSeen
     Seen = Loads (gives first.maps.now.files.now) first.paths (option_copied first.maps.now.base) first.maps.now.interval first.number
 
-    abbrev MaySeen : LoadsMay LoaderSeen
+    abbrev pub MaySeen : LoadsMay LoaderSeen
     MaySeen loader = MayLoad (gives first.maps.now.files.now) first.paths (option_copied first.maps.now.base) first.maps.now.interval first.number
 
-    abbrev see : StoredSeen (FileLoader F E) → StoredSeen LoaderSeen
+    abbrev pub see : StoredSeen (FileLoader F E) → StoredSeen LoaderSeen
     see = see_store (loader_seen seen)
 
-    step_seen : (old new : FileLoader F E) → IsSameLoader first old → (url path : List ℕ) (came : Option (MapRecord × ℕ)) → Steps old url path came new
+    step_seen : (old new : FileLoader F E) → IsSameLoader first old → (url path : List ℕ) (came : Came) → Steps old url path came new
         → Seen (loader_seen seen old) url path came (loader_seen seen new)
     step_seen old new same url path came is =
         subst (λ n. Loads (gives first.maps.now.files.now) first.paths (option_copied first.maps.now.base) first.maps.now.interval n (loader_seen seen old)
@@ -94,7 +95,7 @@ module _ {F E : Type 0} (gives : F → MayRead) (seen : E → SinkSeen) where
         (subst (λ m. Loads (gives m.now.files.now) old.paths (option_copied m.now.base) m.now.interval old.number (loader_seen seen old)
         url path came (loader_seen seen new)) same.maps is.0))
 
-    finds_so : (old new : StoredSeen (FileLoader F E)) (url : List ℕ) → IsSameLoader first old.loader → FindsIn Steps old url new
+    pub finds_so : (old new : StoredSeen (FileLoader F E)) (url : List ℕ) → IsSameLoader first old.loader → FindsIn Steps old url new
         → FindsIn Seen (see old) url (see new) × IsSameLoader first new.loader
     finds_so old new url same finds = (
       finds_seen (loader_seen seen) Steps Seen old new (step_seen old.loader new.loader same) url finds,
@@ -103,7 +104,7 @@ module _ {F E : Type 0} (gives : F → MayRead) (seen : E → SinkSeen) where
 
     -- rewriting over it, where it is the first
     module _ (old new : StoredSeen (FileLoader F E)) (is : old.loader ≡ first) where
-      at_first : IsSameLoader first old.loader
+      pub at_first : IsSameLoader first old.loader
       at_first = same_of first old.loader is
 
       pub looked_from : Looked (FindsIn Steps) old new → Looked (FindsIn Seen) (see old) (see new) × IsSameLoader first new.loader
@@ -111,7 +112,7 @@ module _ {F E : Type 0} (gives : F → MayRead) (seen : E → SinkSeen) where
           looked_seen (FindsIn Steps) found_in (FindsIn Seen) found_in see (λ maps. IsSameLoader first maps.loader) finds_so (λ maps url. refl)
           old new at_first looked
 
-      may_first : (url path : List ℕ) (found : Option MapRecord) → May old.loader url path found → MaySeen (loader_seen seen old.loader) url path found
+      pub may_first : (url path : List ℕ) (found : Option MapRecord) → May old.loader url path found → MaySeen (loader_seen seen old.loader) url path found
       may_first url path found may = subst (λ l. May l url path found) is may
 
       module _ (begins : List ℕ → List ℕ → Option PlaceUrl) (hide : HidingSeen) (most : ℕ) (before after : DevicesSeen) where

@@ -1,16 +1,20 @@
 -- The maps that are read when a text names them: each from its file, and what is said of one that can't be had.
-use Rattle.std.specs.Prelude.{◌≡◌, ◌⊎◌, ℕ, ◌+◌, ◌-◌, ◌^◌, ◌==◌, Bool, List, Option, Some, None, Result, Ok, MatchBool, cond, if◌then◌else◌, length, max, min, nat_lt}
+use Rattle.std.specs.Prelude.{◌≡◌, ◌⊎◌, ℕ, ◌+◌, ◌-◌, ◌^◌, ◌==◌, Bool, List, Option, Some, None, Result, Ok, Err, MatchBool, cond, if◌then◌else◌, length, max, min, nat_lt}
 use Rattle.url.specs.Parts.{Parts}
 use Rattle.std.specs.Option.{option_or}
-use Rattle.std.specs.Str.{is_utf8}
+use Rattle.std.specs.Str.{bytes_eq, is_utf8}
 use Rattle.smap_codes.specs.declared.code.Code.{Code}
 use Rattle.smap_io.specs.Device.{SinkSeen}
 use Rattle.smap_locations.specs.Paths.{without_query}
 use Rattle.smap_record.specs.Record.{MapRecord}
 use Rattle.smap_record.specs.declared.refusal.MapRefusal.{MapRefusal}
-use Rattle.smap_replies.specs.Files.{MayRead, OfFile}
+use Rattle.smap_replies.specs.Files.{IsUnread, MayRead, OfFile}
+use Rattle.smap_replies.specs.Lines.{memory_line}
 use Rattle.smap_replies.specs.Base.{base_of}
 use Rattle.smap_replies.specs.Map.{Never, ReportsFound, refusal_result}
+use Rattle.smap_store.specs.Loaded.{Came}
+use Rattle.smap_store.specs.declared.loader.NoMap.{NoMap}
+use Rattle.smap_store.specs.declared.loader.NoMap.TheVariants.{Unnamed, Unread, Refused, Memory}
 use Rattle.smap_text_answers.specs.ByPath.{record_at}
 use Rattle.smap_text_answers.specs.Lines.{map_memory_line}
 use Rattle.smap_replies.specs.Outcome.{Report, failure, out_of_memory}
@@ -66,7 +70,17 @@ module _ (Reads : MayRead) (paths : Bool) (base : Option Parts) (k number : ℕ)
   FailsToRead url path report =
       OfFile Reads number path (λ bytes. ReportsFound (refusal_result path) (record_loaded paths base k url bytes) Never) report
 
-  -- the same, or memory ran out, which is reported with the path, if there is memory for that
+  -- memory ran out, which is reported with the path, if there is memory for that; or the file can't be read; or its map is
+  -- refused, by this code
+  abbrev pub FailsWith : NoMap → (url path : List ℕ) → Report → Type 0
+  FailsWith Unnamed url path report = ⊥
+  FailsWith Memory url path report = (report ≡ out_of_memory) ⊎ (report ≡ failure (map_memory_line path))
+  FailsWith Unread url path report = IsUnread Reads number path report
+  FailsWith (Refused code) url path report =
+      ((bytes : List ℕ) × Reads number path (Ok bytes) × ReportsFound (refusal_result path) (record_loaded paths base k url bytes) Never report)
+      × (report.code ≡ Some code)
+
+  -- one of these
   abbrev pub FailsToLoad : (url path : List ℕ) → Report → Type 0
   FailsToLoad url path report = (report ≡ out_of_memory) ⊎ ((report ≡ failure (map_memory_line path)) ⊎ FailsToRead url path report)
 
@@ -78,6 +92,14 @@ module _ (Reads : MayRead) (paths : Bool) (base : Option Parts) (k number : ℕ)
 -- why the map at a path can't be had, named
 abbrev pub named_report : (path : List ℕ) → (report named : Report) → Type 0
 named_report path report named = (named ≡ report) ⊎ ((report ≡ out_of_memory) × (named ≡ failure (map_memory_line path)))
+
+-- why there is no map, by what says so: where that has no code, memory ran out, if this is said, or else the file can't be read
+abbrev pub why_by : (code : Option Code) (text : List ℕ) → NoMap
+why_by (Some code) text = Refused code
+why_by None text = if bytes_eq text memory_line then Memory else Unread
+
+abbrev pub why_in : Report → NoMap
+why_in report = why_by report.code report.text
 
 -- one more, as far as 64 bits can count
 abbrev pub one_more : ℕ → ℕ
@@ -91,7 +113,7 @@ pub record Notes (old : LoaderSeen) (report : Report) (new : LoaderSeen) : Type 
   pub refused : new.refused ≡ cond (report.status == 1) (one_more old.refused) old.refused
   pub errors : MatchBool (nat_lt old.reported 100) (IsReportedTo old.errors new.errors report.text) (new.errors ≡ old.errors)
 
--- what came for a URL from the file at a path, with the number of its bytes, and how the loader shows then
-abbrev pub Loads : MayRead → (paths : Bool) → Option Parts → (k number : ℕ) → (old : LoaderSeen) (url path : List ℕ) → Option (MapRecord × ℕ) → (new : LoaderSeen) → Type 0
-Loads Reads paths base k number old url path None new = (report : Report) × FailsToLoad Reads paths base k number url path report × Notes old report new
-Loads Reads paths base k number old url path (Some (stated, file_bytes)) new = IsLoaded Reads paths base k number url path stated file_bytes × (new ≡ old)
+-- what came for a URL from the file at a path, with the number of its bytes, or why nothing did, and how the loader shows then
+abbrev pub Loads : MayRead → (paths : Bool) → Option Parts → (k number : ℕ) → (old : LoaderSeen) (url path : List ℕ) → Came → (new : LoaderSeen) → Type 0
+Loads Reads paths base k number old url path (Err why) new = (report : Report) × FailsWith Reads paths base k number why url path report × Notes old report new
+Loads Reads paths base k number old url path (Ok (stated, file_bytes)) new = IsLoaded Reads paths base k number url path stated file_bytes × (new ≡ old)

@@ -19,3 +19,6 @@ mod trace;
 mod url_lines;
 
 pub use answering::{TextRequest, answer_rewrite};
+pub use loader::FileLoader;
+pub use rewriting::report_shortage;
+pub use sources::{MapSources, sources_of};

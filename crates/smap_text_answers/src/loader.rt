@@ -1,7 +1,7 @@
 //! The maps that are read when a text names them.
 ghost use Rattle.std.specs.Prelude.{◌≡◌, option_copied, IfErr, IfOk};
 ghost use Rattle.smap_text_answers.specs.Lines.{map_memory_line};
-ghost use Rattle.smap_text_answers.specs.Loader.{FailsToLoad, FailsToRead, IsLoaded, Notes, base_at, loader_seen, named_report, record_loaded};
+ghost use Rattle.smap_text_answers.specs.Loader.{FailsToRead, FailsWith, IsLoaded, Notes, base_at, loader_seen, named_report, record_loaded, why_in};
 ghost use Rattle.smap_record.specs.MapFile.{IsMapOf};
 ghost use Rattle.smap_replies.specs.Map.{Never, ReportsFound, refusal_result};
 ghost use Rattle.smap_replies.specs.Outcome.{OrMemory, failure_report, failure};
@@ -13,9 +13,10 @@ use smap_io::ByteSink;
 use smap_locations::without_query;
 use smap_record::MapFile;
 use smap_replies::{
-    Failure, FileReader, MapReader, REFUSED, file_bytes, map_of, print_error, read_map_at,
+    Failure, FileReader, MapReader, NO_MEMORY, REFUSED, file_bytes, map_of, print_error,
+    read_map_at,
 };
-use smap_store::{LoadedMap, MapLoader};
+use smap_store::{LoadedMap, MapLoader, NoMap};
 use std::alloc::Global;
 
 // How many maps that can't be had are reported.
@@ -115,12 +116,13 @@ impl<F: FileReader, E: ByteSink> MapLoader for FileLoader<'_, '_, '_, F, E> {
         loader.maps.now.interval loader.number (loader_seen E.seen loader) url path came (loader_seen E.seen after)
         × IsSameLoader loader after };
 
-    fn load(&mut self, alloc: Global, url: &[u8], path: &str) -> Option<LoadedMap> {
+    fn load(&mut self, alloc: Global, url: &[u8], path: &str) -> Result<LoadedMap, NoMap> {
         match self.read(alloc, url, path) {
-            Ok(loaded) => Some(loaded),
+            Ok(loaded) => Ok(loaded),
             Err(failure) => {
+                let why = why_of(&failure);
                 self.note(&named(alloc, path, failure));
-                None
+                Err(why)
             }
         }
     }
@@ -132,6 +134,17 @@ impl<F: FileReader, E: ByteSink> MapLoader for FileLoader<'_, '_, '_, F, E> {
         loader.maps.now.interval loader.number _ _ url path came loads.0 };
 
     ghost same = { λ loader after url path other other_path came more loads may. same_load F.gives loader after loads.1 other other_path more may };
+}
+
+// Why there is no map, by the failure that says so.
+fn why_of(failure: &Failure) -> NoMap
+    ensures { result ≡ why_in (failure_report failure.now) }
+{
+    match failure.code() {
+        Some(code) => NoMap::Refused(code),
+        None if failure.bytes() == NO_MEMORY.as_bytes() => NoMap::Memory,
+        None => NoMap::Unread,
+    }
 }
 
 // Why the map of the file at a path can't be had: where memory ran out, by a line that names the file, if there is memory

@@ -321,8 +321,8 @@ fn close<E: ByteSink>(
     short.max(reported)
 }
 
-// Reports that memory ran out for some maps, where it did, and gives the status of that.
-fn report_shortage<E: ByteSink>(shortages: u64, errors: &mut E) -> u8
+/// Reports that memory ran out for some maps, where it did, and gives the status of that.
+pub fn report_shortage<E: ByteSink>(shortages: u64, errors: &mut E) -> u8
     ensures { ReportsShortage shortages result (E.seen errors.old) (E.seen errors.new) }
 {
     if shortages == 0 {

@@ -25,6 +25,7 @@ mod sight;
 mod table;
 mod url_notes;
 
+pub use cuts::cut_at_last;
 pub use frames::frame;
 pub use hiding::Hiding;
 pub use maps::{Maps, TableMaps};

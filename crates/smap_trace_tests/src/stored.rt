@@ -1,7 +1,7 @@
 //! Maps that are read when they are named, and lists of them.
 use smap_locations::{ListFault, ListRefusal, Locations};
 use smap_record::MapFile;
-use smap_store::{LoadedMap, MapCache, MapLoader, StoredMaps, add_list};
+use smap_store::{LoadedMap, MapCache, MapLoader, NoMap, StoredMaps, add_list};
 use smap_trace::{Maps, Table};
 use std::alloc::Global;
 use std::test::Fail;
@@ -21,20 +21,18 @@ impl MapLoader for Named {
 
     ghost Loads = { λ loader url path came after. Unit {0} };
 
-    fn load(&mut self, alloc: Global, url: &[u8], path: &str) -> Option<LoadedMap> {
+    fn load(&mut self, alloc: Global, url: &[u8], path: &str) -> Result<LoadedMap, NoMap> {
         self.asked = self.asked.saturating_add(1);
         if path.as_bytes().ends_with(b"none.js.map") {
-            return None;
+            return Err(NoMap::Unread);
         }
-        let url = str::from_utf8(url).ok()?;
-        let text = format!(in alloc;
-            r#"{{"version":3,"file":"{url} {path}","sources":["a.js"],"names":[],"mappings":"AAAA"}}"#
-        ).ok()?;
-        let map = MapFile::read(alloc, text.as_bytes(), None, 64).ok()?;
-        Some(LoadedMap {
-            map,
-            file_bytes: 1_000,
-        })
+        match named_map(alloc, url, path) {
+            Some(map) => Ok(LoadedMap {
+                map,
+                file_bytes: 1_000,
+            }),
+            None => Err(NoMap::Memory),
+        }
     }
 
     ghost some = { λ loader url path. (None, tt) };
@@ -42,6 +40,15 @@ impl MapLoader for Named {
     ghost given = { λ loader after url path came loads. tt };
 
     ghost same = { λ loader after url path other other_path came more loads may. tt };
+}
+
+// A map that names a URL and a path as its file.
+fn named_map(alloc: Global, url: &[u8], path: &str) -> Option<MapFile> {
+    let url = str::from_utf8(url).ok()?;
+    let text = format!(in alloc;
+        r#"{{"version":3,"file":"{url} {path}","sources":["a.js"],"names":[],"mappings":"AAAA"}}"#
+    ).ok()?;
+    MapFile::read(alloc, text.as_bytes(), None, 64).ok()
 }
 
 const LIST: &str =

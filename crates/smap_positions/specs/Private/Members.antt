@@ -1,8 +1,10 @@
 -- Members of an answer as JSON, each with the comma before it.
 use Rattle.std.specs.Prelude.{ℕ, Bool, List, [], ◌++◌, Option, Some, None, codes}
 use Rattle.std.specs.Fmt.{decimal}
-use Rattle.serde_json.specs.Data.{boolean}
+use Rattle.serde_json.specs.Data.{boolean, string}
 use Rattle.serde_json.specs.Written.{compact_text}
+use Rattle.smap_codes.specs.Codes.{label_of}
+use Rattle.smap_codes.specs.declared.code.Code.{Code}
 use Rattle.smap_positions.specs.Json.{excerpt_value}
 
 -- the excerpt, where there is one
@@ -13,6 +15,11 @@ excerpt_member (Some excerpt) = codes ",\"excerpt\":" ++ compact_text (excerpt_v
 -- whether the source is ignored
 abbrev pub ignored_member : Bool → List ℕ
 ignored_member ignored = codes ",\"ignored\":" ++ compact_text (boolean ignored)
+
+-- by which code a map is refused, where it is
+abbrev pub refusal_member : Option Code → List ℕ
+refusal_member None = []
+refusal_member (Some code) = codes ",\"refusal\":" ++ compact_text (string (label_of code))
 
 -- the beginning of the object of a source: its bytes, where they are known
 abbrev pub row_front : Option ℕ → List ℕ

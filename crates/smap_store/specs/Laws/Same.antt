@@ -1,6 +1,6 @@
 -- Laws of maps that are found in a table and in files, where each file gives the same map whenever it is read: what is found
 -- under a URL is then the same whenever it is looked for, however much is remembered and whatever was looked for before.
-use Rattle.std.specs.Prelude.{◌≡◌, ℕ, List, [], Option, Some, None, MatchOption}
+use Rattle.std.specs.Prelude.{◌≡◌, ℕ, List, [], Option, Some, None, Ok, Err, MatchOption}
 use Rattle.std.proofs.Common.{ap, arith, inl, inr, refl, subst, sym, ◌∙◌}
 use Rattle.smap_locations.specs.Laws.Key.{path_of_key}
 use Rattle.smap_locations.specs.Locations.{LocationsSeen, key_for, path_for}
@@ -8,10 +8,10 @@ use Rattle.smap_record.specs.Record.{MapRecord}
 use Rattle.smap_by_text.specs.ByText.{value_under}
 use Rattle.smap_by_text.specs.Laws.ByText.{IsOf}
 use Rattle.smap_store.specs.ByPath.{IsGood, IsRight, MapsByPath, by_path, stored_maps}
-use Rattle.smap_store.specs.Cache.{CacheSeen, Keeps, Kept, Remembers, counted, kept_of, one_more}
+use Rattle.smap_store.specs.Cache.{CacheSeen, Keeps, Kept, Remembers, counted, kept_of, kept_record, one_more}
 use Rattle.smap_store.specs.Fileless.{known_of}
 use Rattle.smap_store.specs.Laws.Kept.{other_remembered, own_remembered}
-use Rattle.smap_store.specs.Loaded.{record_in}
+use Rattle.smap_store.specs.Loaded.{Came, record_in}
 use Rattle.smap_store.specs.Stored.{Asks, Comes, FindsIn, LoadsStep, Recalls, StoredSeen, Untouched, found_in, map_in, or_other}
 
 -- nothing is remembered at first
@@ -28,24 +28,20 @@ right_start load maps empty = record {
 short_is_some : (shortages : ℕ) → one_more shortages ≡ 0 → ⊥
 short_is_some shortages is = omega (arith, is)
 
-counted_shortages : (cache : CacheSeen) (came : Option (MapRecord × ℕ)) → (counted cache came).shortages ≡ cache.shortages
-counted_shortages cache None = refl
-counted_shortages cache (Some came) = refl
-
-found_of : (came : Option (MapRecord × ℕ)) → (kept_of came).found ≡ record_in came
-found_of None = refl
-found_of (Some came) = refl
+counted_shortages : (cache : CacheSeen) (came : Came) → (counted cache came).shortages ≡ cache.shortages
+counted_shortages cache (Err why) = refl
+counted_shortages cache (Ok one) = refl
 
 -- what came was remembered, and there was memory for that so far, where there was at the end
-remembered : (old : CacheSeen) (url : List ℕ) (came : Option (MapRecord × ℕ)) (new : CacheSeen) → Remembers old url came new → new.shortages ≡ 0
+remembered : (old : CacheSeen) (url : List ℕ) (came : Came) (new : CacheSeen) → Remembers old url came new → new.shortages ≡ 0
     → Keeps old.most old.kept url (kept_of came) new.kept × (old.shortages ≡ 0)
 remembered old url came new (inl kept) none = (kept.0, sym (counted_shortages old came) ∙ sym (ap (λ c. c.shortages) kept.1) ∙ none)
 remembered old url came new (inr is) none = absurd (short_is_some (counted old came).shortages (sym (ap (λ c. c.shortages) is) ∙ none))
 
 module _ {L : Type 0} (Loads : LoadsStep L) (Good : L → Type 0) (load : MapsByPath)
-    (loads_right : (old new : L) (url path : List ℕ) (came : Option (MapRecord × ℕ)) → Loads old url path came new → Good new
+    (loads_right : (old new : L) (url path : List ℕ) (came : Came) → Loads old url path came new → Good new
     → Good old × (record_in came ≡ load url path)) where
-  comes_right : (old new : L) (url : List ℕ) (path : Option (List ℕ)) (came : Option (MapRecord × ℕ)) → Comes Loads old url path came new → Good new
+  comes_right : (old new : L) (url : List ℕ) (path : Option (List ℕ)) (came : Came) → Comes Loads old url path came new → Good new
       → Good old × (record_in came ≡ by_path load url path)
   comes_right old new url None came comes good = (subst Good comes.1 good, ap record_in comes.0)
   comes_right old new url (Some path) came comes good = loads_right old new url path came comes good
@@ -80,7 +76,7 @@ module _ {L : Type 0} (Loads : LoadsStep L) (Good : L → Type 0) (load : MapsBy
   module _ (words : List (List ℕ × MapRecord)) (locations : LocationsSeen) where
     -- what is remembered under each text is what its file gives
     abbrev AllKept : StoredSeen L → Type 0
-    AllKept maps = (key : List ℕ) (one : Kept) → value_under key maps.cache.kept ≡ Some one → one.found ≡ by_path load key (path_for locations key)
+    AllKept maps = (key : List ℕ) (one : Kept) → value_under key maps.cache.kept ≡ Some one → kept_record one ≡ by_path load key (path_for locations key)
 
     -- it is under this one
     abbrev FindsKept : (key : List ℕ) → StoredSeen L → Type 0
@@ -95,18 +91,18 @@ module _ {L : Type 0} (Loads : LoadsStep L) (Good : L → Type 0) (load : MapsBy
     asked_kept old new key absent (inl asked) good same kept =
         let one = kept_of asked.came in
         let keeps = (remembered old.cache key asked.came new.cache asked.remembered good.1).0 in
-        let right : one.found ≡ by_path load key (path_for locations key) =
-        found_of asked.came ∙ (comes_right old.loader new.loader key (path_for old.locations key) asked.came asked.comes good.0).1
+        let right : kept_record one ≡ by_path load key (path_for locations key) =
+        (comes_right old.loader new.loader key (path_for old.locations key) asked.came asked.comes good.0).1
         ∙ ap (λ l. by_path load key (path_for l key)) same in (
           ap map_in (own_remembered old.cache.kept key one new.cache.kept old.cache.most keeps absent) ∙ right,
           (λ other it has. other_right one right other it (other_remembered old.cache.kept key one new.cache.kept old.cache.most keeps other it has)),
         )
       where
-        other_right : (one : Kept) → one.found ≡ by_path load key (path_for locations key) → (other : List ℕ) (it : Kept)
-            → IsOf other key one it (value_under other old.cache.kept) → it.found ≡ by_path load other (path_for locations other)
+        other_right : (one : Kept) → kept_record one ≡ by_path load key (path_for locations key) → (other : List ℕ) (it : Kept)
+            → IsOf other key one it (value_under other old.cache.kept) → kept_record it ≡ by_path load other (path_for locations other)
         other_right one right other it (inr was) = kept other it was
         other_right one right other it (inl now) =
-            ap (λ k. k.found) now.1 ∙ right ∙ ap (λ k. by_path load k (path_for locations k)) (sym now.0)
+            ap kept_record now.1 ∙ right ∙ ap (λ k. by_path load k (path_for locations k)) (sym now.0)
 
     recalled_kept : (old new : StoredSeen L) (key : List ℕ) (one : Option Kept) → value_under key old.cache.kept ≡ one
         → MatchOption one (Asks Loads old key new) (λ one. Untouched old new) → IsGood Good new → old.locations ≡ locations → AllKept old

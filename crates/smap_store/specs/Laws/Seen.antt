@@ -5,8 +5,9 @@ use Rattle.std.proofs.Common.{ap, inl, inr}
 use Rattle.smap_locations.specs.Locations.{key_for, path_for}
 use Rattle.smap_record.specs.Record.{MapRecord}
 use Rattle.smap_by_text.specs.ByText.{value_under}
-use Rattle.smap_store.specs.Cache.{Kept}
+use Rattle.smap_store.specs.Cache.{Kept, kept_record}
 use Rattle.smap_store.specs.Fileless.{known_of}
+use Rattle.smap_store.specs.Loaded.{Came}
 use Rattle.smap_store.specs.Stored.{Asks, Comes, FindsIn, GivesIn, LoadsMay, LoadsStep, MayCome, Recalls, StoredSeen, Untouched}
 
 module _ {L N : Type 0} (see : L → N) where
@@ -19,9 +20,9 @@ module _ {L N : Type 0} (see : L → N) where
   module _ (Loads : LoadsStep L) (Seen : LoadsStep N) where
     -- what a step of the loader is seen as
     abbrev pub StepSeen : (old new : L) → Type 0
-    StepSeen old new = (url path : List ℕ) (came : Option (MapRecord × ℕ)) → Loads old url path came new → Seen (see old) url path came (see new)
+    StepSeen old new = (url path : List ℕ) (came : Came) → Loads old url path came new → Seen (see old) url path came (see new)
 
-    comes_seen : (old new : L) (loads : StepSeen old new) (url : List ℕ) (path : Option (List ℕ)) (came : Option (MapRecord × ℕ)) → Comes Loads old url path came new
+    comes_seen : (old new : L) (loads : StepSeen old new) (url : List ℕ) (path : Option (List ℕ)) (came : Came) → Comes Loads old url path came new
         → Comes Seen (see old) url path came (see new)
     comes_seen old new loads url None came comes = (comes.0, ap see comes.1)
     comes_seen old new loads url (Some path) came comes = loads url path came comes
@@ -62,7 +63,7 @@ module _ {L N : Type 0} (see : L → N) where
 
     abbrev ByCache : {K : Type 0} → LoadsMay K → (loader : K) → (url key : List ℕ) → (found : Option MapRecord) → Type 0
     ByCache May loader url key found =
-        IsSomeAnd (value_under key maps.cache.kept) (λ one. found ≡ one.found) ⊎ MayCome May loader key (path_for maps.locations url) found
+        IsSomeAnd (value_under key maps.cache.kept) (λ one. found ≡ kept_record one) ⊎ MayCome May loader key (path_for maps.locations url) found
 
     by_cache_seen : (url key : List ℕ) (found : Option MapRecord) → ByCache MayLoad maps.loader url key found → ByCache MaySeen (see maps.loader) url key found
     by_cache_seen url key found (inl is) = inl is

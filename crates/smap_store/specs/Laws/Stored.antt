@@ -1,5 +1,5 @@
 -- Laws of maps that are found in a table and in files, which their trait asks for.
-use Rattle.std.specs.Prelude.{◌≡◌, ◌⊎◌, ℕ, List, Option, Some, None, MatchOption}
+use Rattle.std.specs.Prelude.{◌≡◌, ◌⊎◌, ℕ, List, Option, Some, None, Ok, Err, MatchOption}
 use Rattle.std.specs.Option.{IsSomeAnd}
 use Rattle.std.proofs.Common.{refl, sym, ap, subst, ◌∙◌, inl, inr}
 use Rattle.smap_locations.specs.Laws.Key.{path_of_key}
@@ -7,19 +7,15 @@ use Rattle.smap_locations.specs.Locations.{LocationsSeen, key_for, path_for}
 use Rattle.smap_record.specs.Record.{MapRecord}
 use Rattle.smap_by_text.specs.ByText.{value_under}
 use Rattle.smap_by_text.specs.Laws.ByText.{IsOf}
-use Rattle.smap_store.specs.Cache.{CacheSeen, Keeps, Kept, Remembers, counted, kept_of}
+use Rattle.smap_store.specs.Cache.{CacheSeen, Keeps, Kept, Remembers, counted, kept_of, kept_record}
 use Rattle.smap_store.specs.Fileless.{known_of}
 use Rattle.smap_store.specs.Laws.Kept.{other_remembered, own_remembered}
-use Rattle.smap_store.specs.Loaded.{record_in}
+use Rattle.smap_store.specs.Loaded.{Came, record_in}
 use Rattle.smap_store.specs.Stored.{Asks, Comes, FindsIn, GivesIn, LoadsMay, LoadsStep, MayCome, Recalls, StoredSeen, Untouched, found_in, map_in, or_other}
 
-found_of : (came : Option (MapRecord × ℕ)) → (kept_of came).found ≡ record_in came
-found_of None = refl
-found_of (Some came) = refl
-
-counted_kept : (cache : CacheSeen) (came : Option (MapRecord × ℕ)) → (counted cache came).kept ≡ cache.kept
-counted_kept cache None = refl
-counted_kept cache (Some came) = refl
+counted_kept : (cache : CacheSeen) (came : Came) → (counted cache came).kept ≡ cache.kept
+counted_kept cache (Err why) = refl
+counted_kept cache (Ok one) = refl
 
 module _ {L : Type 0} (Loads : LoadsStep L) where
   -- nothing came
@@ -28,17 +24,17 @@ module _ {L : Type 0} (Loads : LoadsStep L) where
     loader : new.loader ≡ old.loader
 
   -- this came for a URL that was not remembered, and it is remembered, where there was memory for it
-  record Came (old : StoredSeen L) (url : List ℕ) (new : StoredSeen L) : Type 0 where
+  record CameAnew (old : StoredSeen L) (url : List ℕ) (new : StoredSeen L) : Type 0 where
     absent : value_under url old.cache.kept ≡ None
-    came : Option (MapRecord × ℕ)
+    came : Came
     comes : Comes Loads old.loader url (path_for old.locations url) came new.loader
     kept : Keeps old.cache.most old.cache.kept url (kept_of came) new.cache.kept ⊎ (new.cache.kept ≡ old.cache.kept)
 
   -- one of these
   abbrev Moves : (old : StoredSeen L) (url : List ℕ) (new : StoredSeen L) → Type 0
-  Moves old url new = IsSame old new ⊎ Came old url new
+  Moves old url new = IsSame old new ⊎ CameAnew old url new
 
-  kept_after : (old : CacheSeen) (url : List ℕ) (came : Option (MapRecord × ℕ)) (new : CacheSeen) → Remembers old url came new
+  kept_after : (old : CacheSeen) (url : List ℕ) (came : Came) (new : CacheSeen) → Remembers old url came new
       → Keeps old.most old.kept url (kept_of came) new.kept ⊎ (new.kept ≡ old.kept)
   kept_after old url came new (inl kept) = inl kept.0
   kept_after old url came new (inr is) = inr (ap (λ cache. cache.kept) is ∙ counted_kept old came)
@@ -61,7 +57,7 @@ module _ {L : Type 0} (MayLoad : LoadsMay L) where
   none_may loader url (Some path) found is = inl is
 
   some_for : (maps : StoredSeen L) (url : List ℕ) (path : Option (List ℕ)) (known : Option (Option MapRecord)) → (found : Option MapRecord) ×
-      MatchOption known (IsSomeAnd (value_under (key_for maps.locations url) maps.cache.kept) (λ one. found ≡ one.found)
+      MatchOption known (IsSomeAnd (value_under (key_for maps.locations url) maps.cache.kept) (λ one. found ≡ kept_record one)
       ⊎ MayCome MayLoad maps.loader (key_for maps.locations url) path found) (λ known. found ≡ known)
   some_for maps url path None = (None, inr (none_may maps.loader (key_for maps.locations url) path None refl))
   some_for maps url path (Some known) = (known, refl)
@@ -70,10 +66,10 @@ module _ {L : Type 0} (MayLoad : LoadsMay L) where
   some_in maps url = some_for maps url (path_for maps.locations url) (known_of maps.words maps.locations url)
 
   module _ (Loads : LoadsStep L)
-      (given : (loader after : L) (url path : List ℕ) (came : Option (MapRecord × ℕ)) → Loads loader url path came after
+      (given : (loader after : L) (url path : List ℕ) (came : Came) → Loads loader url path came after
       → MayLoad loader url path (record_in came)) where
     -- what came may come
-    came_may : (loader after : L) (url : List ℕ) (path : Option (List ℕ)) (came : Option (MapRecord × ℕ)) (found : Option MapRecord)
+    came_may : (loader after : L) (url : List ℕ) (path : Option (List ℕ)) (came : Came) (found : Option MapRecord)
         → Comes Loads loader url path came after → found ≡ record_in came → MayCome MayLoad loader url path found
     came_may loader after url None came found comes is = is ∙ ap record_in comes.0
     came_may loader after url (Some path) came found comes is =
@@ -82,16 +78,16 @@ module _ {L : Type 0} (MayLoad : LoadsMay L) where
 
     -- what a URL has by what is remembered of it, or by what may come
     abbrev ByCache : (maps : StoredSeen L) (key : List ℕ) (path : Option (List ℕ)) (found : Option MapRecord) → Type 0
-    ByCache maps key path found = IsSomeAnd (value_under key maps.cache.kept) (λ one. found ≡ one.found) ⊎ MayCome MayLoad maps.loader key path found
+    ByCache maps key path found = IsSomeAnd (value_under key maps.cache.kept) (λ one. found ≡ kept_record one) ⊎ MayCome MayLoad maps.loader key path found
 
     by_kept : (maps : StoredSeen L) (key : List ℕ) (path : Option (List ℕ)) (found : Option MapRecord) (one : Option Kept)
         → value_under key maps.cache.kept ≡ one → found ≡ map_in one → ByCache maps key path found
     by_kept maps key path found None is finds = inr (none_may maps.loader key path found finds)
     by_kept maps key path found (Some one) is finds =
-        let P : Option Kept → Type 0 = λ one. IsSomeAnd one (λ one. found ≡ one.found) in
+        let P : Option Kept → Type 0 = λ one. IsSomeAnd one (λ one. found ≡ kept_record one) in
         inl (subst P (sym is) finds)
 
-    came_found : (old new : StoredSeen L) (key : List ℕ) (found : Option MapRecord) → Came Loads old key new → found ≡ map_in (value_under key new.cache.kept)
+    came_found : (old new : StoredSeen L) (key : List ℕ) (found : Option MapRecord) → CameAnew Loads old key new → found ≡ map_in (value_under key new.cache.kept)
         → MayCome MayLoad old.loader key (path_for old.locations key) found
     came_found old new key found is finds = go is.kept
       where
@@ -99,7 +95,7 @@ module _ {L : Type 0} (MayLoad : LoadsMay L) where
             → MayCome MayLoad old.loader key (path_for old.locations key) found
         go (inl keeps) =
             came_may old.loader new.loader key (path_for old.locations key) is.came found is.comes
-            (finds ∙ ap map_in (own_remembered old.cache.kept key (kept_of is.came) new.cache.kept old.cache.most keeps is.absent) ∙ found_of is.came)
+            (finds ∙ ap map_in (own_remembered old.cache.kept key (kept_of is.came) new.cache.kept old.cache.most keeps is.absent))
         go (inr same) =
             none_may old.loader key (path_for old.locations key) found (finds ∙ ap (λ kept. map_in (value_under key kept)) same ∙ ap map_in is.absent)
 
@@ -125,9 +121,9 @@ module _ {L : Type 0} (MayLoad : LoadsMay L) where
         given_for old new url (found_in new url) (known_of old.words old.locations url)
         (moved Loads old (key_for old.locations url) new (known_of old.words old.locations url) finds.steps) is
 
-    module _ (same : (loader after : L) (url path other other_path : List ℕ) (came : Option (MapRecord × ℕ)) (more : Option MapRecord)
+    module _ (same : (loader after : L) (url path other other_path : List ℕ) (came : Came) (more : Option MapRecord)
         → Loads loader url path came after → MayLoad after other other_path more → MayLoad loader other other_path more) where
-      may_before : (loader after : L) (url : List ℕ) (path : Option (List ℕ)) (came : Option (MapRecord × ℕ)) (other other_path : List ℕ)
+      may_before : (loader after : L) (url : List ℕ) (path : Option (List ℕ)) (came : Came) (other other_path : List ℕ)
           (more : Option MapRecord)
           → Comes Loads loader url path came after → MayLoad after other other_path more → MayLoad loader other other_path more
       may_before loader after url None came other other_path more comes may =
@@ -150,7 +146,7 @@ module _ {L : Type 0} (MayLoad : LoadsMay L) where
       comes_before old new key other (Some path) more moves (inr may) = inr (loads_before old new key other path more moves may)
 
       kept_before : (old new : StoredSeen L) (key other : List ℕ) (more : Option MapRecord) (it : Kept) → Moves Loads old key new
-          → value_under other new.cache.kept ≡ Some it → more ≡ it.found → ByCache old other (path_for old.locations other) more
+          → value_under other new.cache.kept ≡ Some it → more ≡ kept_record it → ByCache old other (path_for old.locations other) more
       kept_before old new key other more it (inl same) has is =
           by_kept old other (path_for old.locations other) more (Some it) (ap (value_under other) (sym same.kept) ∙ has) is
       kept_before old new key other more it (inr one) has is = go one.kept
@@ -160,7 +156,7 @@ module _ {L : Type 0} (MayLoad : LoadsMay L) where
           of (inl now) =
               let P : List ℕ → Type 0 = λ key. MayCome MayLoad old.loader key (path_for old.locations key) more in
               inr (subst P (sym now.0)
-              (came_may old.loader new.loader key (path_for old.locations key) one.came more one.comes (is ∙ ap (λ it. it.found) now.1 ∙ found_of one.came)))
+              (came_may old.loader new.loader key (path_for old.locations key) one.came more one.comes (is ∙ ap kept_record now.1)))
 
           go : Keeps old.cache.most old.cache.kept key (kept_of one.came) new.cache.kept ⊎ (new.cache.kept ≡ old.cache.kept)
               → ByCache old other (path_for old.locations other) more
@@ -168,7 +164,7 @@ module _ {L : Type 0} (MayLoad : LoadsMay L) where
           go (inr same) = by_kept old other (path_for old.locations other) more (Some it) (ap (value_under other) (sym same) ∙ has) is
 
       cache_before : (old new : StoredSeen L) (key other : List ℕ) (more : Option MapRecord) (it : Option Kept) → Moves Loads old key new
-          → value_under other new.cache.kept ≡ it → IsSomeAnd it (λ one. more ≡ one.found) → ByCache old other (path_for old.locations other) more
+          → value_under other new.cache.kept ≡ it → IsSomeAnd it (λ one. more ≡ kept_record one) → ByCache old other (path_for old.locations other) more
       cache_before old new key other more None moves has is = absurd is
       cache_before old new key other more (Some it) moves has is = kept_before old new key other more it moves has is
 

@@ -12,7 +12,7 @@ use Rattle.smap_places.specs.PlacesOver.{RewritesPlacesOver}
 use Rattle.smap_record.specs.Record.{MapRecord}
 use Rattle.smap_record.specs.declared.refusal.MapRefusal.{MapRefusal}
 use Rattle.smap_store.specs.ByPath.{IsGood, IsRight, MapsByPath, stored_maps}
-use Rattle.smap_store.specs.Loaded.{record_in}
+use Rattle.smap_store.specs.Loaded.{Came, record_in}
 use Rattle.smap_store.specs.Laws.Same.{good_before, right_after, right_start}
 use Rattle.smap_store.specs.Stored.{FindsIn, LoadsStep, StoredSeen, found_in}
 use Rattle.smap_trace.specs.Hiding.{HidingSeen}
@@ -22,6 +22,7 @@ use Rattle.smap_trace.specs.Rewriting.{RewritesOver}
 use Rattle.smap_trace.specs.declared.outcome.RewriteCounts.{RewriteCounts}
 use Rattle.smap_trace.specs.declared.outcome.Summary.{Summary}
 use Rattle.smap_replies.specs.Files.{MayRead}
+use Rattle.smap_text_answers.specs.Laws.Loader.{fails_to_load}
 use Rattle.smap_text_answers.specs.Loader.{FailsToLoad, LoaderSeen, Loads, record_loaded}
 use Rattle.smap_replies.specs.Map.{Never, ReportsFound, refusal_result}
 use Rattle.smap_replies.specs.Outcome.{Report}
@@ -36,7 +37,7 @@ use Rattle.smap_text_answers.specs.declared.sources.MapSources.{MapSources}
 -- rewriting over a store that remembers nothing at first, where what loads its maps gives the same for a URL and a path each
 -- time, so far as no trouble comes to it
 module _ {L : Type 0} (Steps : LoadsStep L) (Good : L → Type 0) (load : MapsByPath)
-    (loads_right : (old new : L) (url path : List ℕ) (came : Option (MapRecord × ℕ)) → Steps old url path came new → Good new
+    (loads_right : (old new : L) (url path : List ℕ) (came : Came) → Steps old url path came new → Good new
     → Good old × (record_in came ≡ load url path)) where
   pub rewrites_same : (hide : HidingSeen) (most : ℕ) (before after : DevicesSeen) (old new : StoredSeen L) (counts : RewriteCounts)
       → RewritesOver (FindsIn Steps) found_in hide most before after old new counts → old.cache.kept ≡ [] → IsGood Good new
@@ -75,12 +76,12 @@ module _ (Reads : MayRead) (paths : Bool) (base : Option Parts) (k number : ℕ)
   fails_reported url path report (inr (inr (inr (bytes, read, reported)))) few =
       let status = refused_status path report (record_loaded paths base k url bytes) reported in omega (arith, status, few)
 
-  loads_settled : (old new : LoaderSeen) (url path : List ℕ) (came : Option (MapRecord × ℕ)) → Loads Reads paths base k number old url path came new
+  loads_settled : (old new : LoaderSeen) (url path : List ℕ) (came : Came) → Loads Reads paths base k number old url path came new
       → IsSilent new → IsSilent old × (record_in came ≡ load url path)
-  loads_settled old new url path None loads silent =
+  loads_settled old new url path (Err why) loads silent =
       let status = loads.2.status in
-      absurd (fails_reported url path loads.0 loads.1 (omega (arith, status, silent)))
-  loads_settled old new url path (Some (stated, file_bytes)) loads silent =
+      absurd (fails_reported url path loads.0 (fails_to_load Reads paths base k number why url path loads.0 loads.1) (omega (arith, status, silent)))
+  loads_settled old new url path (Ok (stated, file_bytes)) loads silent =
       let (bytes, read, many, is) = loads.0 in
       (subst IsSilent loads.1 silent, sym (ap (stated_by paths base k url) (same path bytes read) ∙ ap stated_in is))
 

@@ -62,3 +62,7 @@ returns-in-Fit g c =
 pub returns-in-Rewrite : goal.returns-in-Rewrite
 returns-in-Rewrite g c =
     rw c.in-Rewrite.is (rw (c.deref-in-Rewrite.ensures.value, c.base.ensures, c.interval.ensures, c.in-Rewrite.is) at c.answer_rewrite.ensures)
+
+pub returns-in-Locate : goal.returns-in-Locate
+returns-in-Locate g c =
+    rw c.in-Locate.is (rw (c.new.ensures, c.deref-in-Locate.ensures.value, c.base.ensures, c.interval.ensures, c.in-Locate.is) at c.answer_locate.ensures)

@@ -5,4 +5,4 @@ pub returns : goal.returns
 unfolding escape_byte
 returns g c =
     let both = g.met.O.Output.puts_both in
-    both _ _ _ _ _ c.put_number.ensures (both _ _ _ _ _ c.put_number-2.ensures c.put.ensures)
+    both _ _ _ _ _ c.put_number.ensures (both _ _ _ _ _ c.put_number-2.ensures c.put_end.ensures)

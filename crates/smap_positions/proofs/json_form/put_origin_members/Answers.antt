@@ -10,4 +10,4 @@ returns g c =
     let source = rw c.source_name.ensures at c.put_json_text-2.ensures in
     let index = rw c.from.ensures at c.put_number-3.ensures in
     both _ _ _ _ _ c.put.ensures (both _ _ _ _ _ c.put_json_text.ensures (both _ _ _ _ _ column (both _ _ _ _ _ line
-    (both _ _ _ _ _ c.put-2.ensures (both _ _ _ _ _ source (both _ _ _ _ _ index c.put-3.ensures))))))
+    (both _ _ _ _ _ c.put-2.ensures (both _ _ _ _ _ source (both _ _ _ _ _ index c.put_end.ensures))))))

@@ -6,4 +6,4 @@ unfolding escape_byte
 returns g c =
     let both = g.met.O.Output.puts_both in
     let generated = rw c.from_one.ensures at c.put_number-2.ensures in
-    both _ _ _ _ _ c.put_number.ensures (both _ _ _ _ _ generated (both _ _ _ _ _ c.put_number-3.ensures c.put.ensures))
+    both _ _ _ _ _ c.put_number.ensures (both _ _ _ _ _ generated (both _ _ _ _ _ c.put_number-3.ensures c.put_end.ensures))

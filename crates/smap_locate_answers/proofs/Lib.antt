@@ -1,0 +1,2 @@
+mod LocatingLaws
+mod PlaceLaws

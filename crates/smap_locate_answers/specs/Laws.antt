@@ -1,0 +1,3 @@
+pub mod ByPath
+pub mod Locator
+pub mod Run

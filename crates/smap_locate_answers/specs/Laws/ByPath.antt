@@ -1,0 +1,206 @@
+-- Laws of answering places over files whose paths give the same whenever they are read: each line is then answered by what these
+-- files have, however few are remembered, or by that memory ran out.
+use Rattle.std.specs.Prelude.{◌≡◌, ◌⊎◌, ℕ, Bool, true, false, List, [], ◌∷◌, ◌++◌, MatchBool, MatchOption, Option, Some, None, Result, Ok, Err}
+use Rattle.std.specs.List.{AllZip, concat}
+use Rattle.std.proofs.Common.{ap, inl, inr, refl, subst, sym, ◌∙◌}
+use Rattle.url.specs.Parts.{Parts}
+use Rattle.smap_by_text.specs.ByText.{value_under}
+use Rattle.smap_by_text.specs.Laws.ByText.{IsOf}
+use Rattle.smap_codes.specs.declared.code.Code.{Code}
+use Rattle.smap_codes.specs.declared.code.Code.TheVariants.{M16}
+use Rattle.smap_lines.specs.Edited.{IsEditedLine, StepsLines, is_short}
+use Rattle.smap_lines.specs.Editing.{DevicesSeen, EditsInto}
+use Rattle.smap_lines.specs.Lines.{Line, line_text, lines_with_ends}
+use Rattle.smap_lines.specs.declared.counts.LineCounts.{LineCounts}
+use Rattle.smap_locate_answers.specs.ByPath.{AnswersAll, AnswersLine, AnswersPlace, IsDefined, IsFoundFor, IsFoundIn, IsFoundOf, IsKnown, ReadsAlike}
+use Rattle.smap_locate_answers.specs.Locating.{LocateStep, Locates}
+use Rattle.smap_locate_answers.specs.Place.{Place, place_of}
+use Rattle.smap_locations.specs.Laws.Key.{path_of_key}
+use Rattle.smap_locations.specs.Locations.{LocationsSeen, key_for, path_for}
+use Rattle.smap_positions.specs.declared.options.AnswerOptions.{AnswerOptions}
+use Rattle.smap_record.specs.Record.{MapRecord}
+use Rattle.smap_record.specs.declared.refusal.MapRefusal.{MapRefusal}
+use Rattle.smap_replies.specs.Files.{MayRead}
+use Rattle.smap_replies.specs.Map.{Never, ReportsFound, refusal_result}
+use Rattle.smap_replies.specs.Outcome.{Report}
+use Rattle.smap_store.specs.Cache.{CacheSeen, Keeps, Kept, Remembers, counted, kept_of}
+use Rattle.smap_store.specs.Fileless.{known_of}
+use Rattle.smap_store.specs.Laws.Kept.{other_remembered}
+use Rattle.smap_store.specs.Loaded.{Came, Outcome, outcome_in}
+use Rattle.smap_store.specs.Stored.{Asks, Comes, FindsIn, Recalls, StoredSeen, Untouched, known_outcome, outcome_at, outcome_of}
+use Rattle.smap_store.specs.declared.loader.NoMap.{NoMap}
+use Rattle.smap_store.specs.declared.loader.NoMap.TheVariants.{Unnamed, Unread, Refused, Memory}
+use Rattle.smap_text_answers.specs.Loader.{FailsWith, LoaderSeen, Loads, record_loaded}
+use Rattle.smap_text_answers.specs.SameBytes.{BytesByPath}
+
+-- ---- lines, one after another
+
+-- where each step of an editor that is such makes of a line what this says, and leads to one that is such
+module _ {E : Type 0} (Steps : E → Line → List ℕ → E → Type 0) (Is : E → Type 0) (Becomes : Line → (text : List ℕ) → Type 0)
+    (each : (old : E) (line : Line) (text : List ℕ) (new : E) → Is old → Steps old line text new → Becomes line text × Is new) where
+  line_becomes : (b : Bool) (line : Line) (old : E) (text : List ℕ) (new : E) → Is old
+      → MatchBool b (Steps old line text new) ((text ≡ line_text line) × (new ≡ old)) →
+      MatchBool b (Becomes line text) (text ≡ line_text line) × Is new
+  line_becomes true line old text new is steps = each old line text new is steps
+  line_becomes false line old text new is stays = (stays.0, subst Is (sym stays.1) is)
+
+  lines_become : (lines : List Line) (old : E) (text : List ℕ) (new : E) → Is old → StepsLines Steps old lines text new →
+      (texts : List (List ℕ)) × AllZip (IsEditedLine Becomes) lines texts × (text ≡ concat texts)
+  lines_become [] old text new is steps = ([], tt, steps.0)
+  lines_become (line ∷ lines) old text new is steps =
+      let one = line_becomes (is_short line) line old steps.1 steps.0 is steps.3 in
+      let more = lines_become lines steps.0 steps.2 new one.1 steps.4 in
+      (steps.1 ∷ more.0, (one.0, more.1), steps.5 ∙ ap (λ l. steps.1 ++ l) more.2)
+
+  pub answers_all : (most : ℕ) (before after : DevicesSeen) (old new : E) (counts : LineCounts) → Is old → EditsInto Steps most before after old new counts
+      → AnswersAll Becomes before after
+  answers_all most before after old new counts is done =
+      let all = lines_become (lines_with_ends done.bytes) old done.written new is done.steps.each in
+      record {
+        bytes = done.bytes;
+        written = done.written;
+        read = done.read;
+        taken = done.taken;
+        answers = record { texts = all.0; each = all.1; joined = all.2 };
+      }
+
+-- ---- what is remembered
+
+kept_after : (old : CacheSeen) (url : List ℕ) (came : Came) (new : CacheSeen) → Remembers old url came new
+    → Keeps old.most old.kept url (kept_of came) new.kept ⊎ (new.kept ≡ old.kept)
+kept_after old url came new (inl kept) = inl kept.0
+kept_after old url (Err why) new (inr is) = inr (ap (λ c. c.kept) is)
+kept_after old url (Ok one) new (inr is) = inr (ap (λ c. c.kept) is)
+
+module _ (Reads : MayRead) (paths : Bool) (base : Option Parts) (k number : ℕ) (bytes_at : BytesByPath) (alike : ReadsAlike Reads number bytes_at) where
+  abbrev Found : (url : List ℕ) (path : Option (List ℕ)) → Outcome → Type 0
+  Found url path outcome = (outcome ≡ Err Memory) ⊎ IsFoundFor paths base k bytes_at url path outcome
+
+  -- why a map is refused, by its code
+  refused_in : (path : List ℕ) (found : Result MapRecord MapRefusal) (report : Report) (code : Code) → ReportsFound (refusal_result path) found Never report
+      → report.code ≡ Some code → IsFoundIn found (Err (Refused code))
+  refused_in path (Err refused) report code is coded =
+      let same : Some code ≡ (refusal_result path refused).code = sym coded ∙ ap (λ r. r.code) is in
+      let code_is = cc in ap (λ c. Err (Refused c)) code_is
+  refused_in path (Ok stated) report code (inl is) coded =
+      let same : Some code ≡ Some M16 = sym coded ∙ ap (λ r. r.code) is in
+      let code_is : code ≡ M16 = cc in inr (ap (λ c. Err (Refused c)) code_is)
+  refused_in path (Ok stated) report code (inr never) coded = absurd never
+
+  found_bytes : (url path bytes : List ℕ) (outcome : Outcome) → Reads number path (Ok bytes) → IsFoundIn (record_loaded paths base k url bytes) outcome
+      → IsFoundFor paths base k bytes_at url (Some path) outcome
+  found_bytes url path bytes outcome read is =
+      subst (λ b. IsFoundOf paths base k url b outcome) (sym (alike.same path bytes read)) is
+
+  failed : (why : NoMap) (url path : List ℕ) (report : Report) → FailsWith Reads paths base k number why url path report → Found url (Some path) (Err why)
+  failed Unnamed url path report fails = absurd fails
+  failed Memory url path report fails = inl refl
+  failed Unread url path report unread =
+      inr (subst (λ b. IsFoundOf paths base k url b (Err Unread)) (sym (alike.fails path unread.0)) refl)
+  failed (Refused code) url path report ((bytes, read, found), coded) =
+      inr (found_bytes url path bytes (Err (Refused code)) read (refused_in path (record_loaded paths base k url bytes) report code found coded))
+
+  loaded : (old new : LoaderSeen) (url path : List ℕ) (came : Came) → Loads Reads paths base k number old url path came new → Found url (Some path) (outcome_in came)
+  loaded old new url path (Err why) loads = failed why url path loads.0 loads.1
+  loaded old new url path (Ok (stated, file_bytes)) loads =
+      let (bytes, read, many, is) = loads.0 in
+      inr (found_bytes url path bytes (Ok stated) read (subst (λ found. IsFoundIn found (Ok stated)) (sym is) (inl refl)))
+
+  came_found : (old new : LoaderSeen) (url : List ℕ) (path : Option (List ℕ)) (came : Came) → Comes (Loads Reads paths base k number) old url path came new
+      → Found url path (outcome_in came)
+  came_found old new url None came comes = inr (ap outcome_in comes.0)
+  came_found old new url (Some path) came comes = loaded old new url path came comes
+
+  module _ (words : List (List ℕ × MapRecord)) (locations : LocationsSeen) where
+    -- the store is over these words and locations, and what it remembers under each text is what is found for it
+    pub record IsRight (maps : StoredSeen LoaderSeen) : Type 0 where
+      pub words_are : maps.words ≡ words
+      pub locations_are : maps.locations ≡ locations
+      pub kept : (key : List ℕ) (one : Kept) → value_under key maps.cache.kept ≡ Some one → Found key (path_for locations key) one.found
+
+    abbrev AllKept : StoredSeen LoaderSeen → Type 0
+    AllKept maps = (key : List ℕ) (one : Kept) → value_under key maps.cache.kept ≡ Some one → Found key (path_for locations key) one.found
+
+    untouched_kept : (old new : StoredSeen LoaderSeen) → new.cache.kept ≡ old.cache.kept → AllKept old → AllKept new
+    untouched_kept old new same kept key one is = kept key one (ap (value_under key) (sym same) ∙ is)
+
+    asked_kept : (old new : StoredSeen LoaderSeen) (key : List ℕ) → Asks (Loads Reads paths base k number) old key new → old.locations ≡ locations → AllKept old → AllKept new
+    asked_kept old new key (inr is) same kept = untouched_kept old new (ap (λ c. c.kept) is.cache) kept
+    asked_kept old new key (inl asked) same kept = go (kept_after old.cache key asked.came new.cache asked.remembered)
+      where
+        own : Found key (path_for locations key) (outcome_in asked.came)
+        own = subst (λ l. Found key (path_for l key) (outcome_in asked.came)) same
+            (came_found old.loader new.loader key (path_for old.locations key) asked.came asked.comes)
+
+        of : (other : List ℕ) (it : Kept) → IsOf other key (kept_of asked.came) it (value_under other old.cache.kept) → Found other (path_for locations other) it.found
+        of other it (inr was) = kept other it was
+        of other it (inl now) =
+            subst (λ o. Found other (path_for locations other) o) (sym (ap (λ it. it.found) now.1))
+            (subst (λ k. Found k (path_for locations k) (outcome_in asked.came)) (sym now.0) own)
+
+        go : Keeps old.cache.most old.cache.kept key (kept_of asked.came) new.cache.kept ⊎ (new.cache.kept ≡ old.cache.kept) → AllKept new
+        go (inr is) = untouched_kept old new is kept
+        go (inl keeps) = λ other it has.
+            of other it (other_remembered old.cache.kept key (kept_of asked.came) new.cache.kept old.cache.most keeps other it has)
+
+    recalled_kept : (old new : StoredSeen LoaderSeen) (key : List ℕ) (one : Option Kept)
+        → MatchOption one (Asks (Loads Reads paths base k number) old key new) (λ one. Untouched old new) → old.locations ≡ locations → AllKept old → AllKept new
+    recalled_kept old new key None asks same kept = asked_kept old new key asks same kept
+    recalled_kept old new key (Some one) untouched same kept = untouched_kept old new (ap (λ c. c.kept) untouched.cache) kept
+
+    step_kept : (old new : StoredSeen LoaderSeen) (key : List ℕ) (known : Option (Option MapRecord))
+        → MatchOption known (Recalls (Loads Reads paths base k number) old key new) (λ known. Untouched old new) → old.locations ≡ locations → AllKept old → AllKept new
+    step_kept old new key None recalls same kept = recalled_kept old new key (value_under key old.cache.kept) recalls same kept
+    step_kept old new key (Some known) untouched same kept = untouched_kept old new (ap (λ c. c.kept) untouched.cache) kept
+
+    -- ---- what is found for a URL
+
+    abbrev Defined : (url : List ℕ) → Outcome → Type 0
+    Defined url outcome = (outcome ≡ Err Memory) ⊎ IsDefined paths base k bytes_at words locations url outcome
+
+    kept_found : (maps : StoredSeen LoaderSeen) (url : List ℕ) (one : Option Kept) → value_under (key_for locations url) maps.cache.kept ≡ one → AllKept maps
+        → Found (key_for locations url) (path_for locations url) (outcome_of one)
+    kept_found maps url None is kept = inl refl
+    kept_found maps url (Some one) is kept =
+        subst (λ p. Found (key_for locations url) p one.found) (path_of_key locations url) (kept (key_for locations url) one is)
+
+    known_defined : (maps : StoredSeen LoaderSeen) (url : List ℕ) (known : Option (Option MapRecord)) → AllKept maps
+        → (known_outcome known (value_under (key_for locations url) maps.cache.kept) ≡ Err Memory)
+        ⊎ IsKnown paths base k bytes_at words locations known url (known_outcome known (value_under (key_for locations url) maps.cache.kept))
+    known_defined maps url None kept = kept_found maps url (value_under (key_for locations url) maps.cache.kept) refl kept
+    known_defined maps url (Some None) kept = inr refl
+    known_defined maps url (Some (Some stated)) kept = inr refl
+
+    defined_at : (maps : StoredSeen LoaderSeen) (url : List ℕ) → IsRight maps → Defined url (outcome_at maps url)
+    defined_at maps url right =
+        let outcome : outcome_at maps url ≡ known_outcome (known_of words locations url) (value_under (key_for locations url) maps.cache.kept) =
+        λ i. known_outcome (known_of (right.words_are i) (right.locations_are i) url) (value_under (key_for (right.locations_are i) url) maps.cache.kept) in
+        subst (Defined url) (sym outcome) (known_defined maps url (known_of words locations url) right.kept)
+
+    right_after : (old new : StoredSeen LoaderSeen) (url : List ℕ) → FindsIn (Loads Reads paths base k number) old url new → IsRight old → IsRight new
+    right_after old new url finds right = record {
+      words_are = finds.words ∙ right.words_are;
+      locations_are = finds.locations ∙ right.locations_are;
+      kept = step_kept old new (key_for old.locations url) (known_of old.words old.locations url) finds.steps right.locations_are right.kept;
+    }
+
+    placed : (options : AnswerOptions) (old new : StoredSeen LoaderSeen) (place : Option Place) (text : List ℕ) → IsRight old
+        → Locates (FindsIn (Loads Reads paths base k number)) options old place text new
+        → AnswersPlace paths base k bytes_at words locations options place text × IsRight new
+    placed options old new None text right step = (step.0, subst IsRight (sym step.1) right)
+    placed options old new (Some place) text right step =
+        let after = right_after old new place.url step.0 right in
+        ((outcome_at new place.url, defined_at new place.url after, step.1), after)
+
+    pub located_by_path : (options : AnswerOptions) (most : ℕ) (before after : DevicesSeen) (old new : StoredSeen LoaderSeen) (counts : LineCounts)
+        → old.words ≡ words → old.locations ≡ locations → old.cache.kept ≡ []
+        → EditsInto (LocateStep (FindsIn (Loads Reads paths base k number)) options) most before after old new counts
+        → AnswersAll (AnswersLine paths base k bytes_at words locations options) before after
+    located_by_path options most before after old new counts words_are locations_are empty edits =
+        answers_all (LocateStep (FindsIn (Loads Reads paths base k number)) options) IsRight (AnswersLine paths base k bytes_at words locations options)
+        (λ old line text new right step. placed options old new (place_of line.bytes) text right step) most before after old new counts
+        (record {
+          words_are = words_are;
+          locations_are = locations_are;
+          kept = λ key one is. let none : None ≡ Some one = ap (value_under key) (sym empty) ∙ is in cc;
+        }) edits

@@ -1,0 +1,9 @@
+pub mod Place
+pub mod PlaceForm
+pub mod PlaceSeen
+pub mod Locating
+pub mod ByPath
+pub mod Locate
+pub mod Asked
+pub mod Private
+pub mod Laws

@@ -1,0 +1,223 @@
+//! Answering the places on standard input over files and folders of maps.
+ghost use Rattle.std.specs.Prelude.{◌≡◌, false, option_copied, IfErr, IfOk};
+ghost use Rattle.smap_lines.specs.Editing.{EditsFrontInto, EditsInto, devices_seen, is_read_fault, is_write_fault};
+ghost use Rattle.smap_lines.specs.Limits.{most_text_bytes};
+ghost use Rattle.smap_lines.specs.declared.fault.LineFault.TheVariants.{Memory};
+ghost use Rattle.smap_locate_answers.specs.Asked.{asked_of};
+ghost use Rattle.smap_locate_answers.specs.Locate.{EndsLocating, IsOverStore, RunsLocate, request_seen};
+ghost use Rattle.smap_locate_answers.specs.Locating.{BecomesAnswer, LocateStep};
+ghost use Rattle.smap_replies.specs.Streams.{sinks_seen, streams_seen};
+ghost use Rattle.smap_store.specs.Stored.{FindsIn, GivesIn};
+ghost use Rattle.smap_text_answers.specs.RewriteFrom.{store_of};
+ghost use Rattle.smap_trace.specs.Rewriting.{Looked};
+
+use crate::locator::Locator;
+use smap_codes::Code;
+use smap_command::{LocateOptions, USUAL_CACHE_BYTES};
+use smap_io::{ByteSink, ByteSource};
+use smap_lines::{LineCounts, LineFault, MOST_TEXT_BYTES, edit_lines};
+use smap_positions::{AnswerOptions, Direction};
+use smap_replies::{DONE, Failure, FileReader, MapReader, Reply, report};
+use smap_store::{MapCache, MapLoader, StoredMaps};
+use smap_text_answers::{FileLoader, MapSources, report_shortage, sources_of};
+use std::alloc::Global;
+
+/// How places are answered over files and folders.
+#[derive(Drop)]
+pub struct LocateRequest<'a, 'r, F: FileReader> {
+    /// How map files are read.
+    pub maps: &'a MapReader<'r, F>,
+    /// Pairs of a URL and a path; where the path ends in `/`, of a prefix of URLs and a folder; where the URL begins with
+    /// `*`, of a pattern.
+    pub arguments: &'a [(String, String)],
+    /// The path of a list of more of them.
+    pub list: Option<&'a str>,
+    /// Whether, without a base, the sources of a map whose URL is a path are named by paths that go on from its folder.
+    pub paths: bool,
+    /// How many bytes of files are kept as maps.
+    pub cache_bytes: u64,
+    /// Which mapping answers, and how that is printed.
+    pub options: AnswerOptions,
+}
+
+impl<'a, 'r, F: FileReader> LocateRequest<'a, 'r, F> {
+    /// What these arguments and options ask for, with the usual number of bytes where none is given.
+    pub fn new(
+        maps: &'a MapReader<'r, F>,
+        arguments: &'a [(String, String)],
+        options: &'a LocateOptions,
+    ) -> LocateRequest<'a, 'r, F>
+        ensures maps { result.maps ≡ maps.entry }
+        ensures asked { request_seen result ≡ asked_of arguments.entry.now options.entry.now }
+    {
+        LocateRequest {
+            maps,
+            arguments,
+            list: options.list.as_deref(),
+            paths: options.paths,
+            cache_bytes: options.cache_bytes.unwrap_or(USUAL_CACHE_BYTES),
+            options: AnswerOptions {
+                direction: Direction::of(options.after),
+                form: options.form,
+            },
+        }
+    }
+}
+
+/// Reads the maps that are words of the command line, and answers the places on the lines of standard input over them and over
+/// those that they name, each by a line in their order, and gives the exit status: the greatest of all that was reported.
+/// The code of the first refusal is put into `first`, where that has none. The caller gives devices that have not failed.
+pub fn answer_locate<F: FileReader, R: ByteSource, W: ByteSink, E: ByteSink>(
+    alloc: Global,
+    request: &LocateRequest<'_, '_, F>,
+    input: &mut R,
+    output: &mut W,
+    errors: &mut E,
+    first: &mut Option<Code>,
+) -> u8
+    requires input_works { (R.seen input.old).failed ≡ false }
+    requires output_works { (W.seen output.old).failed ≡ false }
+    ensures { RunsLocate (F.gives request.now.maps.now.files.now)
+        (option_copied request.now.maps.now.base) request.now.maps.now.interval (request_seen request.now) result
+        (streams_seen (R.seen input.old) (W.seen output.old) (E.seen errors.old) first.old)
+        (streams_seen (R.seen input.new) (W.seen output.new) (E.seen errors.new) first.new) }
+{
+    match sources_of(
+        alloc,
+        request.maps,
+        request.paths,
+        request.arguments,
+        request.list,
+    ) {
+        Ok(sources) => {
+            let end = over_store(alloc, request, &sources, input, output, errors, first);
+            finish(&end, output, errors, first)
+        }
+        Err(failure) => report(&Err(failure), output, errors, first),
+    }
+}
+
+// What answering over a store came to.
+#[derive(Clone, Copy)]
+struct StoreEnd {
+    // What was in the text, or why it was not answered to its end.
+    result: Result<LineCounts, LineFault>,
+    // The greatest status of what was reported of maps.
+    status: u8,
+    // How often there was not enough memory to keep what was found for a URL.
+    shortages: u64,
+}
+
+// Answers the places over the maps of words and of what they name.
+fn over_store<F: FileReader, R: ByteSource, W: ByteSink, E: ByteSink>(
+    alloc: Global,
+    request: &LocateRequest<'_, '_, F>,
+    sources: &MapSources,
+    input: &mut R,
+    output: &mut W,
+    errors: &mut E,
+    first: &mut Option<Code>,
+) -> StoreEnd
+    requires input_works { (R.seen input.old).failed ≡ false }
+    requires output_works { (W.seen output.old).failed ≡ false }
+    ensures over { IsOverStore (F.gives request.now.maps.now.files.now)
+        (option_copied request.now.maps.now.base) request.now.maps.now.interval (request_seen request.now) sources.now result
+        (streams_seen (R.seen input.old) (W.seen output.old) (E.seen errors.old) first.old)
+        (streams_seen (R.seen input.new) (W.seen output.new) (E.seen errors.new) first.new) }
+    ensures output_failure { (W.seen output.new).failed ≡ is_write_fault result.result }
+{
+    let mut cache = MapCache::new(alloc, request.cache_bytes);
+    let mut loader = FileLoader {
+        maps: request.maps,
+        paths: request.paths,
+        number: request.arguments.len() + 1,
+        errors,
+        status: DONE,
+        code: *first,
+        reported: 0,
+        refused: 0,
+    };
+    let result = locate_text(
+        alloc,
+        sources,
+        request.options,
+        &mut cache,
+        &mut loader,
+        input,
+        output,
+    );
+    let status = loader.status;
+    *first = loader.code;
+    StoreEnd {
+        result,
+        status,
+        shortages: cache.shortages(),
+    }
+}
+
+// Answers the lines of a text over a store of maps.
+fn locate_text<L: MapLoader, R: ByteSource, W: ByteSink>(
+    alloc: Global,
+    sources: &MapSources,
+    options: AnswerOptions,
+    cache: &mut MapCache,
+    loader: &mut L,
+    input: &mut R,
+    output: &mut W,
+) -> Result<LineCounts, LineFault>
+    requires input_works { (R.seen input.old).failed ≡ false }
+    requires output_works { (W.seen output.old).failed ≡ false }
+    ensures locates { IfOk result (EditsInto (LocateStep (FindsIn L.Loads) options) most_text_bytes
+        (devices_seen (R.seen input.old) (W.seen output.old))
+        (devices_seen (R.seen input.new) (W.seen output.new))
+        (store_of sources.now cache.old loader.old) (store_of sources.now cache.new loader.new)) }
+    ensures front { IfErr result (EditsFrontInto
+        (BecomesAnswer (GivesIn L.MayLoad (store_of sources.now cache.old loader.old)) options)
+        most_text_bytes
+        (devices_seen (R.seen input.old) (W.seen output.old))
+        (devices_seen (R.seen input.new) (W.seen output.new))) }
+    ensures looked { Looked (FindsIn L.Loads) (store_of sources.now cache.old loader.old)
+        (store_of sources.now cache.new loader.new) }
+    ensures input_failure { (R.seen input.new).failed ≡ is_read_fault result }
+    ensures output_failure { (W.seen output.new).failed ≡ is_write_fault result }
+    ensures memory_input { IfErr result (λ fault. fault ≡ Memory → input.new ≡ input.old) }
+    ensures memory_output { IfErr result (λ fault. fault ≡ Memory → output.new ≡ output.old) }
+{
+    let MapSources { words, locations } = sources;
+    let mut locator = Locator {
+        maps: StoredMaps {
+            alloc,
+            words,
+            locations,
+            cache,
+            loader,
+        },
+        options,
+    };
+    edit_lines(alloc, input, output, &mut locator, MOST_TEXT_BYTES)
+}
+
+// Reports what answering came to, and gives the exit status.
+fn finish<W: ByteSink, E: ByteSink>(
+    end: &StoreEnd,
+    output: &mut W,
+    errors: &mut E,
+    first: &mut Option<Code>,
+) -> u8
+    requires output_works { (W.seen output.old).failed ≡ is_write_fault end.now.result }
+    ensures { EndsLocating end.now result
+        (sinks_seen (W.seen output.old) (E.seen errors.old) first.old)
+        (sinks_seen (W.seen output.new) (E.seen errors.new) first.new) }
+{
+    match end.result {
+        Ok(_) => {
+            let reported = report(&Ok(Reply::Rewritten), output, errors, first);
+            let short = report_shortage(end.shortages, errors);
+            end.status.max(reported).max(short)
+        }
+        Err(fault) => {
+            let reported = report(&Err(Failure::Fault(fault)), output, errors, first);
+            end.status.max(reported)
+        }
+    }
+}

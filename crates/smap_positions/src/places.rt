@@ -1,0 +1,193 @@
+//! The lines that answer places: generated positions in files that URLs name.
+ghost use Rattle.std.specs.Prelude.{◌≡◌, option_map};
+ghost use Rattle.std.specs.Result.{result_map_both};
+ghost use Rattle.serde_json.specs.Written.{compact_text};
+ghost use Rattle.smap_lines.specs.LineOutput.{IsPut};
+ghost use Rattle.smap_positions.specs.Places.{bad_place_line, place_line, refusal_in, unanswered, unanswered_line, unanswered_value, unanswered_word};
+ghost use Rattle.smap_positions.specs.Positions.{asked_line};
+ghost use Rattle.smap_positions.specs.Private.Members.{refusal_member};
+
+use crate::answer::lookup_answer;
+use crate::gathered_line::GatheredLine;
+use crate::json_form::{AskedPosition, put_answer_object, put_end};
+use crate::map_text::put_json_text;
+use crate::options::AnswerOptions;
+use crate::output::{Output, put_number};
+use crate::printed_position::PrintedPosition;
+use crate::short_text::ShortText;
+use crate::text_form::put_answer_line;
+use smap_codes::Code;
+use smap_command::Form;
+use smap_io::{ByteSink, DeviceFault};
+use smap_lines::LineOutput;
+use smap_record::MapFile;
+use std::alloc::Global;
+
+/// A generated position in the file of a URL, as it is asked for.
+#[derive(Clone, Copy)]
+pub struct AskedPlace<'a> {
+    pub url: &'a str,
+    pub position: PrintedPosition,
+}
+
+/// Why a place is not answered from a map.
+#[derive(Clone, Copy, Debug, PartialEq, Eq)]
+pub enum Unanswered {
+    /// No map is named for its URL.
+    NoMap,
+    /// The file of its map can't be read.
+    NoFile,
+    /// Its map is refused, by this code.
+    Refused(Code),
+    /// Memory ran out.
+    NoMemory,
+}
+
+/// Puts the line for a place after the bytes that wait: what its map answers, or why none does. The call takes no memory.
+pub fn put_place_line<W: ByteSink>(
+    alloc: Global,
+    options: AnswerOptions,
+    place: AskedPlace<'_>,
+    found: Result<&MapFile, Unanswered>,
+    output: &mut LineOutput<'_, W>,
+) -> Result<(), DeviceFault>
+    ensures { IsPut W.seen output.old output.new
+        (place_line options place.entry.url.now place.entry.position
+        (result_map_both (λ map. map.now.stated) (λ why. why) found.entry)) result }
+{
+    let mut line = GatheredLine {
+        output,
+        text: ShortText::new(),
+        done: Ok(()),
+    };
+    put_place(alloc, options, place, found, &mut line);
+    line.hand_on();
+    line.done
+}
+
+/// Puts the line for what is no place after the bytes that wait.
+pub fn put_bad_place<W: ByteSink>(
+    form: Form,
+    output: &mut LineOutput<'_, W>,
+) -> Result<(), DeviceFault>
+    ensures { IsPut W.seen output.old output.new (bad_place_line form) result }
+{
+    output.put(bad_place(form))
+}
+
+#[tactic(auto, unfolding(json::specs::Print::escape_byte))]
+fn bad_place(form: Form) -> &'static [u8]
+    ensures { result.now ≡ bad_place_line form }
+{
+    if form.is_json() {
+        b"{\"answer\":\"bad place\"}\n"
+    } else {
+        b"bad place\n"
+    }
+}
+
+// Puts the line for a place.
+fn put_place<O: Output>(
+    alloc: Global,
+    options: AnswerOptions,
+    place: AskedPlace<'_>,
+    found: Result<&MapFile, Unanswered>,
+    output: &mut O,
+)
+    ensures { O.Puts output.old output.new
+        (place_line options place.entry.url.now place.entry.position
+        (result_map_both (λ map. map.now.stated) (λ why. why) found.entry)) }
+{
+    match found {
+        Ok(map) => put_answer(alloc, map, options, place.position, Some(place.url), output),
+        Err(why) => put_unanswered(options.form, place, why, output),
+    }
+}
+
+/// Puts the line for what a map answers for a position, with the URL that was asked for, where one was.
+pub fn put_answer<O: Output>(
+    alloc: Global,
+    map: &MapFile,
+    options: AnswerOptions,
+    position: PrintedPosition,
+    url: Option<&str>,
+    output: &mut O,
+)
+    ensures { O.Puts output.old output.new
+        (asked_line options (option_map (λ url. url.now) url.entry) map.now.stated position) }
+{
+    let line = position.line.saturating_sub(1);
+    let column = position.column.saturating_sub(1);
+    let answer = lookup_answer(alloc, map, line, column, options.direction);
+    if options.form.is_json() {
+        let asked = AskedPosition {
+            line: u64::from(position.line),
+            column: u64::from(position.column),
+            url,
+        };
+        put_answer_object(map, asked, &answer, None, output)
+    } else {
+        put_answer_line(map, &answer, output)
+    }
+}
+
+// Puts the line that says why no map answers.
+fn put_unanswered<O: Output>(form: Form, place: AskedPlace<'_>, why: Unanswered, output: &mut O)
+    ensures { O.Puts output.old output.new
+        (unanswered form place.entry.url.now place.entry.position why) }
+{
+    if form.is_json() {
+        put_unanswered_object(place, why, output);
+        output.put(b"\n");
+    } else {
+        put_unanswered_line(why, output);
+    }
+}
+
+fn put_unanswered_line<O: Output>(why: Unanswered, output: &mut O)
+    ensures { O.Puts output.old output.new (unanswered_line why) }
+{
+    match why {
+        Unanswered::NoMap => output.put(b"no map\n"),
+        Unanswered::NoFile => output.put(b"no file\n"),
+        Unanswered::Refused(code) => {
+            output.put(b"refused ");
+            output.put(code.label().as_bytes());
+            output.put(b"\n");
+        }
+        Unanswered::NoMemory => output.put(b"no memory\n"),
+    }
+}
+
+fn put_unanswered_object<O: Output>(place: AskedPlace<'_>, why: Unanswered, output: &mut O)
+    ensures { O.Puts output.old output.new (compact_text
+        (unanswered_value place.entry.url.now place.entry.position why)) }
+{
+    output.put(b"{\"answer\":");
+    put_json_text(Some(word_of(why)), output);
+    put_number(b",\"column\":", u64::from(place.position.column), output);
+    put_number(b",\"line\":", u64::from(place.position.line), output);
+    put_refusal(why, output);
+    put_end(Some(place.url), output);
+}
+
+fn word_of(why: Unanswered) -> &'static str
+    ensures { result.now ≡ unanswered_word why }
+{
+    match why {
+        Unanswered::NoMap => "no map",
+        Unanswered::NoFile => "no file",
+        Unanswered::Refused(_) => "refused",
+        Unanswered::NoMemory => "no memory",
+    }
+}
+
+// Puts by which code a map is refused, where it is, behind other members.
+fn put_refusal<O: Output>(why: Unanswered, output: &mut O)
+    ensures { O.Puts output.old output.new (refusal_member (refusal_in why)) }
+{
+    if let Unanswered::Refused(code) = why {
+        output.put(b",\"refusal\":");
+        put_json_text(Some(code.label()), output);
+    }
+}
