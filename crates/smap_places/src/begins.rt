@@ -61,5 +61,9 @@ fn is_parameter(byte: u8) -> bool
 fn is_word(byte: u8) -> bool
     ensures { result ≡ is_word byte }
 {
-    byte.is_ascii_alphanumeric() || byte >= 0x80 || b"_-./\\%~+$:".contains(&byte)
+    match byte {
+        b'0'..=b'9' | b'A'..=b'Z' | b'a'..=b'z' | 0x80..=0xff => true,
+        b'_' | b'-' | b'.' | b'/' | b'\\' | b'%' | b'~' | b'+' | b'$' | b':' => true,
+        _ => false,
+    }
 }

@@ -103,7 +103,12 @@ fn goes_on(byte: u8, before: &[u8]) -> bool
 fn is_pattern_byte(byte: u8) -> bool
     ensures { result ≡ is_pattern_byte byte }
 {
-    byte > b' ' && byte != 0x7f && !b"\"'`,;|()<>[]{}".contains(&byte)
+    match byte {
+        0..=b' ' | 0x7f => false,
+        b'"' | b'\'' | b'`' | b',' | b';' | b'|' => false,
+        b'(' | b')' | b'<' | b'>' | b'[' | b']' | b'{' | b'}' => false,
+        _ => true,
+    }
 }
 
 // Whether a scheme is made of a byte.

@@ -90,5 +90,10 @@ fn has_query(text: &[u8]) -> bool
 fn is_url_byte(byte: u8) -> bool
     ensures { result ≡ is_url_byte byte }
 {
-    byte > b' ' && byte != 0x7f && !b"\"'`\\()<>[]{}".contains(&byte)
+    match byte {
+        0..=b' ' | 0x7f => false,
+        b'"' | b'\'' | b'`' | b'\\' => false,
+        b'(' | b')' | b'<' | b'>' | b'[' | b']' | b'{' | b'}' => false,
+        _ => true,
+    }
 }
