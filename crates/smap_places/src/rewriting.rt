@@ -20,7 +20,7 @@ use smap_trace::{Maps, RewriteFault, Summary, Table, TableMaps};
 use std::alloc::Global;
 
 // How many bytes are read at once, at least.
-const READ_BYTES: usize = 8192;
+const READ_BYTES: usize = 32768;
 
 /// Rewrites a text while it is read: a place, wherever it stands, that has an original gets it in its stead, and every
 /// other byte stays, in lines of any length. The summary counts places as frames; none is hidden. A text of more than
